@@ -1,0 +1,122 @@
+-- The laws of the tables.
+use Rattle.std.specs.Bool.{Decides}
+use Rattle.std.specs.Cmp.{IsEquivalence, decided, both_ways}
+use Rattle.std.proofs.Common.{◌≡◌, ◌≤◌, true, List, [], ◌∷◌, Some, map, refl, arith}
+use Rattle.std.proofs.lemmas.Map.Views.{list_any-from_Contains, Contains-from_any}
+use Rattle.fourstate.specs.Delays.{DelayTimes, AreDelays, IsDelay, delay_to}
+use Rattle.fourstate.specs.Gates.{gate_of}
+use Rattle.fourstate.specs.Keywords.{gate_keyword, gate_kind_of, net_keyword, net_kind_of}
+use Rattle.fourstate.specs.Nets.{net_of}
+use Rattle.fourstate.specs.Values.{AreSameSet, same_value, occurs, reading, inverse, symbol_of, value_of_symbol}
+use Rattle.fourstate.specs.declared.value.Value.{Value}
+use Rattle.fourstate.specs.declared.value.Value.TheVariants.{Zero, One, Unknown, HighZ}
+use Rattle.fourstate.specs.declared.gate.GateKind.{GateKind}
+use Rattle.fourstate.specs.declared.gate.GateKind.TheVariants.{And, Nand, Or, Nor, Xor, Xnor, Buf, Not, Bufif1, Bufif0, Notif1, Notif0}
+use Rattle.fourstate.specs.declared.net.NetKind.{NetKind}
+use Rattle.fourstate.specs.declared.net.NetKind.TheVariants.{Wire, Tri, Wand, Triand, Wor, Trior}
+
+pub is_same : (v w : Value) → same_value v w ≡ true → v ≡ w
+is_same Zero Zero e = refl
+is_same Zero One e = cc
+is_same Zero Unknown e = cc
+is_same Zero HighZ e = cc
+is_same One Zero e = cc
+is_same One One e = refl
+is_same One Unknown e = cc
+is_same One HighZ e = cc
+is_same Unknown Zero e = cc
+is_same Unknown One e = cc
+is_same Unknown Unknown e = refl
+is_same Unknown HighZ e = cc
+is_same HighZ Zero e = cc
+is_same HighZ One e = cc
+is_same HighZ Unknown e = cc
+is_same HighZ HighZ e = refl
+
+pub same_self : (v : Value) → same_value v v ≡ true
+same_self Zero = refl
+same_self One = refl
+same_self Unknown = refl
+same_self HighZ = refl
+
+-- `same_value` decides equality
+pub same_value_decides : (v w : Value) → Decides (same_value v w) (v ≡ w)
+same_value_decides v w = (is_same v w, λ e. rw e (same_self w))
+
+pub same_value_equivalence : IsEquivalence same_value
+same_value_equivalence = decided same_value same_value_decides
+
+pub occurs_by_set : (xs ys : List Value) → AreSameSet xs ys → (v : Value) → occurs v xs ≡ occurs v ys
+occurs_by_set xs ys same v =
+    both_ways (occurs v xs) (occurs v ys)
+    (λ e. list_any-from_Contains same_value_equivalence v ys ((same v).0 (Contains-from_any is_same v xs e)))
+    (λ e. list_any-from_Contains same_value_equivalence v xs ((same v).1 (Contains-from_any is_same v ys e)))
+
+pub same_resolution : (kind : NetKind) (xs ys : List Value) → AreSameSet xs ys → net_of kind xs ≡ net_of kind ys
+same_resolution kind xs ys same =
+    rw (occurs_by_set xs ys same Zero, occurs_by_set xs ys same One, occurs_by_set xs ys same Unknown) refl
+
+reading_twice : (v : Value) → reading (reading v) ≡ reading v
+reading_twice Zero = refl
+reading_twice One = refl
+reading_twice Unknown = refl
+reading_twice HighZ = refl
+
+map_reading_twice : (values : List Value) → map reading (map reading values) ≡ map reading values
+map_reading_twice [] = refl
+map_reading_twice (v ∷ values) = rw (reading_twice v, map_reading_twice values) refl
+
+pub read_twice : (kind : GateKind) (inputs : List Value) → gate_of kind inputs ≡ gate_of kind (map reading inputs)
+read_twice kind inputs = rw (map_reading_twice inputs) refl
+
+pub inverted_data_one : (v c : Value) → gate_of Notif1 (v ∷ c ∷ []) ≡ gate_of Bufif1 (inverse v ∷ c ∷ [])
+inverted_data_one Zero c = refl
+inverted_data_one One c = refl
+inverted_data_one Unknown c = refl
+inverted_data_one HighZ c = refl
+
+pub inverted_data_zero : (v c : Value) → gate_of Notif0 (v ∷ c ∷ []) ≡ gate_of Bufif0 (inverse v ∷ c ∷ [])
+inverted_data_zero Zero c = refl
+inverted_data_zero One c = refl
+inverted_data_zero Unknown c = refl
+inverted_data_zero HighZ c = refl
+
+pub delay_in_range : (delays : DelayTimes) → AreDelays delays → (to : Value) → IsDelay (delay_to delays to)
+delay_in_range delays are Zero = are.fall
+delay_in_range delays are One = are.rise
+delay_in_range delays are Unknown = omega arith
+delay_in_range delays are HighZ = omega arith
+
+pub least_delay : (delays : DelayTimes) (to : Value) → delay_to delays Unknown ≤ delay_to delays to
+least_delay delays Zero = omega arith
+least_delay delays One = omega arith
+least_delay delays Unknown = omega arith
+least_delay delays HighZ = omega arith
+
+pub gate_reads_back : (kind : GateKind) → gate_kind_of (gate_keyword kind) ≡ Some kind
+gate_reads_back And = refl
+gate_reads_back Nand = refl
+gate_reads_back Or = refl
+gate_reads_back Nor = refl
+gate_reads_back Xor = refl
+gate_reads_back Xnor = refl
+gate_reads_back Buf = refl
+gate_reads_back Not = refl
+gate_reads_back Bufif1 = refl
+gate_reads_back Bufif0 = refl
+gate_reads_back Notif1 = refl
+gate_reads_back Notif0 = refl
+
+pub net_reads_back : (kind : NetKind) → net_kind_of (net_keyword kind) ≡ Some kind
+net_reads_back Wire = refl
+net_reads_back Tri = refl
+net_reads_back Wand = refl
+net_reads_back Triand = refl
+net_reads_back Wor = refl
+net_reads_back Trior = refl
+
+pub value_reads_back : (v : Value) → value_of_symbol (symbol_of v) ≡ Some v
+value_reads_back Zero = refl
+value_reads_back One = refl
+value_reads_back Unknown = refl
+value_reads_back HighZ = refl

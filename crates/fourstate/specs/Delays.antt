@@ -1,0 +1,25 @@
+-- How long a gate takes (IEEE 1364-2005, 7.14).
+use Rattle.std.specs.Prelude.{ℕ, ◌≤◌, min}
+use Rattle.fourstate.specs.declared.limits.TheConstants.{MAX_DELAY}
+use Rattle.fourstate.specs.declared.value.Value.{Value}
+use Rattle.fourstate.specs.declared.value.Value.TheVariants.{Zero, One}
+
+-- a gate's delays, in time units
+pub record DelayTimes : Type 0 where
+  pub rise : ℕ
+  pub fall : ℕ
+
+-- the delay to a new value: rise to 1, fall to 0, the lesser of the two to x and to z
+abbrev pub delay_to : DelayTimes → Value → ℕ
+delay_to delays One = delays.rise
+delay_to delays Zero = delays.fall
+delay_to delays _ = min delays.rise delays.fall
+
+-- a delay is within the limits
+abbrev pub IsDelay : ℕ → Type 0
+IsDelay n = (1 ≤ n) × (n ≤ MAX_DELAY)
+
+-- each of a gate's delays is within the limits
+pub record AreDelays (delays : DelayTimes) : Type 0 where
+  pub rise : IsDelay delays.rise
+  pub fall : IsDelay delays.fall

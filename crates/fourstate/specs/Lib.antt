@@ -1,0 +1,5 @@
+pub mod Delays
+pub mod Gates
+pub mod Keywords
+pub mod Nets
+pub mod Values

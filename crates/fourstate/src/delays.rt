@@ -1,0 +1,58 @@
+//! Gate delays (IEEE 1364-2005, 7.14).
+
+ghost use Rattle.std.specs.Prelude.{◌≡◌, ◌↔◌, IsSome, IfSome};
+ghost use Rattle.fourstate.specs.Delays.{delay_to, IsDelay};
+
+use crate::limits::MAX_DELAY;
+use crate::value::Value;
+use std::marker::Model;
+
+/// A gate's delays, in time units, each 1 to 1,000,000 (own). The type keeps the range.
+#[derive(Clone, Copy, Debug, PartialEq, Eq)]
+pub struct Delays {
+    rise: u32,
+    fall: u32,
+}
+
+impl Model for Delays {
+    ghost use Rattle.fourstate.specs.Delays.{DelayTimes, AreDelays};
+
+    ghost Value = { DelayTimes };
+
+    ghost view = { λ a. record { rise = a.rise; fall = a.fall } };
+
+    ghost invariant = { λ a. AreDelays (record { rise = a.rise; fall = a.fall }) };
+
+    ghost inverse = { λ d. record { rise = d.rise; fall = d.fall } };
+}
+
+impl Delays {
+    /// The delays to 1 and to 0; none exactly where one is 0 or over the limit.
+    pub fn new(rise: u64, fall: u64) -> Option<Delays>
+        ensures variant { IsSome result ↔ (IsDelay rise × IsDelay fall) }
+        ensures value { IfSome result (λ delays. delays ≡ record { rise = rise; fall = fall }) }
+    {
+        if 1 <= rise && rise <= MAX_DELAY && 1 <= fall && fall <= MAX_DELAY {
+            Some(Delays {
+                rise: rise as u32,
+                fall: fall as u32,
+            })
+        } else {
+            None
+        }
+    }
+}
+
+/// The delay of a change to this value: the rise to 1, the fall to 0, the lesser of the two to x and to z. It depends
+/// on the new value alone (IEEE 1364-2005, 7.14; own to x and z where only two delays are given).
+#[inline(always)]
+pub fn delay(delays: &Delays, to: Value) -> u32
+    ensures delay { result ≡ delay_to delays.now to }
+    ensures in_range { IsDelay result }
+{
+    match to {
+        Value::One => delays.rise,
+        Value::Zero => delays.fall,
+        Value::Unknown | Value::HighZ => delays.rise.min(delays.fall),
+    }
+}

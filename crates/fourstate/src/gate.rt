@@ -1,0 +1,174 @@
+//! Gates (IEEE 1364-2005, 7.2 to 7.4).
+
+ghost use Rattle.std.specs.Prelude.{◌≡◌, IsTrue, length, map};
+ghost use Rattle.fourstate.specs.Gates.{and_of, or_of, xor_of, controlled, gate_of, takes_inputs};
+ghost use Rattle.fourstate.specs.Values.{reading};
+ghost use Rattle.fourstate.specs.Keywords.{gate_keyword, gate_kind_of};
+
+use crate::limits::MAX_INPUTS;
+use crate::survey::Survey;
+use crate::value::Value;
+
+/// The kinds of gates.
+#[derive(Clone, Copy, Debug, PartialEq, Eq, Hash)]
+pub enum GateKind {
+    And,
+    Nand,
+    Or,
+    Nor,
+    Xor,
+    Xnor,
+    Buf,
+    Not,
+    /// Passes its data where its control is 1.
+    Bufif1,
+    /// Passes its data where its control is 0.
+    Bufif0,
+    /// Passes its data inverted where its control is 1.
+    Notif1,
+    /// Passes its data inverted where its control is 0.
+    Notif0,
+}
+
+impl GateKind {
+    /// Every kind.
+    pub const ALL: [GateKind; 12] = [
+        GateKind::And,
+        GateKind::Nand,
+        GateKind::Or,
+        GateKind::Nor,
+        GateKind::Xor,
+        GateKind::Xnor,
+        GateKind::Buf,
+        GateKind::Not,
+        GateKind::Bufif1,
+        GateKind::Bufif0,
+        GateKind::Notif1,
+        GateKind::Notif0,
+    ];
+
+    /// The word that writes the kind (IEEE 1364-2005, annex B).
+    pub fn keyword(self) -> &'static str
+        ensures { result.now ≡ gate_keyword self }
+    {
+        match self {
+            GateKind::And => "and",
+            GateKind::Nand => "nand",
+            GateKind::Or => "or",
+            GateKind::Nor => "nor",
+            GateKind::Xor => "xor",
+            GateKind::Xnor => "xnor",
+            GateKind::Buf => "buf",
+            GateKind::Not => "not",
+            GateKind::Bufif1 => "bufif1",
+            GateKind::Bufif0 => "bufif0",
+            GateKind::Notif1 => "notif1",
+            GateKind::Notif0 => "notif0",
+        }
+    }
+
+    /// The kind that a word writes; none at any other word.
+    pub fn from_keyword(word: &[u8]) -> Option<GateKind>
+        ensures { result ≡ gate_kind_of word.now }
+    {
+        GateKind::ALL
+            .iter()
+            .copied()
+            .find(|kind| kind.keyword().as_bytes() == word)
+    }
+}
+
+/// Whether a gate of this kind may have this many inputs: `and`, `nand`, `or`, `nor`, `xor` and `xnor` take 1 to 64
+/// (own), `buf` and `not` one, the three-state gates two, data and control.
+pub fn fits(kind: GateKind, inputs: usize) -> bool
+    ensures { result ≡ takes_inputs kind inputs }
+{
+    match kind {
+        GateKind::Buf | GateKind::Not => inputs == 1,
+        GateKind::Bufif1 | GateKind::Bufif0 | GateKind::Notif1 | GateKind::Notif0 => inputs == 2,
+        _ => 1 <= inputs && inputs <= MAX_INPUTS,
+    }
+}
+
+/// What a gate gives for its inputs, a z among them acting as x. A three-state gate whose control is x or z gives x
+/// (own; IEEE 1364-2005, 7.4 writes L or H where the data is known).
+#[inline(always)]
+pub fn gate_value(kind: GateKind, inputs: &[Value]) -> Value
+    requires { IsTrue (takes_inputs kind (length inputs.now)) }
+    ensures { result ≡ gate_of kind inputs.now }
+{
+    match kind {
+        GateKind::And => and_value(inputs),
+        GateKind::Nand => and_value(inputs).inverted(),
+        GateKind::Or => or_value(inputs),
+        GateKind::Nor => or_value(inputs).inverted(),
+        GateKind::Xor => xor_value(inputs),
+        GateKind::Xnor => xor_value(inputs).inverted(),
+        GateKind::Buf => inputs[0].as_input(),
+        GateKind::Not => inputs[0].inverted(),
+        GateKind::Bufif1 => controlled_value(Value::One, inputs[0].as_input(), inputs[1]),
+        GateKind::Bufif0 => controlled_value(Value::Zero, inputs[0].as_input(), inputs[1]),
+        GateKind::Notif1 => controlled_value(Value::One, inputs[0].inverted(), inputs[1]),
+        GateKind::Notif0 => controlled_value(Value::Zero, inputs[0].inverted(), inputs[1]),
+    }
+}
+
+#[inline(always)]
+#[tactic(auto, using(crate::proofs::Readings::zero_read, crate::proofs::Readings::unknown_read))]
+fn and_value(inputs: &[Value]) -> Value
+    ensures { result ≡ and_of (map reading inputs.now) }
+{
+    let seen = Survey::of(inputs);
+    if seen.zero {
+        Value::Zero
+    } else if seen.unknown || seen.high_z {
+        Value::Unknown
+    } else {
+        Value::One
+    }
+}
+
+#[inline(always)]
+#[tactic(auto, using(crate::proofs::Readings::one_read, crate::proofs::Readings::unknown_read))]
+fn or_value(inputs: &[Value]) -> Value
+    ensures { result ≡ or_of (map reading inputs.now) }
+{
+    let seen = Survey::of(inputs);
+    if seen.one {
+        Value::One
+    } else if seen.unknown || seen.high_z {
+        Value::Unknown
+    } else {
+        Value::Zero
+    }
+}
+
+#[inline(always)]
+#[tactic(auto, using(crate::proofs::Readings::ones_read, crate::proofs::Readings::unknown_read))]
+fn xor_value(inputs: &[Value]) -> Value
+    ensures { result ≡ xor_of (map reading inputs.now) }
+{
+    let seen = Survey::of(inputs);
+    if seen.unknown || seen.high_z {
+        Value::Unknown
+    } else if seen.odd {
+        Value::One
+    } else {
+        Value::Zero
+    }
+}
+
+/// What a three-state gate gives that would pass this value under this control, which is 0 or 1 where it is active.
+#[inline(always)]
+fn controlled_value(active: Value, value: Value, control: Value) -> Value
+    ensures { result ≡ controlled active value (reading control) }
+{
+    let control = control.as_input();
+    if control == active {
+        value
+    } else if control == active.inverted() {
+        Value::HighZ
+    } else {
+        Value::Unknown
+    }
+}

@@ -1,0 +1,113 @@
+//! Nets (IEEE 1364-2005, 4.6).
+
+ghost use Rattle.std.specs.Prelude.{◌≡◌};
+ghost use Rattle.fourstate.specs.Nets.{net_of, wand_of, wire_of, wor_of};
+ghost use Rattle.fourstate.specs.Keywords.{net_keyword, net_kind_of};
+
+use crate::survey::Survey;
+use crate::value::Value;
+
+/// The kinds of nets.
+#[derive(Clone, Copy, Debug, PartialEq, Eq, Hash)]
+pub enum NetKind {
+    Wire,
+    Tri,
+    Wand,
+    Triand,
+    Wor,
+    Trior,
+}
+
+impl NetKind {
+    /// Every kind.
+    pub const ALL: [NetKind; 6] = [
+        NetKind::Wire,
+        NetKind::Tri,
+        NetKind::Wand,
+        NetKind::Triand,
+        NetKind::Wor,
+        NetKind::Trior,
+    ];
+
+    /// The word that writes the kind (IEEE 1364-2005, annex B).
+    pub fn keyword(self) -> &'static str
+        ensures { result.now ≡ net_keyword self }
+    {
+        match self {
+            NetKind::Wire => "wire",
+            NetKind::Tri => "tri",
+            NetKind::Wand => "wand",
+            NetKind::Triand => "triand",
+            NetKind::Wor => "wor",
+            NetKind::Trior => "trior",
+        }
+    }
+
+    /// The kind that a word writes; none at any other word.
+    pub fn from_keyword(word: &[u8]) -> Option<NetKind>
+        ensures { result ≡ net_kind_of word.now }
+    {
+        NetKind::ALL
+            .iter()
+            .copied()
+            .find(|kind| kind.keyword().as_bytes() == word)
+    }
+}
+
+/// The value of a net from the values of its drivers, z without one (IEEE 1364-2005, 4.6.1 and 4.6.2).
+#[inline(always)]
+pub fn resolve(kind: NetKind, values: &[Value]) -> Value
+    ensures { result ≡ net_of kind values.now }
+{
+    let seen = Survey::of(values);
+    match kind {
+        NetKind::Wire | NetKind::Tri => wire_value(&seen),
+        NetKind::Wand | NetKind::Triand => wand_value(&seen),
+        NetKind::Wor | NetKind::Trior => wor_value(&seen),
+    }
+}
+
+#[inline(always)]
+fn wire_value(seen: &Survey) -> Value
+    ensures { result ≡ wire_of seen.now.zero seen.now.one seen.now.unknown }
+{
+    if seen.unknown || (seen.zero && seen.one) {
+        Value::Unknown
+    } else if seen.zero {
+        Value::Zero
+    } else if seen.one {
+        Value::One
+    } else {
+        Value::HighZ
+    }
+}
+
+#[inline(always)]
+fn wand_value(seen: &Survey) -> Value
+    ensures { result ≡ wand_of seen.now.zero seen.now.one seen.now.unknown }
+{
+    if seen.zero {
+        Value::Zero
+    } else if seen.unknown {
+        Value::Unknown
+    } else if seen.one {
+        Value::One
+    } else {
+        Value::HighZ
+    }
+}
+
+#[inline(always)]
+fn wor_value(seen: &Survey) -> Value
+    ensures { result ≡ wor_of seen.now.zero seen.now.one seen.now.unknown }
+{
+    if seen.one {
+        Value::One
+    } else if seen.unknown {
+        Value::Unknown
+    } else if seen.zero {
+        Value::Zero
+    } else {
+        Value::HighZ
+    }
+}

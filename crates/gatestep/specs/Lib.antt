@@ -1,0 +1,5 @@
+pub mod Faults
+pub mod Record
+pub mod Step
+pub mod StepLaws
+pub mod Tasks

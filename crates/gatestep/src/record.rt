@@ -1,0 +1,44 @@
+//! What a stepper was asked so far, for contracts alone.
+
+ghost use Rattle.std.specs.Prelude.{◌≡◌, ℕ, ◌+◌, List, [], ◌++◌, if◌then◌else◌};
+ghost use Rattle.std.specs.Borrow.{ftrue};
+ghost use Rattle.gatestep.specs.Step.{Evaluation};
+ghost use Rattle.gatestep.specs.Record.{at_moment};
+
+use crate::task::Task;
+use std::marker::{Model, Send};
+use std::mem::size_of;
+
+const _: () = prove!(size_of::<Record>() == 0);
+
+/// What a stepper was asked so far, in order, each task with its moment, and how many of its steps lost a worker. It
+/// takes no bytes, contracts alone read it, and only `add` changes it: a proof outside this module that names it is
+/// to be refused in review.
+#[derive(Drop)]
+pub struct Record {
+    seal: (),
+    pub ghost asked: { List (Evaluation × ℕ) },
+    pub ghost losses: { ℕ },
+}
+
+impl Model for Record {
+    ghost also_owns = { λ _. ftrue };
+}
+
+impl Record {
+    /// The record of a stepper that was asked nothing.
+    pub fn new() -> Record
+        ensures { (result.asked ≡ []) × (result.losses ≡ 0) }
+    {
+        Record { seal: () }
+    }
+
+    /// Adds the tasks of a step at the moment `t`, and a loss where the step lost a worker. Nothing runs.
+    #[inline(always)]
+    pub fn add(&mut self, tasks: &[Task], t: u64, lost: bool)
+        ensures { (self.new.asked ≡ self.old.asked ++ at_moment t tasks.now) × (self.new.losses ≡ self.old.losses + (if lost then 1 else 0)) }
+    {}
+}
+
+// It owns nothing.
+unsafe impl Send for Record {}

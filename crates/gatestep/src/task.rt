@@ -1,0 +1,81 @@
+//! What is evaluated of one gate at one moment, and how.
+
+ghost use Rattle.std.specs.Prelude.{◌≡◌, ◌≤◌, ◌+◌, IsTrue, length};
+ghost use Rattle.fourstate.specs.Gates.{takes_inputs};
+ghost use Rattle.fourstate.specs.declared.limits.TheConstants.{MAX_TIME};
+ghost use Rattle.gatestep.specs.Step.{advance};
+ghost use Rattle.gatestep.specs.Tasks.{IsTask, IsReady, PendingFrom};
+
+use crate::driver::Driver;
+use arrayvec::ArrayVec;
+use fourstate::{Delays, GateKind, MAX_INPUTS, Value, delay, gate_value, laws};
+use std::marker::Model;
+
+/// What is asked of one gate at one moment: its kind and delays, its state before the moment, and its inputs at the
+/// moment. The type keeps that the inputs fit. It takes no memory.
+#[derive(Debug, Drop)]
+pub struct Task {
+    kind: GateKind,
+    delays: Delays,
+    state: Driver,
+    inputs: ArrayVec<Value, MAX_INPUTS>,
+}
+
+impl Model for Task {
+    ghost use Rattle.gatestep.specs.Step.{Evaluation};
+    ghost use Rattle.gatestep.specs.Tasks.{IsTask};
+
+    ghost Value = { Evaluation };
+
+    ghost view = { λ a. record { kind = a.kind; delays = a.delays; state = a.state; inputs = a.inputs.items } };
+
+    ghost invariant = { λ a. IsTask (record { kind = a.kind; delays = a.delays; state = a.state; inputs = a.inputs.items }) };
+}
+
+impl Task {
+    /// The task of a gate of these inputs.
+    #[inline(always)]
+    pub fn new(
+        kind: GateKind,
+        delays: Delays,
+        state: Driver,
+        inputs: ArrayVec<Value, MAX_INPUTS>,
+    ) -> Task
+        requires { IsTrue (takes_inputs kind (length inputs.items)) }
+        ensures task { IsTask result }
+        ensures value { result ≡ record { kind = kind; delays = delays; state = state; inputs = inputs.items } }
+    {
+        laws::delays_in_range(&delays);
+        Task {
+            kind,
+            delays,
+            state,
+            inputs,
+        }
+    }
+}
+
+/// The gate's state after the moment `t`, in time units: first a due event becomes current, then the gate is evaluated
+/// and its new value scheduled. An event that is pending with this value keeps its time, another one is descheduled,
+/// and the current value schedules nothing (IEEE 1364-2005, 6.1.3; own).
+#[inline(always)]
+pub fn next(task: &Task, t: u64) -> Driver
+    requires ready { IsReady t task.now }
+    requires within { t ≤ MAX_TIME }
+    ensures next { result ≡ advance task.now t }
+    ensures later { PendingFrom (t + 1) result }
+{
+    let state = task.state.due(t);
+    let value = gate_value(task.kind, task.inputs.as_slice());
+    match state.pend {
+        Some((pending, _)) if pending == value => state,
+        _ if value == state.cur => Driver {
+            cur: state.cur,
+            pend: None,
+        },
+        _ => Driver {
+            cur: state.cur,
+            pend: Some((value, t + u64::from(delay(&task.delays, value)))),
+        },
+    }
+}
