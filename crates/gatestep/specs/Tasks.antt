@@ -14,6 +14,10 @@ pub record IsTask (e : Evaluation) : Type 0 where
 abbrev pub PendingFrom : ℕ → State → Type 0
 PendingFrom t s = ForSome s.pending (λ event. t ≤ event.1)
 
+-- what is pending is for a moment before t
+abbrev pub PendingBefore : ℕ → State → Type 0
+PendingBefore t s = ForSome s.pending (λ event. event.1 < t)
+
 -- nothing is due at t or before
 abbrev pub NothingDue : ℕ → State → Type 0
 NothingDue t s = ForSome s.pending (λ event. t < event.1)

@@ -7,6 +7,8 @@ mod record;
 mod serial;
 mod stepper;
 mod task;
+#[cfg(test)]
+mod tests;
 
 pub use driver::Driver;
 pub use fault::StepFault;

@@ -1,11 +1,11 @@
 //! Who evaluates gates.
 
 ghost use Rattle.std.specs.Prelude.{◌≡◌, ℕ, ◌+◌, ◌<◌, ◌≤◌, List, [], ◌++◌, map, All, OnOk, OnErr, if◌then◌else◌};
-ghost use Rattle.fourstate.specs.declared.limits.TheConstants.{MAX_TIME};
+ghost use Rattle.fourstate.specs.declared.limits.TheConstants.{MAX_DELAY, MAX_TIME};
 ghost use Rattle.gatestep.specs.Faults.{is_lost};
 ghost use Rattle.gatestep.specs.Record.{at_moment};
 ghost use Rattle.gatestep.specs.Step.{State, Evaluation, due};
-ghost use Rattle.gatestep.specs.Tasks.{IsTask, IsReady, PendingFrom, NothingDue, again};
+ghost use Rattle.gatestep.specs.Tasks.{IsTask, IsReady, PendingBefore, PendingFrom, NothingDue, again};
 
 use crate::driver::Driver;
 use crate::fault::StepFault;
@@ -23,13 +23,15 @@ pub trait Stepper {
     ghost losses: { Self → ℕ };
 
     /// Evaluates each task at the moment `t`, in time units, and puts the answers into `out` in the order of the tasks;
-    /// on an error `out` is empty. All tasks count as asked, on an error too.
+    /// on an error `out` is empty. All tasks count as asked, on an error too. An event that an answer adds lies at most the
+    /// greatest delay after `t`.
     fn step(&mut self, tasks: &[Task], t: u64, out: &mut Vec<Driver>) -> Result<(), StepFault>
         requires empty { out.old.items ≡ [] }
         requires ready { All (IsReady t) tasks.now }
         requires within { t ≤ MAX_TIME }
         ensures answers { OnOk result (out.new.items ≡ map (λ task. answer task t) tasks.now) }
         ensures later { OnOk result (All (PendingFrom (t + 1)) out.new.items) }
+        ensures near { OnOk result (All (λ task. PendingBefore (t + MAX_DELAY) task.state) tasks.now → All (PendingBefore (t + 1 + MAX_DELAY)) out.new.items) }
         ensures none { OnErr result (out.new.items ≡ []) }
         ensures recorded { asked self.new ≡ asked self.old ++ at_moment t tasks.now }
         ensures lost { losses self.new ≡ losses self.old + (if is_lost result then 1 else 0) };

@@ -2,9 +2,9 @@
 
 ghost use Rattle.std.specs.Prelude.{◌≡◌, ◌≤◌, ◌+◌, IsTrue, length};
 ghost use Rattle.fourstate.specs.Gates.{takes_inputs};
-ghost use Rattle.fourstate.specs.declared.limits.TheConstants.{MAX_TIME};
+ghost use Rattle.fourstate.specs.declared.limits.TheConstants.{MAX_DELAY, MAX_TIME};
 ghost use Rattle.gatestep.specs.Step.{advance};
-ghost use Rattle.gatestep.specs.Tasks.{IsTask, IsReady, PendingFrom};
+ghost use Rattle.gatestep.specs.Tasks.{IsTask, IsReady, PendingBefore, PendingFrom};
 
 use crate::driver::Driver;
 use arrayvec::ArrayVec;
@@ -64,6 +64,7 @@ pub fn next(task: &Task, t: u64) -> Driver
     requires within { t ≤ MAX_TIME }
     ensures next { result ≡ advance task.now t }
     ensures later { PendingFrom (t + 1) result }
+    ensures near { PendingBefore (t + MAX_DELAY) task.now.state → PendingBefore (t + 1 + MAX_DELAY) result }
 {
     let state = task.state.due(t);
     let value = gate_value(task.kind, task.inputs.as_slice());

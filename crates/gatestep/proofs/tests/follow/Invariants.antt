@@ -1,0 +1,6 @@
+use Rattle.gatestep.specs.Tasks.{PendingFrom}
+use Rattle.gatestep.proofs.tests.follow.Given as goal
+
+-- nothing pending is earlier than the moment
+abbrev pub invariant-loop-t : goal.invariant-loop-t
+invariant-loop-t g l = PendingFrom l.t-counter l.state

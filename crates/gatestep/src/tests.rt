@@ -1,0 +1,182 @@
+//! Gates followed through time by hand, and a stepper through its bound.
+
+ghost use Rattle.std.specs.Prelude.{◌≡◌, ◌<◌};
+
+use crate::{Driver, Serial, StepFault, Stepper, Task, next};
+use arrayvec::ArrayVec;
+use fourstate::Value::{One, Unknown, Zero};
+use fourstate::{Delays, GateKind, Value, fits};
+use std::alloc::Global;
+use std::process::Abort;
+use std::test::Fail;
+
+/// The value at a time of a list of changes, in order of time; x before the first.
+fn held(changes: &[(u64, Value)], t: u64) -> Value {
+    let mut value = Unknown;
+    for (time, next) in changes {
+        if *time <= t {
+            value = *next;
+        }
+    }
+    value
+}
+
+fn task(
+    rt: &impl Abort,
+    kind: GateKind,
+    delays: (u64, u64),
+    state: Driver,
+    inputs: &[Value],
+) -> Task
+    ensures { result.state ≡ state }
+{
+    let delays = Delays::new(delays.0, delays.1).expect(rt, "lawful delays");
+    let mut held = ArrayVec::new();
+    for input in inputs {
+        assert!(rt; held.try_push(*input).is_ok());
+    }
+    assert!(rt; fits(kind, held.as_slice().len()));
+    Task::new(kind, delays, state, held)
+}
+
+/// Follows a gate of one or two inputs up to the horizon, and compares its output at each moment.
+fn follow(
+    rt: &impl Abort,
+    kind: GateKind,
+    delays: (u64, u64),
+    first: &[(u64, Value)],
+    second: Option<&[(u64, Value)]>,
+    wanted: &[(u64, Value)],
+    horizon: u64,
+)
+    requires { horizon < 1000 }
+{
+    let mut state = Driver::start();
+    for t in 0..horizon + 1 {
+        assert_eq!(rt; state.due(t).cur, held(wanted, t), "{kind:?} at {t}");
+        state = match second {
+            None => next(&task(rt, kind, delays, state, &[held(first, t)]), t),
+            Some(second) => {
+                let inputs = [held(first, t), held(second, t)];
+                next(&task(rt, kind, delays, state, &inputs), t)
+            }
+        };
+    }
+}
+
+/// Follows a gate of delay 1 that reads its own output, after its first input if there is one.
+fn follow_loop(
+    rt: &impl Abort,
+    kind: GateKind,
+    first: Option<&[(u64, Value)]>,
+    wanted: &[(u64, Value)],
+    horizon: u64,
+)
+    requires { horizon < 1000 }
+{
+    let mut state = Driver::start();
+    for t in 0..horizon + 1 {
+        let output = state.due(t).cur;
+        assert_eq!(rt; output, held(wanted, t), "{kind:?} at {t}");
+        state = match first {
+            None => next(&task(rt, kind, (1, 1), state, &[output]), t),
+            Some(first) => {
+                let inputs = [held(first, t), output];
+                next(&task(rt, kind, (1, 1), state, &inputs), t)
+            }
+        };
+    }
+}
+
+#[test]
+fn a_buffer_swallows_a_short_pulse(rt: HostRuntime) {
+    let input = [(0, Zero), (10, One), (12, Zero)];
+    let output = [(0, Unknown), (3, Zero)];
+    follow(&rt, GateKind::Buf, (3, 3), &input, None, &output, 30);
+}
+
+#[test]
+fn a_buffer_passes_a_pulse_of_its_delay(rt: HostRuntime) {
+    let input = [(0, Zero), (10, One), (13, Zero)];
+    let output = [(0, Unknown), (3, Zero), (13, One), (16, Zero)];
+    follow(&rt, GateKind::Buf, (3, 3), &input, None, &output, 100);
+}
+
+#[test]
+fn the_lesser_delay_leads_to_x(rt: HostRuntime) {
+    let input = [(0, Zero), (20, One), (25, Unknown), (26, One)];
+    let output = [(0, Unknown), (1, Zero), (26, Unknown), (36, One)];
+    follow(&rt, GateKind::Buf, (10, 1), &input, None, &output, 50);
+}
+
+#[test]
+fn a_loop_swings_and_a_loop_of_x_stays(rt: HostRuntime) {
+    let enable = [(0, Zero), (5, One)];
+    let output = [
+        (0, Unknown),
+        (1, One),
+        (6, Zero),
+        (7, One),
+        (8, Zero),
+        (9, One),
+    ];
+    follow_loop(&rt, GateKind::Nand, Some(&enable), &output, 9);
+    follow_loop(&rt, GateKind::Not, None, &[(0, Unknown)], 9);
+}
+
+// The event for 0 at 5 stands while 0 is evaluated again at 2.
+#[test]
+fn a_pending_event_keeps_its_time(rt: HostRuntime) {
+    let first = [(0, Zero), (2, One)];
+    let second = [(0, Zero)];
+    let output = [(0, Unknown), (5, Zero)];
+    follow(
+        &rt,
+        GateKind::And,
+        (5, 5),
+        &first,
+        Some(&second),
+        &output,
+        20,
+    );
+}
+
+#[test]
+fn states_and_faults(rt: HostRuntime) {
+    let start = Driver::start();
+    assert_eq!(rt; start.cur, Unknown);
+    assert_eq!(rt; start.pend, None);
+    let waiting = Driver {
+        cur: Unknown,
+        pend: Some((One, 7)),
+    };
+    assert_eq!(rt; waiting.due(6), waiting);
+    assert_eq!(rt; waiting.due(7).cur, One);
+    assert_eq!(rt; waiting.due(7).pend, None);
+    assert_eq!(rt; StepFault::OutOfMemory as u8, 1);
+    assert_eq!(rt; StepFault::WorkerLost as u8, 2);
+}
+
+/// Three buffers at one moment: one waits for its event, one gets one, one has its value.
+fn step_three<S: Stepper>(rt: &impl Abort, alloc: Global, stepper: &mut S) -> Result<(), Fail> {
+    let waiting = Driver {
+        cur: Zero,
+        pend: Some((One, 9)),
+    };
+    let mut tasks = Vec::new(alloc);
+    tasks.push(task(rt, GateKind::Buf, (3, 4), waiting, &[One]))?;
+    tasks.push(task(rt, GateKind::Not, (3, 4), Driver::start(), &[One]))?;
+    tasks.push(task(rt, GateKind::Buf, (3, 4), Driver::start(), &[Unknown]))?;
+    let mut answers = Vec::new(alloc);
+    assert_eq!(rt; stepper.step(tasks.as_slice(), 5, &mut answers), Ok(()));
+    assert_eq!(rt; answers.len(), 3);
+    assert_eq!(rt; answers[0].pend, Some((One, 9)));
+    assert_eq!(rt; answers[1].pend, Some((Zero, 9)));
+    assert_eq!(rt; answers[2], Driver::start());
+    Ok(())
+}
+
+#[test]
+fn serial_answers_in_order(rt: HostRuntime) -> Result<(), Fail> {
+    step_three(&rt, rt.alloc(), &mut Serial::new())
+}
