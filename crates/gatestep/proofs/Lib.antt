@@ -1,0 +1,3 @@
+pub mod DeviceLemmas
+mod GhostSteps
+pub mod WriterLemmas

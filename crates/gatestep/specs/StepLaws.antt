@@ -33,7 +33,8 @@ advance_later e t task =
     let v : Value = gate_of e.kind e.inputs in
     rescheduled_later e.delays task.delays_in_range s v t (due_later e.state.current e.state.pending t) (is_pending v s.pending) (same_value v s.current) refl refl
 
-not_due : (s : State) (pending : Option (Value × ℕ)) (u : ℕ) → pending ≡ s.pending → NothingDue u s → due_of s.current pending u ≡ s
+-- a state in which nothing is due at u or before is as it stands at u
+pub not_due : (s : State) (pending : Option (Value × ℕ)) (u : ℕ) → pending ≡ s.pending → NothingDue u s → due_of s.current pending u ≡ s
 not_due s None u same later = grind (arith, common_steps)
 not_due s (Some event) u same later = grind (arith, common_steps)
 

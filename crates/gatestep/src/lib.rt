@@ -1,6 +1,7 @@
 //! One gate at one moment, and who evaluates it; the devices that bytes come from and go to.
 #![tactic(auto)]
 
+pub mod devices;
 mod driver;
 mod fault;
 mod record;
@@ -10,6 +11,7 @@ mod task;
 #[cfg(test)]
 mod tests;
 
+pub use devices::{Device, Reader, Sink, Source, Writer};
 pub use driver::Driver;
 pub use fault::StepFault;
 pub use record::Record;
