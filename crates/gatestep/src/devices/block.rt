@@ -14,11 +14,14 @@ pub(crate) struct Block {
 }
 
 impl Model for Block {
+    ghost use Rattle.std.specs.Prelude.{ℕ, List, ◌≤◌, take};
+    ghost use Rattle.gatestep.specs.declared.devices.block.TheConstants.{CAPACITY};
+
     ghost Value = { List ℕ };
 
     ghost view = { λ b. take b.filled b.bytes };
 
-    ghost invariant = { λ b. b.filled ≤ 4096 };
+    ghost invariant = { λ b. b.filled ≤ CAPACITY };
 }
 
 impl Block {
