@@ -1,0 +1,5 @@
+pub mod DesignLemmas
+pub mod KeyLemmas
+pub mod ListLemmas
+pub mod NameLemmas
+pub mod PointLemmas

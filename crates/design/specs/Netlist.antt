@@ -1,0 +1,124 @@
+-- A design as contracts see it: nets and gates in order, by name (IEEE 1364-2005, 12).
+use Rattle.std.specs.Prelude.{Bool, true, false, ℕ, ◌==◌, ◌++◌, not, nat_le, if◌then◌else◌, List, [], ◌∷◌, length, map, Option, None}
+use Rattle.std.specs.Ordering.{nat_cmp}
+use Rattle.std.specs.BTreeMap.{insert_entry}
+use Rattle.std.specs.List.{filter, find, last_or, list_any, sum_by}
+use Rattle.std.specs.Option.{option_map_or}
+use Rattle.fourstate.specs.declared.value.Value.{Value}
+use Rattle.fourstate.specs.declared.value.Value.TheVariants.{Unknown}
+use Rattle.fourstate.specs.declared.gate.GateKind.{GateKind}
+use Rattle.fourstate.specs.declared.net.NetKind.{NetKind}
+use Rattle.fourstate.specs.Delays.{DelayTimes}
+use Rattle.design.specs.declared.terminal.Terminal.{Terminal}
+use Rattle.design.specs.declared.terminal.Terminal.TheVariants.{Net, Constant}
+use Rattle.design.specs.declared.unit.TimeUnit.{TimeUnit}
+use Rattle.design.specs.Names.{same_name}
+
+-- a net: its stimulus points, in order of time, each with the value that the net has from then on
+pub record NetEntry : Type 0 where
+  pub name : List ℕ
+  pub kind : NetKind
+  pub is_input : Bool
+  pub points : List (ℕ × Value)
+
+-- a gate drives the net of the name output, and reads nets by name, or constants
+pub record GateEntry : Type 0 where
+  pub name : List ℕ
+  pub kind : GateKind
+  pub delays : DelayTimes
+  pub output : List ℕ
+  pub inputs : List Terminal
+
+-- a design: times are in units of `unit`, and a run ends at the horizon
+pub record Netlist : Type 0 where
+  pub top : List ℕ
+  pub unit : TimeUnit
+  pub nets : List NetEntry
+  pub gates : List GateEntry
+  pub horizon : ℕ
+
+-- a design with no nets and no gates
+abbrev pub empty_netlist : List ℕ → TimeUnit → Netlist
+empty_netlist top unit = record { top = top; unit = unit; nets = []; gates = []; horizon = 0 }
+
+-- Look-ups.
+
+-- the net of this name
+abbrev pub net_named : Netlist → List ℕ → Option NetEntry
+net_named d name = find (λ n. same_name n.name name) d.nets
+
+-- the gate of this name
+abbrev pub gate_named : Netlist → List ℕ → Option GateEntry
+gate_named d name = find (λ g. same_name g.name name) d.gates
+
+-- a net of this name is there
+abbrev pub has_net : Netlist → List ℕ → Bool
+has_net d name = list_any (λ n. same_name n.name name) d.nets
+
+-- a gate of this name is there
+abbrev pub has_gate : Netlist → List ℕ → Bool
+has_gate d name = list_any (λ g. same_name g.name name) d.gates
+
+-- a net of this name that is no input is there: gates may drive it
+abbrev pub is_drivable : Netlist → List ℕ → Bool
+is_drivable d name = option_map_or (λ n. not n.is_input) (net_named d name) false
+
+-- the terminal is a constant or names a net that is there
+abbrev pub is_readable : Netlist → Terminal → Bool
+is_readable d (Net name) = has_net d name
+is_readable d (Constant v) = true
+
+-- the gates that drive the net of this name
+abbrev pub drivers_of : Netlist → List ℕ → List GateEntry
+drivers_of d name = filter (λ g. same_name g.output name) d.gates
+
+-- the terminal names the net of this name
+abbrev pub is_at_net : List ℕ → Terminal → Bool
+is_at_net name (Net read) = same_name read name
+is_at_net name (Constant v) = false
+
+-- the gate reads the net of this name at one of its inputs
+abbrev pub reads : GateEntry → List ℕ → Bool
+reads g name = list_any (is_at_net name) g.inputs
+
+-- Stimulus.
+
+-- the value of the latest point at or before t, x without one
+abbrev pub stimulus : List (ℕ × Value) → ℕ → Value
+stimulus points t = option_map_or (λ point. point.1) (last_or None (filter (λ point. nat_le point.0 t) points)) Unknown
+
+-- one of the points is at t
+abbrev pub has_point : List (ℕ × Value) → ℕ → Bool
+has_point points t = list_any (λ point. point.0 == t) points
+
+-- how many points the nets have together
+abbrev pub point_total : List NetEntry → ℕ
+point_total nets = sum_by (λ n. length n.points) nets
+
+-- Edits.
+
+-- a net with no points
+abbrev pub new_net : List ℕ → NetKind → Bool → NetEntry
+new_net name kind is_input = record { name = name; kind = kind; is_input = is_input; points = [] }
+
+-- the net with a point set, in place of one at the same time
+abbrev pub net_with_point : NetEntry → ℕ → Value → NetEntry
+net_with_point n t v =
+    record { name = n.name; kind = n.kind; is_input = n.is_input; points = insert_entry nat_cmp n.points t v }
+
+-- the design with a net more
+abbrev pub with_net : Netlist → NetEntry → Netlist
+with_net d n = record { top = d.top; unit = d.unit; nets = d.nets ++ n ∷ []; gates = d.gates; horizon = d.horizon }
+
+-- the design with a gate more
+abbrev pub with_gate : Netlist → GateEntry → Netlist
+with_gate d g = record { top = d.top; unit = d.unit; nets = d.nets; gates = d.gates ++ g ∷ []; horizon = d.horizon }
+
+-- the design with a point set at the net of this name
+abbrev pub with_point : Netlist → List ℕ → ℕ → Value → Netlist
+with_point d name t v =
+    record { top = d.top; unit = d.unit; nets = map (λ n. if same_name n.name name then net_with_point n t v else n) d.nets; gates = d.gates; horizon = d.horizon }
+
+-- the design with another horizon
+abbrev pub with_horizon : Netlist → ℕ → Netlist
+with_horizon d t = record { top = d.top; unit = d.unit; nets = d.nets; gates = d.gates; horizon = t }

@@ -1,0 +1,120 @@
+//! Gates with their names, delays and connections.
+
+ghost use Rattle.std.specs.Prelude.{◌≡◌, IsTrue, length};
+ghost use Rattle.fourstate.specs.Gates.{takes_inputs};
+ghost use Rattle.design.specs.Lawful.{IsGate};
+
+use crate::name::Name;
+use crate::terminal::Terminal;
+use fourstate::laws::delays_in_range;
+use fourstate::{Delays, GateKind};
+use std::alloc::AllocError;
+use std::marker::Model;
+
+/// A gate instance: it drives the net of one name, and reads nets by name, or constants (IEEE 1364-2005, 7.1). The
+/// type keeps that the number of inputs fits the kind.
+#[derive(Debug, Drop)]
+pub struct Gate {
+    name: Name,
+    kind: GateKind,
+    delays: Delays,
+    output: Name,
+    inputs: Vec<Terminal>,
+}
+
+impl Model for Gate {
+    ghost use Rattle.design.specs.Netlist.{GateEntry};
+    ghost use Rattle.design.specs.Lawful.{IsGate};
+
+    ghost Value = { GateEntry };
+
+    ghost view = { λ a. record { name = a.name; kind = a.kind; delays = a.delays; output = a.output; inputs = a.inputs.items } };
+
+    ghost invariant = { λ a. IsGate (record { name = a.name; kind = a.kind; delays = a.delays; output = a.output; inputs = a.inputs.items }) };
+}
+
+impl Gate {
+    /// A gate of this many inputs, in the order of its terminals after the output.
+    pub fn new(
+        name: Name,
+        kind: GateKind,
+        delays: Delays,
+        output: Name,
+        inputs: Vec<Terminal>,
+    ) -> Gate
+        requires { IsTrue (takes_inputs kind (length inputs.items)) }
+        ensures { result ≡ record { name = name; kind = kind; delays = delays; output = output; inputs = inputs.items } }
+    {
+        name.lawful();
+        delays_in_range(&delays);
+        Gate {
+            name,
+            kind,
+            delays,
+            output,
+            inputs,
+        }
+    }
+
+    /// The gate's name.
+    pub fn name(&self) -> &Name
+        ensures { result.now ≡ self.now.name }
+    {
+        &self.name
+    }
+
+    /// The gate's kind.
+    pub fn kind(&self) -> GateKind
+        ensures { result ≡ self.now.kind }
+    {
+        self.kind
+    }
+
+    /// The gate's delays.
+    pub fn delays(&self) -> Delays
+        ensures { result ≡ self.now.delays }
+    {
+        self.delays
+    }
+
+    /// The name of the net that the gate drives.
+    pub fn output(&self) -> &Name
+        ensures { result.now ≡ self.now.output }
+    {
+        &self.output
+    }
+
+    /// What each input is connected to, in order; their number fits the kind.
+    pub fn inputs(&self) -> &[Terminal]
+        ensures inputs { result.now ≡ self.now.inputs }
+        ensures fit { IsTrue (takes_inputs self.now.kind (length result.now)) }
+    {
+        self.inputs.as_slice()
+    }
+
+    /// The law of every gate; nothing runs.
+    pub fn lawful(&self)
+        ensures { IsGate self.now }
+    {
+        let _inputs = &self.inputs;
+    }
+}
+
+impl Clone for Gate {
+    ghost use Rattle.std.specs.Prelude.{◌≡◌};
+
+    ghost is_clone = { λ old new. new ≡ old };
+
+    fn clone(&self) -> Result<Gate, AllocError> {
+        let name = self.name.clone()?;
+        let output = self.output.clone()?;
+        let inputs = self.inputs.clone()?;
+        Ok(Gate {
+            name,
+            kind: self.kind,
+            delays: self.delays,
+            output,
+            inputs,
+        })
+    }
+}

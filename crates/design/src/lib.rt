@@ -1,0 +1,27 @@
+//! Designs: nets and gates by name, with the stimulus of the inputs (IEEE 1364-2005, 12).
+#![tactic(auto)]
+
+mod design;
+mod edit;
+mod find;
+mod gate;
+mod key;
+mod key_lists;
+mod limits;
+mod name;
+mod net;
+mod points;
+mod terminal;
+#[cfg(test)]
+mod tests;
+mod unit;
+mod wiring;
+
+pub use design::Design;
+pub use gate::Gate;
+pub use key::{GateKey, NetKey};
+pub use limits::{MAX_GATES, MAX_NAME, MAX_NETS, MAX_POINTS};
+pub use name::Name;
+pub use net::Net;
+pub use terminal::Terminal;
+pub use unit::{Magnitude, TimeUnit, Unit};

@@ -1,0 +1,79 @@
+//! Names of nets, gates and designs.
+
+ghost use Rattle.std.specs.Prelude.{◌≡◌, IsTrue, IfOk};
+ghost use Rattle.std.specs.List.{list_all};
+ghost use Rattle.design.specs.Names.{is_name, is_name_byte};
+
+use crate::limits::MAX_NAME;
+use std::alloc::{AllocError, Global};
+use std::marker::Model;
+
+/// A name: 1 to 1,024 bytes, each 33 to 126 without the apostrophe and the dot, and not `$end` (own). The type keeps
+/// this.
+#[derive(Debug, Drop)]
+pub struct Name {
+    text: String,
+}
+
+impl Model for Name {
+    ghost use Rattle.std.specs.Prelude.{ℕ, List, IsTrue, string_bytes};
+    ghost use Rattle.design.specs.Names.{is_name};
+
+    ghost Value = { List ℕ };
+
+    ghost view = { λ a. string_bytes a.text };
+
+    ghost invariant = { λ a. IsTrue (is_name (string_bytes a.text)) };
+}
+
+impl Name {
+    /// Whether a text may be a name.
+    pub fn is_valid(text: &str) -> bool
+        ensures { result ≡ is_name text.now }
+    {
+        1 <= text.len()
+            && text.len() <= MAX_NAME
+            && are_name_bytes(text.as_bytes())
+            && text != "$end"
+    }
+
+    /// The name that a text is.
+    pub fn new(alloc: Global, text: &str) -> Result<Name, AllocError>
+        requires { IsTrue (is_name text.now) }
+        ensures { IfOk result (λ name. name ≡ text.now) }
+    {
+        let text = String::from_str(alloc, text)?;
+        Ok(Name { text })
+    }
+
+    /// The name as text.
+    pub fn as_str(&self) -> &str
+        ensures { result.now ≡ self.now }
+    {
+        self.text.as_str()
+    }
+
+    /// The law of every name; nothing runs.
+    pub fn lawful(&self)
+        ensures { IsTrue (is_name self.now) }
+    {
+        let _text = &self.text;
+    }
+}
+
+impl Clone for Name {
+    ghost use Rattle.std.specs.Prelude.{◌≡◌};
+
+    ghost is_clone = { λ old new. new ≡ old };
+
+    fn clone(&self) -> Result<Name, AllocError> {
+        let text = self.text.clone()?;
+        Ok(Name { text })
+    }
+}
+
+fn are_name_bytes(bytes: &[u8]) -> bool
+    ensures { result ≡ list_all is_name_byte bytes.now }
+{
+    bytes.iter().all(|byte| 33 <= *byte && *byte <= 126 && *byte != b'\'' && *byte != b'.')
+}
