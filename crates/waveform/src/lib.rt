@@ -1,0 +1,21 @@
+//! Stored waves of nets and traces of drivers: functions of time, kept as the entries at which they change.
+#![tactic(auto)]
+
+mod change;
+mod entries;
+mod entry;
+mod run;
+mod sample;
+#[cfg(test)]
+mod tests;
+mod timeline;
+mod trace;
+mod wave;
+
+pub use change::Change;
+pub use entry::TraceEntry;
+pub use run::Run;
+pub use sample::Sample;
+pub use timeline::Timeline;
+pub use trace::Trace;
+pub use wave::Wave;

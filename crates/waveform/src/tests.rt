@@ -1,0 +1,189 @@
+//! Waves, traces and runs, with their entries worked out by hand.
+
+ghost use Rattle.std.specs.Prelude.{◌≡◌, ◌≢◌, Some, None};
+
+use crate::{Change, Run, Trace, TraceEntry, Wave};
+use fourstate::Value;
+use gatestep::Driver;
+use std::alloc::{AllocError, Global};
+use std::test::Fail;
+
+/// The wave `0 x / 3 0 / 13 1 / 16 0`.
+fn pulse(alloc: Global) -> Result<Wave, AllocError> {
+    let mut wave = Wave::open(alloc, Value::Unknown)?;
+    wave.push(3, Value::Zero)?;
+    wave.push(13, Value::One)?;
+    wave.push(16, Value::Zero)?;
+    Ok(wave)
+}
+
+fn change(time: u64, value: Value) -> Change {
+    Change { time, value }
+}
+
+#[test]
+fn waves_keep_changes_alone(rt: HostRuntime) -> Result<(), Fail> {
+    let mut wave = pulse(rt.alloc())?;
+    let changes = [
+        change(0, Value::Unknown),
+        change(3, Value::Zero),
+        change(13, Value::One),
+        change(16, Value::Zero),
+    ];
+    assert_eq!(rt; wave.changes(), changes.as_slice());
+    assert_eq!(rt; wave.last(), (16, Value::Zero));
+    wave.cut(13);
+    assert_eq!(rt; wave.changes(), &changes[..3]);
+    wave.cut(12);
+    assert_eq!(rt; wave.changes(), &changes[..2]);
+    Ok(())
+}
+
+#[test]
+fn waves_are_looked_up(rt: HostRuntime) -> Result<(), Fail> {
+    let wave = pulse(rt.alloc())?;
+    for (t, value) in [
+        (0, Value::Unknown),
+        (2, Value::Unknown),
+        (3, Value::Zero),
+        (12, Value::Zero),
+        (13, Value::One),
+        (15, Value::One),
+        (1000, Value::Zero),
+    ] {
+        assert_eq!(rt; wave.at(t), value, "at {t}");
+    }
+    assert_eq!(rt; wave.next_after(3), Some((13, Value::One)));
+    assert_eq!(rt; wave.next_after(2), Some((3, Value::Zero)));
+    assert_eq!(rt; wave.next_after(16), None);
+    assert_eq!(rt; wave.last_before(3), Some((0, Value::Unknown)));
+    assert_eq!(rt; wave.last_before(4), Some((3, Value::Zero)));
+    assert_eq!(rt; wave.last_before(0), None);
+    assert_eq!(rt; wave.next_value(0, Value::Zero), Some((3, Value::Zero)));
+    assert_eq!(rt; wave.next_value(3, Value::Zero), Some((16, Value::Zero)));
+    assert_eq!(rt; wave.next_value(0, Value::HighZ), None);
+    Ok(())
+}
+
+#[test]
+fn repeated_values_are_not_stored(rt: HostRuntime) -> Result<(), Fail> {
+    let mut wave = Wave::open(rt.alloc(), Value::Zero)?;
+    wave.push(4, Value::Zero)?;
+    wave.push(5, Value::One)?;
+    wave.push(9, Value::One)?;
+    let changes = [change(0, Value::Zero), change(5, Value::One)];
+    assert_eq!(rt; wave.changes(), changes.as_slice());
+    Ok(())
+}
+
+#[test]
+fn waves_are_spliced(rt: HostRuntime) -> Result<(), Fail> {
+    let unknown = Wave::open(rt.alloc(), Value::Unknown)?;
+    let mut wave = Wave::open(rt.alloc(), Value::Zero)?;
+    wave.push(5, Value::One)?;
+    wave.splice(3, 6, &unknown)?;
+    let changes = [
+        change(0, Value::Zero),
+        change(3, Value::Unknown),
+        change(7, Value::One),
+    ];
+    assert_eq!(rt; wave.changes(), changes.as_slice());
+
+    // From 0 on, over changes of its own, up to a moment after which the old value is the same.
+    let mut wave = pulse(rt.alloc())?;
+    let mut other = Wave::open(rt.alloc(), Value::HighZ)?;
+    other.push(6, Value::One)?;
+    other.push(15, Value::Zero)?;
+    wave.splice(0, 13, &other)?;
+    let changes = [
+        change(0, Value::HighZ),
+        change(6, Value::One),
+        change(16, Value::Zero),
+    ];
+    assert_eq!(rt; wave.changes(), changes.as_slice());
+    Ok(())
+}
+
+/// The state of a driver that has this value, with nothing pending.
+fn standing(value: Value) -> Driver
+    ensures { result ≡ record { current = value; pending = None } }
+{
+    Driver {
+        cur: value,
+        pend: None,
+    }
+}
+
+/// The state of a driver that has this value, and becomes the other one at `time`.
+fn moving(value: Value, next: Value, time: u64) -> Driver
+    requires { next ≢ value }
+    ensures { result ≡ record { current = value; pending = Some (next, time) } }
+{
+    Driver {
+        cur: value,
+        pend: Some((next, time)),
+    }
+}
+
+#[test]
+fn a_due_event_has_no_entry(rt: HostRuntime) -> Result<(), Fail> {
+    let falling = moving(Value::Unknown, Value::Zero, 3);
+    let low = standing(Value::Zero);
+    let rising = moving(Value::Zero, Value::One, 12);
+    let mut trace = Trace::open(rt.alloc(), falling)?;
+    trace.push(3, low)?;
+    trace.push(7, rising)?;
+    assert_eq!(rt;
+        trace.entries(),
+        [TraceEntry::new(0, falling), TraceEntry::new(7, rising)].as_slice()
+    );
+    assert_eq!(rt; trace.at(2), falling);
+    assert_eq!(rt; trace.at(3), low);
+    assert_eq!(rt; trace.at(6), low);
+    assert_eq!(rt; trace.at(11), rising);
+    assert_eq!(rt; trace.at(12), standing(Value::One));
+    assert_eq!(rt; trace.next_after(0), Some((7, rising)));
+    assert_eq!(rt; trace.last_before(7), Some((0, falling)));
+    assert_eq!(rt; trace.next_value(0, low), None);
+    let entry = TraceEntry::new(7, rising);
+    assert_eq!(rt; entry.time(), 7);
+    assert_eq!(rt; entry.state(), rising);
+    trace.cut(6);
+    assert_eq!(rt; trace.last(), (0, falling));
+    Ok(())
+}
+
+#[test]
+fn a_spliced_trace_takes_over_what_is_pending(rt: HostRuntime) -> Result<(), Fail> {
+    let rising = moving(Value::Zero, Value::One, 12);
+    let mut trace = Trace::open(rt.alloc(), standing(Value::Unknown))?;
+    let other = Trace::open(rt.alloc(), rising)?;
+    trace.splice(4, 20, &other)?;
+    assert_eq!(rt; trace.at(3), standing(Value::Unknown));
+    assert_eq!(rt; trace.at(4), rising);
+    assert_eq!(rt; trace.at(12), standing(Value::One));
+    assert_eq!(rt; trace.at(20), standing(Value::One));
+    assert_eq!(rt; trace.at(21), standing(Value::Unknown));
+    assert_eq!(rt; trace.entries().len(), 3);
+    Ok(())
+}
+
+#[test]
+fn a_run_keeps_waves_and_traces(rt: HostRuntime) -> Result<(), Fail> {
+    let mut run = Run::new(rt.alloc(), 20);
+    run.push_wave(pulse(rt.alloc())?)?;
+    run.push_wave(Wave::open(rt.alloc(), Value::HighZ)?)?;
+    run.push_trace(Trace::open(rt.alloc(), Driver::start())?)?;
+    assert_eq!(rt; run.wave_count(), 2);
+    assert_eq!(rt; run.trace_count(), 1);
+    assert_eq!(rt; run.horizon(), 20);
+    assert_eq!(rt; run.wave(0).ok_or("no wave")?.at(13), Value::One);
+    assert_eq!(rt;
+        run.wave(1).ok_or("no wave")?.changes(),
+        [change(0, Value::HighZ)].as_slice()
+    );
+    assert_eq!(rt; run.trace(0).ok_or("no trace")?.at(5), Driver::start());
+    assert!(rt; run.wave(2).is_none());
+    assert!(rt; run.trace(1).is_none());
+    Ok(())
+}

@@ -1,0 +1,83 @@
+//! Functions of time, kept as entries.
+
+ghost use Rattle.std.specs.Prelude.{◌≡◌, ◌<◌, ◌≤◌, ℕ, nat_lt, [], ◌∷◌, map, All, IfOk, OnOk, OnErr, Some, if◌then◌else◌};
+ghost use Rattle.std.specs.List.{last_or};
+ghost use Rattle.waveform.specs.Timelines.{IsTimeline, pushed, value_by, entries_until};
+
+mod look;
+mod splice;
+
+use crate::entries::{count_until, last_entry, push_value};
+use crate::sample::Sample;
+use std::alloc::{AllocError, Global};
+use std::marker::Model;
+
+/// A function of time, kept as the entries at which it changes other than by itself (own). Contracts see the list of its
+/// entries, each a moment, in time units, and a value. The first one lies at 0, and each stores another value than the
+/// one before it has become.
+#[derive(Drop)]
+pub struct Timeline<V: Sample> {
+    entries: Vec<V::Entry>,
+}
+
+impl<V: Sample> Model for Timeline<V> {
+    ghost use Rattle.std.specs.Prelude.{ℕ, List, map, All};
+    ghost use Rattle.waveform.specs.Timelines.{IsTimeline};
+
+    ghost Value = { List (ℕ × V) };
+
+    ghost view = { λ a. map V.stored a.entries.items };
+
+    ghost invariant = { λ a. IsTimeline V.same V.drift (map V.stored a.entries.items) × All (λ e. V.can_store e.0 e.1) (map V.stored a.entries.items) };
+}
+
+impl<V: Sample> Timeline<V> {
+    /// The function that begins with this value and changes by itself alone. It fails for want of memory.
+    pub fn open(alloc: Global, value: V) -> Result<Timeline<V>, AllocError>
+        requires { V.can_store 0 value }
+        ensures { IfOk result (λ timeline. timeline ≡ (0, value) ∷ []) }
+    {
+        let mut entries = Vec::with_capacity(alloc, 1)?;
+        entries.push(value.entry(0))?;
+        Ok(Timeline { entries })
+    }
+
+    /// Gives the function this value from `t` on, in time units, a moment after all entries. Nothing is stored where it has
+    /// that value by itself. It fails for want of memory, and then nothing has changed.
+    pub fn push(&mut self, t: u64, value: V) -> Result<(), AllocError>
+        requires later { All (λ entry. entry.0 < t) self.old }
+        requires can { V.can_store t value }
+        ensures ok { OnOk result (self.new ≡ pushed V.same V.drift self.old t value) }
+        ensures value { OnOk result ((u : ℕ) → value_by V.drift V.start self.new u
+            ≡ (if nat_lt u t then value_by V.drift V.start self.old u else V.drift value u)) }
+        ensures err { OnErr result (self.new ≡ self.old) }
+    {
+        push_value::<V>(&mut self.entries, t, value)?;
+        Ok(())
+    }
+
+    /// Leaves out all entries after `t`, in time units. It takes no memory.
+    pub fn cut(&mut self, t: u64)
+        ensures { self.new ≡ entries_until self.old t }
+    {
+        let count = count_until::<V>(self.entries.as_slice(), t);
+        self.entries.truncate(count);
+    }
+
+    /// The last entry: its moment, in time units, and its value. Each call tells what every timeline keeps.
+    pub fn last(&self) -> (u64, V)
+        ensures last { last_or None self.now ≡ Some result }
+        ensures latest { All (λ entry. entry.0 ≤ result.0) self.now }
+        ensures timeline { IsTimeline V.same V.drift self.now }
+        ensures stored { All (λ entry. V.can_store entry.0 entry.1) self.now }
+    {
+        last_entry::<V>(self.entries.as_slice())
+    }
+
+    /// The entries as they are stored, in order of time.
+    pub(crate) fn stored(&self) -> &[V::Entry]
+        ensures { map V.stored result.now ≡ self.now }
+    {
+        self.entries.as_slice()
+    }
+}

@@ -1,0 +1,74 @@
+//! Waves: what a net has at each moment.
+
+ghost use Rattle.std.specs.Prelude.{◌≡◌, ⊤, refl};
+ghost use Rattle.fourstate.specs.Values.{same_value};
+ghost use Rattle.fourstate.specs.declared.value.Value.TheVariants.{Unknown};
+ghost use Rattle.fourstate.proofs.Tables.{is_same, same_self};
+ghost use Rattle.waveform.specs.Entries.{standing};
+
+use crate::change::Change;
+use crate::sample::Sample;
+use crate::timeline::Timeline;
+use fourstate::Value;
+
+/// What a net has at each moment, kept as its changes.
+pub type Wave = Timeline<Value>;
+
+/// A value stands until the next change, and any value can be stored at any moment.
+impl Sample for Value {
+    type Entry = Change;
+
+    ghost stored = { λ change. change };
+
+    ghost same = { same_value };
+
+    ghost drift = { standing };
+
+    ghost start = { Unknown };
+
+    ghost can_store = { λ _ _. ⊤ };
+
+    #[inline(always)]
+    fn entry(self, time: u64) -> Change {
+        Change { time, value: self }
+    }
+
+    #[inline(always)]
+    fn time(entry: &Change) -> u64 {
+        entry.time
+    }
+
+    #[inline(always)]
+    fn sample(entry: &Change) -> Value {
+        entry.value
+    }
+
+    #[inline(always)]
+    fn drifted(self, _time: u64) -> Value {
+        self
+    }
+
+    #[inline(always)]
+    fn is_same(self, other: Value) -> bool {
+        self == other
+    }
+
+    ghost same_is_equal = { is_same };
+
+    ghost equal_is_same = { same_self };
+
+    ghost drift_twice = { λ a s u le. refl };
+
+    ghost stored_is_settled = { λ t a can. refl };
+
+    ghost stored_later = { λ t u a le can. can };
+}
+
+impl Timeline<Value> {
+    /// The changes, in order of time.
+    pub fn changes(&self) -> &[Change]
+        ensures { result.now ≡ self.now }
+    {
+        self.stored()
+    }
+}
