@@ -1,0 +1,5 @@
+pub mod Drivers
+pub mod Moments
+pub mod Places
+pub mod Runs
+pub mod Zips

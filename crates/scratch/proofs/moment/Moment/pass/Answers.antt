@@ -1,0 +1,49 @@
+use Rattle.std.proofs.Common.{◌≡◌, ◌+◌, ◌∙◌, ap, map, Result, Ok, Err, OnOk, add-one}
+use Rattle.fourstate.specs.declared.limits.TheConstants.{MAX_DELAY}
+use Rattle.gatestep.specs.Tasks.{PendingBefore, PendingFrom}
+use Rattle.scratch.specs.Run.{evaluation_at, net_at, state_before}
+use Rattle.scratch.proofs.Moments.{evaluations_are, map_twice, task_states, values_are}
+use Rattle.scratch.proofs.moment.Moment.pass.Goals as goal
+
+-- what holds anyway holds on an `Ok`
+held : {A E P : Type 0} (r : Result A E) → P → OnOk r P
+held (Ok x) p = p
+held (Err e) p = tt
+
+-- what follows from what an `Ok` tells
+mapped : {A E P Q : Type 0} (r : Result A E) → OnOk r P → (P → Q) → OnOk r Q
+mapped (Ok x) p follows = follows p
+mapped (Err e) p follows = tt
+
+pub step-requires-clause-ready : goal.step-requires-clause-ready
+step-requires-clause-ready g c =
+    rw (c.in_ok-find_tasks.ensures, c.as_slice-4.ensures.value)
+    (task_states (PendingFrom c.args.t) c.as_slice-3.result.now c.args.wiring.now.cells.items c.args.self.now.states.items c.requires.ready)
+
+pub step-requires-clause-near : goal.step-requires-clause-near
+step-requires-clause-near g c =
+    rw (c.in_ok-find_tasks.ensures, c.as_slice-4.ensures.value)
+    (task_states (PendingBefore (c.args.t + MAX_DELAY)) c.as_slice-3.result.now c.args.wiring.now.cells.items c.args.self.now.states.items c.requires.near)
+
+pub returns-clause-values : goal.returns-clause-values
+returns-clause-values g c =
+    let d = c.args.design.now.netlist in
+    let before = state_before g.S.Stepper.answer d c.args.t in
+    let values : c.find_values.new.out.items ≡ map (λ n. net_at d before n c.args.t) d.nets =
+    rw (c.in_ok-find_values.ensures, c.as_slice-2.ensures.value, c.in_ok-find_currents.ensures, c.as_slice.ensures.value)
+    (values_are d before c.args.t c.args.self.now.states.items _ c.requires.states c.requires.wired.drivers) in
+    held c.step.result (c.step.ensures.values ∙ values)
+
+pub returns-clause-states : goal.returns-clause-states
+returns-clause-states g c =
+    let d = c.args.design.now.netlist in
+    let answer = g.S.Stepper.answer in
+    let before = state_before answer d c.args.t in
+    let values : c.as_slice-3.result.now ≡ map (λ n. net_at d before n c.args.t) d.nets =
+    rw (c.as_slice-3.ensures.value, c.in_ok-find_values.ensures, c.as_slice-2.ensures.value, c.in_ok-find_currents.ensures, c.as_slice.ensures.value)
+    (values_are d before c.args.t c.args.self.now.states.items _ c.requires.states c.requires.wired.drivers) in
+    let tasks : c.find_tasks.new.out.items ≡ map (λ g. evaluation_at d before g c.args.t) d.gates =
+    rw (c.in_ok-find_tasks.ensures, c.as_slice-4.ensures.value)
+    (evaluations_are d before c.args.t c.as_slice-3.result.now c.args.wiring.now.cells.items c.args.self.now.states.items values c.requires.wired.cells c.requires.states) in
+    mapped c.step.result c.step.ensures.states (λ answers.
+    rw add-one (answers ∙ ap (map (λ task. answer task c.args.t)) tasks ∙ map_twice (λ g. evaluation_at d before g c.args.t) (λ task. answer task c.args.t) d.gates))

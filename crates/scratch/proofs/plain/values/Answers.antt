@@ -1,0 +1,32 @@
+use Rattle.std.proofs.Common.{◌≡◌, ◌+◌, refl, suc, add-one, arith}
+use Rattle.std.proofs.lemmas.Grind.{common_steps}
+use Rattle.std.proofs.lemmas.List.{map-append}
+use Rattle.fourstate.specs.declared.limits.TheConstants.{MAX_DELAY}
+use Rattle.gatestep.specs.Step.{initial}
+use Rattle.gatestep.specs.Tasks.{PendingBefore, PendingFrom}
+use Rattle.scratch.proofs.Runs.{all_map}
+use Rattle.scratch.proofs.plain.values.Goals as goal
+
+pub loop-t-init : goal.loop-t-init
+loop-t-init g c =
+    let gates = c.args.design.now.netlist.gates in
+    record {
+      states = c.in_ok-moment.ensures.states;
+      ready = rw c.in_ok-moment.ensures.states (all_map (PendingFrom 0) (λ _. initial) (λ gate event none. absurd (cc)) gates);
+      near = rw c.in_ok-moment.ensures.states (all_map (PendingBefore (0 + MAX_DELAY)) (λ _. initial) (λ gate event none. absurd (cc)) gates);
+      rows = rw c.new-rows.ensures.items refl;
+    }
+
+pub loop-t-preserved : goal.loop-t-preserved
+loop-t-preserved g c =
+    record {
+      states = c.in_ok-pass.ensures.states;
+      ready = c.in_ok-pass.ensures.ready;
+      near = c.in_ok-pass.ensures.near;
+      rows = rw (add-one, c.in_ok-push_row.ensures, c.loop-t.invariant.rows, map-append, c.as_slice.ensures.value, c.in_ok-pass.ensures.values) refl;
+    }
+
+pub returns : goal.returns
+returns g c =
+    let at_end : c.loop-t.t ≡ suc c.args.design.now.netlist.horizon = grind (arith, common_steps) in
+    rw (c.loop-t.invariant.rows, at_end) refl

@@ -1,0 +1,7 @@
+use Rattle.std.proofs.Common.{◌≡◌, map, take}
+use Rattle.scratch.specs.Kept.{cell_of}
+use Rattle.scratch.proofs.wiring.all_cells.Given as goal
+
+-- the cells so far
+abbrev pub invariant-loop-place : goal.invariant-loop-place
+invariant-loop-place l = l.cells.items ≡ map (cell_of l.design.netlist) (take l.place l.design.netlist.gates)

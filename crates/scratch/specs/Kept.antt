@@ -1,0 +1,65 @@
+-- One moment over what the simulator keeps: the state of each gate's driver in the order of the gates, the value of each
+-- net in the order of the nets, and places in these orders in place of names.
+use Rattle.std.specs.Prelude.{◌≡◌, ℕ, if◌then◌else◌, List, map, slice_get, unwrap_or}
+use Rattle.std.specs.List.{filter, zip, position_from, enumerate_from}
+use Rattle.std.specs.Option.{option_map_or}
+use Rattle.fourstate.specs.declared.value.Value.{Value}
+use Rattle.fourstate.specs.declared.value.Value.TheVariants.{Unknown}
+use Rattle.fourstate.specs.Nets.{net_of}
+use Rattle.gatestep.specs.Step.{State, Evaluation, due}
+use Rattle.design.specs.declared.terminal.Terminal.{Terminal}
+use Rattle.design.specs.declared.terminal.Terminal.TheVariants.{Net, Constant}
+use Rattle.design.specs.Names.{same_name}
+use Rattle.design.specs.Netlist.{NetEntry, GateEntry, Netlist, stimulus}
+use Rattle.scratch.specs.declared.wiring.Input.{Input}
+use Rattle.scratch.specs.declared.wiring.Input.TheVariants.{At, Fixed}
+use Rattle.scratch.specs.Cells.{CellRecord}
+use Rattle.scratch.specs.declared.wiring.Wiring.{Wiring}
+
+-- where a terminal gets its value from
+abbrev pub input_of : Netlist → Terminal → Input
+input_of d (Net name) = option_map_or At (position_from (λ n. same_name n.name name) 0 d.nets) (Fixed Unknown)
+input_of d (Constant v) = Fixed v
+
+-- a gate of the design as it is evaluated
+abbrev pub cell_of : Netlist → GateEntry → CellRecord
+cell_of d g = record { kind = g.kind; delays = g.delays; inputs = map (input_of d) g.inputs }
+
+-- the places of the gates that drive the net of this name
+abbrev pub driver_places : List GateEntry → List ℕ → List ℕ
+driver_places gates name = map (λ p. p.0) (filter (λ p. same_name p.1.output name) (enumerate_from 0 gates))
+
+-- these are the connections of the design
+pub record IsWiring (d : Netlist) (w : Wiring) : Type 0 where
+  pub cells : w.cells.items ≡ map (cell_of d) d.gates
+  pub drivers : map (λ places. places.items) w.drivers.items ≡ map (λ n. driver_places d.gates n.name) d.nets
+
+-- the values at some places
+abbrev pub values_at : List Value → List ℕ → List Value
+values_at values places = map (λ place. unwrap_or (slice_get values place) Unknown) places
+
+-- the current values of states once their due events have become current
+abbrev pub currents_of : List State → ℕ → List Value
+currents_of states t = map (λ s. (due s t).current) states
+
+-- the value of a net whose drivers are at these places
+abbrev pub net_from : List Value → ℕ → NetEntry → List ℕ → Value
+net_from currents t n places = if n.is_input then stimulus n.points t else net_of n.kind (values_at currents places)
+
+-- the value of each net at t, from the current values of the drivers
+abbrev pub values_from : Netlist → List (List ℕ) → List Value → ℕ → List Value
+values_from d drivers currents t = map (λ p. net_from currents t p.0 p.1) (zip d.nets drivers)
+
+-- the value that an input reads
+abbrev pub input_value : List Value → Input → Value
+input_value values (At place) = unwrap_or (slice_get values place) Unknown
+input_value values (Fixed v) = v
+
+-- what is evaluated of a cell in this state
+abbrev pub evaluation_from : List Value → CellRecord → State → Evaluation
+evaluation_from values cell state =
+    record { kind = cell.kind; delays = cell.delays; state = state; inputs = map (input_value values) cell.inputs }
+
+-- what is evaluated of each cell
+abbrev pub evaluations_from : List Value → List CellRecord → List State → List Evaluation
+evaluations_from values cells states = map (λ p. evaluation_from values p.0 p.1) (zip cells states)

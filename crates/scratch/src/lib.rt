@@ -1,0 +1,13 @@
+//! The run of a design from scratch: what each net has and in which state each gate's driver is, at each moment.
+#![tactic(auto)]
+
+mod moment;
+#[cfg(test)]
+mod plain;
+mod recording;
+mod run;
+#[cfg(test)]
+mod tests;
+mod wiring;
+
+pub use run::simulate;

@@ -1,0 +1,214 @@
+//! One moment of a run: due events become current, then nets are resolved, then gates are evaluated.
+
+ghost use Rattle.std.specs.Prelude.{◌≡◌, ◌≤◌, ◌+◌, map, length, slice_get, unwrap_or, All, OnOk, IfOk, if◌then◌else◌};
+ghost use Rattle.fourstate.specs.declared.limits.TheConstants.{MAX_DELAY, MAX_TIME};
+ghost use Rattle.gatestep.specs.Faults.{is_lost};
+ghost use Rattle.gatestep.specs.Step.{initial};
+ghost use Rattle.gatestep.specs.Tasks.{IsReady, PendingBefore, PendingFrom};
+ghost use Rattle.scratch.specs.Kept.{IsWiring, currents_of, evaluation_from, evaluations_from, input_value, net_from, values_at, values_from};
+ghost use Rattle.scratch.specs.Run.{state_before, value};
+
+use crate::wiring::{Cell, Input, Wiring};
+use arrayvec::ArrayVec;
+use design::{Design, Net};
+use fourstate::{Value, resolve};
+use gatestep::{Driver, StepFault, Stepper, Task};
+use std::alloc::{AllocError, Global};
+use std::mem::swap;
+
+/// What stands at a moment, and the buffers in which it is found; they live through a run.
+#[derive(Drop)]
+pub struct Moment {
+    /// The state of each gate's driver, in the order of the gates.
+    pub states: Vec<Driver>,
+    /// The value of each net, in the order of the nets.
+    pub values: Vec<Value>,
+    currents: Vec<Value>,
+    driven: Vec<Value>,
+    tasks: Vec<Task>,
+    answers: Vec<Driver>,
+}
+
+impl Moment {
+    /// What stands before moment 0: each driver holds x with nothing pending.
+    pub fn before(alloc: Global, design: &Design) -> Result<Moment, AllocError>
+        ensures states { IfOk result (λ moment. moment.states.items ≡ map (λ _. initial) design.now.netlist.gates) }
+    {
+        let mut states = Vec::with_capacity(alloc, design.gate_count())?;
+        for _ in 0..design.gate_count() {
+            states.push(Driver::start())?;
+        }
+        Ok(Moment {
+            states,
+            values: Vec::new(alloc),
+            currents: Vec::new(alloc),
+            driven: Vec::new(alloc),
+            tasks: Vec::new(alloc),
+            answers: Vec::new(alloc),
+        })
+    }
+
+    /// Goes from what stood before the moment `t`, in time units, to what stands after it. No step is made without a
+    /// task. After a fault what stands is not known.
+    pub fn pass<S: Stepper>(
+        &mut self,
+        design: &Design,
+        wiring: &Wiring,
+        stepper: &mut S,
+        t: u64,
+    ) -> Result<(), StepFault>
+        requires wired { IsWiring design.now.netlist wiring.now }
+        requires states { self.old.states.items ≡ map (state_before S.answer design.now.netlist t) design.now.netlist.gates }
+        requires ready { All (PendingFrom t) self.old.states.items }
+        requires near { All (PendingBefore (t + MAX_DELAY)) self.old.states.items }
+        requires within { t ≤ MAX_TIME }
+        ensures values { OnOk result (self.new.values.items ≡ map (λ n. value S.answer design.now.netlist n t) design.now.netlist.nets) }
+        ensures states { OnOk result (self.new.states.items ≡ map (state_before S.answer design.now.netlist (t + 1)) design.now.netlist.gates) }
+        ensures ready { OnOk result (All (PendingFrom (t + 1)) self.new.states.items) }
+        ensures near { OnOk result (All (PendingBefore (t + 1 + MAX_DELAY)) self.new.states.items) }
+        ensures lost { S.losses stepper.new ≡ S.losses stepper.old + (if is_lost result then 1 else 0) }
+    {
+        find_currents(self.states.as_slice(), t, &mut self.currents)?;
+        find_values(
+            design,
+            wiring,
+            self.currents.as_slice(),
+            t,
+            &mut self.driven,
+            &mut self.values,
+        )?;
+        find_tasks(
+            wiring,
+            self.values.as_slice(),
+            self.states.as_slice(),
+            &mut self.tasks,
+        )?;
+        self.step(stepper, t)
+    }
+
+    /// Evaluates the tasks, and takes their answers for the states.
+    fn step<S: Stepper>(&mut self, stepper: &mut S, t: u64) -> Result<(), StepFault>
+        requires ready { All (IsReady t) self.old.tasks.items }
+        requires near { All (λ task. PendingBefore (t + MAX_DELAY) task.state) self.old.tasks.items }
+        requires within { t ≤ MAX_TIME }
+        ensures states { OnOk result (self.new.states.items ≡ map (λ task. S.answer task t) self.old.tasks.items) }
+        ensures values { self.new.values.items ≡ self.old.values.items }
+        ensures later { OnOk result (All (PendingFrom (t + 1)) self.new.states.items) }
+        ensures near { OnOk result (All (PendingBefore (t + 1 + MAX_DELAY)) self.new.states.items) }
+        ensures lost { S.losses stepper.new ≡ S.losses stepper.old + (if is_lost result then 1 else 0) }
+    {
+        self.answers.clear();
+        if !self.tasks.is_empty() {
+            stepper.step(self.tasks.as_slice(), t, &mut self.answers)?;
+        }
+        swap(&mut self.states, &mut self.answers);
+        Ok(())
+    }
+}
+
+/// The current values of the drivers at the moment `t`, once their due events have become current.
+fn find_currents(states: &[Driver], t: u64, out: &mut Vec<Value>) -> Result<(), AllocError>
+    ensures { OnOk result (out.new.items ≡ currents_of states.now t) }
+{
+    out.clear();
+    for state in states {
+        out.push(state.due(t).cur)?;
+    }
+    Ok(())
+}
+
+/// The value at a place, x where there is none.
+#[inline(always)]
+fn value_at(values: &[Value], place: usize) -> Value
+    ensures { result ≡ unwrap_or (slice_get values.now place) Value.Unknown }
+{
+    values.get(place).copied().unwrap_or(Value::Unknown)
+}
+
+/// The values at some places.
+fn gather(values: &[Value], places: &[usize], out: &mut Vec<Value>) -> Result<(), AllocError>
+    ensures { OnOk result (out.new.items ≡ values_at values.now places.now) }
+{
+    out.clear();
+    for place in places {
+        out.push(value_at(values, *place))?;
+    }
+    Ok(())
+}
+
+/// The value of a net at the moment `t` from the current values of the drivers, those of its own at these places.
+fn net_value(
+    net: &Net,
+    places: &[usize],
+    currents: &[Value],
+    t: u64,
+    driven: &mut Vec<Value>,
+) -> Result<Value, AllocError>
+    ensures { IfOk result (λ v. v ≡ net_from currents.now t net.now places.now) }
+{
+    if net.is_input() {
+        return Ok(net.stimulus_at(t));
+    }
+    gather(currents, places, driven)?;
+    Ok(resolve(net.kind(), driven.as_slice()))
+}
+
+/// The value of each net at the moment `t`.
+fn find_values(
+    design: &Design,
+    wiring: &Wiring,
+    currents: &[Value],
+    t: u64,
+    driven: &mut Vec<Value>,
+    out: &mut Vec<Value>,
+) -> Result<(), AllocError>
+    requires { IsWiring design.now.netlist wiring.now }
+    ensures { OnOk result (out.new.items ≡ values_from design.now.netlist (map (λ places. places.items) wiring.now.drivers.items) currents.now t) }
+{
+    out.clear();
+    for place in 0..design.net_count() {
+        let places = wiring.drivers[place].as_slice();
+        let value = net_value(design.net_at(place), places, currents, t, driven)?;
+        out.push(value)?;
+    }
+    Ok(())
+}
+
+/// The value that an input reads.
+#[inline(always)]
+fn read(values: &[Value], input: Input) -> Value
+    ensures { result ≡ input_value values.now input }
+{
+    match input {
+        Input::At(place) => value_at(values, place),
+        Input::Fixed(value) => value,
+    }
+}
+
+/// The task of a cell in this state.
+fn task(cell: &Cell, state: Driver, values: &[Value]) -> Task
+    ensures { result ≡ evaluation_from values.now cell.now state }
+{
+    let mut read_values = ArrayVec::new();
+    for input in cell.inputs() {
+        read_values.push(read(values, *input));
+    }
+    Task::new(cell.kind(), cell.delays(), state, read_values)
+}
+
+/// The task of each cell.
+fn find_tasks(
+    wiring: &Wiring,
+    values: &[Value],
+    states: &[Driver],
+    out: &mut Vec<Task>,
+) -> Result<(), AllocError>
+    requires { length wiring.now.cells.items ≡ length states.now }
+    ensures { OnOk result (out.new.items ≡ evaluations_from values.now wiring.now.cells.items states.now) }
+{
+    out.clear();
+    for (place, cell) in wiring.cells.iter().enumerate() {
+        out.push(task(cell, states[place], values))?;
+    }
+    Ok(())
+}

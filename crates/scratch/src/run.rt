@@ -1,0 +1,37 @@
+//! The run of a design from scratch.
+
+ghost use Rattle.std.specs.Prelude.{◌≡◌, ◌+◌, IfOk, if◌then◌else◌};
+ghost use Rattle.scratch.specs.Lost.{loses_a_worker};
+ghost use Rattle.scratch.specs.Run.{run_of};
+
+use crate::moment::Moment;
+use crate::recording::Recording;
+use crate::wiring::wire;
+use design::Design;
+use gatestep::{StepFault, Stepper};
+use std::alloc::Global;
+use waveform::Run;
+
+/// The run of the design by this stepper, from moment 0 to the horizon, both included: only changes are stored. A step is
+/// made only where there is a gate to evaluate. `OutOfMemory` where a growth was refused, here or in a step; `WorkerLost`
+/// where a step answered so.
+pub fn simulate<S: Stepper>(
+    alloc: Global,
+    design: &Design,
+    stepper: &mut S,
+) -> Result<Run, StepFault>
+    ensures run { IfOk result (λ run. run ≡ run_of S.answer design.now.netlist) }
+    ensures lost { S.losses stepper.new ≡ S.losses stepper.old + (if loses_a_worker result then 1 else 0) }
+{
+    design.lawful();
+    let horizon = design.horizon();
+    let wiring = wire(alloc, design)?;
+    let mut moment = Moment::before(alloc, design)?;
+    moment.pass(design, &wiring, stepper, 0)?;
+    let mut recording = Recording::open(alloc, &moment)?;
+    for t in 1..horizon + 1 {
+        moment.pass(design, &wiring, stepper, t)?;
+        recording.add(&moment, t)?;
+    }
+    Ok(recording.finish(alloc, horizon)?)
+}

@@ -1,0 +1,254 @@
+//! Runs of small designs, net by net, worked out by hand.
+
+use super::build::{Plan, buffer, build, gate, net, stimulate};
+use crate::simulate;
+use design::Design;
+use fourstate::Value::{HighZ, One, Unknown, Zero};
+use fourstate::{GateKind, NetKind, Value};
+use gatestep::Serial;
+use std::alloc::Global;
+use std::process::Abort;
+use std::test::Fail;
+use waveform::Wave;
+
+fn check_wave(rt: &impl Abort, wave: &Wave, wanted: &[(u64, Value)]) {
+    let changes = wave.changes();
+    assert_eq!(rt; changes.len(), wanted.len());
+    for (change, (time, value)) in changes.iter().zip(wanted) {
+        assert_eq!(rt; change.time, *time);
+        assert_eq!(rt; change.value, *value);
+    }
+}
+
+/// The waves of the named nets are these.
+fn check(
+    rt: &impl Abort,
+    alloc: Global,
+    design: &Design,
+    wanted: &[(&str, &[(u64, Value)])],
+) -> Result<(), Fail> {
+    let run = simulate(alloc, design, &mut Serial::new())?;
+    assert_eq!(rt; run.wave_count(), design.net_count());
+    assert_eq!(rt; run.trace_count(), design.gate_count());
+    assert_eq!(rt; run.horizon(), design.horizon());
+    for (name, wave) in wanted {
+        let place = design.net_place(name).expect(rt, "a net of this name");
+        check_wave(rt, run.wave(place).expect(rt, "its wave"), wave);
+    }
+    Ok(())
+}
+
+/// A wave as its net's name and its changes.
+type Named<'a> = (&'a str, &'a [(u64, Value)]);
+
+fn follow(
+    rt: &impl Abort,
+    alloc: Global,
+    plan: Plan<'_>,
+    wanted: &[Named<'_>],
+) -> Result<(), Fail> {
+    let design = build(rt, alloc, plan)?;
+    check(rt, alloc, &design, wanted)
+}
+
+#[test]
+fn an_inverter(rt: HostRuntime) -> Result<(), Fail> {
+    let plan = Plan {
+        inputs: &[("a", &[(0, Zero)])],
+        nets: &[("y", NetKind::Wire)],
+        gates: &[("g", (GateKind::Not, 2, 3), ("y", &["a"]))],
+        horizon: 10,
+    };
+    follow(
+        &rt,
+        rt.alloc(),
+        plan,
+        &[("a", &[(0, Zero)]), ("y", &[(0, Unknown), (2, One)])],
+    )
+}
+
+#[test]
+fn a_net_without_a_driver(rt: HostRuntime) -> Result<(), Fail> {
+    let plan = Plan {
+        inputs: &[],
+        nets: &[("y", NetKind::Wire), ("n", NetKind::Wire)],
+        gates: &[("g", (GateKind::And, 1, 1), ("y", &["n", "1'b1"]))],
+        horizon: 5,
+    };
+    follow(
+        &rt,
+        rt.alloc(),
+        plan,
+        &[("n", &[(0, HighZ)]), ("y", &[(0, Unknown)])],
+    )
+}
+
+/// The wave of y behind a buffer of these delays.
+fn follow_buffer(
+    rt: &impl Abort,
+    alloc: Global,
+    delays: (u64, u64),
+    points: &[(u64, Value)],
+    horizon: u64,
+    wanted: &[(u64, Value)],
+) -> Result<(), Fail> {
+    let design = buffer(rt, alloc, delays, points, horizon)?;
+    check(rt, alloc, &design, &[("y", wanted)])
+}
+
+#[test]
+fn a_short_pulse_is_swallowed(rt: HostRuntime) -> Result<(), Fail> {
+    let points = [(0, Zero), (10, One), (12, Zero)];
+    follow_buffer(
+        &rt,
+        rt.alloc(),
+        (3, 3),
+        &points,
+        30,
+        &[(0, Unknown), (3, Zero)],
+    )
+}
+
+#[test]
+fn a_pulse_of_the_delay_passes(rt: HostRuntime) -> Result<(), Fail> {
+    let points = [(0, Zero), (10, One), (13, Zero)];
+    let wave = [(0, Unknown), (3, Zero), (13, One), (16, Zero)];
+    follow_buffer(&rt, rt.alloc(), (3, 3), &points, 100, &wave)
+}
+
+#[test]
+fn the_lesser_delay_leads_to_x(rt: HostRuntime) -> Result<(), Fail> {
+    let points = [(0, Zero), (20, One), (25, Unknown), (26, One)];
+    let wave = [(0, Unknown), (1, Zero), (26, Unknown), (36, One)];
+    follow_buffer(&rt, rt.alloc(), (10, 1), &points, 50, &wave)
+}
+
+// The last moment is in the run: an event at the horizon shows, one after it doesn't.
+#[test]
+fn an_event_at_the_horizon(rt: HostRuntime) -> Result<(), Fail> {
+    let wave = [(0, Unknown), (3, Zero), (10, One)];
+    follow_buffer(&rt, rt.alloc(), (3, 3), &[(0, Zero), (7, One)], 10, &wave)
+}
+
+#[test]
+fn an_event_past_the_horizon(rt: HostRuntime) -> Result<(), Fail> {
+    let wave = [(0, Unknown), (3, Zero)];
+    follow_buffer(&rt, rt.alloc(), (3, 3), &[(0, Zero), (7, One)], 9, &wave)
+}
+
+/// Two three-state buffers that drive a net of this kind.
+fn two_drivers(rt: &impl Abort, alloc: Global, kind: NetKind) -> Result<Design, Fail> {
+    let inputs = Plan {
+        inputs: &[("d0", &[]), ("c0", &[]), ("d1", &[]), ("c1", &[])],
+        nets: &[],
+        gates: &[],
+        horizon: 10,
+    };
+    let mut design = build(rt, alloc, inputs)?;
+    net(rt, alloc, &mut design, "n", kind)?;
+    let buffer = (GateKind::Bufif1, 1, 1);
+    gate(rt, alloc, &mut design, "g0", buffer, ("n", &["d0", "c0"]))?;
+    gate(rt, alloc, &mut design, "g1", buffer, ("n", &["d1", "c1"]))?;
+    Ok(design)
+}
+
+fn control(rt: &impl Abort, design: &mut Design) -> Result<(), Fail> {
+    stimulate(rt, design, "d0", &[(0, Zero)])?;
+    stimulate(rt, design, "d1", &[(0, One)])?;
+    stimulate(rt, design, "c0", &[(0, One), (5, Zero), (7, Unknown)])?;
+    stimulate(rt, design, "c1", &[(0, One), (3, Zero)])
+}
+
+fn follow_two_drivers(
+    rt: &impl Abort,
+    alloc: Global,
+    kind: NetKind,
+    wanted: &[(u64, Value)],
+) -> Result<(), Fail> {
+    let mut design = two_drivers(rt, alloc, kind)?;
+    control(rt, &mut design)?;
+    check(rt, alloc, &design, &[("n", wanted)])
+}
+
+#[test]
+fn two_drivers_on_a_wire(rt: HostRuntime) -> Result<(), Fail> {
+    let wave = [(0, Unknown), (4, Zero), (6, HighZ), (8, Unknown)];
+    follow_two_drivers(&rt, rt.alloc(), NetKind::Wire, &wave)
+}
+
+#[test]
+fn two_drivers_on_a_wand(rt: HostRuntime) -> Result<(), Fail> {
+    let wave = [(0, Unknown), (1, Zero), (6, HighZ), (8, Unknown)];
+    follow_two_drivers(&rt, rt.alloc(), NetKind::Wand, &wave)
+}
+
+#[test]
+fn two_drivers_on_a_wor(rt: HostRuntime) -> Result<(), Fail> {
+    let wave = [(0, Unknown), (1, One), (4, Zero), (6, HighZ), (8, Unknown)];
+    follow_two_drivers(&rt, rt.alloc(), NetKind::Wor, &wave)
+}
+
+#[test]
+fn a_loop_that_swings(rt: HostRuntime) -> Result<(), Fail> {
+    let plan = Plan {
+        inputs: &[("en", &[(0, Zero), (5, One)])],
+        nets: &[("n", NetKind::Wire)],
+        gates: &[("g", (GateKind::Nand, 1, 1), ("n", &["en", "n"]))],
+        horizon: 9,
+    };
+    let wave = [
+        (0, Unknown),
+        (1, One),
+        (6, Zero),
+        (7, One),
+        (8, Zero),
+        (9, One),
+    ];
+    follow(&rt, rt.alloc(), plan, &[("n", &wave)])
+}
+
+#[test]
+fn a_loop_of_x(rt: HostRuntime) -> Result<(), Fail> {
+    let plan = Plan {
+        inputs: &[],
+        nets: &[("n", NetKind::Wire)],
+        gates: &[("g", (GateKind::Not, 1, 1), ("n", &["n"]))],
+        horizon: 9,
+    };
+    follow(&rt, rt.alloc(), plan, &[("n", &[(0, Unknown)])])
+}
+
+// What the design of an edited circuit is in the end: a gate of other delays in place of the first.
+#[test]
+fn an_inverter_in_a_buffer_s_place(rt: HostRuntime) -> Result<(), Fail> {
+    let plan = Plan {
+        inputs: &[("a", &[(0, Zero)])],
+        nets: &[("y", NetKind::Wire)],
+        gates: &[("h", (GateKind::Not, 2, 2), ("y", &["a"]))],
+        horizon: 10,
+    };
+    follow(&rt, rt.alloc(), plan, &[("y", &[(0, Unknown), (2, One)])])
+}
+
+#[test]
+fn two_buffers_on_a_wor_and_one_behind(rt: HostRuntime) -> Result<(), Fail> {
+    let plan = Plan {
+        inputs: &[("a", &[(0, Zero)]), ("b", &[(0, One)])],
+        nets: &[("q", NetKind::Wire), ("n", NetKind::Wor)],
+        gates: &[
+            ("g0", (GateKind::Buf, 1, 1), ("n", &["a"])),
+            ("g1", (GateKind::Buf, 1, 1), ("n", &["b"])),
+            ("h", (GateKind::Buf, 1, 1), ("q", &["n"])),
+        ],
+        horizon: 10,
+    };
+    follow(
+        &rt,
+        rt.alloc(),
+        plan,
+        &[
+            ("n", &[(0, Unknown), (1, One)]),
+            ("q", &[(0, Unknown), (2, One)]),
+        ],
+    )
+}

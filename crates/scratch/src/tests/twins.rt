@@ -1,0 +1,119 @@
+//! The run against the values of each moment, over small designs from a table of seeds.
+
+ghost use Rattle.std.specs.Prelude.{◌<◌};
+
+use super::build::{empty, gate, input, net, stimulate};
+use crate::{plain, simulate};
+use design::Design;
+use fourstate::{GateKind, NetKind, Value};
+use gatestep::Serial;
+use std::alloc::Global;
+use std::process::Abort;
+use std::test::Fail;
+
+/// Numbers in a fixed order that looks like none.
+#[derive(Drop)]
+struct Dice(u64);
+
+impl Dice {
+    fn below(&mut self, n: u64) -> u64
+        requires { 0 < n }
+        ensures { result < n }
+    {
+        self.0 = self
+            .0
+            .wrapping_mul(6_364_136_223_846_793_005)
+            .wrapping_add(1_442_695_040_888_963_407);
+        (self.0 >> 33) % n
+    }
+}
+
+const NAMES: [&str; 6] = ["a", "b", "n0", "n1", "n2", "n3"];
+
+const GATES: [&str; 7] = ["g0", "g1", "g2", "g3", "g4", "g5", "g6"];
+
+const VALUES: [Value; 4] = [Value::Zero, Value::One, Value::Unknown, Value::HighZ];
+
+fn pick(rt: &impl Abort, dice: &mut Dice, names: &[&'static str]) -> &'static str {
+    assert!(rt; !names.is_empty());
+    names[dice.below(names.len() as u64) as usize]
+}
+
+fn random_points(
+    rt: &impl Abort,
+    dice: &mut Dice,
+    design: &mut Design,
+    name: &str,
+) -> Result<(), Fail> {
+    for _ in 0..6 {
+        let value = VALUES[dice.below(4) as usize];
+        stimulate(rt, design, name, &[(dice.below(40), value)])?;
+    }
+    Ok(())
+}
+
+fn random_gate(
+    rt: &impl Abort,
+    alloc: Global,
+    dice: &mut Dice,
+    design: &mut Design,
+    name: &str,
+) -> Result<(), Fail> {
+    let kind = GateKind::ALL[dice.below(12) as usize];
+    let delays = (1 + dice.below(5), 1 + dice.below(5));
+    let output = pick(rt, dice, &NAMES[2..]);
+    let first = pick(rt, dice, &NAMES);
+    let second = pick(rt, dice, &NAMES);
+    let both = [first, second];
+    let count = match kind {
+        GateKind::Buf | GateKind::Not => 1,
+        _ => 2,
+    };
+    gate(
+        rt,
+        alloc,
+        design,
+        name,
+        (kind, delays.0, delays.1),
+        (output, &both[..count]),
+    )
+}
+
+fn random_design(rt: &impl Abort, alloc: Global, seed: u64) -> Result<Design, Fail> {
+    let mut dice = Dice(seed);
+    let mut design = empty(rt, alloc, 60)?;
+    for name in &NAMES[..2] {
+        input(rt, alloc, &mut design, name)?;
+        random_points(rt, &mut dice, &mut design, name)?;
+    }
+    for name in &NAMES[2..] {
+        let kind = NetKind::ALL[dice.below(6) as usize];
+        net(rt, alloc, &mut design, name, kind)?;
+    }
+    for name in GATES {
+        random_gate(rt, alloc, &mut dice, &mut design, name)?;
+    }
+    Ok(design)
+}
+
+#[test]
+fn the_run_has_the_values_of_each_moment(rt: HostRuntime) -> Result<(), Fail> {
+    for seed in [1, 2, 3, 5, 8, 13, 21, 34] {
+        let design = random_design(&rt, rt.alloc(), seed)?;
+        let run = simulate(rt.alloc(), &design, &mut Serial::new())?;
+        let rows = plain::values(rt.alloc(), &design, &mut Serial::new())?;
+        assert_eq!(rt; rows.len(), 61);
+        for (t, row) in rows.iter().enumerate() {
+            assert_eq!(rt; row.len(), design.net_count());
+            for (place, value) in row.iter().enumerate() {
+                let wave = run.wave(place).expect(&rt, "a wave for each net");
+                assert_eq!(rt;
+                    wave.at(t as u64),
+                    *value,
+                    "net {place} at {t} of seed {seed}"
+                );
+            }
+        }
+    }
+    Ok(())
+}
