@@ -1,0 +1,72 @@
+-- What a whole conversation leaves.
+use Rattle.std.proofs.Common.{◌≡◌, ℕ, ◌+◌, List, [], ◌++◌, Bool, true, false, refl, sym, ap, subst, ◌∙◌, Option, None, Some, arith}
+use Rattle.std.specs.Io.KnownBytes.{Appends, Consumes}
+use Rattle.gatestep.specs.Devices.Incoming.{Incoming, IsAllOf}
+use Rattle.gatestep.specs.Devices.Outgoing.{Outgoing}
+use Rattle.gatestep.specs.Devices.Traffic.{failures_after}
+use Rattle.session.specs.declared.talk.exchange.End.{End}
+use Rattle.session.specs.declared.talk.exchange.End.TheVariants as end
+use Rattle.session.specs.Held.{Held}
+use Rattle.session.specs.State.{SessionState}
+use Rattle.session.specs.Talk.{Ends, HasQuit, IsSent, SameSource, read_failures}
+use Rattle.session.specs.Transcripts.{AnswersAll}
+
+pub source_through : {a b c : Incoming} → SameSource a b → SameSource b c → SameSource a c
+source_through p q = record { loan = q.loan ∙ p.loan; before = q.before ∙ p.before }
+
+-- how the devices stand after a conversation that began with r0 and w0 and ended with r and w
+pub record Devices (had has : Option (List ℕ)) (rf rf' : ℕ) (before after : Option (List ℕ)) (wf wf' : ℕ) (r : Incoming) (w : Outgoing) (failed : ℕ) : Type 0 where
+  pub had_is : r.before ≡ had
+  pub consumed : Consumes r.before has r.text
+  pub read_failed : rf' ≡ rf + failed
+  pub before_is : w.before ≡ before
+  pub written : Appends w.before after w.gone
+  pub write_failed : wf' ≡ failures_after wf w.stopped
+
+written_text : (w : Outgoing) (before after : Option (List ℕ)) → IsSent w → w.before ≡ before → Appends w.before after w.gone → Appends before after w.text
+written_text w before after sent is out =
+    let P : Option (List ℕ) → Type 0 = λ b. Appends b after w.text in
+    let Q : List ℕ → Type 0 = λ text. Appends w.before after text in
+    subst P is (subst Q sent.all out)
+
+not_failed : (wf wf' : ℕ) (stopped : Bool) → stopped ≡ false → wf' ≡ failures_after wf stopped → wf' ≡ wf
+not_failed wf wf' stopped e is = is ∙ ap (failures_after wf) e
+
+has_failed : (wf wf' : ℕ) (stopped : Bool) → stopped ≡ true → wf' ≡ failures_after wf stopped → wf' ≡ wf + 1
+has_failed wf wf' stopped e is = is ∙ ap (failures_after wf) e
+
+-- a session that has quit had answered all that the source had to give
+quit_all : (first : SessionState) (had has before after : Option (List ℕ)) (text out : List ℕ) → HasQuit first text out → Consumes had has text → Appends before after out → AnswersAll (Some first) had before after
+quit_all first None has before after text out quit consumed written =
+    record { first = first; opened = refl; input = text ++ []; all = tt; out = out; transcript = quit []; written = written }
+quit_all first (Some bytes) None before after text out quit consumed written = absurd consumed
+quit_all first (Some bytes) (Some rest) before after text out quit consumed written =
+    record { first = first; opened = refl; input = text ++ rest; all = sym consumed; out = out; transcript = quit rest; written = written }
+
+pub held : (e : End) (first : SessionState) (had has : Option (List ℕ)) (rf rf' : ℕ) (before after : Option (List ℕ)) (wf wf' : ℕ) (r : Incoming) (w : Outgoing)
+    → Devices had has rf rf' before after wf wf' r w (read_failures (Some e)) → Ends e first r w → Held e first had has rf rf' before after wf wf'
+held end.Input first had has rf rf' before after wf wf' r w d ends =
+    let P : Option (List ℕ) → Type 0 = λ h. IsAllOf h r.text in (
+      record { first = first; opened = refl; input = r.text; all = subst P d.had_is ends.0; out = w.text; transcript = ends.1; written = written_text w before after ends.2 d.before_is d.written },
+      omega (arith, d.read_failed),
+      not_failed wf wf' w.stopped ends.2.goes_on d.write_failed,
+    )
+held end.Quit first had has rf rf' before after wf wf' r w d ends =
+    let P : Option (List ℕ) → Type 0 = λ h. Consumes h has r.text in (
+      quit_all first had has before after r.text w.text ends.0 (subst P d.had_is d.consumed) (written_text w before after ends.1 d.before_is d.written),
+      omega (arith, d.read_failed),
+      not_failed wf wf' w.stopped ends.1.goes_on d.write_failed,
+    )
+held end.ReadFailed first had has rf rf' before after wf wf' r w d ends =
+    let P : Option (List ℕ) → Type 0 = λ h. Consumes h has r.text in (
+      record { first = first; opened = refl; input = r.text; read = subst P d.had_is d.consumed; out = w.text; transcript = ends.0; written = written_text w before after ends.1 d.before_is d.written },
+      d.read_failed,
+      not_failed wf wf' w.stopped ends.1.goes_on d.write_failed,
+    )
+held end.WriteFailed first had has rf rf' before after wf wf' r w d ends =
+    let P : Option (List ℕ) → Type 0 = λ h. Consumes h has r.text in
+    let Q : Option (List ℕ) → Type 0 = λ b. Appends b after w.gone in (
+      record { first = first; opened = refl; input = r.text; read = subst P d.had_is d.consumed; out = ends.out; transcript = ends.transcript; gone = w.gone; beginning = ends.beginning; written = subst Q d.before_is d.written },
+      omega (arith, d.read_failed),
+      has_failed wf wf' w.stopped ends.stopped d.write_failed,
+    )

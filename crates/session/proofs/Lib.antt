@@ -1,0 +1,10 @@
+pub mod RunLemmas
+pub mod HeldLemmas
+pub mod ExchangeLemmas
+pub mod HeaderLemmas
+pub mod AnswerLemmas
+pub mod EditLemmas
+pub mod LineLemmas
+pub mod PinLemmas
+pub mod TalkLemmas
+pub mod WordLemmas

@@ -1,0 +1,7 @@
+use Rattle.std.proofs.Common.{take}
+use Rattle.gatestep.specs.Devices.Outgoing.{Adds}
+use Rattle.session.specs.Replies.{wave_lines}
+use Rattle.session.proofs.replies.lines.wave.Given as goal
+
+abbrev pub invariant-loop-change : goal.invariant-loop-change
+invariant-loop-change g l = Adds l.initial.writer l.writer (wave_lines (take l.change-index l.changes))

@@ -1,0 +1,16 @@
+pub mod Lines
+pub mod Words
+pub mod EditFaults
+pub mod Commands
+pub mod Accepted
+pub mod Edits
+pub mod Replies
+pub mod Kept
+pub mod Refused
+pub mod State
+pub mod Transcripts
+pub mod Talk
+pub mod Header
+pub mod Opening
+pub mod ReadFaults
+pub mod Held

@@ -1,0 +1,20 @@
+-- Why an edit may be refused.
+use Rattle.std.specs.Prelude.{◌≡◌, ◌⊎◌, Some}
+use Rattle.gatestep.specs.declared.fault.StepFault.{StepFault}
+use Rattle.gatestep.specs.declared.fault.StepFault.TheVariants as step
+use Rattle.session.specs.declared.edits.edit.Edit.{Edit}
+use Rattle.session.specs.declared.edits.fault.EditFault.TheVariants.{OutOfMemory}
+use Rattle.session.specs.declared.replies.refusal.Refusal.{Refusal}
+use Rattle.session.specs.declared.replies.refusal.Refusal.TheVariants as refusal
+use Rattle.session.specs.State.{SessionState, fault_of}
+
+abbrev pub MayRefuse : SessionState → Edit → Refusal → Type 0
+MayRefuse s e (refusal.Edit fault) = (fault_of s e ≡ Some fault) ⊎ (fault ≡ OutOfMemory)
+MayRefuse s e refusal.WorkerLost = Unit {0}
+MayRefuse s e refusal.BadCommand = ⊥
+MayRefuse s e refusal.LongLine = ⊥
+
+-- a stepper's fault as a reply says it
+abbrev pub refusal_of : StepFault → Refusal
+refusal_of step.OutOfMemory = refusal.Edit OutOfMemory
+refusal_of step.WorkerLost = refusal.WorkerLost

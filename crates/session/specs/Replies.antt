@@ -1,0 +1,35 @@
+-- What a session writes (own).
+use Rattle.std.specs.Prelude.{ℕ, List, [], ◌∷◌, ◌++◌, codes, decimal}
+use Rattle.std.specs.List.{flat_map}
+use Rattle.fourstate.specs.declared.value.Value.{Value}
+use Rattle.fourstate.specs.Values.{symbol_of}
+use Rattle.session.specs.declared.replies.refusal.Refusal.{Refusal}
+use Rattle.session.specs.declared.replies.refusal.Refusal.TheVariants.{Edit, WorkerLost, BadCommand, LongLine}
+use Rattle.session.specs.EditFaults.{fault_code, fault_name}
+
+abbrev pub refusal_code : Refusal → ℕ
+refusal_code (Edit fault) = fault_code fault
+refusal_code WorkerLost = 15
+refusal_code BadCommand = 16
+refusal_code LongLine = 17
+
+abbrev pub refusal_name : Refusal → List ℕ
+refusal_name (Edit fault) = fault_name fault
+refusal_name WorkerLost = codes "WorkerLost"
+refusal_name BadCommand = codes "BadCommand"
+refusal_name LongLine = codes "LongLine"
+
+-- Lines, each with its line feed.
+
+abbrev pub ok_line : ℕ → List ℕ
+ok_line version = codes "ok " ++ decimal version ++ codes "\n"
+
+abbrev pub refusal_line : Refusal → List ℕ
+refusal_line refusal = codes "no " ++ decimal (refusal_code refusal) ++ codes " " ++ refusal_name refusal ++ codes "\n"
+
+-- a change of a wave: its moment and the value
+abbrev pub change_line : ℕ × Value → List ℕ
+change_line change = decimal change.0 ++ codes " " ++ (symbol_of change.1 ∷ []) ++ codes "\n"
+
+abbrev pub wave_lines : List (ℕ × Value) → List ℕ
+wave_lines changes = flat_map change_line changes

@@ -1,0 +1,81 @@
+-- How a session stands, and what it may answer (own).
+use Rattle.std.specs.Prelude.{◌≡◌, Bool, true, false, ℕ, suc, ◌+◌, ◌-◌, ◌^◌, ◌==◌, if◌then◌else◌, List, [], ◌∷◌, ◌++◌, Option, Some, None, ◌⊎◌, MatchBool}
+use Rattle.fourstate.specs.declared.value.Value.{Value}
+use Rattle.gatestep.specs.Step.{advance}
+use Rattle.design.specs.Netlist.{NetEntry, Netlist, net_named}
+use Rattle.waveform.specs.Changes.{wave_changes_below}
+use Rattle.scratch.specs.Run.{value}
+use Rattle.session.specs.declared.commands.command.Command.{Command}
+use Rattle.session.specs.declared.commands.command.Command.TheVariants as command
+use Rattle.session.specs.declared.edits.edit.Edit.{Edit}
+use Rattle.session.specs.declared.edits.fault.EditFault.{EditFault}
+use Rattle.session.specs.declared.edits.fault.EditFault.TheVariants.{UnknownNet, TooMany, OutOfMemory}
+use Rattle.session.specs.declared.replies.refusal.Refusal.TheVariants as refusal
+use Rattle.session.specs.Commands.{command_of}
+use Rattle.session.specs.Edits.{cause, edited}
+use Rattle.session.specs.Replies.{ok_line, refusal_line, wave_lines}
+
+-- the number of accepted edits so far, and the design with them
+pub record SessionState : Type 0 where
+  pub version : ℕ
+  pub netlist : Netlist
+
+-- the changes of a net's wave, up to the horizon
+abbrev pub wave_of : Netlist → NetEntry → List (ℕ × Value)
+wave_of d n = wave_changes_below (value advance d n) (suc d.horizon)
+
+-- why an edit is refused, if it is; the greatest version is never left
+abbrev pub fault_of : SessionState → Edit → Option EditFault
+fault_of s e = if s.version == 2 ^ 64 - 1 then Some TooMany else cause s.netlist e
+
+-- the reply to an edit, and the state after it
+
+abbrev pub edit_reply : SessionState → Option EditFault → List ℕ
+edit_reply s None = ok_line (s.version + 1)
+edit_reply s (Some fault) = refusal_line (refusal.Edit fault)
+
+abbrev pub after_edit : SessionState → Edit → Option EditFault → SessionState
+after_edit s e None = record { version = s.version + 1; netlist = edited s.netlist e }
+after_edit s e (Some fault) = s
+
+-- the reply to a question for the wave of a net
+abbrev pub wave_reply : SessionState → Option NetEntry → List ℕ
+wave_reply s None = refusal_line (refusal.Edit UnknownNet)
+wave_reply s (Some n) = wave_lines (wave_of s.netlist n) ++ ok_line s.version
+
+-- this reply, and the state after it
+pub record Gives (reply : List ℕ) (new : SessionState) (wanted : List ℕ) (after : SessionState) : Type 0 where
+  pub reply_is : reply ≡ wanted
+  pub state_is : new ≡ after
+
+-- From old, a session may give this reply to the command and go on to new. An edit may be refused for want of memory, or
+-- because the stepper lost a worker.
+abbrev pub Replies : SessionState → Command → List ℕ → SessionState → Type 0
+Replies old command.Skip reply new = Gives reply new [] old
+Replies old (command.Change e) reply new =
+    Gives reply new (edit_reply old (fault_of old e)) (after_edit old e (fault_of old e))
+    ⊎ (Gives reply new (refusal_line (refusal.Edit OutOfMemory)) old ⊎ Gives reply new (refusal_line refusal.WorkerLost) old)
+Replies old (command.Wave name) reply new = Gives reply new (wave_reply old (net_named old.netlist name)) old
+Replies old command.Quit reply new = Gives reply new (ok_line old.version) old
+Replies old command.Unreadable reply new = Gives reply new (refusal_line refusal.BadCommand) old
+Replies old command.TooLong reply new = Gives reply new (refusal_line refusal.LongLine) old
+
+-- the same for a line
+unfoldable pub Answers : SessionState → List ℕ → List ℕ → SessionState → Type 0
+Answers old line reply new = Replies old (command_of line) reply new
+
+-- the command ends the session
+abbrev pub is_quit : Command → Bool
+is_quit command.Quit = true
+is_quit _ = false
+
+unfoldable pub ends : List ℕ → Bool
+ends line = is_quit (command_of line)
+
+-- From this state a session may write this for these lines: a reply for each, in order, up to and with the one for the
+-- line that ends it.
+abbrev pub Transcript : SessionState → List (List ℕ) → List ℕ → Type 0
+Transcript old [] out = out ≡ []
+Transcript old (line ∷ lines) out =
+    (reply : List ℕ) × (new : SessionState) × (rest : List ℕ) × Answers old line reply new × (out ≡ reply ++ rest)
+    × MatchBool (ends line) (rest ≡ []) (Transcript new lines rest)

@@ -1,0 +1,28 @@
+//! Why a session did not open, or broke off.
+
+use crate::edits::EditFault;
+use crate::header::ReadFault;
+use thiserror::Error;
+
+/// Why a session did not open, or broke off.
+#[derive(Clone, Copy, Debug, PartialEq, Eq, Error)]
+pub enum SessionFault {
+    /// The design text is refused.
+    #[error("{0}")]
+    Design(ReadFault),
+    /// The horizon is over the limit.
+    #[error("{0}")]
+    Edit(EditFault),
+    /// A growth was refused at the opening; nothing was read or written.
+    #[error("out of memory")]
+    OutOfMemory,
+    /// A worker was lost at the opening; nothing was read or written.
+    #[error("worker lost")]
+    WorkerLost,
+    /// The source failed. The replies to all whole lines that were read stand written.
+    #[error("read failed")]
+    Read,
+    /// The sink failed. An exact beginning of the replies stands written.
+    #[error("write failed")]
+    Write,
+}

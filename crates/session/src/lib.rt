@@ -1,0 +1,19 @@
+//! A session: lines of commands in, replies out.
+#![tactic(auto)]
+
+mod commands;
+pub mod edits;
+mod fault;
+pub mod header;
+#[cfg(test)]
+mod lost_worker;
+mod machine;
+mod open;
+mod replies;
+mod talk;
+#[cfg(test)]
+mod tests;
+mod words;
+
+pub use fault::SessionFault;
+pub use open::{Options, run};

@@ -1,0 +1,48 @@
+//! The lines of replies.
+
+ghost use Rattle.std.specs.Prelude.{◌≡◌, map};
+ghost use Rattle.gatestep.specs.Devices.Outgoing.{Adds};
+ghost use Rattle.session.specs.Replies.{change_line, ok_line, refusal_line, wave_lines};
+
+use crate::replies::refusal::Refusal;
+use fourstate::Value;
+use gatestep::{Sink, Writer};
+use waveform::Change;
+
+/// The reply to a command that was carried out: the version after it.
+pub fn ok<W: Sink>(writer: &mut Writer<'_, W>, version: u64)
+    ensures { Adds writer.old writer.new (ok_line version) }
+{
+    writer.text(b"ok ");
+    writer.number(version);
+    writer.text(b"\n");
+}
+
+/// The reply to a command that was refused.
+pub fn no<W: Sink>(writer: &mut Writer<'_, W>, refusal: Refusal)
+    ensures { Adds writer.old writer.new (refusal_line refusal) }
+{
+    writer.text(b"no ");
+    writer.number(u64::from(refusal.code()));
+    writer.text(b" ");
+    writer.text(refusal.name().as_bytes());
+    writer.text(b"\n");
+}
+
+/// A line for each change of a wave.
+pub fn wave<W: Sink>(writer: &mut Writer<'_, W>, changes: &[Change])
+    ensures { Adds writer.old writer.new (wave_lines changes.now) }
+{
+    for change in changes {
+        change_reply(writer, change.time, change.value);
+    }
+}
+
+fn change_reply<W: Sink>(writer: &mut Writer<'_, W>, time: u64, value: Value)
+    ensures { Adds writer.old writer.new (change_line (time, value)) }
+{
+    writer.number(time);
+    writer.text(b" ");
+    writer.text(&[value.symbol()]);
+    writer.text(b"\n");
+}

@@ -1,0 +1,51 @@
+//! The exchange of input and replies.
+
+ghost use Rattle.std.specs.Prelude.{◌≡◌, ◌+◌, ◌<◌, Option, None, Some, List, ℕ, length, MatchOption};
+ghost use Rattle.session.specs.State.{SessionState};
+ghost use Rattle.session.specs.Talk.{Ends, Going, IsSent, SameSink, SameSource, read_failures};
+
+use crate::talk::feed::{Session, Turn};
+use gatestep::{Reader, Sink, Source, Stepper, Writer};
+
+/// How a session ended.
+#[derive(Clone, Copy, Debug, PartialEq, Eq)]
+pub enum End {
+    /// At the input's end.
+    Input,
+    /// By a line.
+    Quit,
+    /// The source failed.
+    ReadFailed,
+    /// The sink failed.
+    WriteFailed,
+}
+
+// Takes a piece of the input, and sends the replies.
+pub fn exchange<R: Source, W: Sink, S: Stepper + Drop>(
+    session: &mut Session<S>,
+    reader: &mut Reader<'_, R>,
+    writer: &mut Writer<'_, W>,
+    buffer: &mut [u8],
+) -> Option<End>
+    requires room { 0 < length buffer.old }
+    requires sent { IsSent writer.old }
+    ensures goes_on { (first : SessionState) → Going first reader.old.text session.old.line session.old.machine writer.old.text
+        → MatchOption result (Going first reader.new.text session.new.line session.new.machine writer.new.text × IsSent writer.new)
+        (λ end. Ends end first reader.new writer.new) }
+    ensures sink { SameSink writer.old writer.new }
+    ensures source { SameSource reader.old reader.new }
+    ensures failures { reader.new.failures ≡ reader.old.failures + read_failures result }
+{
+    let Some(n) = reader.read(buffer) else {
+        return Some(End::ReadFailed);
+    };
+    let turn = session.take(&buffer[..n], writer);
+    if writer.flush().is_err() {
+        return Some(End::WriteFailed);
+    }
+    match turn {
+        Turn::More => None,
+        Turn::Quit => Some(End::Quit),
+        Turn::Finished => Some(End::Input),
+    }
+}
