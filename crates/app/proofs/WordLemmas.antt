@@ -1,0 +1,23 @@
+-- What the words ask for, from what `clap` finds in them.
+use Rattle.std.proofs.Common.{◌≡◌, ℕ, true, false, List, Some, None, codes, refl}
+use Rattle.clap.specs.Words.{Text}
+use Rattle.app.specs.Arguments.{asked, horizon_given}
+use Rattle.app.specs.CommandLine.{is_taken, value_of}
+
+pub asked_all : (words : List Text) (name : List ℕ) (h : ℕ) → is_taken words ≡ true → value_of (codes "design") words ≡ Some name
+    → horizon_given (value_of (codes "horizon") words) ≡ Some h → asked words ≡ Some (record { design = name; horizon = h })
+unfolding asked
+asked_all words name h taken design horizon = rw (taken, design, horizon) refl
+
+pub not_asked : (words : List Text) → is_taken words ≡ false → asked words ≡ None
+unfolding asked
+not_asked words taken = rw taken refl
+
+pub no_design : (words : List Text) → is_taken words ≡ true → value_of (codes "design") words ≡ None → asked words ≡ None
+unfolding asked
+no_design words taken design = rw (taken, design) refl
+
+pub no_horizon : (words : List Text) (name : List ℕ) → is_taken words ≡ true → value_of (codes "design") words ≡ Some name
+    → horizon_given (value_of (codes "horizon") words) ≡ None → asked words ≡ None
+unfolding asked
+no_horizon words name taken design horizon = rw (taken, design, horizon) refl

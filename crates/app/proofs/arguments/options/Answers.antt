@@ -1,0 +1,40 @@
+use Rattle.std.proofs.Common.{rules, ◌≡◌, ◌∙◌, ℕ, List, Option, Some, None, Bor, ap, codes, map, option_map, sym}
+use Rattle.app.specs.Arguments.{horizon_given}
+use Rattle.app.specs.CommandLine.{value_of}
+use Rattle.app.proofs.WordLemmas.{asked_all, no_design, no_horizon, not_asked}
+use Rattle.app.proofs.arguments.options.Goals as goal
+
+abbrev bytes_of : Option (Bor (List ℕ)) → Option (List ℕ)
+bytes_of = option_map (λ s. s.now)
+
+pub returns-in_err-matches-clause-refused : goal.returns-in_err-matches-clause-refused
+returns-in_err-matches-clause-refused g c = λ e. let h = c.from_residual.ensures in
+    not_asked (map g.S.AsStr.text c.args.words.now) (c.in_err-matches.ensures.refused (search rules))
+
+pub returns-in_default-clause-refused : goal.returns-in_default-clause-refused
+returns-in_default-clause-refused g c = λ e.
+    let words = map g.S.AsStr.text c.args.words.now in
+    let ok = c.in_ok-matches.ensures.ok in
+    let design : value_of (codes "design") words ≡ None =
+    sym (ok.1 (codes "design")) ∙ (sym c.get_str.ensures ∙ ap bytes_of c.in_default.is) in
+    no_design words ok.0 design
+
+pub returns-in_default-given_or_usual-clause-refused : goal.returns-in_default-given_or_usual-clause-refused
+returns-in_default-given_or_usual-clause-refused g c = λ e.
+    let words = map g.S.AsStr.text c.args.words.now in
+    let ok = c.in_ok-matches.ensures.ok in
+    let design : value_of (codes "design") words ≡ Some c.in-Some.name.now =
+    sym (ok.1 (codes "design")) ∙ (sym c.get_str.ensures ∙ ap bytes_of c.in-Some.is) in
+    let horizon : horizon_given (value_of (codes "horizon") words) ≡ None =
+    ap horizon_given (sym (ok.1 (codes "horizon")) ∙ sym c.get_str-2.ensures) ∙ (sym c.given_or_usual.ensures.given ∙ c.in_default-given_or_usual.is) in
+    no_horizon words c.in-Some.name.now ok.0 design horizon
+
+pub returns-clause-ok : goal.returns-clause-ok
+returns-clause-ok g c =
+    let words = map g.S.AsStr.text c.args.words.now in
+    let ok = c.in_ok-matches.ensures.ok in
+    let design : value_of (codes "design") words ≡ Some c.in-Some.name.now =
+    sym (ok.1 (codes "design")) ∙ (sym c.get_str.ensures ∙ ap bytes_of c.in-Some.is) in
+    let horizon : horizon_given (value_of (codes "horizon") words) ≡ Some c.in-Some-given_or_usual.horizon =
+    ap horizon_given (sym (ok.1 (codes "horizon")) ∙ sym c.get_str-2.ensures) ∙ (sym c.given_or_usual.ensures.given ∙ c.in-Some-given_or_usual.is) in
+    rw c.in_ok-design.ensures.ok (asked_all words c.in-Some.name.now c.in-Some-given_or_usual.horizon ok.0 design horizon)

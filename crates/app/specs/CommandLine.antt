@@ -1,0 +1,25 @@
+-- The form of the command line, as `clap` sees it: DESIGN, which must stand, and `--horizon H`. The words come without the program's name.
+use Rattle.std.specs.Prelude.{◌==◌, Bool, true, List, Option, Some, codes, length}
+use Rattle.clap.specs.Words.{App, Rule, Shape, Text, fault_of, first_of, matches_of, new_app, new_rule, with_rule}
+use Rattle.clap.specs.Simple.{on_top}
+
+abbrev pub design_rule : Rule
+design_rule = record (new_rule (codes "design")) { required = true }
+
+abbrev pub horizon_rule : Rule
+horizon_rule = record (new_rule (codes "horizon")) { long = Some (codes "horizon") }
+
+-- the words are those after the program's name
+abbrev pub nameless : Shape → Shape
+nameless s = record s { no_binary_name = true }
+
+unfoldable pub command_line : App
+command_line = with_rule (with_rule (on_top nameless (new_app (codes "gatebench"))) design_rule) horizon_rule
+
+-- `clap` takes the words
+unfoldable pub is_taken : List Text → Bool
+is_taken words = length (fault_of command_line words) == 0
+
+-- the first value that `clap` finds for an argument
+unfoldable pub value_of : Text → List Text → Option Text
+value_of name words = first_of name (matches_of command_line words)

@@ -1,0 +1,5 @@
+pub mod ArgsFaults
+pub mod Arguments
+pub mod CommandLine
+pub mod Endings
+pub mod Numbers

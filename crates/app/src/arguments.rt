@@ -1,0 +1,90 @@
+//! What the words after the program's name ask for.
+
+ghost use Rattle.std.specs.Prelude.{◌≡◌, ◌≤◌, IfOk, IfSome, Err, None, Some, map, option_map, string_bytes};
+ghost use Rattle.fourstate.specs.declared.limits.TheConstants.{MAX_TIME};
+ghost use Rattle.app.specs.Arguments.{asked, horizon_given};
+
+use crate::command_line::parse;
+use crate::numbers::horizon_of;
+use std::alloc::{AllocError, Global};
+use std::convert::AsStr;
+use thiserror::Error;
+
+/// The horizon where none is given.
+pub const DEFAULT_HORIZON: u64 = 1000;
+
+/// What the words ask for.
+#[derive(Debug, Drop)]
+pub struct Args {
+    /// The name of the file that holds the design text.
+    pub design: String,
+    /// The last moment of the simulation, in time units: 0 to `MAX_TIME`.
+    pub horizon: u64,
+}
+
+/// Why the words ask for nothing.
+#[derive(Clone, Copy, Debug, PartialEq, Eq, Error)]
+pub enum ArgsFault {
+    /// The words are not of the form, or ask for help.
+    #[error("the command line was refused")]
+    Refused = 1,
+    /// A growth was refused.
+    #[error("out of memory")]
+    OutOfMemory = 2,
+}
+
+impl From<AllocError> for ArgsFault {
+    ghost use Rattle.std.specs.Prelude.{◌≡◌};
+    ghost use Rattle.app.specs.declared.arguments.ArgsFault.TheVariants.{OutOfMemory};
+
+    ghost from_gives = { λ _ fault. fault ≡ OutOfMemory };
+
+    fn from(_error: AllocError) -> ArgsFault {
+        ArgsFault::OutOfMemory
+    }
+}
+
+impl From<clap::Error> for ArgsFault {
+    ghost use Rattle.std.specs.Prelude.{◌≡◌};
+    ghost use Rattle.clap.specs.Words.{kind_of};
+    ghost use Rattle.app.specs.ArgsFaults.{fault_of_kind};
+
+    ghost from_gives = { λ error fault. fault ≡ fault_of_kind (kind_of error) };
+
+    fn from(error: clap::Error) -> ArgsFault {
+        match error.kind() {
+            clap::error::ErrorKind::OutOfMemory => ArgsFault::OutOfMemory,
+            _ => ArgsFault::Refused,
+        }
+    }
+}
+
+// The horizon of the entry, or the usual one.
+fn given_or_usual(text: Option<&str>) -> Option<u64>
+    ensures given { result ≡ horizon_given (option_map (λ t. t.now) text.entry) }
+    ensures within { IfSome result (λ horizon. horizon ≤ MAX_TIME) }
+{
+    match text {
+        Some(text) => horizon_of(text),
+        None => Some(DEFAULT_HORIZON),
+    }
+}
+
+/// Reads the words after the program's name: DESIGN, and `--horizon H` or `--horizon=H` at most once,
+/// where H is digits alone and 0 to `MAX_TIME`. Words that ask for help are refused too (own).
+pub fn options<S: AsStr>(alloc: Global, words: &[S]) -> Result<Args, ArgsFault>
+    ensures ok { IfOk result (λ args. asked (map S.text words.now)
+        ≡ Some (record { design = string_bytes args.design; horizon = args.horizon })) }
+    ensures within { IfOk result (λ args. args.horizon ≤ MAX_TIME) }
+    ensures refused { result ≡ Err ArgsFault.Refused → asked (map S.text words.now) ≡ None }
+{
+    let matches = parse(alloc, words)?;
+    let Some(name) = matches.get_str("design") else {
+        return Err(ArgsFault::Refused);
+    };
+    let Some(horizon) = given_or_usual(matches.get_str("horizon")) else {
+        return Err(ArgsFault::Refused);
+    };
+    let design = String::from_str(alloc, name)?;
+    Ok(Args { design, horizon })
+}
