@@ -25,8 +25,8 @@ fn words_are_read(rt: HostRuntime) -> Result<(), Fail> {
     ];
     for (words, design, horizon) in table {
         let args = options(rt.alloc(), words)?;
-        assert_eq!(rt; args.design.as_str(), design);
-        assert_eq!(rt; args.horizon, horizon, "{design}");
+        assert_eq!(rt; args.design.as_str().as_bytes(), design.as_bytes());
+        assert_eq!(rt; args.horizon, horizon);
     }
     Ok(())
 }
