@@ -1,6 +1,6 @@
 # The tasks of the repository; each works on a machine that has only the toolchain.
 
-.PHONY: all test demo fmt
+.PHONY: all test demo bench fmt
 
 all: test
 
@@ -8,9 +8,13 @@ all: test
 test:
 	@tools/gate
 
-# Builds the proved program and runs the first example with it.
+# Builds the proved program and runs each example with it.
 demo:
 	@tools/demo
+
+# Times the proved programs over generated circuits (docs/BENCHMARKS.md).
+bench:
+	@tools/bench/run
 
 # Lays out every source and proof file.
 fmt:

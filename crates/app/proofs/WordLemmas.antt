@@ -1,13 +1,14 @@
 -- What the words ask for, from what `clap` finds in them.
-use Rattle.std.proofs.Common.{◌≡◌, ℕ, true, false, List, Some, None, codes, refl}
+use Rattle.std.proofs.Common.{◌≡◌, ℕ, true, false, List, Option, Some, None, codes, refl}
 use Rattle.clap.specs.Words.{Text}
-use Rattle.app.specs.Arguments.{asked, horizon_given}
+use Rattle.app.specs.Arguments.{asked, delay_given, horizon_given}
 use Rattle.app.specs.CommandLine.{is_taken, value_of}
 
-pub asked_all : (words : List Text) (name : List ℕ) (h : ℕ) → is_taken words ≡ true → value_of (codes "design") words ≡ Some name
-    → horizon_given (value_of (codes "horizon") words) ≡ Some h → asked words ≡ Some (record { design = name; horizon = h })
+pub asked_all : (words : List Text) (name : List ℕ) (h : ℕ) (d : Option ℕ) → is_taken words ≡ true → value_of (codes "design") words ≡ Some name
+    → horizon_given (value_of (codes "horizon") words) ≡ Some h → delay_given (value_of (codes "delay") words) ≡ Some d
+    → asked words ≡ Some (record { design = name; horizon = h; delay = d })
 unfolding asked
-asked_all words name h taken design horizon = rw (taken, design, horizon) refl
+asked_all words name h d taken design horizon delay = rw (taken, design, horizon, delay) refl
 
 pub not_asked : (words : List Text) → is_taken words ≡ false → asked words ≡ None
 unfolding asked
@@ -21,3 +22,8 @@ pub no_horizon : (words : List Text) (name : List ℕ) → is_taken words ≡ tr
     → horizon_given (value_of (codes "horizon") words) ≡ None → asked words ≡ None
 unfolding asked
 no_horizon words name taken design horizon = rw (taken, design, horizon) refl
+
+pub no_delay : (words : List Text) (name : List ℕ) (h : ℕ) → is_taken words ≡ true → value_of (codes "design") words ≡ Some name
+    → horizon_given (value_of (codes "horizon") words) ≡ Some h → delay_given (value_of (codes "delay") words) ≡ None → asked words ≡ None
+unfolding asked
+no_delay words name h taken design horizon delay = rw (taken, design, horizon, delay) refl

@@ -1,4 +1,4 @@
--- The form of the command line, as `clap` sees it: DESIGN, which must stand, and `--horizon H`. The words come without the program's name.
+-- The form of the command line, as `clap` sees it: DESIGN, which must stand, `--horizon H` and `--delay D`. The words come without the program's name.
 use Rattle.std.specs.Prelude.{◌==◌, Bool, true, List, Option, Some, codes, length}
 use Rattle.clap.specs.Words.{App, Rule, Shape, Text, fault_of, first_of, matches_of, new_app, new_rule, with_rule}
 use Rattle.clap.specs.Simple.{on_top}
@@ -9,12 +9,16 @@ design_rule = record (new_rule (codes "design")) { required = true }
 abbrev pub horizon_rule : Rule
 horizon_rule = record (new_rule (codes "horizon")) { long = Some (codes "horizon") }
 
+abbrev pub delay_rule : Rule
+delay_rule = record (new_rule (codes "delay")) { long = Some (codes "delay") }
+
 -- the words are those after the program's name
 abbrev pub nameless : Shape → Shape
 nameless s = record s { no_binary_name = true }
 
 unfoldable pub command_line : App
-command_line = with_rule (with_rule (on_top nameless (new_app (codes "gatebench"))) design_rule) horizon_rule
+command_line =
+    with_rule (with_rule (with_rule (on_top nameless (new_app (codes "gatebench"))) design_rule) horizon_rule) delay_rule
 
 -- `clap` takes the words
 unfoldable pub is_taken : List Text → Bool

@@ -3,13 +3,12 @@ use Rattle.std.specs.Prelude.{◌≡◌, ℕ, ◌++◌, Bool, false, List, [], O
 use Rattle.std.specs.Io.{StartsWith}
 use Rattle.std.specs.Io.KnownBytes.{Appends}
 use Rattle.gatestep.specs.Devices.Traffic.{failures_after}
-use Rattle.session.specs.EditFaults.{fault_code, fault_name}
+use Rattle.edits.specs.EditFaults.{fault_code, fault_name}
 use Rattle.session.specs.ReadFaults.{kind_code, kind_name}
-use Rattle.session.specs.declared.edits.EditFault.{EditFault}
+use Rattle.edits.specs.declared.fault.EditFault.{EditFault}
 use Rattle.session.specs.declared.header.ReadFault.{ReadFault}
 use Rattle.session.specs.declared.SessionFault.{SessionFault}
 use Rattle.session.specs.declared.SessionFault.TheVariants.{Design, Edit, OutOfMemory, WorkerLost, Read, Write}
-use Rattle.app.specs.declared.status.TheConstants.{BROKEN_OFF, DESIGN_REFUSED, ENDED, WORDS_REFUSED}
 
 -- `line L: C NAME`
 abbrev pub design_line : ReadFault → List ℕ
@@ -29,9 +28,9 @@ fault_line Read = codes "read failed\n"
 fault_line Write = codes "write failed\n"
 
 abbrev pub fault_status : SessionFault → ℕ
-fault_status (Design fault) = DESIGN_REFUSED
-fault_status (Edit fault) = WORDS_REFUSED
-fault_status _ = BROKEN_OFF
+fault_status (Design fault) = 1
+fault_status (Edit fault) = 2
+fault_status _ = 3
 
 -- the text of an end, and its status
 abbrev pub ending_text : Result (Unit {0}) SessionFault → List ℕ
@@ -39,7 +38,7 @@ ending_text (Ok _) = []
 ending_text (Err fault) = fault_line fault
 
 abbrev pub ending_status : Result (Unit {0}) SessionFault → ℕ
-ending_status (Ok _) = ENDED
+ending_status (Ok _) = 0
 ending_status (Err fault) = fault_status fault
 
 -- What went out stands behind what the device held. It is the text, or the device failed once and it is a beginning of the text.

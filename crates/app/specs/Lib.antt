@@ -3,3 +3,4 @@ pub mod Arguments
 pub mod CommandLine
 pub mod Endings
 pub mod Numbers
+pub mod Start

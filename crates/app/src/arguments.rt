@@ -1,11 +1,11 @@
 //! What the words after the program's name ask for.
 
 ghost use Rattle.std.specs.Prelude.{◌≡◌, ◌≤◌, IfOk, IfSome, Err, None, Some, map, option_map, string_bytes};
-ghost use Rattle.fourstate.specs.declared.limits.TheConstants.{MAX_TIME};
-ghost use Rattle.app.specs.Arguments.{asked, horizon_given};
+ghost use Rattle.fourstate.specs.declared.limits.TheConstants.{MAX_DELAY, MAX_TIME};
+ghost use Rattle.app.specs.Arguments.{asked, delay_given, horizon_given};
 
 use crate::command_line::parse;
-use crate::numbers::horizon_of;
+use crate::numbers::{delay_of, horizon_of};
 use std::alloc::{AllocError, Global};
 use std::convert::AsStr;
 use thiserror::Error;
@@ -20,6 +20,8 @@ pub struct Args {
     pub design: String,
     /// The last moment of the simulation, in time units: 0 to `MAX_TIME`.
     pub horizon: u64,
+    /// The delay of gates that the design text writes without one, in time units: 1 to `MAX_DELAY`.
+    pub delay: Option<u32>,
 }
 
 /// Why the words ask for nothing.
@@ -70,12 +72,28 @@ fn given_or_usual(text: Option<&str>) -> Option<u64>
     }
 }
 
-/// Reads the words after the program's name: DESIGN, and `--horizon H` or `--horizon=H` at most once,
-/// where H is digits alone and 0 to `MAX_TIME`. Words that ask for help are refused too (own).
+// The delay of the entry, if there is one.
+fn given_delay(text: Option<&str>) -> Option<Option<u32>>
+    ensures given { result ≡ delay_given (option_map (λ t. t.now) text.entry) }
+    ensures within { IfSome result (λ given. IfSome given (λ delay. delay ≤ MAX_DELAY)) }
+{
+    match text {
+        Some(text) => match delay_of(text) {
+            Some(delay) => Some(Some(delay)),
+            None => None,
+        },
+        None => Some(None),
+    }
+}
+
+/// Reads the words after the program's name: DESIGN, and `--horizon H` and `--delay D`, each at most once and also as
+/// `--horizon=H`, where H and D are digits alone, H is 0 to `MAX_TIME` and D is 1 to `MAX_DELAY`. Words that ask for help
+/// are refused too (own).
 pub fn options<S: AsStr>(alloc: Global, words: &[S]) -> Result<Args, ArgsFault>
     ensures ok { IfOk result (λ args. asked (map S.text words.now)
-        ≡ Some (record { design = string_bytes args.design; horizon = args.horizon })) }
-    ensures within { IfOk result (λ args. args.horizon ≤ MAX_TIME) }
+        ≡ Some (record { design = string_bytes args.design; horizon = args.horizon; delay = args.delay })) }
+    ensures horizon { IfOk result (λ args. args.horizon ≤ MAX_TIME) }
+    ensures delay { IfOk result (λ args. IfSome args.delay (λ delay. delay ≤ MAX_DELAY)) }
     ensures refused { result ≡ Err ArgsFault.Refused → asked (map S.text words.now) ≡ None }
 {
     let matches = parse(alloc, words)?;
@@ -85,6 +103,13 @@ pub fn options<S: AsStr>(alloc: Global, words: &[S]) -> Result<Args, ArgsFault>
     let Some(horizon) = given_or_usual(matches.get_str("horizon")) else {
         return Err(ArgsFault::Refused);
     };
+    let Some(delay) = given_delay(matches.get_str("delay")) else {
+        return Err(ArgsFault::Refused);
+    };
     let design = String::from_str(alloc, name)?;
-    Ok(Args { design, horizon })
+    Ok(Args {
+        design,
+        horizon,
+        delay,
+    })
 }

@@ -15,10 +15,12 @@ fn form<'a>(alloc: Global) -> Result<Command<'a>, AllocError>
 {
     let design = Arg::new(alloc, "design").required(true);
     let horizon = Arg::new(alloc, "horizon").long("horizon");
+    let delay = Arg::new(alloc, "delay").long("delay");
     Command::new(alloc, "gatebench")
         .no_binary_name(true)
         .arg(design)?
-        .arg(horizon)
+        .arg(horizon)?
+        .arg(delay)
 }
 
 /// The entries of the words.

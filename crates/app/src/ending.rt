@@ -5,9 +5,9 @@ ghost use Rattle.gatestep.specs.Devices.Outgoing.{Adds};
 ghost use Rattle.app.specs.Endings.{Says, design_line, edit_line, ending_status, ending_text, fault_line, fault_status};
 
 use crate::status::{BROKEN_OFF, DESIGN_REFUSED, ENDED, WORDS_REFUSED};
+use edits::EditFault;
 use gatestep::{Sink, Writer};
 use session::SessionFault;
-use session::edits::EditFault;
 use session::header::ReadFault;
 
 /// Writes a line to `sink` that says why a session broke off or did not open, and answers the status.

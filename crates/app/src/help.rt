@@ -1,6 +1,7 @@
 //! The text that teaches how to use the program.
 
 ghost use Rattle.std.specs.Prelude.{◌≡◌};
+ghost use Rattle.app.specs.Endings.{Says};
 
 use crate::status::WORDS_REFUSED;
 use gatestep::{Sink, Writer};
@@ -9,11 +10,12 @@ use gatestep::{Sink, Writer};
 pub const HELP: &str = "\
 gatebench simulates a gate-level design, and answers commands about it.
 
-Usage: gatebench DESIGN [--horizon H]
+Usage: gatebench DESIGN [--horizon H] [--delay D]
 
   DESIGN         the name of a file that holds the design text
   --horizon H    the last moment that is simulated, in time units: 0 to 1000000000,
                  and 1000 if it is not given
+  --delay D      the delay of gates that the design text writes without one: 1 to 1000000
 
 The design text is an empty module; commands add all else:
 
@@ -46,7 +48,8 @@ or output fails, or memory runs out.
 
 /// Writes the help to `sink`, and answers the status. A write that fails is passed over (own).
 pub fn help<W: Sink>(sink: &mut W) -> u8
-    ensures { result ≡ WORDS_REFUSED }
+    ensures status { result ≡ 2 }
+    ensures text { Says (W.contents sink.old) (W.contents sink.new) (W.failures sink.old) (W.failures sink.new) HELP.now }
 {
     let mut writer = Writer::new(sink);
     writer.text(HELP.as_bytes());

@@ -16,14 +16,16 @@ use arguments::ArgsFault;
 use gatestep::Device;
 use session::SessionFault;
 use std::process::ExitCode;
+use std::{env, fs};
 
 fn main(rt: HostRuntime) -> ExitCode {
     let mut errors = Device::new(rt.stderr());
-    let status = match start::asked(&rt) {
+    let status = match start::asked(rt.alloc(), env::args(&rt)) {
         Ok(args) => {
+            let file = fs::read(&rt, args.design.as_str());
             let mut source = Device::new(rt.stdin());
             let mut sink = Device::new(rt.stdout());
-            let outcome = simulation::simulate(&rt, &args, &mut source, &mut sink);
+            let outcome = simulation::simulate(&rt, file, &args, &mut source, &mut sink);
             ending::ending(&outcome, &mut errors)
         }
         Err(ArgsFault::Refused) => help::help(&mut errors),

@@ -1,40 +1,62 @@
 //! What the program is started with.
 
+ghost use Rattle.std.specs.Prelude.{◌≡◌, None, Some, Ok, Err, IfErr, IfOk, drop, map, string_bytes};
+ghost use Rattle.std.specs.Vec.Iter.{into_iter_items};
+ghost use Rattle.std.specs.IoError.{error_kind};
+ghost use Rattle.app.specs.Arguments.{asked};
+ghost use Rattle.app.specs.Start.{no_words_fault, unread_fault};
+
 use crate::arguments::{Args, ArgsFault, options};
 use session::SessionFault;
-use std::alloc::AllocError;
-use std::rt::{Env, Files};
-use std::{env, fs, io};
+use std::alloc::{AllocError, Global};
+use std::{env, io};
 
-/// What the words after the program's name ask for. A word that is no text is refused (own).
-pub fn asked<R: Env + AllocGlobal>(rt: &R) -> Result<Args, ArgsFault> {
-    let words = match env::args(rt) {
-        Ok(words) => words,
-        Err(error) => return Err(words_fault(&error)),
-    };
-    let mut after_name = Vec::new(rt.alloc());
-    for word in words.skip(1) {
-        after_name.push(word).map_err(AllocError::from)?;
+/// What the words of the command line ask for, the program's name first among them. `words` is what the system gave; a
+/// word that is no text is refused (own).
+pub fn asked(alloc: Global, words: io::Result<env::Args>) -> Result<Args, ArgsFault>
+    ensures ok { IfOk words (λ all. IfOk result (λ args. asked (map string_bytes (drop 1 (into_iter_items all)))
+        ≡ Some (record { design = string_bytes args.design; horizon = args.horizon; delay = args.delay }))) }
+    ensures refused { IfOk words (λ all. result ≡ Err ArgsFault.Refused → asked (map string_bytes (drop 1 (into_iter_items all))) ≡ None) }
+    ensures unknown { IfErr words (λ error. result ≡ Err (no_words_fault (error_kind error))) }
+{
+    match words {
+        Ok(words) => {
+            let after_name = without_first(alloc, words)?;
+            options(alloc, after_name.as_slice())
+        }
+        Err(error) => Err(words_fault(&error)),
     }
-    options(rt.alloc(), after_name.as_slice())
 }
 
-fn words_fault(error: &io::Error) -> ArgsFault {
+fn without_first(alloc: Global, words: env::Args) -> Result<Vec<String>, AllocError>
+    ensures { IfOk result (λ rest. rest.items ≡ drop 1 (into_iter_items words)) }
+{
+    words.skip(1).collect(alloc)
+}
+
+fn words_fault(error: &io::Error) -> ArgsFault
+    ensures { result ≡ no_words_fault (error_kind error.now) }
+{
     match error.kind() {
         io::ErrorKind::OutOfMemory => ArgsFault::OutOfMemory,
         _ => ArgsFault::Refused,
     }
 }
 
-/// The bytes of the file that holds the design text.
-pub fn design_text<R: Files + AllocGlobal>(rt: &R, name: &str) -> Result<Vec<u8>, SessionFault> {
-    match fs::read(rt, name) {
+/// The bytes of the design text, by what the reading of its file gave.
+pub fn design_text(file: io::Result<Vec<u8>>) -> Result<Vec<u8>, SessionFault>
+    ensures read { IfOk file (λ bytes. result ≡ Ok bytes) }
+    ensures unread { IfErr file (λ error. result ≡ Err (unread_fault (error_kind error))) }
+{
+    match file {
         Ok(text) => Ok(text),
         Err(error) => Err(text_fault(&error)),
     }
 }
 
-fn text_fault(error: &io::Error) -> SessionFault {
+fn text_fault(error: &io::Error) -> SessionFault
+    ensures { result ≡ unread_fault (error_kind error.now) }
+{
     match error.kind() {
         io::ErrorKind::OutOfMemory => SessionFault::OutOfMemory,
         _ => SessionFault::Read,

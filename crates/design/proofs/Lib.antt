@@ -1,5 +1,14 @@
+pub mod BlockLemmas
+pub mod ChangeLemmas
 pub mod DesignLemmas
-pub mod KeyLemmas
+pub mod EntryLemmas
+pub mod GateLemmas
 pub mod ListLemmas
+pub mod LookLemmas
 pub mod NameLemmas
+pub mod NetLemmas
+pub mod OrderLemmas
+pub mod PlaceLemmas
 pub mod PointLemmas
+pub mod UseLemmas
+pub mod WiringLemmas

@@ -1,6 +1,6 @@
 -- Stimulus points in order of time: what a search for a time finds, and what setting a point leaves.
-use Rattle.std.proofs.Common.{◌≡◌, ◌≢◌, ℕ, zero, suc, ◌+◌, ◌-◌, ◌<◌, ◌≤◌, nat_le, nat_lt, Bool, true, false, cond, ◌==◌, ◌||◌, inl, inr, List, [], ◌∷◌, length, get_or, take, Option, Some, None, All, sym, refl, ap, subst, ◌∙◌, arith}
-use Rattle.std.proofs.lemmas.Bool.{cases_order, cases_eq, ltb-true, ltb-false, eq-eqb, ne_eqb}
+use Rattle.std.proofs.Common.{◌≡◌, ◌≢◌, ℕ, zero, suc, ◌+◌, ◌-◌, ◌<◌, ◌≤◌, nat_le, nat_lt, Bool, true, false, not, cond, ◌==◌, ◌||◌, inl, inr, List, [], ◌∷◌, length, get_or, take, Option, Some, None, All, sym, refl, ap, subst, ◌∙◌, arith}
+use Rattle.std.proofs.lemmas.Bool.{cases_order, cases_eq, ltb-true, ltb-false, eq-eqb, eqb-true, ne_eqb}
 use Rattle.std.proofs.lemmas.List.Elements.{All-cons, All-head, All-tail, All-weaker}
 use Rattle.std.proofs.lemmas.List.Folds.{list_any_none}
 use Rattle.std.proofs.lemmas.List.Kept.{AllPairs-cons}
@@ -161,3 +161,22 @@ count_set (q ∷ ps) t v rising =
         | inr more ↦ rw (set_greater q ps t v more, ne_eqb q.0 t (λ same. omega arith)) (omega (arith, count_set ps t v (rising_tail q ps rising)))
       ]
     ]
+
+-- A point taken away.
+
+later_kept : (ps : List (ℕ × Value)) (t : ℕ) → All (λ p. t < p.0) ps → filter (λ p. not (p.0 == t)) ps ≡ ps
+later_kept [] t later = refl
+later_kept (q ∷ ps) t later =
+    let above : t < q.0 = All-head (λ p. t < p.0) q ps later in
+    ap (λ b. cond (not b) (q ∷ filter (λ p. not (p.0 == t)) ps) (filter (λ p. not (p.0 == t)) ps)) (ne_eqb q.0 t (λ same. omega arith)) ∙ ap (λ l. q ∷ l) (later_kept ps t (All-tail (λ p. t < p.0) q ps later))
+
+pub count_removed : (ps : List (ℕ × Value)) (t : ℕ) → AreRising ps → has_point ps t ≡ true → length (filter (λ p. not (p.0 == t)) ps) + 1 ≡ length ps
+count_removed [] t rising h = cc
+count_removed (q ∷ ps) t rising h = step (q.0 == t) refl h (λ g. count_removed ps t (rising_tail q ps rising) g)
+  where
+    step : (b : Bool) → (q.0 == t) ≡ b → (b || has_point ps t) ≡ true → (has_point ps t ≡ true → length (filter (λ p. not (p.0 == t)) ps) + 1 ≡ length ps) → length (cond (not b) (q ∷ filter (λ p. not (p.0 == t)) ps) (filter (λ p. not (p.0 == t)) ps)) + 1 ≡ length (q ∷ ps)
+    step true at on rest =
+        let here : q.0 ≡ t = eqb-true q.0 t at in
+        let kept : filter (λ p. not (p.0 == t)) ps ≡ ps = later_kept ps t (All-weaker (λ r. q.0 < r.0) (λ r. t < r.0) (λ r later. omega arith) ps (rising_head q ps rising)) in
+        omega (arith, ap length kept)
+    step false at on rest = let more = rest on in omega (arith, more)

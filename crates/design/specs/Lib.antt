@@ -1,3 +1,4 @@
+pub mod Blocks
 pub mod Kept
 pub mod Keys
 pub mod Lawful
@@ -5,4 +6,6 @@ pub mod Lists
 pub mod Names
 pub mod Netlist
 pub mod PointPlaces
+pub mod Records
+pub mod Shared
 pub mod Shown

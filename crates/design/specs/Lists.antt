@@ -1,17 +1,32 @@
--- Lists of keys, one beside each net.
-use Rattle.std.specs.Prelude.{Bool, ℕ, ◌+◌, ◌++◌, if◌then◌else◌, List, [], ◌∷◌}
-use Rattle.std.specs.List.{slice_index_or, slice_set}
+-- Lists of gate keys by net key, in blocks.
+use Rattle.std.specs.Prelude.{◌≡◌, Bool, ℕ, ◌/◌, ◌%◌, ◌==◌, ◌||◌, if◌then◌else◌, List, []}
+use Rattle.std.specs.List.{filter, list_any, slice_index_or}
+use Rattle.design.specs.declared.key_lists.TheConstants.{BLOCK}
 
--- the places of the elements that pass, where the list starts at place k
-abbrev pub places_where : {X : Type 0} → (X → Bool) → ℕ → List X → List ℕ
-places_where p k [] = []
-places_where p k (x ∷ xs) = if p x then k ∷ places_where p (k + 1) xs else places_where p (k + 1) xs
+-- the list at a place of a block, empty where none is kept
+abbrev pub list_at : List (List ℕ) → ℕ → List ℕ
+list_at lists place = slice_index_or lists place []
 
--- the lists with the key last in the one at this place
-abbrev pub with_key : List (List ℕ) → ℕ → ℕ → List (List ℕ)
-with_key lists place key = slice_set lists place (slice_index_or lists place [] ++ key ∷ [])
+-- the lists of a block, none where the block is not kept
+abbrev pub block_at : List (List (List ℕ)) → ℕ → List (List ℕ)
+block_at blocks index = slice_index_or blocks index []
 
--- the lists with the key last in the one at each of the places
-abbrev pub with_key_at : List (List ℕ) → List ℕ → ℕ → List (List ℕ)
-with_key_at lists [] key = lists
-with_key_at lists (place ∷ places) key = with_key_at (with_key lists place key) places key
+-- the list of a key
+abbrev pub list_of : List (List (List ℕ)) → ℕ → List ℕ
+list_of blocks key = list_at (block_at blocks (key / BLOCK)) (key % BLOCK)
+
+-- the key is in the list
+abbrev pub contains : List ℕ → ℕ → Bool
+contains list key = list_any (λ k. k == key) list
+
+-- the list is in the order of all keys, and has each of its keys once
+abbrev pub IsInOrder : List ℕ → List ℕ → Type 0
+IsInOrder keys list = list ≡ filter (contains list) keys
+
+-- the keys of the list and this one, in the order of all keys
+abbrev pub with_key_in : List ℕ → ℕ → List ℕ → List ℕ
+with_key_in keys key list = filter (λ k. k == key || contains list k) keys
+
+-- the lists after a change of those whose keys pass
+abbrev pub AreChanged : (ℕ → Bool) → (List ℕ → List ℕ) → List (List (List ℕ)) → List (List (List ℕ)) → Type 0
+AreChanged test change lists new = (k : ℕ) → list_of new k ≡ (if test k then change (list_of lists k) else list_of lists k)

@@ -1,5 +1,5 @@
 -- A design as contracts see it: nets and gates in order, by name (IEEE 1364-2005, 12).
-use Rattle.std.specs.Prelude.{Bool, true, false, ℕ, ◌==◌, ◌++◌, not, nat_le, if◌then◌else◌, List, [], ◌∷◌, length, map, Option, None}
+use Rattle.std.specs.Prelude.{Bool, true, false, ℕ, ◌==◌, ◌++◌, ◌||◌, not, nat_le, if◌then◌else◌, List, [], ◌∷◌, length, map, Option, None}
 use Rattle.std.specs.Ordering.{nat_cmp}
 use Rattle.std.specs.BTreeMap.{insert_entry}
 use Rattle.std.specs.List.{filter, find, last_or, list_any, sum_by}
@@ -81,6 +81,10 @@ is_at_net name (Constant v) = false
 abbrev pub reads : GateEntry → List ℕ → Bool
 reads g name = list_any (is_at_net name) g.inputs
 
+-- a gate reads or drives the net of this name
+abbrev pub is_used : Netlist → List ℕ → Bool
+is_used d name = list_any (λ g. reads g name || same_name g.output name) d.gates
+
 -- Stimulus.
 
 -- the value of the latest point at or before t, x without one
@@ -122,3 +126,52 @@ with_point d name t v =
 -- the design with another horizon
 abbrev pub with_horizon : Netlist → ℕ → Netlist
 with_horizon d t = record { top = d.top; unit = d.unit; nets = d.nets; gates = d.gates; horizon = t }
+
+-- the design without the net of this name
+abbrev pub without_net : Netlist → List ℕ → Netlist
+without_net d name =
+    record { top = d.top; unit = d.unit; nets = filter (λ n. not (same_name n.name name)) d.nets; gates = d.gates; horizon = d.horizon }
+
+-- the design without the gate of this name
+abbrev pub without_gate : Netlist → List ℕ → Netlist
+without_gate d name =
+    record { top = d.top; unit = d.unit; nets = d.nets; gates = filter (λ g. not (same_name g.name name)) d.gates; horizon = d.horizon }
+
+-- the design with a change of the net of this name
+abbrev pub with_net_changed : Netlist → List ℕ → (NetEntry → NetEntry) → Netlist
+with_net_changed d name change =
+    record { top = d.top; unit = d.unit; nets = map (λ n. if same_name n.name name then change n else n) d.nets; gates = d.gates; horizon = d.horizon }
+
+-- the design with a change of the gate of this name
+abbrev pub with_gate_changed : Netlist → List ℕ → (GateEntry → GateEntry) → Netlist
+with_gate_changed d name change =
+    record { top = d.top; unit = d.unit; nets = d.nets; gates = map (λ g. if same_name g.name name then change g else g) d.gates; horizon = d.horizon }
+
+-- the design with another kind of the net of this name
+abbrev pub with_net_kind : Netlist → List ℕ → NetKind → Netlist
+with_net_kind d name kind =
+    with_net_changed d name (λ n. record { name = n.name; kind = kind; is_input = n.is_input; points = n.points })
+
+-- the design without the point at t of the net of this name
+abbrev pub without_point : Netlist → List ℕ → ℕ → Netlist
+without_point d name t =
+    with_net_changed d name
+    (λ n. record { name = n.name; kind = n.kind; is_input = n.is_input; points = filter (λ point. not (point.0 == t)) n.points })
+
+-- the design with other delays of the gate of this name
+abbrev pub with_delays : Netlist → List ℕ → DelayTimes → Netlist
+with_delays d name delays =
+    with_gate_changed d name
+    (λ g. record { name = g.name; kind = g.kind; delays = delays; output = g.output; inputs = g.inputs })
+
+-- the design with another kind of the gate of this name
+abbrev pub with_gate_kind : Netlist → List ℕ → GateKind → Netlist
+with_gate_kind d name kind =
+    with_gate_changed d name
+    (λ g. record { name = g.name; kind = kind; delays = g.delays; output = g.output; inputs = g.inputs })
+
+-- the design with the gate of this name at other nets
+abbrev pub with_wiring : Netlist → List ℕ → List ℕ → List Terminal → Netlist
+with_wiring d name output inputs =
+    with_gate_changed d name
+    (λ g. record { name = g.name; kind = g.kind; delays = g.delays; output = output; inputs = inputs })

@@ -1,13 +1,10 @@
 //! Designs: what is read of them.
 
-ghost use Rattle.std.specs.Prelude.{◌≡◌, ◌≤◌, ◌<◌, [], length, slice_get, IsSome, IfSome, is_some};
-ghost use Rattle.std.specs.List.{position_from};
+ghost use Rattle.std.specs.Prelude.{◌≡◌, ◌≤◌, ◌<◌, [], length, slice_get, IfOk};
 ghost use Rattle.fourstate.specs.declared.limits.TheConstants.{MAX_TIME};
-ghost use Rattle.design.specs.Keys.{AreKeys, gate_by_key, gate_key, net_by_key, net_key};
-ghost use Rattle.design.specs.Kept.{keyed};
+ghost use Rattle.design.specs.Keys.{AreKeys, gate_by_key, net_by_key};
 ghost use Rattle.design.specs.Lawful.{IsDesign};
-ghost use Rattle.design.specs.Names.{same_name};
-ghost use Rattle.design.specs.Netlist.{empty_netlist, gate_named, has_gate, has_net, net_named, point_total};
+ghost use Rattle.design.specs.Netlist.{empty_netlist, point_total};
 
 use crate::gate::Gate;
 use crate::key::{GateKey, NetKey};
@@ -15,19 +12,20 @@ use crate::key_lists::KeyLists;
 use crate::name::Name;
 use crate::net::Net;
 use crate::unit::TimeUnit;
-use std::alloc::Global;
+use catalog::{Catalog, NameHasher};
+use std::alloc::{AllocError, Global};
 use std::marker::Model;
 
 /// A design: nets and gates, each in the order in which it was added and under a name that no other has, the stimulus
 /// of the inputs, and the horizon, the last moment of a run. The type keeps that each gate drives and reads nets that
-/// are there, and drives no input.
-#[derive(Debug, Drop)]
+/// are there, and drives no input. A copy shares what neither it nor the original changes.
+#[derive(Drop)]
 pub struct Design {
     pub(crate) top: Name,
     pub(crate) unit: TimeUnit,
     pub(crate) horizon: u64,
-    pub(crate) nets: Vec<Net>,
-    pub(crate) gates: Vec<Gate>,
+    pub(crate) nets: Catalog<Net>,
+    pub(crate) gates: Catalog<Gate>,
     pub(crate) points: usize,
     pub(crate) fanout: KeyLists,
     pub(crate) drivers: KeyLists,
@@ -39,9 +37,9 @@ impl Model for Design {
     ghost Value = { Keyed };
 
     ghost use Rattle.design.specs.Kept.{keyed};
-    ghost use Rattle.design.specs.Shown.{IsWhole, netlist_of};
+    ghost use Rattle.design.specs.Shown.{IsWhole, store_of};
 
-    ghost view = { λ a. keyed (netlist_of a) };
+    ghost view = { λ a. keyed (store_of a) };
 
     ghost invariant = { IsWhole };
 }
@@ -49,7 +47,7 @@ impl Model for Design {
 impl Design {
     /// A design with no nets and no gates, and with the horizon 0.
     #[tactic(auto, using(crate::proofs::DesignLemmas::empty_is_design))]
-    pub fn empty(alloc: Global, top: Name, unit: TimeUnit) -> Design
+    pub fn empty(alloc: Global, hasher: NameHasher, top: Name, unit: TimeUnit) -> Design
         ensures { result ≡ record { netlist = empty_netlist top unit; net_keys = []; gate_keys = [] } }
     {
         top.lawful();
@@ -57,12 +55,46 @@ impl Design {
             top,
             unit,
             horizon: 0,
-            nets: Vec::new(alloc),
-            gates: Vec::new(alloc),
+            nets: Catalog::new(alloc, hasher),
+            gates: Catalog::new(alloc, hasher),
             points: 0,
             fanout: KeyLists::new(alloc),
             drivers: KeyLists::new(alloc),
         }
+    }
+
+    /// The same design, once more.
+    pub fn try_clone(&self) -> Result<Design, AllocError>
+        ensures { IfOk result (λ design. design ≡ self.now) }
+    {
+        let top = self.top.clone()?;
+        let nets = self.nets.try_clone()?;
+        let gates = self.gates.try_clone()?;
+        let fanout = self.fanout.clone()?;
+        let drivers = self.drivers.clone()?;
+        Ok(Design {
+            top,
+            unit: self.unit,
+            horizon: self.horizon,
+            nets,
+            gates,
+            points: self.points,
+            fanout,
+            drivers,
+        })
+    }
+
+    /// The same design, in which the look-ups after many removals are as fast as in a new one.
+    pub fn close_up(self) -> Result<Design, AllocError>
+        ensures { IfOk result (λ design. design ≡ self) }
+    {
+        let nets = self.nets.close_up()?;
+        let gates = self.gates.close_up()?;
+        Ok(Design {
+            nets,
+            gates,
+            ..self
+        })
     }
 
     /// The design's name.
@@ -109,50 +141,39 @@ impl Design {
     }
 
     /// The net at a place in the order of the nets.
-    #[tactic(auto, using(std::proofs::lemmas::Option::slice_get_read))]
     pub fn net_at(&self, place: usize) -> &Net
         requires { place < length self.now.netlist.nets }
         ensures { slice_get self.now.netlist.nets place ≡ Some result.now }
     {
-        &self.nets[place]
+        self.nets.record_at_place(place)
     }
 
     /// The gate at a place in the order of the gates.
-    #[tactic(auto, using(std::proofs::lemmas::Option::slice_get_read))]
     pub fn gate_at(&self, place: usize) -> &Gate
         requires { place < length self.now.netlist.gates }
         ensures { slice_get self.now.netlist.gates place ≡ Some result.now }
     {
-        &self.gates[place]
+        self.gates.record_at_place(place)
     }
 
     /// The key of the net at a place in the order of the nets.
-    #[tactic(auto, using(crate::proofs::KeyLemmas::place_key, crate::proofs::KeyLemmas::found_by_place))]
     pub fn net_key_at(&self, place: usize) -> NetKey
         requires { place < length self.now.netlist.nets }
         ensures key { slice_get self.now.net_keys place ≡ Some result }
         ensures net { net_by_key self.now result ≡ slice_get self.now.netlist.nets place }
     {
-        let _nets = &self.nets;
-        NetKey { place }
+        let number = self.nets.key_at(place);
+        NetKey { number }
     }
 
     /// The key of the gate at a place in the order of the gates.
-    #[tactic(auto, using(crate::proofs::KeyLemmas::place_key, crate::proofs::KeyLemmas::found_by_place))]
     pub fn gate_key_at(&self, place: usize) -> GateKey
         requires { place < length self.now.netlist.gates }
         ensures key { slice_get self.now.gate_keys place ≡ Some result }
         ensures gate { gate_by_key self.now result ≡ slice_get self.now.netlist.gates place }
     {
-        let _gates = &self.gates;
-        GateKey { place }
-    }
-
-    /// The key of a net or a gate is its place; nothing runs.
-    pub(crate) fn keys_are_places(&self)
-        ensures { self.now ≡ keyed self.now.netlist }
-    {
-        let _nets = &self.nets;
+        let number = self.gates.key_at(place);
+        GateKey { number }
     }
 
     /// The law of every design and of its keys; nothing runs.

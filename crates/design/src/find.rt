@@ -4,7 +4,7 @@ ghost use Rattle.std.specs.Prelude.{◌≡◌, ◌<◌, All, length, slice_get, 
 ghost use Rattle.std.specs.List.{list_all, position_from};
 ghost use Rattle.design.specs.Keys.{driver_keys, gate_by_key, gate_key, net_by_key, net_key, reader_keys};
 ghost use Rattle.design.specs.Names.{same_name};
-ghost use Rattle.design.specs.Netlist.{gate_named, has_gate, has_net, has_point, is_drivable, is_readable, net_named};
+ghost use Rattle.design.specs.Netlist.{gate_named, has_gate, has_net, has_point, is_drivable, is_readable, is_used, net_named};
 
 use crate::design::Design;
 use crate::gate::Gate;
@@ -14,7 +14,6 @@ use crate::terminal::Terminal;
 
 impl Design {
     /// The place of the net of this name in the order of the nets.
-    #[tactic(auto, using(crate::proofs::KeyLemmas::position_within, crate::proofs::KeyLemmas::position_find, crate::proofs::KeyLemmas::position_none, crate::proofs::KeyLemmas::position_is_some))]
     pub fn net_place(&self, name: &str) -> Option<usize>
         ensures place { result ≡ position_from (λ n. same_name n.name name.now) 0 self.now.netlist.nets }
         ensures there { is_some result ≡ has_net self.now.netlist name.now }
@@ -22,11 +21,13 @@ impl Design {
         ensures net { IfSome result (λ place. slice_get self.now.netlist.nets place ≡ net_named self.now.netlist name.now) }
         ensures absent { IfNone result (net_named self.now.netlist name.now ≡ None) }
     {
-        find_net(&self.nets, name)
+        match self.nets.key(name) {
+            Some(key) => self.nets.place(key),
+            None => None,
+        }
     }
 
     /// The place of the gate of this name in the order of the gates.
-    #[tactic(auto, using(crate::proofs::KeyLemmas::position_within, crate::proofs::KeyLemmas::position_find, crate::proofs::KeyLemmas::position_none, crate::proofs::KeyLemmas::position_is_some))]
     pub fn gate_place(&self, name: &str) -> Option<usize>
         ensures place { result ≡ position_from (λ g. same_name g.name name.now) 0 self.now.netlist.gates }
         ensures there { is_some result ≡ has_gate self.now.netlist name.now }
@@ -34,71 +35,72 @@ impl Design {
         ensures gate { IfSome result (λ place. slice_get self.now.netlist.gates place ≡ gate_named self.now.netlist name.now) }
         ensures absent { IfNone result (gate_named self.now.netlist name.now ≡ None) }
     {
-        find_gate(&self.gates, name)
+        match self.gates.key(name) {
+            Some(key) => self.gates.place(key),
+            None => None,
+        }
     }
 
     /// The key of the net of this name.
-    #[tactic(auto, using(crate::proofs::KeyLemmas::net_key_is, crate::proofs::KeyLemmas::net_by_key_is))]
     pub fn net(&self, name: &str) -> Option<NetKey>
         ensures key { result ≡ net_key self.now name.now }
         ensures there { is_some result ≡ has_net self.now.netlist name.now }
         ensures net { IfSome result (λ key. net_by_key self.now key ≡ net_named self.now.netlist name.now) }
         ensures absent { IfNone result (net_named self.now.netlist name.now ≡ None) }
     {
-        self.keys_are_places();
-        let place = self.net_place(name)?;
-        Some(NetKey { place })
+        match self.nets.key(name) {
+            Some(number) => Some(NetKey { number }),
+            None => None,
+        }
     }
 
     /// The key of the gate of this name.
-    #[tactic(auto, using(crate::proofs::KeyLemmas::gate_key_is, crate::proofs::KeyLemmas::gate_by_key_is))]
     pub fn gate(&self, name: &str) -> Option<GateKey>
         ensures key { result ≡ gate_key self.now name.now }
         ensures there { is_some result ≡ has_gate self.now.netlist name.now }
         ensures gate { IfSome result (λ key. gate_by_key self.now key ≡ gate_named self.now.netlist name.now) }
         ensures absent { IfNone result (gate_named self.now.netlist name.now ≡ None) }
     {
-        self.keys_are_places();
-        let place = self.gate_place(name)?;
-        Some(GateKey { place })
+        match self.gates.key(name) {
+            Some(number) => Some(GateKey { number }),
+            None => None,
+        }
     }
 
     /// Whether a net of the design has this key.
-    #[tactic(auto, using(crate::proofs::KeyLemmas::net_by_key_is, std::proofs::lemmas::Option::gets))]
     pub fn has_net_key(&self, net: NetKey) -> bool
         ensures { result ≡ is_some (net_by_key self.now net) }
     {
-        self.keys_are_places();
-        net.place < self.nets.len()
+        self.nets.get(net.number).is_some()
     }
 
     /// Whether a gate of the design has this key.
-    #[tactic(auto, using(crate::proofs::KeyLemmas::gate_by_key_is, std::proofs::lemmas::Option::gets))]
     pub fn has_gate_key(&self, gate: GateKey) -> bool
         ensures { result ≡ is_some (gate_by_key self.now gate) }
     {
-        self.keys_are_places();
-        gate.place < self.gates.len()
+        self.gates.get(gate.number).is_some()
     }
 
     /// The net that has a key.
-    #[tactic(auto, using(crate::proofs::KeyLemmas::net_by_key_is, std::proofs::lemmas::Option::gets))]
     pub fn net_of(&self, net: NetKey) -> &Net
         requires { IsSome (net_by_key self.now net) }
         ensures { net_by_key self.now net ≡ Some result.now }
     {
-        self.keys_are_places();
-        &self.nets[net.place]
+        match self.nets.get(net.number) {
+            Some(net) => net,
+            None => unreachable!(),
+        }
     }
 
     /// The gate that has a key.
-    #[tactic(auto, using(crate::proofs::KeyLemmas::gate_by_key_is, std::proofs::lemmas::Option::gets))]
     pub fn gate_of(&self, gate: GateKey) -> &Gate
         requires { IsSome (gate_by_key self.now gate) }
         ensures { gate_by_key self.now gate ≡ Some result.now }
     {
-        self.keys_are_places();
-        &self.gates[gate.place]
+        match self.gates.get(gate.number) {
+            Some(gate) => gate,
+            None => unreachable!(),
+        }
     }
 
     /// The keys of the gates that read a net, each once, in the order of the gates.
@@ -107,7 +109,7 @@ impl Design {
         ensures readers { IfSome (net_by_key self.now net) (λ n. result.now ≡ reader_keys self.now n.name) }
         ensures gates { All (λ key. IsSome (gate_by_key self.now key)) result.now }
     {
-        self.fanout.at(net.place)
+        self.fanout.at(net)
     }
 
     /// The keys of the gates that drive a net, in the order of the gates.
@@ -116,7 +118,18 @@ impl Design {
         ensures drivers { IfSome (net_by_key self.now net) (λ n. result.now ≡ driver_keys self.now n.name) }
         ensures gates { All (λ key. IsSome (gate_by_key self.now key)) result.now }
     {
-        self.drivers.at(net.place)
+        self.drivers.at(net)
+    }
+
+    /// Whether a gate reads or drives a net.
+    pub fn is_used(&self, net: NetKey) -> bool
+        requires { IsSome (net_by_key self.now net) }
+        ensures { IfSome (net_by_key self.now net) (λ n. result ≡ is_used self.now.netlist n.name) }
+    {
+        if !self.fanout.at(net).is_empty() {
+            return true;
+        }
+        !self.drivers.at(net).is_empty()
     }
 
     /// Whether a net has a stimulus point at the moment `t`.
@@ -131,22 +144,23 @@ impl Design {
     pub fn has_net(&self, name: &str) -> bool
         ensures { result ≡ has_net self.now.netlist name.now }
     {
-        self.net_place(name).is_some()
+        self.nets.key(name).is_some()
     }
 
     /// Whether a gate has this name.
     pub fn has_gate(&self, name: &str) -> bool
         ensures { result ≡ has_gate self.now.netlist name.now }
     {
-        self.gate_place(name).is_some()
+        self.gates.key(name).is_some()
     }
 
     /// Whether a net has this name and is no input, so that a gate may drive it.
+    #[tactic(auto, using(crate::proofs::LookLemmas::any_found))]
     pub fn is_drivable(&self, name: &str) -> bool
         ensures { result ≡ is_drivable self.now.netlist name.now }
     {
-        match self.net_place(name) {
-            Some(place) => !self.net_at(place).is_input(),
+        match self.net(name) {
+            Some(net) => !self.net_of(net).is_input(),
             None => false,
         }
     }
@@ -166,16 +180,4 @@ impl Design {
             Terminal::Constant(_) => true,
         }
     }
-}
-
-fn find_net(nets: &[Net], name: &str) -> Option<usize>
-    ensures { result ≡ position_from (λ n. same_name n.name name.now) 0 nets.now }
-{
-    nets.iter().position(|net| net.name().as_str() == name)
-}
-
-fn find_gate(gates: &[Gate], name: &str) -> Option<usize>
-    ensures { result ≡ position_from (λ g. same_name g.name name.now) 0 gates.now }
-{
-    gates.iter().position(|gate| gate.name().as_str() == name)
 }

@@ -3,9 +3,11 @@
 ghost use Rattle.std.specs.Prelude.{◌≡◌, IsTrue, length};
 ghost use Rattle.fourstate.specs.Gates.{takes_inputs};
 ghost use Rattle.design.specs.Lawful.{IsGate};
+ghost use Rattle.design.specs.Records.{gate_with_delays, gate_with_kind, gate_with_wiring};
 
 use crate::name::Name;
 use crate::terminal::Terminal;
+use catalog::Named;
 use fourstate::laws::delays_in_range;
 use fourstate::{Delays, GateKind};
 use std::alloc::AllocError;
@@ -92,6 +94,34 @@ impl Gate {
         self.inputs.as_slice()
     }
 
+    /// The gate with other delays.
+    pub(crate) fn with_delays(self, delays: Delays) -> Gate
+        ensures { result ≡ gate_with_delays self delays }
+    {
+        delays_in_range(&delays);
+        Gate { delays, ..self }
+    }
+
+    /// The gate with another kind.
+    pub(crate) fn with_kind(self, kind: GateKind) -> Gate
+        requires { IsTrue (takes_inputs kind (length self.inputs)) }
+        ensures { result ≡ gate_with_kind self kind }
+    {
+        Gate { kind, ..self }
+    }
+
+    /// The gate at other nets.
+    pub(crate) fn with_wiring(self, output: Name, inputs: Vec<Terminal>) -> Gate
+        requires { IsTrue (takes_inputs self.kind (length inputs.items)) }
+        ensures { result ≡ gate_with_wiring self output inputs.items }
+    {
+        Gate {
+            output,
+            inputs,
+            ..self
+        }
+    }
+
     /// The law of every gate; nothing runs.
     pub fn lawful(&self)
         ensures { IsGate self.now }
@@ -116,5 +146,13 @@ impl Clone for Gate {
             output,
             inputs,
         })
+    }
+}
+
+impl Named for Gate {
+    ghost name = { λ g. g.name };
+
+    fn name(&self) -> &str {
+        self.name.as_str()
     }
 }

@@ -2,10 +2,10 @@
 
 use std::marker::Model;
 
-/// The key of a net in its design. No two nets of a design have the same one.
+/// The key of a net in its design, for as long as it is there. No two nets of a design have the same one.
 #[derive(Clone, Copy, Debug, PartialEq, Eq, Hash)]
 pub struct NetKey {
-    pub(crate) place: usize,
+    pub(crate) number: usize,
 }
 
 impl Model for NetKey {
@@ -13,15 +13,15 @@ impl Model for NetKey {
 
     ghost Value = { ℕ };
 
-    ghost view = { λ a. a.place };
+    ghost view = { λ a. a.number };
 
-    ghost inverse = { λ n. record { place = n } };
+    ghost inverse = { λ n. record { number = n } };
 }
 
-/// The key of a gate in its design. No two gates of a design have the same one.
+/// The key of a gate in its design, for as long as it is there. No two gates of a design have the same one.
 #[derive(Clone, Copy, Debug, PartialEq, Eq, Hash)]
 pub struct GateKey {
-    pub(crate) place: usize,
+    pub(crate) number: usize,
 }
 
 impl Model for GateKey {
@@ -29,7 +29,7 @@ impl Model for GateKey {
 
     ghost Value = { ℕ };
 
-    ghost view = { λ a. a.place };
+    ghost view = { λ a. a.number };
 
-    ghost inverse = { λ n. record { place = n } };
+    ghost inverse = { λ n. record { number = n } };
 }

@@ -1,22 +1,27 @@
 //! Designs: nets and gates by name, with the stimulus of the inputs (IEEE 1364-2005, 12).
 #![tactic(auto)]
 
+mod block;
 mod design;
-mod edit;
+mod edit_gates;
+mod edit_nets;
 mod find;
 mod gate;
+mod horizon;
 mod key;
 mod key_lists;
 mod limits;
 mod name;
 mod net;
 mod points;
+mod stimulus;
 mod terminal;
 #[cfg(test)]
 mod tests;
 mod unit;
 mod wiring;
 
+pub use catalog::NameHasher;
 pub use design::Design;
 pub use gate::Gate;
 pub use key::{GateKey, NetKey};

@@ -1,12 +1,15 @@
 //! Nets with their names and the stimulus of inputs.
 
-ghost use Rattle.std.specs.Prelude.{◌≡◌, ◌≤◌, true, OnOk, OnErr};
+ghost use Rattle.std.specs.Prelude.{◌≡◌, ◌≤◌, true, IfOk};
 ghost use Rattle.fourstate.specs.declared.limits.TheConstants.{MAX_TIME};
 ghost use Rattle.design.specs.Lawful.{IsNet};
 ghost use Rattle.design.specs.Netlist.{has_point, net_with_point, new_net, stimulus};
+ghost use Rattle.design.specs.Records.{net_with_kind, net_without_point};
 
 use crate::name::Name;
-use crate::points::{is_set, set_in_order, value_at};
+use crate::points::{is_set, value_at};
+use crate::stimulus::Stimulus;
+use catalog::Named;
 use fourstate::{NetKind, Value};
 use std::alloc::{AllocError, Global};
 use std::marker::Model;
@@ -17,7 +20,7 @@ pub struct Net {
     name: Name,
     kind: NetKind,
     is_input: bool,
-    points: Vec<(u64, Value)>,
+    stimulus: Stimulus,
 }
 
 impl Model for Net {
@@ -26,14 +29,14 @@ impl Model for Net {
 
     ghost Value = { NetEntry };
 
-    ghost view = { λ a. record { name = a.name; kind = a.kind; is_input = a.is_input; points = a.points.items } };
+    ghost view = { λ a. record { name = a.name; kind = a.kind; is_input = a.is_input; points = a.stimulus } };
 
-    ghost invariant = { λ a. IsNet (record { name = a.name; kind = a.kind; is_input = a.is_input; points = a.points.items }) };
+    ghost invariant = { λ a. IsNet (record { name = a.name; kind = a.kind; is_input = a.is_input; points = a.stimulus }) };
 }
 
 impl Net {
     /// A net with no points.
-    pub(crate) fn new(alloc: Global, name: Name, kind: NetKind, is_input: bool) -> Net
+    pub(crate) fn new(name: Name, kind: NetKind, is_input: bool) -> Net
         ensures { result ≡ new_net name kind is_input }
     {
         name.lawful();
@@ -41,8 +44,16 @@ impl Net {
             name,
             kind,
             is_input,
-            points: Vec::new(alloc),
+            stimulus: Stimulus::none(),
         }
+    }
+
+    /// The same net with no points.
+    pub(crate) fn bare(&self) -> Result<Net, AllocError>
+        ensures { IfOk result (λ net. net ≡ new_net self.now.name self.now.kind self.now.is_input) }
+    {
+        let name = self.name.clone()?;
+        Ok(Net::new(name, self.kind, self.is_input))
     }
 
     /// The net's name.
@@ -52,7 +63,7 @@ impl Net {
         &self.name
     }
 
-    /// The net's kind; of an input `wire`.
+    /// The net's kind; of an input that was added `wire`.
     pub fn kind(&self) -> NetKind
         ensures { result ≡ self.now.kind }
     {
@@ -70,7 +81,7 @@ impl Net {
     pub fn points(&self) -> &[(u64, Value)]
         ensures { result.now ≡ self.now.points }
     {
-        self.points.as_slice()
+        self.stimulus.points()
     }
 
     /// The value that the stimulus gives at the moment `t`: that of the latest point at or before it, x without one
@@ -78,25 +89,39 @@ impl Net {
     pub fn stimulus_at(&self, t: u64) -> Value
         ensures { result ≡ stimulus self.now.points t }
     {
-        value_at(&self.points, t)
+        value_at(self.stimulus.points(), t)
     }
 
     /// Whether a stimulus point is at the moment `t`.
     pub fn has_point(&self, t: u64) -> bool
         ensures { result ≡ has_point self.now.points t }
     {
-        is_set(&self.points, t)
+        is_set(self.stimulus.points(), t)
     }
 
-    /// Sets the stimulus from the moment `t` on, until the next point.
-    pub(crate) fn set_point(&mut self, t: u64, value: Value) -> Result<(), AllocError>
-        requires input { self.old.is_input ≡ true }
-        requires moment { t ≤ MAX_TIME }
-        ensures ok { OnOk result (self.new ≡ net_with_point self.old t value) }
-        ensures err { OnErr result (self.new ≡ self.old) }
+    /// The net with another kind.
+    pub(crate) fn with_kind(self, kind: NetKind) -> Net
+        ensures { result ≡ net_with_kind self kind }
     {
-        set_in_order(&mut self.points, t, value)?;
-        Ok(())
+        Net { kind, ..self }
+    }
+
+    /// The net with its stimulus set from the moment `t` on, until the next point.
+    pub(crate) fn with_point(self, alloc: Global, t: u64, value: Value) -> Result<Net, AllocError>
+        requires input { self.is_input ≡ true }
+        requires moment { t ≤ MAX_TIME }
+        ensures { IfOk result (λ net. net ≡ net_with_point self t value) }
+    {
+        let stimulus = self.stimulus.with_point(alloc, t, value)?;
+        Ok(Net { stimulus, ..self })
+    }
+
+    /// The net without its point at the moment `t`.
+    pub(crate) fn without_point(self, alloc: Global, t: u64) -> Result<Net, AllocError>
+        ensures { IfOk result (λ net. net ≡ net_without_point self t) }
+    {
+        let stimulus = self.stimulus.without_point(alloc, t)?;
+        Ok(Net { stimulus, ..self })
     }
 
     /// The law of every net; nothing runs.
@@ -114,12 +139,20 @@ impl Clone for Net {
 
     fn clone(&self) -> Result<Net, AllocError> {
         let name = self.name.clone()?;
-        let points = self.points.clone()?;
+        let stimulus = self.stimulus.clone()?;
         Ok(Net {
             name,
             kind: self.kind,
             is_input: self.is_input,
-            points,
+            stimulus,
         })
+    }
+}
+
+impl Named for Net {
+    ghost name = { λ n. n.name };
+
+    fn name(&self) -> &str {
+        self.name.as_str()
     }
 }

@@ -1,8 +1,9 @@
 //! Stimulus points in order of time.
 
-ghost use Rattle.std.specs.Prelude.{◌≡◌, ◌≤◌, true, false, nat_le, nat_lt, OnOk, OnErr, IfOk, IfErr, is_ok, length};
+ghost use Rattle.std.specs.Prelude.{◌≡◌, ◌≤◌, ◌==◌, not, true, false, nat_le, nat_lt, OnOk, OnErr, IfOk, IfErr, is_ok, length};
 ghost use Rattle.std.specs.Ordering.{nat_cmp};
 ghost use Rattle.std.specs.BTreeMap.{insert_entry};
+ghost use Rattle.std.specs.List.{filter};
 ghost use Rattle.std.specs.List.Sorted.{IsPartitionPoint};
 ghost use Rattle.design.specs.Lawful.{AreRising};
 ghost use Rattle.design.specs.PointPlaces.{IsPlaceOf, IsPlaceFor};
@@ -44,6 +45,13 @@ pub fn set_in_order(points: &mut Vec<(u64, Value)>, t: u64, value: Value) -> Res
         Err(place) => points.insert(place, (t, value))?,
     }
     Ok(())
+}
+
+/// Takes the point at the moment `t` away.
+pub fn remove_at(points: &mut Vec<(u64, Value)>, t: u64)
+    ensures { points.new.items ≡ filter (λ point. not (point.0 == t)) points.old.items }
+{
+    points.retain(|point| point.0 != t);
 }
 
 /// The place of the point at the moment `t`, or else the place at which one keeps the order.

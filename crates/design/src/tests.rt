@@ -1,9 +1,13 @@
 //! Small designs, worked out by hand.
 
+mod edits;
+mod twin;
+
 use crate::{
     Design, Gate, GateKey, MAX_GATES, MAX_NETS, MAX_POINTS, Magnitude, Name, NetKey, Terminal,
     TimeUnit, Unit,
 };
+use catalog::NameHasher;
 use fourstate::{Delays, GateKind, MAX_TIME, NetKind, Value, delay, fits};
 use std::alloc::Global;
 use std::process::Abort;
@@ -16,15 +20,15 @@ fn name(rt: &impl Abort, alloc: Global, text: &str) -> Result<Name, Fail> {
 
 fn empty(rt: &impl Abort, alloc: Global) -> Result<Design, Fail> {
     let top = name(rt, alloc, "top")?;
-    Ok(Design::empty(alloc, top, TimeUnit::default()))
+    Ok(Design::empty(alloc, NameHasher::fixed(), top, TimeUnit::default()))
 }
 
 fn add_net(
     rt: &impl Abort,
     alloc: Global,
-    design: &mut Design,
+    design: Design,
     text: &str,
-) -> Result<NetKey, Fail> {
+) -> Result<(Design, NetKey), Fail> {
     let name = name(rt, alloc, text)?;
     assert!(rt; !design.has_net(name.as_str()), "{text}");
     assert!(rt; design.net_count() < MAX_NETS);
@@ -34,9 +38,9 @@ fn add_net(
 fn add_input(
     rt: &impl Abort,
     alloc: Global,
-    design: &mut Design,
+    design: Design,
     text: &str,
-) -> Result<NetKey, Fail> {
+) -> Result<(Design, NetKey), Fail> {
     let name = name(rt, alloc, text)?;
     assert!(rt; !design.has_net(name.as_str()), "{text}");
     assert!(rt; design.net_count() < MAX_NETS);
@@ -67,7 +71,7 @@ fn gate(
     Ok(Gate::new(name, kind, delays, output, inputs))
 }
 
-fn add_gate(rt: &impl Abort, design: &mut Design, gate: Gate) -> Result<GateKey, Fail> {
+fn add_gate(rt: &impl Abort, design: Design, gate: Gate) -> Result<(Design, GateKey), Fail> {
     assert!(rt; !design.has_gate(gate.name().as_str()));
     assert!(rt; design.gate_count() < MAX_GATES);
     assert!(rt; design.is_drivable(gate.output().as_str()));
@@ -77,11 +81,11 @@ fn add_gate(rt: &impl Abort, design: &mut Design, gate: Gate) -> Result<GateKey,
 
 fn set_point(
     rt: &impl Abort,
-    design: &mut Design,
+    design: Design,
     net: NetKey,
     t: u64,
     value: Value,
-) -> Result<(), Fail> {
+) -> Result<Design, Fail> {
     assert!(rt; design.has_net_key(net));
     assert!(rt; design.net_of(net).is_input());
     assert!(rt; t <= MAX_TIME);
@@ -122,12 +126,12 @@ fn check_net(
 
 /// A buffer g from an input a to a net y.
 fn buffer(rt: &impl Abort, alloc: Global) -> Result<Design, Fail> {
-    let mut design = empty(rt, alloc)?;
-    add_input(rt, alloc, &mut design, "a")?;
-    add_net(rt, alloc, &mut design, "y")?;
+    let design = empty(rt, alloc)?;
+    let (design, _) = add_input(rt, alloc, design, "a")?;
+    let (design, _) = add_net(rt, alloc, design, "y")?;
     let inputs = nets_read(rt, alloc, &["a"])?;
     let gate = gate(rt, alloc, "g", GateKind::Buf, "y", inputs)?;
-    add_gate(rt, &mut design, gate)?;
+    let (design, _) = add_gate(rt, design, gate)?;
     Ok(design)
 }
 
@@ -168,9 +172,9 @@ fn longest_name(rt: HostRuntime) -> Result<(), Fail> {
 #[test]
 fn nets_by_place_and_name(rt: HostRuntime) -> Result<(), Fail> {
     let alloc = rt.alloc();
-    let mut design = empty(&rt, alloc)?;
-    let a = add_input(&rt, alloc, &mut design, "a")?;
-    let y = add_net(&rt, alloc, &mut design, "y")?;
+    let design = empty(&rt, alloc)?;
+    let (design, a) = add_input(&rt, alloc, design, "a")?;
+    let (design, y) = add_net(&rt, alloc, design, "y")?;
     check_net(&rt, &design, 0, a, "a", NetKind::Wire);
     check_net(&rt, &design, 1, y, "y", NetKind::Tri);
     assert_eq!(rt; design.net_count(), 2);
@@ -238,10 +242,10 @@ fn fan_out_of_a_buffer(rt: HostRuntime) -> Result<(), Fail> {
 #[test]
 fn fan_out_of_two_gates(rt: HostRuntime) -> Result<(), Fail> {
     let alloc = rt.alloc();
-    let mut design = buffer(&rt, alloc)?;
+    let design = buffer(&rt, alloc)?;
     let twice = nets_read(&rt, alloc, &["a", "y", "a"])?;
     let gate = gate(&rt, alloc, "h", GateKind::Xor, "y", twice)?;
-    let h = add_gate(&rt, &mut design, gate)?;
+    let (design, h) = add_gate(&rt, design, gate)?;
     assert_eq!(rt; design.net_count(), 2);
     assert_eq!(rt; design.gate_count(), 2);
     let g = design.gate_key_at(0);
@@ -258,7 +262,7 @@ fn stimulus(rt: HostRuntime) -> Result<(), Fail> {
     let a = design.net_key_at(0);
     check_stimulus(&rt, &design, a, 0, Value::Unknown);
     for (t, value) in [(12, Value::Zero), (0, Value::Zero), (10, Value::One)] {
-        set_point(&rt, &mut design, a, t, value)?;
+        design = set_point(&rt, design, a, t, value)?;
     }
     for (t, value) in [
         (0, Value::Zero),
@@ -280,7 +284,7 @@ fn replaced_points(rt: HostRuntime) -> Result<(), Fail> {
     assert_eq!(rt; design.net_count(), 2);
     let a = design.net_key_at(0);
     for (t, value) in [(7, Value::One), (3, Value::Zero), (7, Value::HighZ)] {
-        set_point(&rt, &mut design, a, t, value)?;
+        design = set_point(&rt, design, a, t, value)?;
     }
     assert_eq!(rt; design.point_count(), 2);
     assert!(rt; design.has_net_key(a));
@@ -297,15 +301,15 @@ fn replaced_points(rt: HostRuntime) -> Result<(), Fail> {
 
 #[test]
 fn clones(rt: HostRuntime) -> Result<(), Fail> {
-    let mut design = buffer(&rt, rt.alloc())?;
+    let design = buffer(&rt, rt.alloc())?;
     assert_eq!(rt; design.net_count(), 2);
     assert_eq!(rt; design.gate_count(), 1);
     let a = design.net_key_at(0);
     let y = design.net_key_at(1);
     let g = design.gate_key_at(0);
-    set_point(&rt, &mut design, a, 1, Value::One)?;
+    let design = set_point(&rt, design, a, 1, Value::One)?;
     let copy = design.try_clone()?;
-    set_point(&rt, &mut design, a, 2, Value::Zero)?;
+    let design = set_point(&rt, design, a, 2, Value::Zero)?;
     check_net(&rt, &copy, 1, y, "y", NetKind::Tri);
     check_stimulus(&rt, &copy, a, 2, Value::One);
     check_stimulus(&rt, &design, a, 2, Value::Zero);
@@ -316,7 +320,7 @@ fn clones(rt: HostRuntime) -> Result<(), Fail> {
 
 #[test]
 fn header(rt: HostRuntime) -> Result<(), Fail> {
-    let mut design = empty(&rt, rt.alloc())?;
+    let design = empty(&rt, rt.alloc())?;
     assert_eq!(rt; design.top().as_str(), "top");
     assert_eq!(rt;
         design.unit(),
@@ -326,7 +330,7 @@ fn header(rt: HostRuntime) -> Result<(), Fail> {
         }
     );
     assert_eq!(rt; design.horizon(), 0);
-    design.set_horizon(30);
+    let design = design.set_horizon(30);
     assert_eq!(rt; design.horizon(), 30);
     Ok(())
 }

@@ -1,27 +1,35 @@
 -- Answers of a session.
-use Rattle.std.proofs.Common.{◌≡◌, ℕ, List, true, false, refl, sym, ap, ◌∙◌, inl, inr, None, slice_get}
+use Rattle.std.proofs.Common.{◌≡◌, ℕ, List, [], ◌∷◌, true, false, refl, sym, ap, ◌∙◌, inl, inr, Option, None, Some, Result, Ok, Err, slice_get}
 use Rattle.std.specs.Prelude.{option_map}
+use Rattle.std.specs.Option.{option_map_or}
 use Rattle.std.proofs.lemmas.Option.{slice_get-map}
 use Rattle.gatestep.specs.Step.{Evaluation, State, advance}
 use Rattle.design.specs.Netlist.{Netlist, net_named}
 use Rattle.waveform.specs.Runs.{RunRecord}
 use Rattle.scratch.specs.Run.{run_of}
-use Rattle.session.specs.declared.edits.edit.Edit.{Edit}
+use Rattle.edits.specs.declared.edit.Edit.{Edit}
 use Rattle.session.specs.declared.replies.refusal.Refusal.{Refusal}
-use Rattle.session.specs.Refused.{MayRefuse}
+use Rattle.edits.specs.declared.fault.EditFault.{EditFault}
+use Rattle.edits.specs.Batches.{batch}
+use Rattle.edits.specs.Checks.{cause}
+use Rattle.edits.specs.Edits.{edited}
+use Rattle.gatestep.specs.declared.fault.StepFault.{StepFault}
+use Rattle.gatestep.specs.declared.fault.StepFault.TheVariants as step
+use Rattle.session.specs.Refused.{IsOfStepper, MayRefuse, refusal_of}
 use Rattle.session.specs.declared.commands.command.Command.{Command}
 use Rattle.session.specs.declared.commands.command.Command.TheVariants as command
-use Rattle.session.specs.declared.edits.fault.EditFault.TheVariants.{OutOfMemory}
+use Rattle.edits.specs.declared.fault.EditFault.TheVariants.{OutOfMemory}
 use Rattle.session.specs.declared.replies.refusal.Refusal.TheVariants as refusal
 use Rattle.session.specs.Commands.{is_change}
 use Rattle.session.specs.Replies.{ok_line, refusal_line}
-use Rattle.session.specs.State.{SessionState, Replies, after_edit, edit_reply, fault_of, is_quit, wave_of}
+use Rattle.session.specs.Questions.{wave_of}
+use Rattle.session.specs.State.{SessionState, Replies, after_edit, edit_reply, fault_of, is_quit}
 
 -- an edit may be refused for want of memory
 pub no_memory : (s : SessionState) (c : Command) → is_change c ≡ true → Replies s c (refusal_line (refusal.Edit OutOfMemory)) s
 no_memory s (command.Change e) is = inr (inl (record { reply_is = refl; state_is = refl }))
 no_memory s command.Skip is = cc
-no_memory s (command.Wave name) is = cc
+no_memory s (command.Ask question) is = cc
 no_memory s command.Quit is = cc
 no_memory s command.Unreadable is = cc
 no_memory s command.TooLong is = cc
@@ -30,7 +38,7 @@ no_memory s command.TooLong is = cc
 pub change_goes_on : (c : Command) → is_change c ≡ true → is_quit c ≡ false
 change_goes_on (command.Change e) is = refl
 change_goes_on command.Skip is = refl
-change_goes_on (command.Wave name) is = refl
+change_goes_on (command.Ask question) is = refl
 change_goes_on command.Quit is = sym is
 change_goes_on command.Unreadable is = refl
 change_goes_on command.TooLong is = refl
@@ -56,3 +64,52 @@ pub wave_found : (d : Netlist) (answer : Evaluation → ℕ → State) (run : Ru
 wave_found d answer run place name is same found =
     ap (λ (r : RunRecord). slice_get r.waves place) (is ∙ ap (λ a. run_of a d) same)
     ∙ slice_get-map (wave_of d) d.nets place ∙ ap (option_map (wave_of d)) found
+
+-- An edit by itself is a list of one.
+
+abbrev the_fault : Result Netlist (ℕ × EditFault) → Option EditFault
+the_fault (Ok d) = None
+the_fault (Err r) = Some r.1
+
+abbrev the_design : Netlist → Result Netlist (ℕ × EditFault) → Netlist
+the_design other (Ok d) = d
+the_design other (Err r) = other
+
+abbrev alone : Option EditFault → Netlist → Result Netlist (ℕ × EditFault)
+alone None after = Ok after
+alone (Some f) after = Err (0, f)
+
+is_alone : (fault : Option EditFault) (after : Netlist) → option_map_or {U = Result Netlist (ℕ × EditFault)} (λ f. Err (0, f)) fault (Ok after) ≡ alone fault after
+is_alone None after = refl
+is_alone (Some f) after = refl
+
+its_fault : (fault : Option EditFault) (after : Netlist) → the_fault (alone fault after) ≡ fault
+its_fault None after = refl
+its_fault (Some f) after = refl
+
+its_design : (fault : Option EditFault) (after : Netlist) → the_design after (alone fault after) ≡ after
+its_design None after = refl
+its_design (Some f) after = refl
+
+pub one_taken : (d new : Netlist) (e : Edit) → batch d (e ∷ []) ≡ Ok new → (cause d e ≡ None) × (new ≡ edited d e)
+one_taken d new e is =
+    let same = sym (is_alone (cause d e) (edited d e)) ∙ is in (
+      sym (its_fault (cause d e) (edited d e)) ∙ ap the_fault same,
+      sym (sym (its_design (cause d e) (edited d e)) ∙ ap (the_design (edited d e)) same),
+    )
+
+pub one_refused : (d : Netlist) (e : Edit) (r : ℕ × EditFault) → batch d (e ∷ []) ≡ Err r → cause d e ≡ Some r.1
+one_refused d e r is =
+    let same = sym (is_alone (cause d e) (edited d e)) ∙ is in sym (its_fault (cause d e) (edited d e)) ∙ ap the_fault same
+
+-- Refusals of a stepper.
+
+pub from_stepper : (fault : StepFault) → IsOfStepper (refusal_of fault)
+from_stepper step.OutOfMemory = refl
+from_stepper step.WorkerLost = tt
+
+pub stepper_may_refuse : (s : SessionState) (e : Edit) (r : Refusal) → IsOfStepper r → MayRefuse s e r
+stepper_may_refuse s e (refusal.Edit fault) is = inr is
+stepper_may_refuse s e refusal.WorkerLost is = tt
+stepper_may_refuse s e refusal.BadCommand is = absurd is
+stepper_may_refuse s e refusal.LongLine is = absurd is

@@ -1,8 +1,8 @@
 -- An exchange of input and replies, and the end of a session.
-use Rattle.std.proofs.Common.{◌≡◌, ℕ, ◌≤◌, List, [], ◌++◌, length, take, true, false, sym, ap, subst, ◌∙◌, append-nil, None, Some, Result, Ok, Err, arith}
+use Rattle.std.proofs.Common.{◌≡◌, ℕ, ◌<◌, ◌≤◌, List, [], ◌++◌, length, take, true, false, sym, ap, subst, ◌∙◌, append-nil, None, Some, Result, Ok, Err, arith}
 use Rattle.std.specs.Prelude.{IfErr, OnOk, is_err}
 use Rattle.std.specs.Io.{StartsWith}
-use Rattle.std.proofs.lemmas.List.{length-take, length-take-le, take-append-le}
+use Rattle.std.proofs.lemmas.List.{length-append, length-take, length-take-le, take-append-le}
 use Rattle.gatestep.specs.Devices.Incoming.{Incoming, IsAllOf, Reads}
 use Rattle.gatestep.specs.Devices.Outgoing.{Outgoing, MovesOn, byte_count}
 use Rattle.session.specs.declared.talk.feed.Turn.{Turn}
@@ -20,6 +20,12 @@ read_failed first s kept out r r' buffer reads going =
 
 text_read : (r r' : Incoming) (buffer : List ℕ) (n : ℕ) → Reads r r' buffer (Some n) → r.text ++ take n buffer ≡ r'.text
 text_read r r' buffer n reads = sym (ap (λ (r : Incoming). r.text) reads.1)
+
+-- a piece that is not empty makes the text longer
+pub read_more : (r r' : Incoming) (buffer : List ℕ) (n : ℕ) → Reads r r' buffer (Some n) → 0 < length (take n buffer) → length r.text < length r'.text
+read_more r r' buffer n reads some =
+    let longer : length r.text < length (r.text ++ take n buffer) = omega (arith, length-append r.text (take n buffer), some) in
+    rw (text_read r r' buffer n reads) at longer
 
 text_moved : (w w' : Outgoing) → MovesOn w w' → w.text ≡ w'.text
 text_moved w w' moves = sym (ap (λ (o : Outgoing). o.text) moves)

@@ -6,6 +6,7 @@ use Rattle.std.specs.Str.{IsUtf8, IsAscii}
 use Rattle.std.proofs.lemmas.Bool.Decides.{nat_tests}
 use Rattle.std.proofs.lemmas.Str.{IsUtf8-from_ascii}
 use Rattle.std.proofs.lemmas.Str.Ascii.{IsAscii-nil, IsAscii-cons}
+use Rattle.design.specs.declared.limits.TheConstants.{MAX_NAME}
 use Rattle.design.specs.Names.{is_name, is_name_byte, same_name}
 use Rattle.session.specs.Header.{begins_name, is_letter, is_name_part, is_plain_name, is_space, without_spaces}
 use Rattle.session.specs.Words.{same_word}
@@ -50,11 +51,11 @@ starts_well (byte ∷ bytes) e = (grind (arith, nat_tests), rw (letter_no_dollar
 record PlainParts (word : List ℕ) : Type 0 where
   begins : begins_name word ≡ true
   parts : list_all is_name_part word ≡ true
-  short : nat_le (length word) 1024 ≡ true
+  short : nat_le (length word) MAX_NAME ≡ true
 
 parts_of_plain : (word : List ℕ) → is_plain_name word ≡ true → PlainParts word
 parts_of_plain word e =
-    let p = begins_name word in let q = list_all is_name_part word in let r = nat_le (length word) 1024 in
+    let p = begins_name word in let q = list_all is_name_part word in let r = nat_le (length word) MAX_NAME in
     let m = not (same_word word (codes "module")) in let n = not (same_word word (codes "endmodule")) in
     let a = and_true (((p && q) && r) && m) n e in
     let b = and_true ((p && q) && r) m a.0 in

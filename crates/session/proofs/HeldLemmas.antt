@@ -8,7 +8,7 @@ use Rattle.session.specs.declared.talk.exchange.End.{End}
 use Rattle.session.specs.declared.talk.exchange.End.TheVariants as end
 use Rattle.session.specs.Held.{Held}
 use Rattle.session.specs.State.{SessionState}
-use Rattle.session.specs.Talk.{Ends, HasQuit, IsSent, SameSource, read_failures}
+use Rattle.session.specs.Talk.{Ends, HasQuit, IsSent, SameSink, SameSource, read_failures}
 use Rattle.session.specs.Transcripts.{AnswersAll}
 
 pub source_through : {a b c : Incoming} → SameSource a b → SameSource b c → SameSource a c
@@ -70,3 +70,30 @@ held end.WriteFailed first had has rf rf' before after wf wf' r w d ends =
       omega (arith, d.read_failed),
       has_failed wf wf' w.stopped ends.stopped d.write_failed,
     )
+
+-- From the steps of a conversation: a reader and a writer were made of the devices, and the references to them came back. A
+-- reference that comes back under its own name leads to what its device is in the end.
+pub held_by : {A B : Type 0} (remaining : A → Option (List ℕ)) (refused : A → ℕ) (contents : B → Option (List ℕ)) (failed : B → ℕ) (e : End) (first : SessionState)
+    (source source' back : A) (sink sink' given : B) (name name' : ℕ) (r0 r : Incoming) (w0 w : Outgoing) (n m : ℕ)
+    → r0 ≡ record { loan = n; before = remaining source; failures = refused source; text = [] }
+    → w0 ≡ record { loan = m; before = contents sink; failures_before = failed sink; text = []; gone = []; stopped = false }
+    → SameSource r0 r → SameSink w0 w → r.failures ≡ r0.failures + read_failures (Some e) → Ends e first r w
+    → Consumes r.before (remaining back) r.text → refused back ≡ r.failures → name ≡ r.loan
+    → Appends w.before (contents given) w.gone → failed given ≡ failures_after w.failures_before w.stopped → name' ≡ w.loan
+    → (n ≡ name → source' ≡ back) → (m ≡ name' → sink' ≡ given)
+    → Held e first (remaining source) (remaining source') (refused source) (refused source') (contents sink) (contents sink') (failed sink) (failed sink')
+held_by remaining refused contents failed e first source source' back sink sink' given name name' r0 r w0 w n m opened begun same_source same_sink failures ends consumed counted named out counted' named' leads leads' =
+    let source_is = leads (sym (ap (λ (r : Incoming). r.loan) opened) ∙ (sym same_source.loan ∙ sym named)) in
+    let sink_is = leads' (sym (ap (λ (w : Outgoing). w.loan) begun) ∙ (sym same_sink.loan ∙ sym named')) in
+    let P : Option (List ℕ) → Type 0 = λ has. Consumes r.before has r.text in
+    let Q : Option (List ℕ) → Type 0 = λ after. Appends w.before after w.gone in
+    held e first (remaining source) (remaining source') (refused source) (refused source') (contents sink) (contents sink') (failed sink) (failed sink') r w
+    (record {
+      had_is = same_source.before ∙ ap (λ (r : Incoming). r.before) opened;
+      consumed = subst P (sym (ap remaining source_is)) consumed;
+      read_failed = ap refused source_is ∙ (counted ∙ (failures ∙ ap (λ n. n + read_failures (Some e)) (ap (λ (r : Incoming). r.failures) opened)));
+      before_is = same_sink.before ∙ ap (λ (w : Outgoing). w.before) begun;
+      written = subst Q (sym (ap contents sink_is)) out;
+      write_failed = ap failed sink_is ∙ (counted' ∙ ap (λ n. failures_after n w.stopped) (same_sink.failures_before ∙ ap (λ (w : Outgoing). w.failures_before) begun));
+    })
+    ends

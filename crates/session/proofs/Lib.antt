@@ -3,7 +3,6 @@ pub mod HeldLemmas
 pub mod ExchangeLemmas
 pub mod HeaderLemmas
 pub mod AnswerLemmas
-pub mod EditLemmas
 pub mod LineLemmas
 pub mod PinLemmas
 pub mod TalkLemmas

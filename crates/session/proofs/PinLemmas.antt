@@ -1,8 +1,8 @@
 -- The inputs of a gate, a word at a time.
 use Rattle.std.proofs.Common.{◌≡◌, ℕ, List, [], ◌∷◌, ◌++◌, true, Option, Some, None, refl, sym, ap, ◌∙◌, append_assoc}
 use Rattle.std.specs.Prelude.{option_map, is_some}
-use Rattle.session.specs.declared.edits.edit.Pin.{Pin}
-use Rattle.session.specs.Commands.{pin_of, pins_of, with_pin}
+use Rattle.edits.specs.declared.pin.Pin.{Pin}
+use Rattle.session.specs.EditLines.{pin_of, pins_of, with_pin}
 
 -- an unreadable word spoils all
 pub pins_fail : (words rest : List (List ℕ)) (word : List ℕ) → words ≡ word ∷ rest → pin_of word ≡ None → pins_of words ≡ None

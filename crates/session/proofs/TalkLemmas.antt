@@ -3,14 +3,13 @@ use Rattle.std.proofs.Common.{◌≡◌, ℕ, ◌+◌, ◌<◌, ◌≤◌, List,
 use Rattle.std.proofs.lemmas.Bool.{eq-eqb, ltb-false}
 use Rattle.std.proofs.lemmas.Bool.Decides.{nat_tests}
 use Rattle.std.proofs.lemmas.List.{length-append, length-take-le, take_all, take-append-drop, take-append-le, take_more}
-use Rattle.design.specs.Netlist.{net_named}
 use Rattle.session.specs.declared.commands.command.Command.{Command}
 use Rattle.session.specs.declared.commands.command.Command.TheVariants as command
 use Rattle.session.specs.declared.replies.refusal.Refusal.TheVariants as refusal
 use Rattle.session.specs.Commands.{command_of, command_within}
 use Rattle.session.specs.Lines.{whole_lines, unfinished, last_line, lines, without_return}
 use Rattle.session.specs.Replies.{ok_line, refusal_line}
-use Rattle.session.specs.State.{SessionState, Answers, Replies, Transcript, after_edit, edit_reply, ends, fault_of, is_quit, wave_reply}
+use Rattle.session.specs.State.{SessionState, Answers, Replies, Transcript, after_edit, edit_reply, ends, fault_of, is_quit, question_reply}
 use Rattle.session.specs.Talk.{Answered, Going, HasQuit, SameSink}
 use Rattle.gatestep.specs.Devices.Outgoing.{Outgoing, Adds}
 use Rattle.session.proofs.LineLemmas.{cut_byte, cut_feed, lines_after, take_front}
@@ -66,7 +65,7 @@ reply_of : (s : SessionState) (c : Command) → (reply : List ℕ) × (s' : Sess
 reply_of s command.Skip = ([], s, record { reply_is = refl; state_is = refl })
 reply_of s (command.Change e) =
     (edit_reply s (fault_of s e), after_edit s e (fault_of s e), inl (record { reply_is = refl; state_is = refl }))
-reply_of s (command.Wave name) = (wave_reply s (net_named s.netlist name), s, record { reply_is = refl; state_is = refl })
+reply_of s (command.Ask question) = (question_reply s question, s, record { reply_is = refl; state_is = refl })
 reply_of s command.Quit = (ok_line s.version, s, record { reply_is = refl; state_is = refl })
 reply_of s command.Unreadable = (refusal_line refusal.BadCommand, s, record { reply_is = refl; state_is = refl })
 reply_of s command.TooLong = (refusal_line refusal.LongLine, s, record { reply_is = refl; state_is = refl })

@@ -2,7 +2,8 @@
 use Rattle.std.specs.Prelude.{Bool, false, ℕ, ◌==◌, ◌&&◌, ◌||◌, not, nat_le, nat_lt, if◌then◌else◌, List, [], ◌∷◌, length, take, drop, Option, Some, None, option_and_then, codes}
 use Rattle.std.specs.List.{list_all, position_or_len, prefix_len}
 use Rattle.std.specs.Option.{option_map_or}
-use Rattle.session.specs.declared.header.text.TheConstants.{TEXT_LIMIT, NAME_LIMIT}
+use Rattle.design.specs.declared.limits.TheConstants.{MAX_NAME}
+use Rattle.session.specs.declared.header.text.TheConstants.{TEXT_LIMIT}
 use Rattle.session.specs.Words.{has_bytes, is_digit, same_word}
 
 abbrev pub is_space : ℕ → Bool
@@ -23,7 +24,7 @@ begins_name (byte ∷ bytes) = is_letter byte
 -- a name, and none of the two words
 abbrev pub is_plain_name : List ℕ → Bool
 is_plain_name word =
-    begins_name word && list_all is_name_part word && nat_le (length word) NAME_LIMIT
+    begins_name word && list_all is_name_part word && nat_le (length word) MAX_NAME
     && not (same_word word (codes "module")) && not (same_word word (codes "endmodule"))
 
 abbrev pub begins_space : List ℕ → Bool

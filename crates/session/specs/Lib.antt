@@ -1,10 +1,9 @@
 pub mod Lines
 pub mod Words
-pub mod EditFaults
+pub mod EditLines
 pub mod Commands
-pub mod Accepted
-pub mod Edits
 pub mod Replies
+pub mod Questions
 pub mod Kept
 pub mod Refused
 pub mod State

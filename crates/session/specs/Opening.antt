@@ -5,7 +5,7 @@ use Rattle.design.specs.declared.unit.TimeUnit.{TimeUnit}
 use Rattle.design.specs.declared.unit.Magnitude.TheVariants.{One}
 use Rattle.design.specs.declared.unit.Unit.TheVariants.{Nanosecond}
 use Rattle.design.specs.Netlist.{Netlist, empty_netlist, with_horizon}
-use Rattle.session.specs.declared.edits.fault.EditFault.TheVariants.{TimeTooLarge}
+use Rattle.edits.specs.declared.fault.EditFault.TheVariants.{TimeTooLarge}
 use Rattle.session.specs.declared.fault.SessionFault.{SessionFault}
 use Rattle.session.specs.declared.fault.SessionFault.TheVariants as fault
 use Rattle.session.specs.declared.header.fault.ReadFaultKind.TheVariants.{Syntax}

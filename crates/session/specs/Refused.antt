@@ -2,8 +2,8 @@
 use Rattle.std.specs.Prelude.{◌≡◌, ◌⊎◌, Some}
 use Rattle.gatestep.specs.declared.fault.StepFault.{StepFault}
 use Rattle.gatestep.specs.declared.fault.StepFault.TheVariants as step
-use Rattle.session.specs.declared.edits.edit.Edit.{Edit}
-use Rattle.session.specs.declared.edits.fault.EditFault.TheVariants.{OutOfMemory}
+use Rattle.edits.specs.declared.edit.Edit.{Edit}
+use Rattle.edits.specs.declared.fault.EditFault.TheVariants.{OutOfMemory}
 use Rattle.session.specs.declared.replies.refusal.Refusal.{Refusal}
 use Rattle.session.specs.declared.replies.refusal.Refusal.TheVariants as refusal
 use Rattle.session.specs.State.{SessionState, fault_of}
@@ -18,3 +18,10 @@ MayRefuse s e refusal.LongLine = ⊥
 abbrev pub refusal_of : StepFault → Refusal
 refusal_of step.OutOfMemory = refusal.Edit OutOfMemory
 refusal_of step.WorkerLost = refusal.WorkerLost
+
+-- the refusal is a stepper's: want of memory or a lost worker
+abbrev pub IsOfStepper : Refusal → Type 0
+IsOfStepper (refusal.Edit fault) = fault ≡ OutOfMemory
+IsOfStepper refusal.WorkerLost = Unit {0}
+IsOfStepper refusal.BadCommand = ⊥
+IsOfStepper refusal.LongLine = ⊥

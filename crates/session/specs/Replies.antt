@@ -1,11 +1,11 @@
 -- What a session writes (own).
-use Rattle.std.specs.Prelude.{ℕ, List, [], ◌∷◌, ◌++◌, codes, decimal}
+use Rattle.std.specs.Prelude.{ℕ, List, [], ◌∷◌, ◌++◌, Option, None, Some, codes, decimal}
 use Rattle.std.specs.List.{flat_map}
 use Rattle.fourstate.specs.declared.value.Value.{Value}
 use Rattle.fourstate.specs.Values.{symbol_of}
 use Rattle.session.specs.declared.replies.refusal.Refusal.{Refusal}
 use Rattle.session.specs.declared.replies.refusal.Refusal.TheVariants.{Edit, WorkerLost, BadCommand, LongLine}
-use Rattle.session.specs.EditFaults.{fault_code, fault_name}
+use Rattle.edits.specs.EditFaults.{fault_code, fault_name}
 
 abbrev pub refusal_code : Refusal → ℕ
 refusal_code (Edit fault) = fault_code fault
@@ -33,3 +33,11 @@ change_line change = decimal change.0 ++ codes " " ++ (symbol_of change.1 ∷ []
 
 abbrev pub wave_lines : List (ℕ × Value) → List ℕ
 wave_lines changes = flat_map change_line changes
+
+abbrev pub value_line : Value → List ℕ
+value_line v = (symbol_of v ∷ []) ++ codes "\n"
+
+-- a change that was looked for, if there is one
+abbrev pub change_or_none : Option (ℕ × Value) → List ℕ
+change_or_none None = codes "none\n"
+change_or_none (Some change) = change_line change

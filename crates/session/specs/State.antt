@@ -1,28 +1,25 @@
 -- How a session stands, and what it may answer (own).
-use Rattle.std.specs.Prelude.{◌≡◌, Bool, true, false, ℕ, suc, ◌+◌, ◌-◌, ◌^◌, ◌==◌, if◌then◌else◌, List, [], ◌∷◌, ◌++◌, Option, Some, None, ◌⊎◌, MatchBool}
+use Rattle.std.specs.Prelude.{◌≡◌, Bool, true, false, ℕ, ◌+◌, ◌-◌, ◌^◌, ◌==◌, if◌then◌else◌, List, [], ◌∷◌, ◌++◌, Option, Some, None, Result, Ok, Err, ◌⊎◌, MatchBool}
 use Rattle.fourstate.specs.declared.value.Value.{Value}
-use Rattle.gatestep.specs.Step.{advance}
-use Rattle.design.specs.Netlist.{NetEntry, Netlist, net_named}
-use Rattle.waveform.specs.Changes.{wave_changes_below}
-use Rattle.scratch.specs.Run.{value}
+use Rattle.design.specs.Netlist.{Netlist}
 use Rattle.session.specs.declared.commands.command.Command.{Command}
 use Rattle.session.specs.declared.commands.command.Command.TheVariants as command
-use Rattle.session.specs.declared.edits.edit.Edit.{Edit}
-use Rattle.session.specs.declared.edits.fault.EditFault.{EditFault}
-use Rattle.session.specs.declared.edits.fault.EditFault.TheVariants.{UnknownNet, TooMany, OutOfMemory}
+use Rattle.session.specs.declared.commands.question.Look.{Look}
+use Rattle.session.specs.declared.commands.question.Question.{Question}
+use Rattle.edits.specs.declared.edit.Edit.{Edit}
+use Rattle.edits.specs.declared.fault.EditFault.{EditFault}
+use Rattle.edits.specs.declared.fault.EditFault.TheVariants.{TooMany, OutOfMemory}
 use Rattle.session.specs.declared.replies.refusal.Refusal.TheVariants as refusal
 use Rattle.session.specs.Commands.{command_of}
-use Rattle.session.specs.Edits.{cause, edited}
-use Rattle.session.specs.Replies.{ok_line, refusal_line, wave_lines}
+use Rattle.edits.specs.Checks.{cause}
+use Rattle.edits.specs.Edits.{edited}
+use Rattle.session.specs.Questions.{changes_asked, told}
+use Rattle.session.specs.Replies.{ok_line, refusal_line}
 
 -- the number of accepted edits so far, and the design with them
 pub record SessionState : Type 0 where
   pub version : ℕ
   pub netlist : Netlist
-
--- the changes of a net's wave, up to the horizon
-abbrev pub wave_of : Netlist → NetEntry → List (ℕ × Value)
-wave_of d n = wave_changes_below (value advance d n) (suc d.horizon)
 
 -- why an edit is refused, if it is; the greatest version is never left
 abbrev pub fault_of : SessionState → Edit → Option EditFault
@@ -38,10 +35,14 @@ abbrev pub after_edit : SessionState → Edit → Option EditFault → SessionSt
 after_edit s e None = record { version = s.version + 1; netlist = edited s.netlist e }
 after_edit s e (Some fault) = s
 
--- the reply to a question for the wave of a net
-abbrev pub wave_reply : SessionState → Option NetEntry → List ℕ
-wave_reply s None = refusal_line (refusal.Edit UnknownNet)
-wave_reply s (Some n) = wave_lines (wave_of s.netlist n) ++ ok_line s.version
+-- the reply to what is asked about the changes of a wave, or to a question that is refused, at a version
+abbrev pub told_reply : ℕ → Look → Result (List (ℕ × Value)) EditFault → List ℕ
+told_reply version look (Err fault) = refusal_line (refusal.Edit fault)
+told_reply version look (Ok changes) = told changes look ++ ok_line version
+
+-- the one reply to a question
+abbrev pub question_reply : SessionState → Question → List ℕ
+question_reply s question = told_reply s.version question.look (changes_asked s.netlist question)
 
 -- this reply, and the state after it
 pub record Gives (reply : List ℕ) (new : SessionState) (wanted : List ℕ) (after : SessionState) : Type 0 where
@@ -55,7 +56,7 @@ Replies old command.Skip reply new = Gives reply new [] old
 Replies old (command.Change e) reply new =
     Gives reply new (edit_reply old (fault_of old e)) (after_edit old e (fault_of old e))
     ⊎ (Gives reply new (refusal_line (refusal.Edit OutOfMemory)) old ⊎ Gives reply new (refusal_line refusal.WorkerLost) old)
-Replies old (command.Wave name) reply new = Gives reply new (wave_reply old (net_named old.netlist name)) old
+Replies old (command.Ask question) reply new = Gives reply new (question_reply old question) old
 Replies old command.Quit reply new = Gives reply new (ok_line old.version) old
 Replies old command.Unreadable reply new = Gives reply new (refusal_line refusal.BadCommand) old
 Replies old command.TooLong reply new = Gives reply new (refusal_line refusal.LongLine) old

@@ -44,6 +44,11 @@ abbrev pub is_finished : Turn → Bool
 is_finished turn.Finished = true
 is_finished _ = false
 
+-- the session waits for more input
+abbrev pub is_waiting : Turn → Bool
+is_waiting turn.More = true
+is_waiting _ = false
+
 -- a writer to the same device, which had failed as often before
 pub record SameSink (old new : Outgoing) : Type 0 where
   pub loan : new.loan ≡ old.loan

@@ -1,5 +1,5 @@
 -- The words of a line, and what they write (own).
-use Rattle.std.specs.Prelude.{Bool, true, false, ℕ, ◌+◌, ◌-◌, ◌*◌, ◌^◌, ◌==◌, ◌&&◌, ◌||◌, nat_le, nat_eq, min, if◌then◌else◌, List, [], ◌∷◌, Option, None, Some}
+use Rattle.std.specs.Prelude.{Bool, true, false, ℕ, ◌+◌, ◌-◌, ◌*◌, ◌^◌, ◌==◌, ◌&&◌, ◌||◌, nat_le, nat_eq, min, if◌then◌else◌, List, [], ◌∷◌, Option, None, Some, option_map, option_and_then}
 use Rattle.std.specs.List.{filter, fold, list_all, slice_split}
 use Rattle.std.specs.Cmp.Lexicographic.{pointwise}
 use Rattle.fourstate.specs.declared.value.Value.{Value}
@@ -74,3 +74,7 @@ value_of _ = None
 abbrev pub begins_blank : List ℕ → Bool
 begins_blank [] = false
 begins_blank (byte ∷ bytes) = is_blank byte
+
+-- a name and a moment
+abbrev pub name_and_time : List (List ℕ) → Option (List ℕ × ℕ)
+name_and_time ws = option_and_then (λ w. option_map (λ time. (w.0, time)) (number_of w.1)) (two_words ws)

@@ -1,7 +1,7 @@
 //! Why a session did not open, or broke off.
 
-use crate::edits::EditFault;
 use crate::header::ReadFault;
+use edits::EditFault;
 use thiserror::Error;
 
 /// Why a session did not open, or broke off.

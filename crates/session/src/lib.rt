@@ -2,7 +2,6 @@
 #![tactic(auto)]
 
 mod commands;
-pub mod edits;
 mod fault;
 pub mod header;
 #[cfg(test)]

@@ -1,22 +1,27 @@
 //! The design of a session, its run, and the stepper that makes it.
 
-ghost use Rattle.std.specs.Prelude.{◌≡◌, None, IfOk, MatchResult, option_map};
+ghost use Rattle.std.specs.Prelude.{◌≡◌, ◌<◌, ◌+◌, ◌-◌, ◌^◌, None, Ok, Err, IfErr, IfOk, OnOk, MatchResult, option_map};
 ghost use Rattle.std.specs.Option.{option_copied};
 ghost use Rattle.gatestep.specs.Step.{advance};
 ghost use Rattle.design.specs.Netlist.{net_named};
-ghost use Rattle.session.specs.Refused.{MayRefuse, refusal_of};
-ghost use Rattle.session.specs.State.{after_edit, ends, fault_of, is_quit, wave_of};
+ghost use Rattle.edits.specs.Checks.{cause};
+ghost use Rattle.edits.specs.Edits.{edited};
+ghost use Rattle.scratch.specs.Run.{run_of};
+ghost use Rattle.session.specs.Questions.{changes_asked, wave_of};
+ghost use Rattle.session.specs.Refused.{IsOfStepper, MayRefuse, refusal_of};
+ghost use Rattle.session.specs.State.{after_edit, ends, fault_of, is_quit};
 ghost use Rattle.session.specs.Talk.{Answered, CarriedOut};
 
-use crate::commands::{Command, read};
-use crate::edits::{Edit, EditFault, applied};
-use crate::replies::{Refusal, no, ok, wave};
+use crate::commands::{Command, Question, read};
+use crate::replies::{Refusal, no, ok, tell};
 use design::Design;
+use edits::{Edit, EditFault, apply_all};
 use gatestep::{Sink, StepFault, Stepper, Writer};
 use scratch::simulate;
 use std::alloc::Global;
 use std::marker::Model;
-use waveform::{Change, Run};
+use std::slice;
+use waveform::{Run, Wave};
 
 /// The design as it is after the accepted edits, with its run.
 #[derive(Drop)]
@@ -80,7 +85,7 @@ impl<S: Stepper + Drop> Machine<S> {
         match command {
             Command::Skip => return false,
             Command::Change(edit) => self.change(&edit, writer),
-            Command::Wave(net) => self.wave(net.as_str(), writer),
+            Command::Ask(question) => self.ask(&question, writer),
             Command::Quit => {
                 ok(writer, self.version);
                 return true;
@@ -102,48 +107,93 @@ impl<S: Stepper + Drop> Machine<S> {
     }
 
     // Where it is refused nothing changes.
+    #[tactic(auto, using(crate::proofs::AnswerLemmas::stepper_may_refuse))]
     fn try_change(&mut self, edit: &Edit) -> Result<(), Refusal>
         ensures { MatchResult result
             (λ _. (fault_of self.old edit.now ≡ None) × (self.new ≡ after_edit self.old edit.now None))
             (λ refusal. (self.new ≡ self.old) × MayRefuse self.old edit.now refusal) }
     {
+        let design = self.edited(edit)?;
+        self.adopt(design)
+    }
+
+    // The design with an edit.
+    #[tactic(auto, using(crate::proofs::AnswerLemmas::one_taken, crate::proofs::AnswerLemmas::one_refused))]
+    fn edited(&self, edit: &Edit) -> Result<Design, Refusal>
+        ensures taken { IfOk result (λ design. (cause self.now.netlist edit.now ≡ None) × (design.netlist ≡ edited self.now.netlist edit.now)) }
+        ensures room { OnOk result (self.now.version < 2 ^ 64 - 1) }
+        ensures refused { IfErr result (λ refusal. MayRefuse self.now edit.now refusal) }
+    {
         if self.version == u64::MAX {
             return Err(Refusal::Edit(EditFault::TooMany));
         }
-        let design = match applied(self.alloc, &self.design, edit) {
-            Ok(design) => design,
-            Err(fault) => return Err(Refusal::Edit(fault)),
-        };
-        let run = match simulate(self.alloc, &design, &mut self.stepper) {
-            Ok(run) => run,
-            Err(fault) => return Err(stepper_refusal(fault)),
-        };
-        self.design = design;
-        self.run = run;
-        self.version += 1;
-        Ok(())
-    }
-
-    fn wave<W: Sink>(&self, net: &str, writer: &mut Writer<'_, W>)
-        ensures { CarriedOut self.now self.now (Command.Wave net.now) writer.old writer.new }
-    {
-        match self.changes(net) {
-            Some(changes) => {
-                wave(writer, changes);
-                ok(writer, self.version);
-            }
-            None => no(writer, Refusal::Edit(EditFault::UnknownNet)),
+        match apply_all(self.alloc, &self.design, slice::from_ref(edit)) {
+            Ok(design) => Ok(design),
+            Err((_, fault)) => Err(Refusal::Edit(fault)),
         }
     }
 
-    // The changes of the wave of a net.
+    // Simulates a design and takes it as the next version.
+    #[tactic(auto, using(crate::proofs::AnswerLemmas::from_stepper))]
+    fn adopt(&mut self, design: Design) -> Result<(), Refusal>
+        requires { self.old.version < 2 ^ 64 - 1 }
+        ensures { MatchResult result
+            (λ _. self.new ≡ record { version = self.old.version + 1; netlist = design.netlist })
+            (λ refusal. (self.new ≡ self.old) × IsOfStepper refusal) }
+    {
+        match simulate(self.alloc, &design, &mut self.stepper) {
+            Ok(run) => {
+                self.install(design, run);
+                Ok(())
+            }
+            Err(fault) => Err(stepper_refusal(fault)),
+        }
+    }
+
+    fn install(&mut self, design: Design, run: Run)
+        requires run { run ≡ run_of S.answer design.netlist }
+        requires room { self.old.version < 2 ^ 64 - 1 }
+        ensures { self.new ≡ record { version = self.old.version + 1; netlist = design.netlist } }
+    {
+        self.design = design;
+        self.run = run;
+        self.version += 1;
+    }
+
+    fn ask<W: Sink>(&self, question: &Question<'_>, writer: &mut Writer<'_, W>)
+        ensures { CarriedOut self.now self.now (Command.Ask question.now) writer.old writer.new }
+    {
+        match self.wave_asked(question) {
+            Ok(wave) => {
+                tell(writer, wave, question.look);
+                ok(writer, self.version);
+            }
+            Err(fault) => no(writer, Refusal::Edit(fault)),
+        }
+    }
+
+    // The wave that a question is about, or why the question is refused.
+    fn wave_asked(&self, question: &Question<'_>) -> Result<&Wave, EditFault>
+        ensures { MatchResult result
+            (λ wave. changes_asked self.now.netlist question.now ≡ Ok wave.now)
+            (λ fault. changes_asked self.now.netlist question.now ≡ Err fault) }
+    {
+        let Some(wave) = self.wave(question.net.as_str()) else {
+            return Err(EditFault::UnknownNet);
+        };
+        if question.look.is_past(self.design.horizon()) {
+            return Err(EditFault::TimeTooLarge);
+        }
+        Ok(wave)
+    }
+
+    // The wave of the net of this name.
     #[tactic(auto, using(crate::proofs::AnswerLemmas::wave_found))]
-    fn changes(&self, net: &str) -> Option<&[Change]>
+    fn wave(&self, net: &str) -> Option<&Wave>
         ensures { option_copied result ≡ option_map (wave_of self.now.netlist) (net_named self.now.netlist net.now) }
     {
         let place = self.design.net_place(net)?;
-        let wave = self.run.wave(place)?;
-        Some(wave.changes())
+        self.run.wave(place)
     }
 }
 

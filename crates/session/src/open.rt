@@ -8,14 +8,16 @@ ghost use Rattle.session.specs.Held.{outcome_of};
 ghost use Rattle.session.specs.Opening.{IsOpeningFault, IsLater, opening, opening_fault, opening_state};
 ghost use Rattle.session.specs.Transcripts.{AnswersAll, AnswersPartly, AnswersWholeLines};
 
-use crate::edits::EditFault;
 use crate::fault::SessionFault;
 use crate::header::{ReadFault, ReadFaultKind, empty_design, module_name};
 use crate::machine::Machine;
 use crate::talk::{End, Line, Session, hold};
+use design::NameHasher;
+use edits::EditFault;
 use fourstate::MAX_TIME;
 use gatestep::{Sink, Source, StepFault, Stepper};
 use std::alloc::Global;
+use std::random::RandomSource;
 use std::sync::Wait;
 
 /// How a session is opened.
@@ -30,7 +32,7 @@ pub struct Options {
 /// Opens the design that a text spells, answers the lines of the source in order, and writes the replies to the sink,
 /// until a line `quit` or the input's end. It waits for the source, and memory is asked for at the opening and by edits
 /// alone.
-pub fn run<T: Wait, R: Source, W: Sink, S: Stepper + Drop>(
+pub fn run<T: Wait + RandomSource, R: Source, W: Sink, S: Stepper + Drop>(
     rt: &T,
     alloc: Global,
     design: &[u8],
@@ -57,7 +59,8 @@ pub fn run<T: Wait, R: Source, W: Sink, S: Stepper + Drop>(
     // A session that does not open reads and writes nothing.
     ensures unopened { IfErr result (λ fault. IsOpeningFault fault → (source.new ≡ source.old) × (sink.new ≡ sink.old)) }
 {
-    let mut session = open(alloc, design, options.horizon, stepper)?;
+    let names = NameHasher::new(rt);
+    let mut session = open(alloc, names, design, options.horizon, stepper)?;
     let end = hold(rt, &mut session, source, sink);
     outcome(end)
 }
@@ -74,6 +77,7 @@ fn outcome(end: End) -> Result<(), SessionFault>
 
 fn open<S: Stepper + Drop>(
     alloc: Global,
+    names: NameHasher,
     design: &[u8],
     horizon: u64,
     stepper: S,
@@ -92,7 +96,7 @@ fn open<S: Stepper + Drop>(
     if horizon > MAX_TIME {
         return Err(SessionFault::Edit(EditFault::TimeTooLarge));
     }
-    match start(alloc, name, horizon, stepper) {
+    match start(alloc, names, name, horizon, stepper) {
         Ok(session) => Ok(session),
         Err(StepFault::OutOfMemory) => Err(SessionFault::OutOfMemory),
         Err(StepFault::WorkerLost) => Err(SessionFault::WorkerLost),
@@ -101,6 +105,7 @@ fn open<S: Stepper + Drop>(
 
 fn start<S: Stepper + Drop>(
     alloc: Global,
+    names: NameHasher,
     name: &[u8],
     horizon: u64,
     stepper: S,
@@ -111,7 +116,7 @@ fn start<S: Stepper + Drop>(
     ensures { IfOk result (λ session. (session.line ≡ []) × (session.machine ≡ opening_state name.now horizon)) }
 {
     let line = Line::new(alloc)?;
-    let design = empty_design(alloc, name, horizon)?;
+    let design = empty_design(alloc, names, name, horizon)?;
     let machine = Machine::open(alloc, design, stepper)?;
     Ok(Session { line, machine })
 }

@@ -1,9 +1,15 @@
-use crate::edits::EditFault;
+ghost use Rattle.std.specs.Prelude.{◌<◌};
+
+mod changes;
+mod questions;
+
 use crate::header::{ReadFault, ReadFaultKind};
 use crate::{Options, SessionFault, run};
+use edits::EditFault;
 use gatestep::devices::faulty::{Failing, Pieces};
 use gatestep::{Device, Serial};
 use std::alloc::{AllocError, Global};
+use std::random::RandomSource;
 use std::sync::Wait;
 use std::test::Fail;
 
@@ -18,7 +24,7 @@ fn up_to(horizon: u64) -> Options {
 
 // What a session writes for this input, in pieces of so many bytes.
 fn answered(
-    rt: &impl Wait,
+    rt: &(impl Wait + RandomSource),
     alloc: Global,
     design: &[u8],
     horizon: u64,
@@ -38,6 +44,30 @@ fn answered(
     (result, sink.inner)
 }
 
+// The same of an empty design, where reads and writes go at most so many bytes at a time.
+fn answered_in_pieces(
+    rt: &(impl Wait + RandomSource),
+    alloc: Global,
+    horizon: u64,
+    input: &[u8],
+    most: usize,
+) -> (Result<(), SessionFault>, Vec<u8>)
+    requires { 0 < most }
+{
+    let mut source = Device::new(Pieces::new(input, most));
+    let mut sink = Device::new(Pieces::new(Vec::new(alloc), most));
+    let result = run(
+        rt,
+        alloc,
+        EMPTY,
+        &up_to(horizon),
+        &mut source,
+        &mut sink,
+        Serial::new(),
+    );
+    (result, sink.inner.inner)
+}
+
 const FIRST: &[u8] = b"input a\nnet y wire\ngate g not 2 3 y a\nstim a 0 0\nwave y\n";
 
 const FIRST_REPLIES: &[u8] = b"ok 1\nok 2\nok 3\nok 4\n0 x\n2 1\nok 4\n";
@@ -52,20 +82,9 @@ fn the_first_wave(rt: HostRuntime) {
 #[test]
 fn pieces_make_no_difference(rt: HostRuntime) {
     for most in [1, 2, 4096] {
-        let mut source = Device::new(Pieces::new(FIRST, most));
-        let mut sink = Device::new(Pieces::new(Vec::new(rt.alloc()), most));
-        let options = up_to(10);
-        let result = run(
-            &rt,
-            rt.alloc(),
-            EMPTY,
-            &options,
-            &mut source,
-            &mut sink,
-            Serial::new(),
-        );
+        let (result, replies) = answered_in_pieces(&rt, rt.alloc(), 10, FIRST, most);
         assert_eq!(rt; result, Ok(()), "in {most}");
-        assert_eq!(rt; sink.inner.inner.as_slice(), FIRST_REPLIES, "in {most}");
+        assert_eq!(rt; replies.as_slice(), FIRST_REPLIES, "in {most}");
     }
 }
 

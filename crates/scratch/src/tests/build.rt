@@ -1,6 +1,6 @@
 //! Designs by calls, for tests.
 
-use design::{Design, Gate, MAX_GATES, MAX_NETS, MAX_POINTS, Name, Terminal, TimeUnit};
+use design::{Design, Gate, MAX_GATES, MAX_NETS, MAX_POINTS, Name, NameHasher, Terminal, TimeUnit};
 use fourstate::{Delays, GateKind, MAX_TIME, NetKind, Value, fits};
 use std::alloc::Global;
 use std::process::Abort;
@@ -14,32 +14,32 @@ fn name_of(rt: &impl Abort, alloc: Global, text: &str) -> Result<Name, Fail> {
 /// A design with no nets and no gates that runs up to this horizon.
 pub fn empty(rt: &impl Abort, alloc: Global, horizon: u64) -> Result<Design, Fail> {
     assert!(rt; horizon <= MAX_TIME);
-    let mut design = Design::empty(alloc, name_of(rt, alloc, "m")?, TimeUnit::default());
-    design.set_horizon(horizon);
-    Ok(design)
+    let top = name_of(rt, alloc, "m")?;
+    let design = Design::empty(alloc, NameHasher::fixed(), top, TimeUnit::default());
+    Ok(design.set_horizon(horizon))
 }
 
-pub fn input(rt: &impl Abort, alloc: Global, design: &mut Design, name: &str) -> Result<(), Fail> {
+pub fn input(rt: &impl Abort, alloc: Global, design: Design, name: &str) -> Result<Design, Fail> {
     assert!(rt; !design.has_net(name));
     assert!(rt; design.net_count() < MAX_NETS);
     let name = name_of(rt, alloc, name)?;
     assert!(rt; !design.has_net(name.as_str()));
-    design.add_input(name)?;
-    Ok(())
+    let (design, _) = design.add_input(name)?;
+    Ok(design)
 }
 
 pub fn net(
     rt: &impl Abort,
     alloc: Global,
-    design: &mut Design,
+    design: Design,
     name: &str,
     kind: NetKind,
-) -> Result<(), Fail> {
+) -> Result<Design, Fail> {
     assert!(rt; design.net_count() < MAX_NETS);
     let name = name_of(rt, alloc, name)?;
     assert!(rt; !design.has_net(name.as_str()));
-    design.add_net(name, kind)?;
-    Ok(())
+    let (design, _) = design.add_net(name, kind)?;
+    Ok(design)
 }
 
 /// The terminal of a net name, or of a constant as a text writes it.
@@ -57,11 +57,11 @@ fn terminal(rt: &impl Abort, alloc: Global, text: &str) -> Result<Terminal, Fail
 pub fn gate(
     rt: &impl Abort,
     alloc: Global,
-    design: &mut Design,
+    design: Design,
     name: &str,
     kind: (GateKind, u64, u64),
     terminals: (&str, &[&str]),
-) -> Result<(), Fail> {
+) -> Result<Design, Fail> {
     let delays = Delays::new(kind.1, kind.2).expect(rt, "lawful delays");
     let mut inputs = Vec::new(alloc);
     for text in terminals.1 {
@@ -73,42 +73,42 @@ pub fn gate(
     add(rt, design, Gate::new(name, kind.0, delays, output, inputs))
 }
 
-fn add(rt: &impl Abort, design: &mut Design, gate: Gate) -> Result<(), Fail> {
+fn add(rt: &impl Abort, design: Design, gate: Gate) -> Result<Design, Fail> {
     assert!(rt; !design.has_gate(gate.name().as_str()));
     assert!(rt; design.gate_count() < MAX_GATES);
     assert!(rt; design.is_drivable(gate.output().as_str()));
     assert!(rt; design.are_readable(gate.inputs()));
-    design.add_gate(gate)?;
-    Ok(())
+    let (design, _) = design.add_gate(gate)?;
+    Ok(design)
 }
 
 /// Stimulus points of an input.
 pub fn stimulate(
     rt: &impl Abort,
-    design: &mut Design,
+    design: Design,
     name: &str,
     points: &[(u64, Value)],
-) -> Result<(), Fail> {
+) -> Result<Design, Fail> {
+    let mut design = design;
     for (t, value) in points {
-        point(rt, design, name, *t, *value)?;
+        design = point(rt, design, name, *t, *value)?;
     }
-    Ok(())
+    Ok(design)
 }
 
 fn point(
     rt: &impl Abort,
-    design: &mut Design,
+    design: Design,
     name: &str,
     t: u64,
     value: Value,
-) -> Result<(), Fail> {
+) -> Result<Design, Fail> {
     let net = design.net(name).expect(rt, "a net of this name");
     assert!(rt; design.has_net_key(net));
     assert!(rt; design.net_of(net).is_input());
     assert!(rt; t <= MAX_TIME);
     assert!(rt; design.point_count() < MAX_POINTS);
-    design.set_point(net, t, value)?;
-    Ok(())
+    Ok(design.set_point(net, t, value)?)
 }
 
 /// A design as tables: its inputs with their points, its other nets, and its gates.
@@ -125,13 +125,13 @@ pub struct Plan<'a> {
 pub fn build(rt: &impl Abort, alloc: Global, plan: Plan<'_>) -> Result<Design, Fail> {
     let mut design = empty(rt, alloc, plan.horizon)?;
     for (name, points) in plan.inputs {
-        add_stimulated(rt, alloc, &mut design, name, points)?;
+        design = add_stimulated(rt, alloc, design, name, points)?;
     }
     for (name, kind) in plan.nets {
-        net(rt, alloc, &mut design, name, *kind)?;
+        design = net(rt, alloc, design, name, *kind)?;
     }
     for (name, kind, terminals) in plan.gates {
-        gate(rt, alloc, &mut design, name, *kind, *terminals)?;
+        design = gate(rt, alloc, design, name, *kind, *terminals)?;
     }
     Ok(design)
 }
@@ -139,11 +139,11 @@ pub fn build(rt: &impl Abort, alloc: Global, plan: Plan<'_>) -> Result<Design, F
 fn add_stimulated(
     rt: &impl Abort,
     alloc: Global,
-    design: &mut Design,
+    design: Design,
     name: &str,
     points: &[(u64, Value)],
-) -> Result<(), Fail> {
-    input(rt, alloc, design, name)?;
+) -> Result<Design, Fail> {
+    let design = input(rt, alloc, design, name)?;
     stimulate(rt, design, name, points)
 }
 
@@ -155,10 +155,9 @@ pub fn buffer(
     points: &[(u64, Value)],
     horizon: u64,
 ) -> Result<Design, Fail> {
-    let mut design = empty(rt, alloc, horizon)?;
-    add_stimulated(rt, alloc, &mut design, "a", points)?;
-    net(rt, alloc, &mut design, "y", NetKind::Wire)?;
+    let design = empty(rt, alloc, horizon)?;
+    let design = add_stimulated(rt, alloc, design, "a", points)?;
+    let design = net(rt, alloc, design, "y", NetKind::Wire)?;
     let kind = (GateKind::Buf, delays.0, delays.1);
-    gate(rt, alloc, &mut design, "g", kind, ("y", &["a"]))?;
-    Ok(design)
+    gate(rt, alloc, design, "g", kind, ("y", &["a"]))
 }

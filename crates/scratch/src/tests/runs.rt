@@ -144,18 +144,17 @@ fn two_drivers(rt: &impl Abort, alloc: Global, kind: NetKind) -> Result<Design, 
         gates: &[],
         horizon: 10,
     };
-    let mut design = build(rt, alloc, inputs)?;
-    net(rt, alloc, &mut design, "n", kind)?;
+    let design = build(rt, alloc, inputs)?;
+    let design = net(rt, alloc, design, "n", kind)?;
     let buffer = (GateKind::Bufif1, 1, 1);
-    gate(rt, alloc, &mut design, "g0", buffer, ("n", &["d0", "c0"]))?;
-    gate(rt, alloc, &mut design, "g1", buffer, ("n", &["d1", "c1"]))?;
-    Ok(design)
+    let design = gate(rt, alloc, design, "g0", buffer, ("n", &["d0", "c0"]))?;
+    gate(rt, alloc, design, "g1", buffer, ("n", &["d1", "c1"]))
 }
 
-fn control(rt: &impl Abort, design: &mut Design) -> Result<(), Fail> {
-    stimulate(rt, design, "d0", &[(0, Zero)])?;
-    stimulate(rt, design, "d1", &[(0, One)])?;
-    stimulate(rt, design, "c0", &[(0, One), (5, Zero), (7, Unknown)])?;
+fn control(rt: &impl Abort, design: Design) -> Result<Design, Fail> {
+    let design = stimulate(rt, design, "d0", &[(0, Zero)])?;
+    let design = stimulate(rt, design, "d1", &[(0, One)])?;
+    let design = stimulate(rt, design, "c0", &[(0, One), (5, Zero), (7, Unknown)])?;
     stimulate(rt, design, "c1", &[(0, One), (3, Zero)])
 }
 
@@ -165,8 +164,7 @@ fn follow_two_drivers(
     kind: NetKind,
     wanted: &[(u64, Value)],
 ) -> Result<(), Fail> {
-    let mut design = two_drivers(rt, alloc, kind)?;
-    control(rt, &mut design)?;
+    let design = control(rt, two_drivers(rt, alloc, kind)?)?;
     check(rt, alloc, &design, &[("n", wanted)])
 }
 

@@ -42,23 +42,24 @@ fn pick(rt: &impl Abort, dice: &mut Dice, names: &[&'static str]) -> &'static st
 fn random_points(
     rt: &impl Abort,
     dice: &mut Dice,
-    design: &mut Design,
+    design: Design,
     name: &str,
-) -> Result<(), Fail> {
+) -> Result<Design, Fail> {
+    let mut design = design;
     for _ in 0..6 {
         let value = VALUES[dice.below(4) as usize];
-        stimulate(rt, design, name, &[(dice.below(40), value)])?;
+        design = stimulate(rt, design, name, &[(dice.below(40), value)])?;
     }
-    Ok(())
+    Ok(design)
 }
 
 fn random_gate(
     rt: &impl Abort,
     alloc: Global,
     dice: &mut Dice,
-    design: &mut Design,
+    design: Design,
     name: &str,
-) -> Result<(), Fail> {
+) -> Result<Design, Fail> {
     let kind = GateKind::ALL[dice.below(12) as usize];
     let delays = (1 + dice.below(5), 1 + dice.below(5));
     let output = pick(rt, dice, &NAMES[2..]);
@@ -83,15 +84,15 @@ fn random_design(rt: &impl Abort, alloc: Global, seed: u64) -> Result<Design, Fa
     let mut dice = Dice(seed);
     let mut design = empty(rt, alloc, 60)?;
     for name in &NAMES[..2] {
-        input(rt, alloc, &mut design, name)?;
-        random_points(rt, &mut dice, &mut design, name)?;
+        design = input(rt, alloc, design, name)?;
+        design = random_points(rt, &mut dice, design, name)?;
     }
     for name in &NAMES[2..] {
         let kind = NetKind::ALL[dice.below(6) as usize];
-        net(rt, alloc, &mut design, name, kind)?;
+        design = net(rt, alloc, design, name, kind)?;
     }
     for name in GATES {
-        random_gate(rt, alloc, &mut dice, &mut design, name)?;
+        design = random_gate(rt, alloc, &mut dice, design, name)?;
     }
     Ok(design)
 }

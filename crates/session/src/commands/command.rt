@@ -1,15 +1,19 @@
 //! The command of a line.
 
 ghost use Rattle.std.specs.Prelude.{◌≡◌, true, IfOk, OnErr};
-ghost use Rattle.session.specs.Commands.{asked, command_of, command_within, is_change};
+ghost use Rattle.session.specs.Commands.{ask_of, asked, command_of, command_within, is_change, question_of};
 ghost use Rattle.session.specs.Lines.{without_return};
 ghost use Rattle.session.specs.Words.{are_skipped, words};
 
-use crate::commands::gate::read_gate;
-use crate::commands::simple::{read_input, read_net, read_stim};
+use crate::commands::ask::read_question;
+use crate::commands::gate::{read_gate, read_wire};
+use crate::commands::gates::{read_delay, read_drop, read_type};
+use crate::commands::nets::{read_drop_net, read_input, read_kind, read_net};
+use crate::commands::question::Question;
+use crate::commands::times::{read_horizon, read_stim, read_unstim};
 use crate::commands::verb::Verb;
-use crate::edits::Edit;
-use crate::words::{WordRef, Words, without_blanks};
+use crate::words::{Words, without_blanks};
+use edits::Edit;
 use std::alloc::{AllocError, Global};
 
 /// The most bytes of a line, without its line feed (own).
@@ -22,8 +26,8 @@ pub enum Command<'a> {
     Skip,
     /// A change of the design.
     Change(Edit),
-    /// The wave of the net of this name.
-    Wave(WordRef<'a>),
+    /// A question.
+    Ask(Question<'a>),
     /// The end of the session.
     Quit,
     /// What can't be read.
@@ -88,10 +92,20 @@ fn read_asked<'a>(alloc: Global, verb: Verb, words: Words<'a>) -> Result<Command
     let edit = match verb {
         Verb::Net => read_net(alloc, words)?,
         Verb::Input => read_input(alloc, words)?,
+        Verb::DropNet => read_drop_net(alloc, words)?,
+        Verb::Kind => read_kind(alloc, words)?,
         Verb::Gate => read_gate(alloc, words)?,
+        Verb::Drop => read_drop(alloc, words)?,
+        Verb::Delay => read_delay(alloc, words)?,
+        Verb::Type => read_type(alloc, words)?,
+        Verb::Wire => read_wire(alloc, words)?,
         Verb::Stim => read_stim(alloc, words)?,
-        Verb::Wave => return Ok(read_wave(words)),
+        Verb::Unstim => read_unstim(alloc, words)?,
+        Verb::Horizon => read_horizon(words),
         Verb::Quit => return Ok(read_quit(words)),
+        Verb::Value | Verb::Wave | Verb::Next | Verb::Prev | Verb::Seek => {
+            return Ok(read_ask(verb, words));
+        }
     };
     match edit {
         Some(edit) => Ok(Command::Change(edit)),
@@ -99,11 +113,11 @@ fn read_asked<'a>(alloc: Global, verb: Verb, words: Words<'a>) -> Result<Command
     }
 }
 
-fn read_wave(words: Words<'_>) -> Command<'_>
-    ensures { result ≡ asked Verb.Wave words.entry }
+fn read_ask(verb: Verb, words: Words<'_>) -> Command<'_>
+    ensures { result ≡ ask_of (question_of verb words.entry) }
 {
-    match words.one() {
-        Some(net) => Command::Wave(net),
+    match read_question(verb, words) {
+        Some(question) => Command::Ask(question),
         None => Command::Unreadable,
     }
 }

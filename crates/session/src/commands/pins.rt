@@ -2,12 +2,12 @@
 
 ghost use Rattle.std.specs.Prelude.{◌≡◌, ◌==◌, take, drop, codes, true, IfOk, is_some};
 ghost use Rattle.std.specs.List.{list_any};
-ghost use Rattle.session.specs.Commands.{constant_of, pin_of, pins_of};
+ghost use Rattle.session.specs.EditLines.{constant_of, pin_of, pins_of};
 ghost use Rattle.session.specs.Words.{same_word, value_of};
 
-use crate::commands::simple::read_value;
-use crate::edits::{Pin, Pins, Word};
+use crate::commands::times::read_value;
 use crate::words::{WordRef, Words};
+use edits::{Pin, Pins, Word};
 use fourstate::Value;
 use std::alloc::{AllocError, Global};
 

@@ -9,7 +9,7 @@ ghost use Rattle.session.specs.Opening.{opening_netlist};
 use crate::header::text::{
     TEXT_LIMIT, begins_space, behind, is_plain_name, split_name, without_spaces,
 };
-use design::{Design, Magnitude, Name, TimeUnit, Unit};
+use design::{Design, Magnitude, Name, NameHasher, TimeUnit, Unit};
 use std::alloc::{AllocError, Global};
 
 /// The name of the module that a text spells; none of a text that is too long or of another form.
@@ -61,7 +61,12 @@ fn is_end(text: &[u8]) -> bool
 
 /// A design of this name with no nets and no gates, its unit 1 ns, up to this horizon.
 #[tactic(auto, using(crate::proofs::HeaderLemmas::plain_name_is_name, crate::proofs::HeaderLemmas::plain_name_is_text))]
-pub fn empty_design(alloc: Global, name: &[u8], horizon: u64) -> Result<Design, AllocError>
+pub fn empty_design(
+    alloc: Global,
+    names: NameHasher,
+    name: &[u8],
+    horizon: u64,
+) -> Result<Design, AllocError>
     requires plain { is_plain_name name.now ≡ true }
     requires within { horizon ≤ MAX_TIME }
     ensures { IfOk result (λ design. design.netlist ≡ opening_netlist name.now horizon) }
@@ -74,7 +79,6 @@ pub fn empty_design(alloc: Global, name: &[u8], horizon: u64) -> Result<Design, 
         magnitude: Magnitude::One,
         unit: Unit::Nanosecond,
     };
-    let mut design = Design::empty(alloc, top, unit);
-    design.set_horizon(horizon);
-    Ok(design)
+    let design = Design::empty(alloc, names, top, unit);
+    Ok(design.set_horizon(horizon))
 }

@@ -5,11 +5,10 @@ ghost use Rattle.std.specs.List.{list_all, position_or_len};
 ghost use Rattle.std.specs.Option.{option_copied};
 ghost use Rattle.session.specs.Header.{begins_name, begins_space, behind, is_letter, is_name_part, is_plain_name, is_space, name_length, without_spaces};
 
+use design::MAX_NAME;
+
 /// The most bytes of a text.
 pub const TEXT_LIMIT: usize = 4_194_304;
-
-/// The most bytes of a name.
-pub const NAME_LIMIT: usize = 1_024;
 
 fn is_space(byte: u8) -> bool
     ensures { result ≡ is_space byte }
@@ -99,7 +98,7 @@ pub fn is_plain_name(word: &[u8]) -> bool
 {
     begins_name(word)
         && are_name_parts(word)
-        && word.len() <= NAME_LIMIT
+        && word.len() <= MAX_NAME
         && word != b"module".as_slice()
         && word != b"endmodule".as_slice()
 }

@@ -38,7 +38,8 @@ pub fn wave<W: Sink>(writer: &mut Writer<'_, W>, changes: &[Change])
     }
 }
 
-fn change_reply<W: Sink>(writer: &mut Writer<'_, W>, time: u64, value: Value)
+/// A line for a change.
+pub fn change_reply<W: Sink>(writer: &mut Writer<'_, W>, time: u64, value: Value)
     ensures { Adds writer.old writer.new (change_line (time, value)) }
 {
     writer.number(time);

@@ -1,7 +1,9 @@
 //! What a session writes.
 
+mod answers;
 mod lines;
 mod refusal;
 
-pub use lines::{no, ok, wave};
+pub use answers::tell;
+pub use lines::{no, ok};
 pub use refusal::Refusal;

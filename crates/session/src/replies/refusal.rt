@@ -3,7 +3,7 @@
 ghost use Rattle.std.specs.Prelude.{◌≡◌};
 ghost use Rattle.session.specs.Replies.{refusal_code, refusal_name};
 
-use crate::edits::EditFault;
+use edits::EditFault;
 
 /// Why a command was refused, as a reply says it.
 #[derive(Clone, Copy, Debug, PartialEq, Eq)]

@@ -1,6 +1,6 @@
 //! The exchange of input and replies.
 
-ghost use Rattle.std.specs.Prelude.{◌≡◌, ◌+◌, ◌<◌, Option, None, Some, List, ℕ, length, MatchOption};
+ghost use Rattle.std.specs.Prelude.{◌≡◌, ◌+◌, ◌<◌, Option, None, Some, List, ℕ, length, IfNone, MatchOption};
 ghost use Rattle.session.specs.State.{SessionState};
 ghost use Rattle.session.specs.Talk.{Ends, Going, IsSent, SameSink, SameSource, read_failures};
 
@@ -32,6 +32,8 @@ pub fn exchange<R: Source, W: Sink, S: Stepper + Drop>(
     ensures goes_on { (first : SessionState) → Going first reader.old.text session.old.line session.old.machine writer.old.text
         → MatchOption result (Going first reader.new.text session.new.line session.new.machine writer.new.text × IsSent writer.new)
         (λ end. Ends end first reader.new writer.new) }
+    // A session that goes on has read some bytes.
+    ensures read_more { IfNone result (length reader.old.text < length reader.new.text) }
     ensures sink { SameSink writer.old writer.new }
     ensures source { SameSource reader.old reader.new }
     ensures failures { reader.new.failures ≡ reader.old.failures + read_failures result }

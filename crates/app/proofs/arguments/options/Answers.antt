@@ -1,7 +1,7 @@
 use Rattle.std.proofs.Common.{rules, ◌≡◌, ◌∙◌, ℕ, List, Option, Some, None, Bor, ap, codes, map, option_map, sym}
-use Rattle.app.specs.Arguments.{horizon_given}
+use Rattle.app.specs.Arguments.{delay_given, horizon_given}
 use Rattle.app.specs.CommandLine.{value_of}
-use Rattle.app.proofs.WordLemmas.{asked_all, no_design, no_horizon, not_asked}
+use Rattle.app.proofs.WordLemmas.{asked_all, no_delay, no_design, no_horizon, not_asked}
 use Rattle.app.proofs.arguments.options.Goals as goal
 
 abbrev bytes_of : Option (Bor (List ℕ)) → Option (List ℕ)
@@ -29,6 +29,18 @@ returns-in_default-given_or_usual-clause-refused g c = λ e.
     ap horizon_given (sym (ok.1 (codes "horizon")) ∙ sym c.get_str-2.ensures) ∙ (sym c.given_or_usual.ensures.given ∙ c.in_default-given_or_usual.is) in
     no_horizon words c.in-Some.name.now ok.0 design horizon
 
+pub returns-in_default-given_delay-clause-refused : goal.returns-in_default-given_delay-clause-refused
+returns-in_default-given_delay-clause-refused g c = λ e.
+    let words = map g.S.AsStr.text c.args.words.now in
+    let ok = c.in_ok-matches.ensures.ok in
+    let design : value_of (codes "design") words ≡ Some c.in-Some.name.now =
+    sym (ok.1 (codes "design")) ∙ (sym c.get_str.ensures ∙ ap bytes_of c.in-Some.is) in
+    let horizon : horizon_given (value_of (codes "horizon") words) ≡ Some c.in-Some-given_or_usual.horizon =
+    ap horizon_given (sym (ok.1 (codes "horizon")) ∙ sym c.get_str-2.ensures) ∙ (sym c.given_or_usual.ensures.given ∙ c.in-Some-given_or_usual.is) in
+    let delay : delay_given (value_of (codes "delay") words) ≡ None =
+    ap delay_given (sym (ok.1 (codes "delay")) ∙ sym c.get_str-3.ensures) ∙ (sym c.given_delay.ensures.given ∙ c.in_default-given_delay.is) in
+    no_delay words c.in-Some.name.now c.in-Some-given_or_usual.horizon ok.0 design horizon delay
+
 pub returns-clause-ok : goal.returns-clause-ok
 returns-clause-ok g c =
     let words = map g.S.AsStr.text c.args.words.now in
@@ -37,4 +49,7 @@ returns-clause-ok g c =
     sym (ok.1 (codes "design")) ∙ (sym c.get_str.ensures ∙ ap bytes_of c.in-Some.is) in
     let horizon : horizon_given (value_of (codes "horizon") words) ≡ Some c.in-Some-given_or_usual.horizon =
     ap horizon_given (sym (ok.1 (codes "horizon")) ∙ sym c.get_str-2.ensures) ∙ (sym c.given_or_usual.ensures.given ∙ c.in-Some-given_or_usual.is) in
-    rw c.in_ok-design.ensures.ok (asked_all words c.in-Some.name.now c.in-Some-given_or_usual.horizon ok.0 design horizon)
+    let delay : delay_given (value_of (codes "delay") words) ≡ Some c.in-Some-given_delay.delay =
+    ap delay_given (sym (ok.1 (codes "delay")) ∙ sym c.get_str-3.ensures) ∙ (sym c.given_delay.ensures.given ∙ c.in-Some-given_delay.is) in
+    rw c.in_ok-design.ensures.ok
+    (asked_all words c.in-Some.name.now c.in-Some-given_or_usual.horizon c.in-Some-given_delay.delay ok.0 design horizon delay)

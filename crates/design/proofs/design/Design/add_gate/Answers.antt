@@ -1,52 +1,49 @@
-use Rattle.std.proofs.Common.{◌≡◌, ◌<◌, false, length, ap, ◌∙◌, arith}
-use Rattle.std.proofs.lemmas.List.{length-map}
-use Rattle.design.specs.declared.limits.TheConstants.{MAX_GATES}
-use Rattle.design.specs.Kept.{drivers, readers}
-use Rattle.design.specs.Lawful.{IsGate, IsWired}
-use Rattle.design.specs.Lists.{places_where}
-use Rattle.design.specs.Netlist.{NetEntry, has_gate, reads}
-use Rattle.design.specs.Shown.{netlist_of}
-use Rattle.design.proofs.DesignLemmas.{kept_with_gate, nothing}
-use Rattle.design.proofs.KeyLemmas.{keyed_with_gate}
-use Rattle.design.proofs.ListLemmas.{places_within}
+use Rattle.std.proofs.Common.{◌≡◌, ◌∷◌, ◌++◌, [], Some, ℕ, ap, ◌∙◌}
+use Rattle.catalog.specs.Catalog.{keys_of, record_at}
+use Rattle.design.specs.Kept.{is_among, is_named}
+use Rattle.design.specs.Lists.{AreChanged, with_key_in}
+use Rattle.design.specs.Netlist.{GateEntry}
+use Rattle.design.specs.Shown.{store_of}
+use Rattle.design.proofs.ChangeLemmas.{record_pushed}
+use Rattle.design.proofs.EntryLemmas.{Apart, keys_apart}
+use Rattle.design.proofs.GateLemmas.{added_in_order, kept_gate_added}
+use Rattle.design.proofs.LookLemmas.{none_or_some, not_named, some_inner}
 use Rattle.design.proofs.design.Design.add_gate.Goals as goal
 
-pub connect-requires-clause-read : goal.connect-requires-clause-read
-connect-requires-clause-read c =
-    let d = netlist_of c.self.inside in
-    let test = λ (n : NetEntry). reads c.args.gate n.name in
-    let same : c.deref-2.result.now ≡ places_where test 0 d.nets = c.deref-2.ensures.value ∙ c.in_ok-read.ensures ∙ ap (λ l. places_where test 0 l) c.deref.ensures.value in
-    let long : length c.self.inside.fanout ≡ length d.nets = ap length c.self.invariant.readers_listed ∙ length-map d.nets (readers d) in
-    rw (same, long) (places_within test d.nets)
+pub push-requires : goal.push-requires
+push-requires c = not_named (λ (g : GateEntry). g.name) c.self.inside.gates c.args.gate.name (rw (← c.self.view_is) at c.requires.absent)
 
-pub connect-requires-clause-driven : goal.connect-requires-clause-driven
-connect-requires-clause-driven c =
-    let d = netlist_of c.self.inside in
-    let long : length c.self.inside.drivers ≡ length d.nets = ap length c.self.invariant.drivers_listed ∙ length-map d.nets (drivers d) in
-    let within : c.driven_place-driven.result < length d.nets = rw (← c.self.view_is) at c.driven_place-driven.ensures.within in
-    omega arith
-
-pub invariant_of-self-2 : goal.invariant_of-self-2
-invariant_of-self-2 c =
+pub unreachable-requires : goal.unreachable-requires
+unreachable-requires c =
     let a = c.self.inside in
-    let d = netlist_of a in
+    let key = c.in_ok-gates.number in
+    none_or_some (record_at c.in_ok-gates.gates key) c.args.gate c.in_default.ensures (ap (λ l. record_at l key) c.in_ok-gates.ensures.entries ∙ record_pushed a.gates key c.args.gate c.in_ok-gates.ensures.fresh)
+
+pub add_among-requires-clause-ordered : goal.add_among-requires-clause-ordered
+add_among-requires-clause-ordered c =
+    let a = c.self.inside in
+    let key = c.in_ok-gates.number in
+    let apart : Apart (λ (e : ℕ × GateEntry). e.0) (a.gates ++ (key, c.args.gate) ∷ []) = rw c.in_ok-gates.ensures.entries at (keys_apart c.in_ok-gates.gates c.lawful-2.ensures.keys) in
+    rw c.in_ok-gates.ensures.entries (λ k. (added_in_order (store_of a) a.points a.fanout a.drivers key c.args.gate c.self.invariant c.in_ok-gates.ensures.fresh apart k).0)
+
+pub add_at-requires-clause-ordered : goal.add_at-requires-clause-ordered
+add_at-requires-clause-ordered c =
+    let a = c.self.inside in
+    let key = c.in_ok-gates.number in
+    let apart : Apart (λ (e : ℕ × GateEntry). e.0) (a.gates ++ (key, c.args.gate) ∷ []) = rw c.in_ok-gates.ensures.entries at (keys_apart c.in_ok-gates.gates c.lawful-2.ensures.keys) in
+    rw c.in_ok-gates.ensures.entries (λ k. (added_in_order (store_of a) a.points a.fanout a.drivers key c.args.gate c.self.invariant c.in_ok-gates.ensures.fresh apart k).1)
+
+pub invariant_of-design : goal.invariant_of-design
+invariant_of-design c =
+    let a = c.self.inside in
     let g = c.args.gate in
-    let test = λ (n : NetEntry). reads g n.name in
-    let gate : IsGate g = c.lawful.ensures in
-    let wired : IsWired d g = record { output = rw (← c.self.view_is) at c.requires.output; inputs = rw (← c.self.view_is) at c.requires.inputs } in
-    let absent : has_gate d g.name ≡ false = rw (← c.self.view_is) at c.requires.absent in
-    let room : length d.gates < MAX_GATES = rw (← c.self.view_is) at c.requires.room in
-    let place : c.len-place.result ≡ length d.gates = omega (arith, a.gates.ok.0) in
-    let read : c.deref-2.result.now ≡ places_where test 0 d.nets = c.deref-2.ensures.value ∙ c.in_ok-read.ensures ∙ ap (λ l. places_where test 0 l) c.deref.ensures.value in
-    let within : c.driven_place-driven.result < length d.nets = rw (← c.self.view_is) at c.driven_place-driven.ensures.within in
-    let named = rw (← c.self.view_is) at (c.driven_place-driven.ensures.named nothing) in
-    let lists = c.in_ok-connect.ensures.ok in
-    rw (c.push_reserved.ensures, c.reserve.ensures.items, lists.0, lists.1, read, place)
-    (kept_with_gate d a.points a.fanout a.drivers g c.driven_place-driven.result nothing c.self.invariant gate wired absent room within named)
-
-pub returns-clause-ok : goal.returns-clause-ok
-returns-clause-ok c =
-    let a = c.self.inside in
-    let d = netlist_of a in
-    let place : c.len-place.result ≡ length a.gates.items = omega (arith, a.gates.ok.0) in
-    rw (c.push_reserved.ensures, c.reserve.ensures.items, ← c.self.view_is, place) (keyed_with_gate d c.args.gate)
+    let key = c.in_ok-gates.number in
+    let there : record_at (a.gates ++ (key, g) ∷ []) key ≡ Some g = record_pushed a.gates key g c.in_ok-gates.ensures.fresh in
+    let same : c.in-Some.gate.now ≡ g = some_inner c.in-Some.gate.now g (c.in-Some.ensures ∙ ap (λ l. record_at l key) c.in_ok-gates.ensures.entries ∙ there) in
+    let keys = keys_of c.in_ok-gates.gates in
+    let readers : AreChanged (is_among a.nets g.inputs) (with_key_in keys key) a.fanout c.in_ok-fanout.fanout = rw (c.inputs.ensures.inputs, same) at c.in_ok-fanout.ensures in
+    let drivers : AreChanged (is_named a.nets g.output) (with_key_in keys key) a.drivers c.in_ok-drivers.drivers = rw (c.as_str.ensures, c.output.ensures, same) at c.in_ok-drivers.ensures in
+    rw c.in_ok-gates.ensures.entries
+    (kept_gate_added (store_of a) a.points a.fanout a.drivers c.in_ok-fanout.fanout c.in_ok-drivers.drivers key g keys c.self.invariant c.lawful.ensures
+    (record { output = rw (← c.self.view_is) at c.requires.output; inputs = rw (← c.self.view_is) at c.requires.inputs }) (rw (← c.self.view_is) at c.requires.absent) (rw (← c.self.view_is) at c.requires.room)
+    c.in_ok-gates.ensures.fresh (ap (λ l. keys_of l) c.in_ok-gates.ensures.entries) there readers drivers)

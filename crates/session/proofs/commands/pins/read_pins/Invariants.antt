@@ -1,6 +1,6 @@
 use Rattle.std.proofs.Common.{◌≡◌, ◌++◌, length}
 use Rattle.std.specs.Prelude.{option_map}
-use Rattle.session.specs.Commands.{pins_of}
+use Rattle.session.specs.EditLines.{pins_of}
 use Rattle.session.proofs.commands.pins.read_pins.Given as goal
 
 -- the pins so far stand before those of the words that are left

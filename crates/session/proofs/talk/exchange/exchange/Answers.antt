@@ -1,5 +1,5 @@
 use Rattle.std.proofs.Common.{refl, sym, ◌∙◌}
-use Rattle.session.proofs.ExchangeLemmas.{cut_short, finished, read_failed, went_on}
+use Rattle.session.proofs.ExchangeLemmas.{cut_short, finished, read_failed, read_more, went_on}
 use Rattle.session.proofs.talk.exchange.exchange.Goals as goal
 
 pub returns-in_default-clause-goes_on : goal.returns-in_default-clause-goes_on
@@ -20,3 +20,7 @@ pub returns-in-Finished-clause-goes_on : goal.returns-in-Finished-clause-goes_on
 returns-in-Finished-clause-goes_on g c = λ first going.
     finished first c.args.reader.now c.read.new.self c.read.new.buffer c.in-Some.n c.take-turn.new.writer c.flush.new.self c.flush.result
     c.in-Some.ensures (c.in-Finished.ensures.end refl) (c.in-Finished.ensures.stands first c.args.reader.now.text going) c.flush.ensures.moves_on c.flush.ensures.ok (sym c.is_err.ensures.value ∙ c.if-is_err.false)
+
+pub returns-in-More-clause-read_more : goal.returns-in-More-clause-read_more
+returns-in-More-clause-read_more g c =
+    read_more c.args.reader.now c.read.new.self c.read.new.buffer c.in-Some.n c.in-Some.ensures (c.in-More.ensures.more refl)

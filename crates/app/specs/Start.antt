@@ -1,0 +1,17 @@
+-- What the system gives at the start: the words of the command line, and the file of the design.
+use Rattle.std.specs.declared.io.ErrorKind.{ErrorKind}
+use Rattle.std.specs.declared.io.ErrorKind.TheVariants as kind
+use Rattle.session.specs.declared.SessionFault.{SessionFault}
+use Rattle.session.specs.declared.SessionFault.TheVariants.{OutOfMemory, Read}
+use Rattle.app.specs.declared.arguments.ArgsFault.{ArgsFault}
+use Rattle.app.specs.declared.arguments.ArgsFault.TheVariants as words
+
+-- a file that can't be read: want of memory is itself, and all else is a failed read
+abbrev pub unread_fault : ErrorKind → SessionFault
+unread_fault kind.OutOfMemory = OutOfMemory
+unread_fault _ = Read
+
+-- words that the system can't give: want of memory is itself, and all else is a refusal
+abbrev pub no_words_fault : ErrorKind → ArgsFault
+no_words_fault kind.OutOfMemory = words.OutOfMemory
+no_words_fault _ = words.Refused

@@ -1,0 +1,37 @@
+//! Times of designs: for each size that the words ask for, building a random design of so many gates, cloning it and
+//! editing it. Each line of the output is `SIZE WHAT NANOSECONDS`, in processor time of the thread. Without words it
+//! writes nothing.
+#![tactic(auto)]
+
+mod circuit;
+mod clock;
+mod edits;
+mod random;
+mod rounds;
+#[cfg(test)]
+mod tests;
+
+use anyhow::{Result, bail};
+use edits::KINDS;
+use std::env;
+
+/// The seed of every circuit, so that each run builds the same ones.
+const SEED: u64 = 1;
+
+fn main(rt: HostRuntime) -> Result<()> {
+    for word in env::args(&rt)?.skip(1) {
+        let Ok(gates) = word.as_str().parse::<usize>() else {
+            bail!("a size is a number of gates");
+        };
+        let times = rounds::measured(&rt, gates, SEED)?;
+        println!(rt; "{gates} build {}", times.build)?;
+        println!(rt; "{gates} clone {}", times.clone)?;
+        for (kind, nanoseconds) in KINDS.iter().zip(times.edits) {
+            println!(rt; "{gates} {} {nanoseconds}", kind.name())?;
+        }
+        for (kind, nanoseconds) in KINDS.iter().zip(times.commits) {
+            println!(rt; "{gates} {}+clone {nanoseconds}", kind.name())?;
+        }
+    }
+    Ok(())
+}

@@ -1,0 +1,10 @@
+pub mod CellLemmas
+pub mod ChangeLemmas
+pub mod ChunkLemmas
+pub mod EntryLemmas
+pub mod GatherLemmas
+pub mod ListLemmas
+pub mod NameLemmas
+pub mod NumberLemmas
+pub mod SharedLemmas
+pub mod TableLemmas

@@ -1,0 +1,116 @@
+-- Lists: the first element that passes, and lists that are seen through a function.
+use Rattle.std.proofs.Common.{◌≡◌, ℕ, zero, suc, ◌+◌, ◌<◌, Bool, true, false, cond, List, [], ◌∷◌, length, map, get_or, Option, Some, None, option_map, slice_get, AllPairs, sym, refl, ap, subst, ◌∙◌, arith}
+use Rattle.std.proofs.lemmas.List.{get_or-map}
+use Rattle.std.proofs.lemmas.Option.{slice_get-get_or}
+use Rattle.std.specs.List.{AllZip, find, position_from}
+
+-- What is seen through a function.
+
+pub position_from-map : {X Y : Type 0} (f : X → Y) (t : Y → Bool) (k : ℕ) (xs : List X) → position_from t k (map f xs) ≡ position_from (λ x. t (f x)) k xs
+position_from-map f t k [] = refl
+position_from-map f t k (x ∷ xs) = ap (λ o. cond (t (f x)) (Some k) o) (position_from-map f t (k + 1) xs)
+
+pub map_all_zip : {X Y : Type 0} (f : X → Y) (C : X → X → Type 0) → ((x y : X) → C x y → f y ≡ f x) → (xs ys : List X) → AllZip C xs ys → map f ys ≡ map f xs
+map_all_zip f C same [] [] h = refl
+map_all_zip f C same [] (y ∷ ys) h = absurd h
+map_all_zip f C same (x ∷ xs) [] h = absurd h
+map_all_zip f C same (x ∷ xs) (y ∷ ys) h =
+    let rest = map_all_zip f C same xs ys h.1 in
+    let first : f y ≡ f x = same x y h.0 in
+    λ i. first i ∷ rest i
+
+-- The first element that passes.
+
+position_from_start : {X : Type 0} (t : X → Bool) (k i : ℕ) (xs : List X) (d : X) → position_from t k xs ≡ Some i → (j : ℕ) × (k + j ≡ i) × (j < length xs) × (find t xs ≡ Some (get_or xs j d)) × (t (get_or xs j d) ≡ true)
+position_from_start t k i [] d h = cc
+position_from_start {X} t k i (x ∷ xs) d h = step (t x) refl (λ e. position_from_start t (k + 1) i xs d e) h
+  where
+    step : (b : Bool) → t x ≡ b → (position_from t (k + 1) xs ≡ Some i → (j : ℕ) × (k + 1 + j ≡ i) × (j < length xs) × (find t xs ≡ Some (get_or xs j d)) × (t (get_or xs j d) ≡ true)) → cond b (Some k) (position_from t (k + 1) xs) ≡ Some i →
+        (j : ℕ) × (k + j ≡ i) × (j < suc (length xs)) × (cond b (Some x) (find t xs) ≡ Some (get_or (x ∷ xs) j d)) × (t (get_or (x ∷ xs) j d) ≡ true)
+    step true at later e = let same : k ≡ i = cc in (0, omega arith, omega arith, refl, at)
+    step false at later e = let found = later e in (suc found.0, omega (arith, found.1), omega (arith, found.2), found.3, found.4)
+
+pub position_within : {X : Type 0} (t : X → Bool) (i : ℕ) (xs : List X) → position_from t 0 xs ≡ Some i → i < length xs
+position_within t i [] h = cc
+position_within {X} t i (x ∷ xs) h = let found = position_from_start t 0 i (x ∷ xs) x h in omega (arith, found.1, found.2)
+
+-- the first element that passes stands at the position
+pub position_find : {X : Type 0} (t : X → Bool) (i : ℕ) (xs : List X) (d : X) → position_from t 0 xs ≡ Some i → (find t xs ≡ Some (get_or xs i d)) × (t (get_or xs i d) ≡ true)
+position_find {X} t i xs d h =
+    let found = position_from_start t 0 i xs d h in
+    let same : found.0 ≡ i = omega (arith, found.1) in
+    let P : ℕ → Type 0 = λ j. (find t xs ≡ Some (get_or xs j d)) × (t (get_or xs j d) ≡ true) in
+    subst P same (found.3, found.4)
+
+pub position_slice_get : {X : Type 0} (t : X → Bool) (i : ℕ) (xs : List X) → position_from t 0 xs ≡ Some i → slice_get xs i ≡ find t xs
+position_slice_get t i [] h = cc
+position_slice_get t i (x ∷ xs) h = slice_get-get_or (x ∷ xs) i x (position_within t i (x ∷ xs) h) ∙ sym (position_find t i (x ∷ xs) x h).0
+
+pub position_none : {X : Type 0} (t : X → Bool) (k : ℕ) (xs : List X) → position_from t k xs ≡ None → find t xs ≡ None
+position_none t k [] h = refl
+position_none {X} t k (x ∷ xs) h = step (t x) (λ e. position_none t (k + 1) xs e) h
+  where
+    step : (b : Bool) → (position_from t (k + 1) xs ≡ None → find t xs ≡ None) → cond b (Some k) (position_from t (k + 1) xs) ≡ None → cond b (Some x) (find t xs) ≡ None
+    step true later e = cc
+    step false later e = later e
+
+pub find_none_at : {X : Type 0} (t : X → Bool) (xs : List X) → find t xs ≡ None → (k : ℕ) (d : X) → k < length xs → t (get_or xs k d) ≡ false
+find_none_at t [] h k d within = absurd (omega arith)
+find_none_at {X} t (x ∷ xs) h k d within = step (t x) refl (λ e. find_none_at t xs e) h k within
+  where
+    step : (b : Bool) → t x ≡ b → (find t xs ≡ None → (j : ℕ) (e : X) → j < length xs → t (get_or xs j e) ≡ false) → cond b (Some x) (find t xs) ≡ None → (j : ℕ) → j < suc (length xs) → t (get_or (x ∷ xs) j d) ≡ false
+    step true at later e j low = cc
+    step false at later e zero low = at
+    step false at later e (suc j) low = later e j d (omega arith)
+
+pub find_none_from : {X : Type 0} (t : X → Bool) (xs : List X) → ((k : ℕ) (d : X) → k < length xs → t (get_or xs k d) ≡ false) → find t xs ≡ None
+find_none_from t [] h = refl
+find_none_from t (x ∷ xs) h = rw (h zero x (omega arith)) (find_none_from t xs (λ k d within. h (suc k) d (omega arith)))
+
+-- what the element of each place that passes is, the found one is
+pub find_passes : {X : Type 0} (t : X → Bool) (xs : List X) (x : X) → find t xs ≡ Some x → t x ≡ true
+find_passes t [] x h = cc
+find_passes {X} t (y ∷ xs) x h = step (t y) refl (λ e. find_passes t xs x e) h
+  where
+    step : (b : Bool) → t y ≡ b → (find t xs ≡ Some x → t x ≡ true) → cond b (Some y) (find t xs) ≡ Some x → t x ≡ true
+    step true at later e = let same : y ≡ x = cc in ap t (sym same) ∙ at
+    step false at later e = later e
+
+-- where the first element that passes stands
+pub find_at : {X : Type 0} (t : X → Bool) (xs : List X) (x : X) → find t xs ≡ Some x → (k : ℕ) × (k < length xs) × (get_or xs k x ≡ x)
+find_at t [] x h = cc
+find_at {X} t (y ∷ xs) x h = step (t y) (λ e. find_at t xs x e) h
+  where
+    step : (b : Bool) → (find t xs ≡ Some x → (k : ℕ) × (k < length xs) × (get_or xs k x ≡ x)) → cond b (Some y) (find t xs) ≡ Some x → (k : ℕ) × (k < suc (length xs)) × (get_or (y ∷ xs) k x ≡ x)
+    step true later e = let same : y ≡ x = cc in (0, omega arith, same)
+    step false later e = let found = later e in (suc found.0, omega (arith, found.1), found.2)
+
+pub AllPairs-tail : {X : Type 0} (R : X → X → Type 0) (x : X) (xs : List X) → AllPairs R (x ∷ xs) → AllPairs R xs
+AllPairs-tail R x xs h = λ i j d below within. h (suc i) (suc j) d (omega arith) (omega arith)
+
+-- The first element that passes, seen through a function.
+
+pub shown_found : {X Y : Type 0} (f : X → Y) (t : Y → Bool) (xs : List X) (i : ℕ) (x : X) → position_from (λ z. t (f z)) 0 xs ≡ Some i → x ≡ get_or xs i x → find t (map f xs) ≡ Some (f x)
+shown_found f t xs i x h read =
+    let there = position_find t i (map f xs) (f x) (position_from-map f t 0 xs ∙ h) in
+    there.0 ∙ ap Some (get_or-map f xs i x (f x) (position_within (λ z. t (f z)) i xs h) ∙ ap f (sym read))
+
+pub shown_none : {X Y : Type 0} (f : X → Y) (t : Y → Bool) (xs : List X) → position_from (λ z. t (f z)) 0 xs ≡ None → find t (map f xs) ≡ None
+shown_none f t xs h = position_none t 0 (map f xs) (position_from-map f t 0 xs ∙ h)
+
+-- copies of cells, each a gap or a copy
+pub cell_same : {X Y : Type 0} (f : X → Y) (C : Option X → Option X → Type 0) → ((y : X) → C None (Some y) → ⊥) → ((x : X) → C (Some x) None → ⊥) → ((x y : X) → C (Some x) (Some y) → f y ≡ f x) → (p q : Option X) → C p q → option_map f q ≡ option_map f p
+cell_same f C more less same None None h = refl
+cell_same f C more less same None (Some y) h = absurd (more y h)
+cell_same f C more less same (Some x) None h = absurd (less x h)
+cell_same f C more less same (Some x) (Some y) h = ap Some (same x y h)
+
+pub slice_get_there : {X : Type 0} (xs : List X) (i : ℕ) → i < length xs → slice_get xs i ≡ None → ⊥
+slice_get_there [] i within h = absurd (omega arith)
+slice_get_there (x ∷ xs) zero within h = cc
+slice_get_there (x ∷ xs) (suc i) within h = slice_get_there xs i (omega arith) h
+
+pub slice_get_some : {X : Type 0} (xs : List X) (i : ℕ) → i < length xs → (x : X) × (slice_get xs i ≡ Some x)
+slice_get_some [] i within = absurd (omega arith)
+slice_get_some (x ∷ xs) zero within = (x, refl)
+slice_get_some (x ∷ xs) (suc i) within = slice_get_some xs i (omega arith)

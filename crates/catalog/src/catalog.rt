@@ -1,0 +1,275 @@
+//! Records by name and by key.
+
+ghost use Rattle.std.specs.Prelude.{◌≡◌, ◌<◌, ◌∷◌, [], ◌++◌, length, map, slice_get, option_map, IfOk, IfSome, IsSome};
+ghost use Rattle.std.specs.Option.{option_copied};
+ghost use Rattle.catalog.specs.Catalog.{AreDistinct, key_named, keys_of, named, place_of, record_at, records_of, with_record, without_key};
+
+use crate::gather::ready_names;
+use crate::hasher::NameHasher;
+use crate::named::Named;
+use crate::names::Names;
+use crate::order::Order;
+use crate::places::{close_up, index_of, place_at};
+use crate::slots::{self, Slots, slot};
+use std::alloc::{AllocError, Global};
+use std::fmt;
+use std::marker::Model;
+
+/// Records, each under a key of its own and with a name that no other has, in the order in which they were added (own).
+/// Contracts see the list of the records with their keys. A copy shares all that is as large as the catalog; what is then
+/// changed is copied first, but for the records. A look-up takes one step and no memory, but a place is counted as long as
+/// removals have left gaps, which `close_up` closes. The key of a record that was removed may come to be that of another.
+#[derive(Drop)]
+pub struct Catalog<R: Named> {
+    alloc: Global,
+    hasher: NameHasher,
+    names: Names,
+    slots: Slots,
+    order: Order<R>,
+    len: usize,
+}
+
+impl<R: Named> Model for Catalog<R> {
+    ghost use Rattle.std.specs.Prelude.{ℕ, List};
+
+    ghost Value = { List (ℕ × R) };
+
+    ghost use Rattle.catalog.specs.Columns.{entries_in, slot_at};
+    ghost use Rattle.catalog.specs.Found.{found};
+    ghost use Rattle.catalog.specs.Table.{IsTable};
+
+    ghost view = { λ a. entries_in a.order };
+
+    ghost invariant = { λ a. IsTable R.name (found a.names) (slot_at a.slots) a.order a.len };
+}
+
+impl<R: Named> Catalog<R> {
+    /// No record. It takes no memory.
+    pub fn new(alloc: Global, hasher: NameHasher) -> Catalog<R>
+        ensures { result ≡ [] }
+    {
+        Catalog {
+            alloc,
+            hasher,
+            names: Names::empty(),
+            slots: None,
+            order: Order::new(alloc),
+            len: 0,
+        }
+    }
+
+    /// A copy, which shares all with this one until one of them is changed. It fails for want of memory.
+    pub fn try_clone(&self) -> Result<Catalog<R>, AllocError>
+        ensures { IfOk result (λ copy. copy ≡ self.now) }
+    {
+        let names = self.names.try_clone()?;
+        let slots = slots::try_clone(&self.slots)?;
+        let order = self.order.try_clone()?;
+        Ok(Catalog {
+            alloc: self.alloc,
+            hasher: self.hasher,
+            names,
+            slots,
+            order,
+            len: self.len,
+        })
+    }
+
+    /// How many records there are.
+    pub fn len(&self) -> usize
+        ensures { result ≡ length self.now }
+    {
+        self.len
+    }
+
+    /// The key of the record of a name.
+    pub fn key(&self, name: &str) -> Option<usize>
+        ensures key { result ≡ key_named R.name self.now name.now }
+        ensures there { IfSome result (λ key. record_at self.now key ≡ option_map (λ e. e.1) (named R.name self.now name.now)) }
+    {
+        match self.names.get(name) {
+            Some(key) => match self.get(key) {
+                Some(item) => { if item.name() == name { Some(key) } else { None } }
+                None => None,
+            },
+            None => None,
+        }
+    }
+
+    /// The record under a key.
+    pub fn get(&self, key: usize) -> Option<&R>
+        ensures { option_copied result ≡ record_at self.now key }
+    {
+        match slot(&self.slots, key) {
+            Some(index) => self.order.item_in(index),
+            None => None,
+        }
+    }
+
+    /// The place of the record under a key, in the order of the records.
+    pub fn place(&self, key: usize) -> Option<usize>
+        ensures place { result ≡ place_of self.now key }
+        ensures within { IfSome result (λ place. place < length self.now) }
+        ensures there { IfSome result (λ place. slice_get (records_of self.now) place ≡ record_at self.now key) }
+    {
+        match slot(&self.slots, key) {
+            Some(index) => Some(place_at(&self.order, self.len, index)),
+            None => None,
+        }
+    }
+
+    /// The key of the record at a place.
+    pub fn key_at(&self, place: usize) -> usize
+        requires { place < length self.now }
+        ensures key { slice_get (keys_of self.now) place ≡ Some result }
+        ensures place { place_of self.now result ≡ Some place }
+        ensures there { record_at self.now result ≡ slice_get (records_of self.now) place }
+    {
+        let index = index_of(&self.order, self.len, place);
+        match self.order.key_in(index) {
+            Some(key) => key,
+            None => unreachable!(),
+        }
+    }
+
+    /// The record at a place.
+    pub fn record_at_place(&self, place: usize) -> &R
+        requires { place < length self.now }
+        ensures { slice_get (records_of self.now) place ≡ Some result.now }
+    {
+        let index = index_of(&self.order, self.len, place);
+        match self.order.item_in(index) {
+            Some(item) => item,
+            None => unreachable!(),
+        }
+    }
+
+    /// Adds a record, which goes last, and gives its key. It fails for want of memory.
+    pub fn push(self, item: R) -> Result<(Catalog<R>, usize), AllocError>
+        requires { key_named R.name self (R.name item) ≡ None }
+        ensures entries { IfOk result (λ added. added.0 ≡ self ++ (added.1, item) ∷ []) }
+        ensures fresh { IfOk result (λ added. record_at self added.1 ≡ None) }
+    {
+        let Catalog {
+            alloc,
+            hasher,
+            names,
+            slots,
+            order,
+            len,
+        } = self;
+        let more = len.checked_add(1).ok_or(AllocError)?;
+        let names = ready_names(alloc, hasher, names, &order, len)?;
+        let (slots, key) = slots::insert(alloc, slots, order.len())?;
+        let names = names.with(alloc, hasher, item.name(), key)?;
+        let order = order.push(alloc, key, item)?;
+        Ok((
+            Catalog {
+                alloc,
+                hasher,
+                names,
+                slots,
+                order,
+                len: more,
+            },
+            key,
+        ))
+    }
+
+    /// Puts a record under the key of one with the same name. It fails for want of memory.
+    pub fn replace(self, key: usize, item: R) -> Result<Catalog<R>, AllocError>
+        requires there { IsSome (record_at self key) }
+        requires name { IfSome (record_at self key) (λ old. R.name item ≡ R.name old) }
+        ensures { IfOk result (λ catalog. catalog ≡ with_record self key item) }
+    {
+        let Catalog {
+            alloc,
+            hasher,
+            names,
+            slots,
+            order,
+            len,
+        } = self;
+        let order = match slot(&slots, key) {
+            Some(index) => order.put(alloc, index, key, item)?,
+            None => unreachable!(),
+        };
+        Ok(Catalog {
+            alloc,
+            hasher,
+            names,
+            slots,
+            order,
+            len,
+        })
+    }
+
+    /// Takes the record under a key away. It fails for want of memory.
+    pub fn remove(self, key: usize) -> Result<Catalog<R>, AllocError>
+        requires { IsSome (record_at self key) }
+        ensures { IfOk result (λ catalog. catalog ≡ without_key self key) }
+    {
+        let Catalog {
+            alloc,
+            hasher,
+            names,
+            slots,
+            order,
+            len,
+        } = self;
+        let order = match slot(&slots, key) {
+            Some(index) => order.set(alloc, index, None)?,
+            None => unreachable!(),
+        };
+        let slots = slots::remove(alloc, slots, key)?;
+        Ok(Catalog {
+            alloc,
+            hasher,
+            names,
+            slots,
+            order,
+            len: len - 1,
+        })
+    }
+
+    /// The same records, where a place is found in one step until the next removal. It fails for want of memory.
+    pub fn close_up(self) -> Result<Catalog<R>, AllocError>
+        ensures { IfOk result (λ catalog. catalog ≡ self) }
+    {
+        if self.len == self.order.len() {
+            return Ok(self);
+        }
+        let Catalog {
+            alloc,
+            hasher,
+            names,
+            slots,
+            order,
+            len,
+        } = self;
+        let (slots, order) = close_up(alloc, slots, order)?;
+        Ok(Catalog {
+            alloc,
+            hasher,
+            names,
+            slots,
+            order,
+            len,
+        })
+    }
+
+    /// The law of every catalog; nothing runs.
+    pub fn lawful(&self)
+        ensures { AreDistinct R.name self.now }
+    {
+        let _order = &self.order;
+    }
+}
+
+impl<R: Named> fmt::Debug for Catalog<R> {
+    fn fmt<W: fmt::Write>(&self, f: &mut fmt::Formatter<W>) -> fmt::Result {
+        f.debug_struct("Catalog")
+            .field("len", &self.len())
+            .finish_non_exhaustive()
+    }
+}

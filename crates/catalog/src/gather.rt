@@ -1,0 +1,55 @@
+//! The names of all records, gathered anew.
+
+ghost use Rattle.std.specs.Prelude.{◌≡◌, ◌≢◌, AllPairs, IfOk};
+ghost use Rattle.catalog.specs.Catalog.{names_of};
+ghost use Rattle.catalog.specs.Columns.{entries_in};
+ghost use Rattle.catalog.specs.Found.{found};
+ghost use Rattle.catalog.specs.Table.{AreFound};
+
+use crate::hasher::NameHasher;
+use crate::named::Named;
+use crate::names::{Names, write};
+use crate::order::Order;
+use indexmap::IndexMap;
+use std::alloc::{AllocError, Global};
+use std::sync::Arc;
+
+/// The names, gathered anew where it is time.
+pub(crate) fn ready_names<R: Named>(
+    alloc: Global,
+    hasher: NameHasher,
+    names: Names,
+    order: &Order<R>,
+    len: usize,
+) -> Result<Names, AllocError>
+    requires distinct { AllPairs (λ a b. a ≢ b) (names_of R.name (entries_in order.now)) }
+    requires found { AreFound R.name (found names) (entries_in order.now) }
+    ensures { IfOk result (λ ready. AreFound R.name (found ready) (entries_in order.now)) }
+{
+    if names.is_full(len) {
+        gathered(alloc, hasher, order)
+    } else {
+        Ok(names)
+    }
+}
+
+/// The names of all entries.
+fn gathered<R: Named>(
+    alloc: Global,
+    hasher: NameHasher,
+    order: &Order<R>,
+) -> Result<Names, AllocError>
+    requires { AllPairs (λ a b. a ≢ b) (names_of R.name (entries_in order.now)) }
+    ensures { IfOk result (λ names. AreFound R.name (found names) (entries_in order.now)) }
+{
+    let mut map = IndexMap::with_hasher(alloc, hasher);
+    for index in 0..order.len() {
+        if let Some(entry) = order.cell(index) {
+            write(alloc, &mut map, entry.1.name(), entry.0)?;
+        }
+    }
+    Ok(Names {
+        base: Some(Arc::new(alloc, map)?),
+        added: None,
+    })
+}

@@ -1,0 +1,19 @@
+//! Records by name and by key, in the order in which they were added.
+#![tactic(auto)]
+
+mod catalog;
+mod gather;
+mod hasher;
+mod named;
+mod names;
+mod order;
+mod places;
+#[cfg(test)]
+mod plain;
+mod slots;
+#[cfg(test)]
+mod tests;
+
+pub use catalog::Catalog;
+pub use hasher::NameHasher;
+pub use named::Named;

@@ -1,0 +1,112 @@
+//! The places of the entries in an order that may have gaps.
+
+ghost use Rattle.std.specs.Prelude.{◌≡◌, ◌≤◌, ◌<◌, ℕ, Some, IfOk, filter, is_some, length, slice_get, take};
+ghost use Rattle.slab.specs.Slab.{get};
+ghost use Rattle.catalog.specs.Columns.{AreApart, AreKnown, ArePlaced, cell_at, entries_in, slot_at};
+
+use crate::order::Order;
+use crate::slots::{self, Slots};
+use slab::Slab;
+use std::alloc::{AllocError, Global};
+use std::sync::Arc;
+
+/// The place of the entry at an index of an order of so many entries.
+pub(crate) fn place_at<R: Drop>(order: &Order<R>, len: usize, index: usize) -> usize
+    requires within { index < length order.now }
+    requires counted { len ≡ length (entries_in order.now) }
+    ensures { result ≡ length (entries_in (take index order.now)) }
+{
+    if len == order.len() {
+        index
+    } else {
+        count_entries(order, index)
+    }
+}
+
+/// The index of the entry at a place of an order of so many entries.
+pub(crate) fn index_of<R: Drop>(order: &Order<R>, len: usize, place: usize) -> usize
+    requires within { place < length (entries_in order.now) }
+    requires counted { len ≡ length (entries_in order.now) }
+    ensures { cell_at order.now result ≡ slice_get (entries_in order.now) place }
+{
+    if len == order.len() {
+        place
+    } else {
+        find_entry(order, place)
+    }
+}
+
+/// How many entries stand before an index.
+fn count_entries<R: Drop>(order: &Order<R>, end: usize) -> usize
+    requires { end ≤ length order.now }
+    ensures { result ≡ length (entries_in (take end order.now)) }
+{
+    let mut count = 0;
+    for index in 0..end {
+        if order.cell(index).is_some() {
+            count += 1;
+        }
+    }
+    count
+}
+
+/// The index of the entry at a place.
+fn find_entry<R: Drop>(order: &Order<R>, place: usize) -> usize
+    requires { place < length (entries_in order.now) }
+    ensures { cell_at order.now result ≡ slice_get (entries_in order.now) place }
+{
+    let mut left = place;
+    for index in 0..order.len() {
+        if order.cell(index).is_some() {
+            if left == 0 {
+                return index;
+            }
+            left -= 1;
+        }
+    }
+    unreachable!()
+}
+
+/// The order without its gaps, and where each key then stands.
+pub(crate) fn close_up<R: Drop>(
+    alloc: Global,
+    slots: Slots,
+    order: Order<R>,
+) -> Result<(Slots, Order<R>), AllocError>
+    requires { ArePlaced (slot_at slots) order }
+    ensures entries { IfOk result (λ closed. entries_in closed.1 ≡ entries_in order) }
+    ensures placed { IfOk result (λ closed. ArePlaced (slot_at closed.0) closed.1) }
+{
+    let closed = without_gaps(alloc, &order)?;
+    let mut places = slots::owned(alloc, slots)?;
+    number(&mut places, &closed);
+    Ok((slots::shared(alloc, places)?, closed))
+}
+
+/// The entries alone.
+fn without_gaps<R: Drop>(alloc: Global, order: &Order<R>) -> Result<Order<R>, AllocError>
+    ensures { IfOk result (λ closed. closed ≡ filter (λ cell. is_some cell) order.now) }
+{
+    let mut closed = Order::new(alloc);
+    for index in 0..order.len() {
+        if let Some(entry) = order.cell(index) {
+            let item = Arc::try_clone(&entry.1)?;
+            closed = closed.push_shared(alloc, entry.0, item)?;
+        }
+    }
+    Ok(closed)
+}
+
+/// Writes where each key stands.
+fn number<R: Drop>(places: &mut Slab<usize>, order: &Order<R>)
+    requires apart { AreApart order.now }
+    requires known { AreKnown (get places.old) order.now }
+    ensures there { (index : ℕ) (e : ℕ × R) → cell_at order.now index ≡ Some e → get places.new e.0 ≡ Some index }
+    ensures same { (key : ℕ) → is_some (get places.new key) ≡ is_some (get places.old key) }
+{
+    for index in 0..order.len() {
+        if let Some(key) = order.key_in(index) {
+            slots::set(places, key, index);
+        }
+    }
+}

@@ -1,0 +1,155 @@
+-- Entries, each a record under a key: those of one key, and lists of keys beside them.
+use Rattle.std.proofs.Common.{◌≡◌, ◌≢◌, ℕ, zero, suc, Bool, true, false, cond, ◌==◌, ◌&&◌, List, [], ◌∷◌, map, Some, None, option_map, AllPairs, All, sym, refl, ap, subst, ◌∙◌, arith}
+use Rattle.std.proofs.lemmas.Bool.{both_ways, eqb-true, ne_eqb}
+use Rattle.std.proofs.lemmas.List.Elements.{All-cons, All-head, All-tail}
+use Rattle.std.proofs.lemmas.List.Kept.{AllPairs-cons}
+use Rattle.std.specs.List.{filter, find, zip}
+use Rattle.catalog.specs.Catalog.{keys_of, names_of, record_at, records_of}
+use Rattle.design.specs.Names.{same_name}
+use Rattle.design.proofs.NameLemmas.{name_differs, name_same}
+
+-- Each and apart, by recursion.
+
+abbrev pub Each : {X : Type 0} → (X → Type 0) → List X → Type 0
+Each P [] = Unit {0}
+Each P (x ∷ xs) = P x × Each P xs
+
+-- no two have the same image
+abbrev pub Apart : {X Y : Type 0} → (X → Y) → List X → Type 0
+Apart f [] = Unit {0}
+Apart f (x ∷ xs) = Each (λ y. f x ≢ f y) xs × Apart f xs
+
+pub each_weaker : {X : Type 0} (P Q : X → Type 0) → ((x : X) → P x → Q x) → (xs : List X) → Each P xs → Each Q xs
+each_weaker P Q w [] h = tt
+each_weaker P Q w (x ∷ xs) h = (w x h.0, each_weaker P Q w xs h.1)
+
+pub each_both : {X : Type 0} (P Q R : X → Type 0) → ((x : X) → P x → Q x → R x) → (xs : List X) → Each P xs → Each Q xs → Each R xs
+each_both P Q R w [] h g = tt
+each_both P Q R w (x ∷ xs) h g = (w x h.0 g.0, each_both P Q R w xs h.1 g.1)
+
+pub each_here : {X : Type 0} (P : X → Type 0) → ((x : X) → P x) → (xs : List X) → Each P xs
+each_here P h [] = tt
+each_here P h (x ∷ xs) = (h x, each_here P h xs)
+
+pub each_from : {X Y : Type 0} (P : Y → Type 0) (f : X → Y) (xs : List X) → All P (map f xs) → Each (λ x. P (f x)) xs
+each_from P f [] h = tt
+each_from P f (x ∷ xs) h = (All-head P (f x) (map f xs) h, each_from P f xs (All-tail P (f x) (map f xs) h))
+
+pub each_to : {X Y : Type 0} (P : Y → Type 0) (f : X → Y) (xs : List X) → Each (λ x. P (f x)) xs → All P (map f xs)
+each_to P f [] h = λ k d within. absurd (omega arith)
+each_to P f (x ∷ xs) h = All-cons P (f x) (map f xs) h.0 (each_to P f xs h.1)
+
+pairs_head : {X : Type 0} (R : X → X → Type 0) (x : X) (xs : List X) → AllPairs R (x ∷ xs) → All (R x) xs
+pairs_head R x xs h = λ k d within. h zero (suc k) d (omega arith) (omega arith)
+
+pairs_tail : {X : Type 0} (R : X → X → Type 0) (x : X) (xs : List X) → AllPairs R (x ∷ xs) → AllPairs R xs
+pairs_tail R x xs h = λ i j d below within. h (suc i) (suc j) d (omega arith) (omega arith)
+
+pub apart_from : {X Y Z : Type 0} (f : X → Y) (g : Y → Z) (xs : List X) → AllPairs (λ a b. g a ≢ g b) (map f xs) → Apart (λ x. g (f x)) xs
+apart_from f g [] h = tt
+apart_from f g (x ∷ xs) h =
+    (each_from (λ y. g (f x) ≢ g y) f xs (pairs_head (λ a b. g a ≢ g b) (f x) (map f xs) h), apart_from f g xs (pairs_tail (λ a b. g a ≢ g b) (f x) (map f xs) h))
+
+pub apart_to : {X Y Z : Type 0} (f : X → Y) (g : Y → Z) (xs : List X) → Apart (λ x. g (f x)) xs → AllPairs (λ a b. g a ≢ g b) (map f xs)
+apart_to f g [] h = λ i j d below within. absurd (omega arith)
+apart_to f g (x ∷ xs) h = AllPairs-cons (λ a b. g a ≢ g b) (f x) (map f xs) (each_to (λ y. g (f x) ≢ g y) f xs h.0) (apart_to f g xs h.1)
+
+pub each_map : {X Y : Type 0} (P : Y → Type 0) (f : X → Y) (xs : List X) → Each (λ x. P (f x)) xs → Each P (map f xs)
+each_map P f [] h = tt
+each_map P f (x ∷ xs) h = (h.0, each_map P f xs h.1)
+
+pub map_within : {X Y : Type 0} (f g : X → Y) (xs : List X) → Each (λ x. f x ≡ g x) xs → map f xs ≡ map g xs
+map_within f g [] h = refl
+map_within f g (x ∷ xs) h = let first = h.0 in let rest = map_within f g xs h.1 in λ i. first i ∷ rest i
+
+pub map_map : {X Y Z : Type 0} (g : Y → Z) (f : X → Y) (xs : List X) → map g (map f xs) ≡ map (λ x. g (f x)) xs
+map_map g f [] = refl
+map_map g f (x ∷ xs) = ap (λ l. g (f x) ∷ l) (map_map g f xs)
+
+pub filter_within : {X : Type 0} (p q : X → Bool) (xs : List X) → Each (λ x. p x ≡ q x) xs → filter p xs ≡ filter q xs
+filter_within p q [] h = refl
+filter_within p q (x ∷ xs) h = ap (λ b. cond b (x ∷ filter p xs) (filter p xs)) h.0 ∙ ap (λ l. cond (q x) (x ∷ l) l) (filter_within p q xs h.1)
+
+pub filter_map : {X Y : Type 0} (p : Y → Bool) (f : X → Y) (xs : List X) → filter p (map f xs) ≡ map f (filter (λ x. p (f x)) xs)
+filter_map p f [] = refl
+filter_map {X} {Y} p f (x ∷ xs) = ap (λ l. cond (p (f x)) (f x ∷ l) l) (filter_map p f xs) ∙ step (p (f x))
+  where
+    step : (b : Bool) → cond b (f x ∷ map f (filter (λ x. p (f x)) xs)) (map f (filter (λ x. p (f x)) xs)) ≡ map f (cond b (x ∷ filter (λ x. p (f x)) xs) (filter (λ x. p (f x)) xs))
+    step true = refl
+    step false = refl
+
+pub filter_filter : {X : Type 0} (p q : X → Bool) (xs : List X) → filter p (filter q xs) ≡ filter (λ x. p x && q x) xs
+filter_filter p q [] = refl
+filter_filter {X} p q (x ∷ xs) = step (q x) ∙ ap (λ l. cond (p x && q x) (x ∷ l) l) (filter_filter p q xs)
+  where
+    step : (c : Bool) → filter p (cond c (x ∷ filter q xs) (filter q xs)) ≡ cond (p x && c) (x ∷ filter p (filter q xs)) (filter p (filter q xs))
+    step true = twice (p x)
+      where
+        twice : (b : Bool) → cond b (x ∷ filter p (filter q xs)) (filter p (filter q xs)) ≡ cond (b && true) (x ∷ filter p (filter q xs)) (filter p (filter q xs))
+        twice true = refl
+        twice false = refl
+    step false = none (p x)
+      where
+        none : (b : Bool) → filter p (filter q xs) ≡ cond (b && false) (x ∷ filter p (filter q xs)) (filter p (filter q xs))
+        none true = refl
+        none false = refl
+
+-- Look-ups.
+
+pub zip_parts : {X : Type 0} (es : List (ℕ × X)) → zip (keys_of es) (records_of es) ≡ es
+zip_parts [] = refl
+zip_parts (e ∷ es) = ap (λ l. e ∷ l) (zip_parts es)
+
+-- what is said of each entry is said of the one that is found
+pub found : {X : Type 0} (P : ℕ → X → Type 0) (es : List (ℕ × X)) (key : ℕ) (x : X) → Each (λ e. P e.0 e.1) es → record_at es key ≡ Some x → P key x
+found P [] key x all h = cc
+found {X} P (e ∷ es) key x all h = step (e.0 == key) refl (found P es key x all.1) h
+  where
+    step : (b : Bool) → (e.0 == key) ≡ b → (record_at es key ≡ Some x → P key x) → option_map (λ f. f.1) (cond b (Some e) (find (λ f. f.0 == key) es)) ≡ Some x → P key x
+    step true at later g =
+        let same : e.1 ≡ x = cc in
+        let here : e.0 ≡ key = eqb-true e.0 key at in
+        let Q : ℕ → Type 0 = λ k. P k x in
+        subst Q here (subst (P e.0) same all.0)
+    step false at later g = later g
+
+-- no entry has a key that is not there
+pub absent : {X : Type 0} (es : List (ℕ × X)) (key : ℕ) → record_at es key ≡ None → Each (λ e. (e.0 == key) ≡ false) es
+absent [] key h = tt
+absent {X} (e ∷ es) key h = step (e.0 == key) refl (absent es key) h
+  where
+    step : (b : Bool) → (e.0 == key) ≡ b → (record_at es key ≡ None → Each (λ f. (f.0 == key) ≡ false) es) → option_map (λ f. f.1) (cond b (Some e) (find (λ f. f.0 == key) es)) ≡ None → Each (λ f. (f.0 == key) ≡ false) (e ∷ es)
+    step true at later g = cc
+    step false at later g = (at, later g)
+
+pub missing : {X : Type 0} (es : List (ℕ × X)) (key : ℕ) → Each (λ e. (e.0 == key) ≡ false) es → record_at es key ≡ None
+missing [] key h = refl
+missing (e ∷ es) key h = ap (λ b. option_map (λ f. f.1) (cond b (Some e) (find (λ f. f.0 == key) es))) h.0 ∙ missing es key h.1
+
+-- the entry of a key is the one that has its record, and the one that has its record's name
+pub alone : {X : Type 0} (name : X → List ℕ) (es : List (ℕ × X)) (key : ℕ) (x : X) → Apart (λ e. e.0) es → Apart (λ e. name e.1) es → record_at es key ≡ Some x → Each (λ e. ((e.0 == key) ≡ same_name (name e.1) (name x)) × ((e.0 == key) ≡ true → e.1 ≡ x)) es
+alone name [] key x keys names h = tt
+alone {X} name (e ∷ es) key x keys names h = step (e.0 == key) refl (alone name es key x keys.1 names.1) h
+  where
+    P : ℕ × X → Type 0
+    P f = ((f.0 == key) ≡ same_name (name f.1) (name x)) × ((f.0 == key) ≡ true → f.1 ≡ x)
+
+    step : (b : Bool) → (e.0 == key) ≡ b → (record_at es key ≡ Some x → Each (λ f. ((f.0 == key) ≡ same_name (name f.1) (name x)) × ((f.0 == key) ≡ true → f.1 ≡ x)) es) → option_map (λ f. f.1) (cond b (Some e) (find (λ f. f.0 == key) es)) ≡ Some x → Each (λ f. ((f.0 == key) ≡ same_name (name f.1) (name x)) × ((f.0 == key) ≡ true → f.1 ≡ x)) (e ∷ es)
+    step true at later g =
+        let same : e.1 ≡ x = cc in
+        let here : e.0 ≡ key = eqb-true e.0 key at in
+        let other : (f : ℕ × X) → e.0 ≢ f.0 → name e.1 ≢ name f.1 → P f =
+        λ f apart named.
+        let off : (f.0 == key) ≡ false = ne_eqb f.0 key (λ at2. apart (here ∙ sym at2)) in
+        (off ∙ sym (name_differs (name f.1) (name x) (λ alike. named (ap name same ∙ sym alike))), λ on. absurd (both_ways (f.0 == key) off on)) in
+        ((at ∙ sym (name_same (name e.1) (name x) (ap name same)), λ on. same), each_both (λ f. e.0 ≢ f.0) (λ f. name e.1 ≢ name f.1) P other es keys.0 names.0)
+    step false at later g =
+        let apart : name e.1 ≢ name x = found (λ k y. name e.1 ≢ name y) es key x names.0 g in
+        ((at ∙ sym (name_differs (name e.1) (name x) apart), λ on. absurd (both_ways (e.0 == key) at on)), later g)
+
+-- as a catalog says it
+pub keys_apart : {X : Type 0} (es : List (ℕ × X)) → AllPairs (λ a b. a ≢ b) (keys_of es) → Apart (λ e. e.0) es
+keys_apart es h = apart_from (λ e. e.0) (λ k. k) es h
+
+pub names_apart : {X : Type 0} (name : X → List ℕ) (es : List (ℕ × X)) → AllPairs (λ a b. a ≢ b) (names_of name es) → Apart (λ e. name e.1) es
+names_apart name es h = apart_from (λ e. name e.1) (λ n. n) es h

@@ -1,0 +1,196 @@
+-- Lists of gate keys: which are changed by a name or by terminals, and what they are after an edit of the gates.
+use Rattle.std.proofs.Common.{◌≡◌, ◌≢◌, ℕ, ◌+◌, ◌<◌, Bool, true, false, not, cond, ◌==◌, ◌&&◌, ◌||◌, List, [], ◌∷◌, ◌++◌, length, get_or, take, Option, Some, None, option_map, sym, refl, ap, subst, ◌∙◌}
+use Rattle.std.proofs.lemmas.Bool.{both_ways, eq-eqb, eqb-false, eqb-true, ne_eqb}
+use Rattle.std.proofs.lemmas.List.{append-nil, take_more}
+use Rattle.std.proofs.lemmas.List.Elements.{filter-append}
+use Rattle.std.proofs.lemmas.List.Folds.{list_any-append}
+use Rattle.std.specs.List.{filter, find, list_any}
+use Rattle.std.specs.Option.{option_map_or}
+use Rattle.catalog.specs.Catalog.{key_named, keys_of, record_at, with_record, without_key}
+use Rattle.design.specs.declared.terminal.Terminal.{Terminal}
+use Rattle.design.specs.Keys as Keys
+use Rattle.design.specs.Kept.{is_among, is_at, is_named, keys_where}
+use Rattle.design.specs.Lists.{AreChanged, IsInOrder, list_of, with_key_in}
+use Rattle.design.specs.Names.{same_name}
+use Rattle.design.specs.Netlist.{NetEntry, is_at_net}
+use Rattle.design.proofs.EntryLemmas.{Apart, Each, absent, each_here, each_weaker, filter_filter, filter_map, filter_within, found}
+use Rattle.design.proofs.NameLemmas.{name_differs, name_is, name_same}
+use Rattle.design.proofs.OrderLemmas.{where_with, with_in_order}
+
+-- The net of a name.
+
+option_none : {X : Type 0} (f : X → Bool) (o : Option X) → ((x : X) → o ≡ Some x → f x ≡ false) → option_map_or f o false ≡ false
+option_none f None h = refl
+option_none f (Some x) h = h x refl
+
+pub named_none : (nets : List (ℕ × NetEntry)) (name : List ℕ) (k : ℕ) → key_named (λ n. n.name) nets name ≡ None → is_named nets name k ≡ false
+named_none nets name k h = option_none (λ n. same_name name n.name) (record_at nets k) (λ n at. found (λ j m. same_name name m.name ≡ false) nets k n (each nets h) at)
+  where
+    each : (es : List (ℕ × NetEntry)) → key_named (λ n. n.name) es name ≡ None → Each (λ e. same_name name e.1.name ≡ false) es
+    each [] h = tt
+    each (e ∷ es) h = step (same_name e.1.name name) refl (λ g. each es g) h
+      where
+        step : (b : Bool) → same_name e.1.name name ≡ b → (key_named (λ n. n.name) es name ≡ None → Each (λ f. same_name name f.1.name ≡ false) es) → option_map (λ (f : ℕ × NetEntry). f.0) (cond b (Some e) (find (λ f. same_name f.1.name name) es)) ≡ None → Each (λ f. same_name name f.1.name ≡ false) (e ∷ es)
+        step true at later g = cc
+        step false at later g = (name_differs name e.1.name (λ same. both_ways (same_name e.1.name name) at (name_same e.1.name name (sym same))), later g)
+
+pub named_is : (nets : List (ℕ × NetEntry)) (name : List ℕ) (number k : ℕ) → Apart (λ e. e.0) nets → Apart (λ e. e.1.name) nets → key_named (λ n. n.name) nets name ≡ Some number → is_named nets name k ≡ (k == number)
+named_is [] name number k keys names h = cc
+named_is (e ∷ es) name number k keys names h = step (same_name e.1.name name) refl (λ g. named_is es name number k keys.1 names.1 g) h
+  where
+    key_in : (fs : List (ℕ × NetEntry)) → key_named (λ n. n.name) fs name ≡ Some number → Each (λ f. e.0 ≢ f.0) fs → e.0 ≢ number
+    key_in [] g apart = cc
+    key_in (f ∷ fs) g apart = one (same_name f.1.name name) (λ l. key_in fs l apart.1) g
+      where
+        one : (b : Bool) → (key_named (λ n. n.name) fs name ≡ Some number → e.0 ≢ number) → option_map (λ (x : ℕ × NetEntry). x.0) (cond b (Some f) (find (λ x. same_name x.1.name name) fs)) ≡ Some number → e.0 ≢ number
+        one true later l = let same : f.0 ≡ number = cc in λ at. apart.0 (at ∙ sym same)
+        one false later l = later l
+
+    step : (b : Bool) → same_name e.1.name name ≡ b → (key_named (λ n. n.name) es name ≡ Some number → is_named es name k ≡ (k == number)) → option_map (λ (f : ℕ × NetEntry). f.0) (cond b (Some e) (find (λ f. same_name f.1.name name) es)) ≡ Some number → is_named (e ∷ es) name k ≡ (k == number)
+    step true at later g = here (e.0 == k) refl
+      where
+        same : e.0 ≡ number
+        same = cc
+
+        here : (c : Bool) → (e.0 == k) ≡ c → option_map_or (λ n. same_name name n.name) (option_map (λ (f : ℕ × NetEntry). f.1) (cond c (Some e) (find (λ f. f.0 == k) es))) false ≡ (k == number)
+        here true on = name_same name e.1.name (sym (name_is e.1.name name at)) ∙ sym (eq-eqb k number (sym (eqb-true e.0 k on) ∙ same))
+        here false off =
+            option_none (λ n. same_name name n.name) (record_at es k) (λ n there. found (λ j m. same_name name m.name ≡ false) es k n
+            (each_weaker (λ f. e.1.name ≢ f.1.name) (λ f. same_name name f.1.name ≡ false) (λ f apart. name_differs name f.1.name (λ alike. apart (name_is e.1.name name at ∙ alike))) es names.0) there)
+            ∙ sym (ne_eqb k number (λ alike. eqb-false e.0 k off (same ∙ sym alike)))
+    step false at later g = here (e.0 == k) refl
+      where
+        here : (c : Bool) → (e.0 == k) ≡ c → option_map_or (λ n. same_name name n.name) (option_map (λ (f : ℕ × NetEntry). f.1) (cond c (Some e) (find (λ f. f.0 == k) es))) false ≡ (k == number)
+        here true on =
+            name_differs name e.1.name (λ alike. both_ways (same_name e.1.name name) at (name_same e.1.name name (sym alike)))
+            ∙ sym (ne_eqb k number (λ alike. key_in es g keys.0 (eqb-true e.0 k on ∙ alike)))
+        here false off = later g
+
+-- Terminals, one after another.
+
+among_more : (nets : List (ℕ × NetEntry)) (inputs : List Terminal) (i k : ℕ) (terminal : Terminal) → i < length inputs → terminal ≡ get_or inputs i terminal → is_among nets (take (i + 1) inputs) k ≡ (is_among nets (take i inputs) k || is_at nets terminal k)
+among_more nets inputs i k terminal within here = step (record_at nets k)
+  where
+    or_none : (b : Bool) → (b || false) ≡ b
+    or_none true = refl
+    or_none false = refl
+
+    step : (o : Option NetEntry) → option_map_or (λ n. list_any (is_at_net n.name) (take (i + 1) inputs)) o false ≡ (option_map_or (λ n. list_any (is_at_net n.name) (take i inputs)) o false || option_map_or (λ n. is_at_net n.name terminal) o false)
+    step None = refl
+    step (Some n) =
+        ap (λ l. list_any (is_at_net n.name) l) (take_more inputs i terminal within)
+        ∙ list_any-append (is_at_net n.name) (take i inputs) (get_or inputs i terminal ∷ [])
+        ∙ ap (λ (b : Bool). list_any (is_at_net n.name) (take i inputs) || b) (or_none (is_at_net n.name (get_or inputs i terminal)) ∙ ap (is_at_net n.name) (sym here))
+
+-- one terminal more, where the change once more is the change
+pub among_turn : (nets : List (ℕ × NetEntry)) (inputs : List Terminal) (i : ℕ) (terminal : Terminal) (change : List ℕ → List ℕ) (lists before after : List (List (List ℕ))) → ((list : List ℕ) → change (change list) ≡ change list) → i < length inputs → terminal ≡ get_or inputs i terminal →
+    AreChanged (is_among nets (take i inputs)) change lists before → AreChanged (is_at nets terminal) change before after → AreChanged (is_among nets (take (i + 1) inputs)) change lists after
+among_turn nets inputs i terminal change lists before after twice within here so_far now k =
+    now k ∙ ap (λ (l : List ℕ). cond (is_at nets terminal k) (change l) l) (so_far k) ∙ step (is_among nets (take i inputs) k) (is_at nets terminal k) (list_of lists k)
+    ∙ ap (λ (b : Bool). cond b (change (list_of lists k)) (list_of lists k)) (sym (among_more nets inputs i k terminal within here))
+  where
+    step : (a b : Bool) (l : List ℕ) → cond b (change (cond a (change l) l)) (cond a (change l) l) ≡ cond (a || b) (change l) l
+    step true true l = twice l
+    step true false l = refl
+    step false true l = refl
+    step false false l = refl
+
+pub among_none : (nets : List (ℕ × NetEntry)) (k : ℕ) → is_among nets [] k ≡ false
+among_none nets k = option_none (λ n. false) (record_at nets k) (λ n at. refl)
+
+pub without_twice : (key : ℕ) (list : List ℕ) → Keys.without_key (Keys.without_key list key) key ≡ Keys.without_key list key
+without_twice key list = filter_filter (λ k. not (k == key)) (λ k. not (k == key)) list ∙ filter_within (λ k. not (k == key) && not (k == key)) (λ k. not (k == key)) list (each_here (λ k. (not (k == key) && not (k == key)) ≡ not (k == key)) (λ k. and_twice (not (k == key))) list)
+  where
+    and_twice : (b : Bool) → (b && b) ≡ b
+    and_twice true = refl
+    and_twice false = refl
+
+pub changed_in_order : {X : Type 0} (es : List (ℕ × X)) (test : ℕ → Bool) (key : ℕ) (lists new : List (List (List ℕ))) → Apart (λ e. e.0) es → ((k : ℕ) → IsInOrder (keys_of es) (list_of lists k)) → AreChanged test (with_key_in (keys_of es) key) lists new → (k : ℕ) → IsInOrder (keys_of es) (list_of new k)
+changed_in_order es test key lists new apart ordered changed k = subst (IsInOrder (keys_of es)) (sym (changed k)) (step (test k))
+  where
+    step : (b : Bool) → IsInOrder (keys_of es) (cond b (with_key_in (keys_of es) key (list_of lists k)) (list_of lists k))
+    step true = with_in_order es key (list_of lists k) apart
+    step false = ordered k
+
+-- the same change of the one list whose key is asked for
+pub changed_there : (net k : ℕ) (f g : List ℕ → List ℕ) (lists : List (List (List ℕ))) → f (list_of lists net) ≡ g (list_of lists net) → cond (k == net) (f (list_of lists k)) (list_of lists k) ≡ cond (k == net) (g (list_of lists k)) (list_of lists k)
+changed_there net k f g lists same = step (k == net) refl
+  where
+    step : (b : Bool) → (k == net) ≡ b → cond b (f (list_of lists k)) (list_of lists k) ≡ cond b (g (list_of lists k)) (list_of lists k)
+    step true at = let here : net ≡ k = sym (eqb-true k net at) in let P : ℕ → Type 0 = λ j. f (list_of lists j) ≡ g (list_of lists j) in subst P here same
+    step false at = refl
+
+-- Edits of the gates: q says which gates a list has the keys of.
+
+-- without a key
+pub where_without : {X : Type 0} (q : ℕ × X → Bool) (es : List (ℕ × X)) (key : ℕ) → Keys.without_key (keys_where q es) key ≡ keys_where (λ e. not (e.0 == key) && q e) es
+where_without q es key = filter_map (λ k. not (k == key)) (λ e. e.0) (filter q es) ∙ ap (λ l. keys_of l) (filter_filter (λ e. not (e.0 == key)) q es)
+
+-- taken away
+pub others_without : {X : Type 0} (q : ℕ × X → Bool) (es : List (ℕ × X)) (key : ℕ) → keys_where (λ e. not (e.0 == key) && q e) es ≡ keys_where q (without_key es key)
+others_without {X} q es key =
+    ap (λ l. keys_of l) (filter_within (λ e. not (e.0 == key) && q e) (λ e. q e && not (e.0 == key)) es (each_here (λ e. (not (e.0 == key) && q e) ≡ (q e && not (e.0 == key))) (λ e. and_turned (not (e.0 == key)) (q e)) es)
+    ∙ sym (filter_filter q (λ e. not (e.0 == key)) es))
+  where
+    and_turned : (a b : Bool) → (a && b) ≡ (b && a)
+    and_turned true true = refl
+    and_turned true false = refl
+    and_turned false true = refl
+    and_turned false false = refl
+
+-- not among those that pass
+pub others_same : {X : Type 0} (q : ℕ × X → Bool) (es : List (ℕ × X)) (key : ℕ) → Each (λ e. (e.0 == key) ≡ true → q e ≡ false) es → keys_where q es ≡ keys_where (λ e. not (e.0 == key) && q e) es
+others_same {X} q es key off = ap (λ l. keys_of l) (filter_within q (λ e. not (e.0 == key) && q e) es (each_weaker (λ e. (e.0 == key) ≡ true → q e ≡ false) (λ e. q e ≡ (not (e.0 == key) && q e)) (λ e h. step e (e.0 == key) h) es off))
+  where
+    step : (e : ℕ × X) (b : Bool) → (b ≡ true → q e ≡ false) → q e ≡ (not b && q e)
+    step e true h = h refl
+    step e false h = refl
+
+-- among those that pass
+pub others_with : {X : Type 0} (q : ℕ × X → Bool) (es : List (ℕ × X)) (key : ℕ) → Apart (λ e. e.0) es → Each (λ e. (e.0 == key) ≡ true → q e ≡ true) es → with_key_in (keys_of es) key (keys_where (λ e. not (e.0 == key) && q e) es) ≡ keys_where q es
+others_with {X} q es key apart on =
+    where_with (λ e. not (e.0 == key) && q e) key es apart
+    ∙ ap (λ l. keys_of l) (filter_within (λ e. e.0 == key || (not (e.0 == key) && q e)) q es (each_weaker (λ e. (e.0 == key) ≡ true → q e ≡ true) (λ e. (e.0 == key || (not (e.0 == key) && q e)) ≡ q e) (λ e h. step e (e.0 == key) h) es on))
+  where
+    step : (e : ℕ × X) (b : Bool) → (b ≡ true → q e ≡ true) → (b || (not b && q e)) ≡ q e
+    step e true h = sym (h refl)
+    step e false h = refl
+
+-- put in place of another
+pub others_replaced : {X : Type 0} (q : ℕ × X → Bool) (es : List (ℕ × X)) (key : ℕ) (y : X) → keys_where (λ e. not (e.0 == key) && q e) (with_record es key y) ≡ keys_where (λ e. not (e.0 == key) && q e) es
+others_replaced q [] key y = refl
+others_replaced {X} q (e ∷ es) key y = step (e.0 == key) refl (others_replaced q es key y)
+  where
+    step : (b : Bool) → (e.0 == key) ≡ b → keys_where (λ f. not (f.0 == key) && q f) (with_record es key y) ≡ keys_where (λ f. not (f.0 == key) && q f) es →
+        keys_where (λ f. not (f.0 == key) && q f) (with_record (e ∷ es) key y) ≡ keys_where (λ f. not (f.0 == key) && q f) (e ∷ es)
+    step true at rest = rw at rest
+    step false at rest = rw at (two (q e) rest)
+      where
+        two : (b : Bool) → keys_where (λ f. not (f.0 == key) && q f) (with_record es key y) ≡ keys_where (λ f. not (f.0 == key) && q f) es →
+            keys_of (cond b ((e.0, e.1) ∷ filter (λ f. not (f.0 == key) && q f) (with_record es key y)) (filter (λ f. not (f.0 == key) && q f) (with_record es key y))) ≡ keys_of (cond b (e ∷ filter (λ f. not (f.0 == key) && q f) es) (filter (λ f. not (f.0 == key) && q f) es))
+        two true rest = ap (λ l. e.0 ∷ l) rest
+        two false rest = rest
+
+-- added
+pub others_added : {X : Type 0} (q : ℕ × X → Bool) (es : List (ℕ × X)) (key : ℕ) (y : X) → record_at es key ≡ None → keys_where q es ≡ keys_where (λ e. not (e.0 == key) && q e) (es ++ (key, y) ∷ [])
+others_added {X} q es key y h =
+    let off : filter (λ e. not (e.0 == key) && q e) ((key, y) ∷ []) ≡ [] = ap (λ (b : Bool). cond (not b && q (key, y)) ((key, y) ∷ []) []) (eq-eqb key key refl) in
+    ap (λ l. keys_of l)
+    (filter_within q (λ e. not (e.0 == key) && q e) es (each_weaker (λ e. (e.0 == key) ≡ false) (λ e. q e ≡ (not (e.0 == key) && q e)) (λ e at. ap (λ (b : Bool). not b && q e) (sym at)) es (absent es key h))
+    ∙ sym (append-nil (filter (λ e. not (e.0 == key) && q e) es)) ∙ ap (λ l. filter (λ e. not (e.0 == key) && q e) es ++ l) (sym off) ∙ sym (filter-append (λ e. not (e.0 == key) && q e) es ((key, y) ∷ [])))
+
+-- the same keys where each record passes as before
+pub where_replaced : {X : Type 0} (q : X → Bool) (es : List (ℕ × X)) (key : ℕ) (x y : X) → Each (λ e. (e.0 == key) ≡ true → e.1 ≡ x) es → q y ≡ q x → keys_where (λ e. q e.1) (with_record es key y) ≡ keys_where (λ e. q e.1) es
+where_replaced q [] key x y alone same = refl
+where_replaced {X} q (e ∷ es) key x y alone same = step (e.0 == key) refl (where_replaced q es key x y alone.1 same)
+  where
+    two : (m : X) → q m ≡ q e.1 → keys_where (λ f. q f.1) (with_record es key y) ≡ keys_where (λ f. q f.1) es → keys_of (cond (q m) ((e.0, m) ∷ filter (λ f. q f.1) (with_record es key y)) (filter (λ f. q f.1) (with_record es key y))) ≡ keys_of (cond (q e.1) (e ∷ filter (λ f. q f.1) es) (filter (λ f. q f.1) es))
+    two m alike rest = ap (λ (b : Bool). keys_of (cond b ((e.0, m) ∷ filter (λ f. q f.1) (with_record es key y)) (filter (λ f. q f.1) (with_record es key y)))) alike ∙ three (q e.1) rest
+      where
+        three : (b : Bool) → keys_where (λ f. q f.1) (with_record es key y) ≡ keys_where (λ f. q f.1) es → keys_of (cond b ((e.0, m) ∷ filter (λ f. q f.1) (with_record es key y)) (filter (λ f. q f.1) (with_record es key y))) ≡ keys_of (cond b (e ∷ filter (λ f. q f.1) es) (filter (λ f. q f.1) es))
+        three true rest = ap (λ l. e.0 ∷ l) rest
+        three false rest = rest
+
+    step : (b : Bool) → (e.0 == key) ≡ b → keys_where (λ f. q f.1) (with_record es key y) ≡ keys_where (λ f. q f.1) es → keys_where (λ f. q f.1) (with_record (e ∷ es) key y) ≡ keys_where (λ f. q f.1) (e ∷ es)
+    step true at rest = rw at (two y (same ∙ ap q (sym (alone.0 at))) rest)
+    step false at rest = rw at (two e.1 refl rest)

@@ -1,0 +1,70 @@
+use Rattle.std.proofs.Common.{◌≡◌, Some, IsTrue, ℕ, List, length, sym, ap, ◌∙◌}
+use Rattle.fourstate.specs.Gates.{takes_inputs}
+use Rattle.catalog.specs.Catalog.{keys_of, record_at, with_record}
+use Rattle.design.specs.Keys.{without_key}
+use Rattle.design.specs.Kept.{is_among, is_named, keyed, netlist_of}
+use Rattle.design.specs.Lawful.{IsGate, IsWired}
+use Rattle.design.specs.Lists.{AreChanged, with_key_in}
+use Rattle.design.specs.Netlist.{GateEntry}
+use Rattle.design.specs.Records.{gate_with_wiring}
+use Rattle.design.specs.Shown.{store_of}
+use Rattle.design.proofs.GateLemmas.{kept_gate_rewired, kept_in_order, keyed_gate_put, left_in_order}
+use Rattle.design.proofs.LookLemmas.{by_key, none_or_some, some_of}
+use Rattle.design.proofs.design.Design.rewire.Goals as goal
+
+pub unreachable-requires : goal.unreachable-requires
+unreachable-requires c =
+    let a = c.self.inside in
+    let key = c.gate.inside.number in
+    let P = λ (g : GateEntry). IsTrue (takes_inputs g.kind (length c.args.inputs.items)) in
+    let there = some_of (record_at a.gates key) P (rw (← c.self.view_is, ← c.gate.view_is, by_key a.gates key) at c.requires.fit) in
+    none_or_some (record_at a.gates key) there.0 c.in_default.ensures there.1
+
+pub add_among-requires-clause-ordered : goal.add_among-requires-clause-ordered
+add_among-requires-clause-ordered c =
+    let a = c.self.inside in
+    left_in_order (store_of a) a.points a.fanout a.drivers c.self.invariant (is_among a.nets c.inputs.result.now) c.args.gate a.fanout c.in_ok-fanout.fanout
+    (λ k. (kept_in_order (store_of a) a.points a.fanout a.drivers c.self.invariant k).0) c.in_ok-fanout.ensures
+
+pub add_at-requires-clause-ordered : goal.add_at-requires-clause-ordered
+add_at-requires-clause-ordered c =
+    let a = c.self.inside in
+    left_in_order (store_of a) a.points a.fanout a.drivers c.self.invariant (is_named a.nets c.as_str.result.now) c.args.gate a.drivers c.in_ok-drivers.drivers
+    (λ k. (kept_in_order (store_of a) a.points a.fanout a.drivers c.self.invariant k).1) c.in_ok-drivers.ensures
+
+pub with_wiring-new-requires : goal.with_wiring-new-requires
+with_wiring-new-requires c =
+    let a = c.self.inside in
+    let key = c.gate.inside.number in
+    let there : record_at a.gates key ≡ Some c.in-Some.old.now = sym c.in-Some.ensures in
+    let fit : IsTrue (takes_inputs c.in-Some.old.now.kind (length c.args.inputs.items)) = rw (← c.self.view_is, ← c.gate.view_is, by_key a.gates key, there) at c.requires.fit in
+    rw c.in_ok-clone.ensures.cases fit
+
+pub invariant_of-result : goal.invariant_of-result
+invariant_of-result c =
+    let a = c.self.inside in
+    let d = netlist_of (store_of a) in
+    let key = c.gate.inside.number in
+    let x = c.in-Some.old.now in
+    let y : GateEntry = gate_with_wiring x c.args.output c.args.inputs.items in
+    let there : record_at a.gates key ≡ Some x = sym c.in-Some.ensures in
+    let new : c.with_wiring-new.result ≡ y = c.with_wiring-new.ensures ∙ ap (λ (g : GateEntry). gate_with_wiring g c.args.output c.args.inputs.items) c.in_ok-clone.ensures.cases in
+    let gate : IsGate y = rw new at c.lawful.ensures in
+    let wired : IsWired d y = record { output = rw (← c.self.view_is) at c.requires.output; inputs = rw (← c.self.view_is) at c.requires.inputs } in
+    let out_readers : AreChanged (is_among a.nets x.inputs) (λ (list : List ℕ). without_key list key) a.fanout c.in_ok-fanout.fanout = rw (c.inputs.ensures.inputs, ← c.gate.view_is) at c.in_ok-fanout.ensures in
+    let out_drivers : AreChanged (is_named a.nets x.output) (λ (list : List ℕ). without_key list key) a.drivers c.in_ok-drivers.drivers = rw (c.as_str.ensures, c.output-2.ensures, ← c.gate.view_is) at c.in_ok-drivers.ensures in
+    let in_readers : AreChanged (is_among a.nets c.args.inputs.items) (with_key_in (keys_of a.gates) key) c.in_ok-fanout.fanout c.in_ok-fanout-2.fanout = rw (c.deref.ensures.value, ← c.gate.view_is) at c.in_ok-fanout-2.ensures in
+    let in_drivers : AreChanged (is_named a.nets c.args.output) (with_key_in (keys_of a.gates) key) c.in_ok-drivers.drivers c.in_ok-drivers-2.drivers = rw (c.as_str-2.ensures, ← c.gate.view_is) at c.in_ok-drivers-2.ensures in
+    rw (c.in_ok-gates.ensures, new)
+    (kept_gate_rewired (store_of a) a.points a.fanout a.drivers c.in_ok-fanout.fanout c.in_ok-drivers.drivers c.in_ok-fanout-2.fanout c.in_ok-drivers-2.drivers key x y c.self.invariant there (λ i. x.name) gate wired out_readers out_drivers in_readers in_drivers)
+
+pub returns : goal.returns
+returns c =
+    let a = c.self.inside in
+    let key = c.gate.inside.number in
+    let x = c.in-Some.old.now in
+    let there : record_at a.gates key ≡ Some x = sym c.in-Some.ensures in
+    let new : c.with_wiring-new.result ≡ gate_with_wiring x c.args.output c.args.inputs.items = c.with_wiring-new.ensures ∙ ap (λ (g : GateEntry). gate_with_wiring g c.args.output c.args.inputs.items) c.in_ok-clone.ensures.cases in
+    rw (← c.self.view_is, ← c.gate.view_is, by_key a.gates key, there)
+    (ap (λ l. keyed (record (store_of a) { gates = l })) (c.in_ok-gates.ensures ∙ ap (λ g. with_record a.gates key g) new)
+    ∙ keyed_gate_put (store_of a) a.points a.fanout a.drivers key x (λ (g : GateEntry). gate_with_wiring g c.args.output c.args.inputs.items) c.self.invariant there)

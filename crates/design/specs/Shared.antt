@@ -1,0 +1,12 @@
+-- Stimulus points that copies share.
+use Rattle.std.specs.Prelude.{ℕ, List, [], Option, None, Some}
+use Rattle.std.specs.Global.{Global}
+use Rattle.std.specs.Arc.{arc_value}
+use Rattle.std.specs.declared.vec.Vec.{Vec}
+use Rattle.std.specs.declared.sync.Arc.{Arc}
+use Rattle.fourstate.specs.declared.value.Value.{Value}
+
+-- the points, none where none are kept
+abbrev pub points_in : Option (Arc (Vec (ℕ × Value) Global) Global) → List (ℕ × Value)
+points_in None = []
+points_in (Some points) = (arc_value points).items

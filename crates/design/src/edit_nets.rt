@@ -1,0 +1,123 @@
+//! Edits of the nets of a design.
+
+ghost use Rattle.std.specs.Prelude.{◌≡◌, ◌≤◌, ◌<◌, [], true, false, IsSome, IsSomeAnd, IfSome, IfOk, length};
+ghost use Rattle.fourstate.specs.declared.limits.TheConstants.{MAX_TIME};
+ghost use Rattle.catalog.specs.Catalog.{record_at, with_record};
+ghost use Rattle.design.specs.declared.limits.TheConstants.{MAX_NETS, MAX_POINTS};
+ghost use Rattle.design.specs.Keys.{EditsNet, net_by_key, with_keyed_net, without_keyed_net};
+ghost use Rattle.design.specs.Netlist.{has_net, has_point, is_used, new_net, point_total, with_net_kind, with_point, without_point};
+
+use crate::design::Design;
+use crate::key::NetKey;
+use crate::name::Name;
+use crate::net::Net;
+use catalog::Catalog;
+use fourstate::{NetKind, Value};
+use std::alloc::AllocError;
+
+impl Design {
+    /// Adds a net that is no input, and gives its key.
+    pub fn add_net(self, name: Name, kind: NetKind) -> Result<(Design, NetKey), AllocError>
+        requires absent { has_net self.netlist name ≡ false }
+        requires room { length self.netlist.nets < MAX_NETS }
+        ensures { IfOk result (λ made. made.0 ≡ with_keyed_net self (new_net name kind false) made.1) }
+    {
+        self.push_net(Net::new(name, kind, false))
+    }
+
+    /// Adds an input, a net of the kind `wire` with no stimulus points, and gives its key.
+    pub fn add_input(self, name: Name) -> Result<(Design, NetKey), AllocError>
+        requires absent { has_net self.netlist name ≡ false }
+        requires room { length self.netlist.nets < MAX_NETS }
+        ensures { IfOk result (λ made. made.0 ≡ with_keyed_net self (new_net name NetKind.Wire true) made.1) }
+    {
+        self.push_net(Net::new(name, NetKind::Wire, true))
+    }
+
+    fn push_net(self, net: Net) -> Result<(Design, NetKey), AllocError>
+        requires bare { net.points ≡ [] }
+        requires absent { has_net self.netlist net.name ≡ false }
+        requires room { length self.netlist.nets < MAX_NETS }
+        ensures { IfOk result (λ made. made.0 ≡ with_keyed_net self net made.1) }
+    {
+        net.lawful();
+        let (nets, number) = self.nets.push(net)?;
+        nets.lawful();
+        Ok((Design { nets, ..self }, NetKey { number }))
+    }
+
+    /// Takes a net that no gate reads or drives away, and its points with it. The others keep their keys.
+    pub fn remove_net(self, net: NetKey) -> Result<Design, AllocError>
+        requires unused { IsSomeAnd (net_by_key self net) (λ n. is_used self.netlist n.name ≡ false) }
+        ensures { IfOk result (λ made. IfSome (net_by_key self net) (λ n. made ≡ without_keyed_net self n net)) }
+    {
+        let points = self.points - self.net_of(net).points().len();
+        let nets = self.nets.remove(net.number)?;
+        Ok(Design {
+            nets,
+            points,
+            ..self
+        })
+    }
+
+    /// Gives a net another kind.
+    pub fn set_net_kind(self, net: NetKey, kind: NetKind) -> Result<Design, AllocError>
+        requires { IsSome (net_by_key self net) }
+        ensures { IfOk result (EditsNet self net (λ n. with_net_kind self.netlist n.name kind)) }
+    {
+        let new = self.net_of(net).clone()?.with_kind(kind);
+        let nets = self.nets.replace(net.number, new)?;
+        Ok(Design { nets, ..self })
+    }
+
+    /// Sets the stimulus of an input from the moment `t` on, until its next point.
+    pub fn set_point(self, net: NetKey, t: u64, value: Value) -> Result<Design, AllocError>
+        requires input { IsSomeAnd (net_by_key self net) (λ n. n.is_input ≡ true) }
+        requires moment { t ≤ MAX_TIME }
+        requires room { IsSomeAnd (net_by_key self net) (λ n. has_point n.points t ≡ false → point_total self.netlist.nets < MAX_POINTS) }
+        ensures { IfOk result (EditsNet self net (λ n. with_point self.netlist n.name t value)) }
+    {
+        let points = self.points + usize::from(!self.has_point(net, t));
+        let alloc = self.fanout.allocator();
+        let (nets, old) = take(self.nets, net.number)?;
+        let new = old.with_point(alloc, t, value)?;
+        let nets = nets.replace(net.number, new)?;
+        Ok(Design {
+            nets,
+            points,
+            ..self
+        })
+    }
+
+    /// Takes the stimulus point of a net at the moment `t` away.
+    pub fn remove_point(self, net: NetKey, t: u64) -> Result<Design, AllocError>
+        requires { IsSomeAnd (net_by_key self net) (λ n. has_point n.points t ≡ true) }
+        ensures { IfOk result (EditsNet self net (λ n. without_point self.netlist n.name t)) }
+    {
+        let points = self.points - 1;
+        let alloc = self.fanout.allocator();
+        let (nets, old) = take(self.nets, net.number)?;
+        let new = old.without_point(alloc, t)?;
+        let nets = nets.replace(net.number, new)?;
+        Ok(Design {
+            nets,
+            points,
+            ..self
+        })
+    }
+}
+
+/// The net of a key, and the nets with one without points in its place: so its points are changed where they are, unless
+/// a copy shares them.
+fn take(nets: Catalog<Net>, key: usize) -> Result<(Catalog<Net>, Net), AllocError>
+    requires { IsSome (record_at nets key) }
+    ensures { IfOk result (λ taken. (record_at nets key ≡ Some taken.1) × (taken.0 ≡ with_record nets key (new_net taken.1.name taken.1.kind taken.1.is_input))) }
+{
+    let net = match nets.get(key) {
+        Some(net) => net.clone()?,
+        None => unreachable!(),
+    };
+    let bare = net.bare()?;
+    let nets = nets.replace(key, bare)?;
+    Ok((nets, net))
+}

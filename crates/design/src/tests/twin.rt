@@ -1,0 +1,212 @@
+//! Lists of edits by chance, and the same edits of plain vectors.
+
+ghost use Rattle.std.specs.Prelude.{◌<◌};
+
+use super::edits::{remove_gate, remove_net, rewire};
+use super::{add_gate, add_net, empty, gate, nets_read};
+use crate::{Design, GateKey};
+use fourstate::GateKind;
+use std::alloc::Global;
+use std::process::Abort;
+use std::test::Fail;
+
+const NETS: [&str; 5] = ["a", "b", "c", "d", "e"];
+
+const GATES: [&str; 5] = ["g", "h", "i", "j", "k"];
+
+/// Numbers in a fixed order that looks like none.
+#[derive(Drop)]
+struct Dice(u64);
+
+impl Dice {
+    fn below(&mut self, n: u64) -> u64
+        requires { 0 < n }
+        ensures { result < n }
+    {
+        self.0 = self
+            .0
+            .wrapping_mul(6_364_136_223_846_793_005)
+            .wrapping_add(1_442_695_040_888_963_407);
+        (self.0 >> 33) % n
+    }
+}
+
+/// A gate by name: its output and its two inputs.
+#[derive(Clone, Copy, Debug, PartialEq, Eq)]
+struct PlainGate {
+    name: &'static str,
+    output: &'static str,
+    inputs: [&'static str; 2],
+}
+
+impl PlainGate {
+    fn uses(&self, net: &str) -> bool {
+        self.output == net || self.reads(net)
+    }
+
+    fn reads(&self, net: &str) -> bool {
+        self.inputs[0] == net || self.inputs[1] == net
+    }
+}
+
+/// A design as vectors: the names of its nets, and its gates.
+#[derive(Drop)]
+struct Plain {
+    nets: Vec<&'static str>,
+    gates: Vec<PlainGate>,
+}
+
+impl Plain {
+    fn has_net(&self, name: &str) -> bool {
+        self.nets.iter().any(|net| *net == name)
+    }
+
+    fn has_gate(&self, name: &str) -> bool {
+        self.gates.iter().any(|gate| gate.name == name)
+    }
+
+    fn uses(&self, net: &str) -> bool {
+        self.gates.iter().any(|gate| gate.uses(net))
+    }
+
+    fn fits(&self, gate: &PlainGate) -> bool {
+        self.has_net(gate.output) && self.has_net(gate.inputs[0]) && self.has_net(gate.inputs[1])
+    }
+}
+
+fn edit_net(
+    rt: &impl Abort,
+    alloc: Global,
+    design: Design,
+    plain: &mut Plain,
+    name: &'static str,
+) -> Result<Design, Fail> {
+    if !plain.has_net(name) {
+        plain.nets.push(name)?;
+        let (design, _) = add_net(rt, alloc, design, name)?;
+        return Ok(design);
+    }
+    let net = design.net(name).expect(rt, "a net of this name");
+    assert!(rt; design.has_net_key(net));
+    assert_eq!(rt; design.is_used(net), plain.uses(name));
+    if plain.uses(name) {
+        return Ok(design);
+    }
+    plain.nets.retain(|kept| *kept != name);
+    remove_net(rt, design, net)
+}
+
+fn edit_gate(
+    rt: &impl Abort,
+    alloc: Global,
+    design: Design,
+    plain: &mut Plain,
+    wanted: PlainGate,
+    removes: bool,
+) -> Result<Design, Fail> {
+    let there = plain.has_gate(wanted.name);
+    if there && removes {
+        plain.gates.retain(|kept| kept.name != wanted.name);
+        let key = design.gate(wanted.name).expect(rt, "a gate of this name");
+        return remove_gate(rt, design, key);
+    }
+    if !plain.fits(&wanted) {
+        return Ok(design);
+    }
+    let inputs = nets_read(rt, alloc, &wanted.inputs)?;
+    if !there {
+        plain.gates.push(wanted)?;
+        let gate = gate(rt, alloc, wanted.name, GateKind::Xor, wanted.output, inputs)?;
+        let (design, _) = add_gate(rt, design, gate)?;
+        return Ok(design);
+    }
+    for kept in &mut plain.gates {
+        if kept.name == wanted.name {
+            *kept = wanted;
+        }
+    }
+    let key = design.gate(wanted.name).expect(rt, "a gate of this name");
+    rewire(rt, design, key, wanted.output, inputs, alloc)
+}
+
+/// The keys of the gates that read a net, or that drive it, in order.
+fn keys(
+    rt: &impl Abort,
+    alloc: Global,
+    design: &Design,
+    plain: &Plain,
+    net: &str,
+    drive: bool,
+) -> Result<Vec<GateKey>, Fail> {
+    let mut keys = Vec::new(alloc);
+    for gate in &plain.gates {
+        let listed = if drive {
+            gate.output == net
+        } else {
+            gate.reads(net)
+        };
+        if listed {
+            keys.push(design.gate(gate.name).expect(rt, "a gate of this name"))?;
+        }
+    }
+    Ok(keys)
+}
+
+fn compare(rt: &impl Abort, alloc: Global, design: &Design, plain: &Plain) -> Result<(), Fail> {
+    assert_eq!(rt; design.net_count(), plain.nets.len());
+    assert_eq!(rt; design.gate_count(), plain.gates.len());
+    for (place, name) in plain.nets.iter().enumerate() {
+        assert_eq!(rt; design.net_place(name), Some(place));
+        let net = design.net(name).expect(rt, "a net of this name");
+        assert!(rt; design.has_net_key(net));
+        let readers = keys(rt, alloc, design, plain, name, false)?;
+        assert_eq!(rt; design.fanout(net), readers.as_slice());
+        let drivers = keys(rt, alloc, design, plain, name, true)?;
+        assert_eq!(rt; design.drivers(net), drivers.as_slice());
+    }
+    for (place, gate) in plain.gates.iter().enumerate() {
+        assert_eq!(rt; design.gate_place(gate.name), Some(place));
+        assert!(rt; place < design.gate_count());
+        assert_eq!(rt; design.gate_at(place).output().as_str(), gate.output);
+    }
+    Ok(())
+}
+
+fn turn(
+    rt: &impl Abort,
+    alloc: Global,
+    dice: &mut Dice,
+    design: Design,
+    plain: &mut Plain,
+) -> Result<Design, Fail> {
+    let net = NETS[dice.below(5) as usize];
+    let wanted = PlainGate {
+        name: GATES[dice.below(5) as usize],
+        output: NETS[dice.below(5) as usize],
+        inputs: [NETS[dice.below(5) as usize], NETS[dice.below(5) as usize]],
+    };
+    match dice.below(4) {
+        0 => edit_net(rt, alloc, design, plain, net),
+        1 => edit_gate(rt, alloc, design, plain, wanted, true),
+        _ => edit_gate(rt, alloc, design, plain, wanted, false),
+    }
+}
+
+#[test]
+fn edits_by_chance(rt: HostRuntime) -> Result<(), Fail> {
+    let alloc = rt.alloc();
+    let mut dice = Dice(7);
+    let mut design = empty(&rt, alloc)?;
+    let mut plain = Plain {
+        nets: Vec::new(alloc),
+        gates: Vec::new(alloc),
+    };
+    for _ in 0..400 {
+        let before = design.try_clone()?;
+        design = turn(&rt, alloc, &mut dice, design, &mut plain)?;
+        compare(&rt, alloc, &design, &plain)?;
+        drop(before);
+    }
+    assert!(rt; plain.gates.len() > 1);
+    Ok(())
+}

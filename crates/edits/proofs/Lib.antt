@@ -1,0 +1,5 @@
+pub mod AcceptedLemmas
+pub mod BatchLemmas
+pub mod CheckLemmas
+pub mod FoundLemmas
+pub mod NameLemmas

@@ -1,0 +1,5 @@
+pub mod Accepted
+pub mod Batches
+pub mod Checks
+pub mod EditFaults
+pub mod Edits

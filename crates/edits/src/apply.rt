@@ -1,0 +1,58 @@
+//! Lists of edits, carried out as one.
+
+ghost use Rattle.std.specs.Prelude.{◌≡◌, ◌⊎◌, None, Some, IfErr, IfOk, MatchResult};
+ghost use Rattle.edits.specs.Batches.{batch, refusal};
+ghost use Rattle.edits.specs.Edits.{edited};
+
+use crate::changes::carry_out;
+use crate::checks::check;
+use crate::edit::Edit;
+use crate::fault::EditFault;
+use crate::limits::MAX_EDITS;
+use design::Design;
+use std::alloc::Global;
+
+/// The design after the edits, one after another; or the place, from 0, and the fault of the first that is refused.
+/// The edit behind as many as a list may have is refused as one too many. Where a growth was refused the fault is
+/// `OutOfMemory`, and the place says nothing. The design that is given stays as it is.
+pub fn apply_all(
+    alloc: Global,
+    design: &Design,
+    edits: &[Edit],
+) -> Result<Design, (usize, EditFault)>
+    ensures ok { IfOk result (λ new. batch design.now.netlist edits.now ≡ Ok new.netlist) }
+    ensures err { IfErr result (λ refused. (batch design.now.netlist edits.now ≡ Err refused) ⊎ (refused.1 ≡ EditFault.OutOfMemory)) }
+{
+    let mut new = match design.try_clone() {
+        Ok(design) => design,
+        Err(_) => return Err((0, EditFault::OutOfMemory)),
+    };
+    for (place, edit) in edits.iter().enumerate() {
+        match apply(alloc, new, place, edit) {
+            Ok(design) => new = design,
+            Err(fault) => return Err((place, fault)),
+        }
+    }
+    match new.close_up() {
+        Ok(design) => Ok(design),
+        Err(_) => Err((edits.len(), EditFault::OutOfMemory)),
+    }
+}
+
+/// The design with the edit that stands at a place of a list.
+fn apply(alloc: Global, design: Design, place: usize, edit: &Edit) -> Result<Design, EditFault>
+    ensures { MatchResult result
+        (λ new. (refusal place design.netlist edit.now ≡ None) × (new.netlist ≡ edited design.netlist edit.now))
+        (λ fault. (refusal place design.netlist edit.now ≡ Some fault) ⊎ (fault ≡ EditFault.OutOfMemory)) }
+{
+    if place >= MAX_EDITS {
+        return Err(EditFault::TooMany);
+    }
+    if let Some(fault) = check(&design, edit) {
+        return Err(fault);
+    }
+    match carry_out(alloc, design, edit) {
+        Ok(design) => Ok(design),
+        Err(_) => Err(EditFault::OutOfMemory),
+    }
+}

@@ -1,0 +1,101 @@
+//! Changes of gates that were checked before.
+
+ghost use Rattle.std.specs.Prelude.{◌≡◌, true, IfOk, map};
+ghost use Rattle.design.specs.Netlist.{has_gate, with_delays, with_gate, with_gate_kind, with_wiring, without_gate};
+ghost use Rattle.edits.specs.Accepted.{RetimesGate, RetypesGate, RewiresGate, TakesDelays, TakesGate};
+ghost use Rattle.edits.specs.Edits.{terminal_of};
+
+use crate::changes::names::{name_of_net, terminals};
+use crate::pin::Pin;
+use design::{Design, Gate, Name};
+use fourstate::{Delays, GateKind};
+use std::alloc::{AllocError, Global};
+
+pub fn add_gate(
+    alloc: Global,
+    design: Design,
+    name: &str,
+    kind: GateKind,
+    rise: u64,
+    fall: u64,
+    output: &str,
+    inputs: &[Pin],
+) -> Result<Design, AllocError>
+    requires { TakesGate design.netlist name.now kind rise fall output.now inputs.now }
+    ensures { IfOk result (λ new. new.netlist ≡ with_gate design.netlist (record {
+      name = name.now;
+      kind = kind;
+      delays = record { rise = rise; fall = fall };
+      output = output.now;
+      inputs = map terminal_of inputs.now;
+    })) }
+{
+    let delays = delays_of(rise, fall);
+    let name = Name::new(alloc, name)?;
+    let output = name_of_net(alloc, &design, output)?;
+    let inputs = terminals(alloc, &design, inputs)?;
+    let (design, _key) = design.add_gate(Gate::new(name, kind, delays, output, inputs))?;
+    Ok(design)
+}
+
+#[tactic(auto, using(crate::proofs::FoundLemmas::gate_found))]
+pub fn remove_gate(design: Design, name: &str) -> Result<Design, AllocError>
+    requires { has_gate design.netlist name.now ≡ true }
+    ensures { IfOk result (λ new. new.netlist ≡ without_gate design.netlist name.now) }
+{
+    match design.gate(name) {
+        Some(key) => design.remove_gate(key),
+        None => unreachable!(),
+    }
+}
+
+#[tactic(auto, using(crate::proofs::FoundLemmas::gate_found))]
+pub fn retime(design: Design, name: &str, rise: u64, fall: u64) -> Result<Design, AllocError>
+    requires { RetimesGate design.netlist name.now rise fall }
+    ensures { IfOk result (λ new. new.netlist ≡ with_delays design.netlist name.now (record { rise = rise; fall = fall })) }
+{
+    let delays = delays_of(rise, fall);
+    match design.gate(name) {
+        Some(key) => design.set_delays(key, delays),
+        None => unreachable!(),
+    }
+}
+
+#[tactic(auto, using(crate::proofs::FoundLemmas::gate_found, crate::proofs::FoundLemmas::kind_found))]
+pub fn retype(design: Design, name: &str, kind: GateKind) -> Result<Design, AllocError>
+    requires { RetypesGate design.netlist name.now kind }
+    ensures { IfOk result (λ new. new.netlist ≡ with_gate_kind design.netlist name.now kind) }
+{
+    match design.gate(name) {
+        Some(key) => design.set_gate_kind(key, kind),
+        None => unreachable!(),
+    }
+}
+
+pub fn rewire(
+    alloc: Global,
+    design: Design,
+    name: &str,
+    output: &str,
+    inputs: &[Pin],
+) -> Result<Design, AllocError>
+    requires { RewiresGate design.netlist name.now output.now inputs.now }
+    ensures { IfOk result (λ new. new.netlist ≡ with_wiring design.netlist name.now output.now (map terminal_of inputs.now)) }
+{
+    let output = name_of_net(alloc, &design, output)?;
+    let inputs = terminals(alloc, &design, inputs)?;
+    match design.gate(name) {
+        Some(key) => design.rewire(key, output, inputs),
+        None => unreachable!(),
+    }
+}
+
+fn delays_of(rise: u64, fall: u64) -> Delays
+    requires { TakesDelays rise fall }
+    ensures { result ≡ record { rise = rise; fall = fall } }
+{
+    match Delays::new(rise, fall) {
+        Some(delays) => delays,
+        None => unreachable!(),
+    }
+}

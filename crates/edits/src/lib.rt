@@ -1,0 +1,21 @@
+//! Edits of a design by name, as values, with their checks.
+#![tactic(auto)]
+
+mod apply;
+mod changes;
+mod checks;
+mod edit;
+mod fault;
+pub mod laws;
+mod limits;
+mod pin;
+#[cfg(test)]
+mod tests;
+mod word;
+
+pub use apply::apply_all;
+pub use edit::Edit;
+pub use fault::EditFault;
+pub use limits::MAX_EDITS;
+pub use pin::{Pin, Pins};
+pub use word::Word;

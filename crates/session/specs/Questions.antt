@@ -1,0 +1,44 @@
+-- What is asked about the wave of a net, and the lines that answer it (own).
+use Rattle.std.specs.Prelude.{Bool, false, ℕ, suc, nat_lt, if◌then◌else◌, List, Option, None, Some, Result, Ok, Err}
+use Rattle.fourstate.specs.declared.value.Value.{Value}
+use Rattle.fourstate.specs.Values.{same_value}
+use Rattle.gatestep.specs.Step.{advance}
+use Rattle.design.specs.Netlist.{NetEntry, Netlist, net_named}
+use Rattle.waveform.specs.Changes.{wave_at, wave_changes_below}
+use Rattle.waveform.specs.Timelines.{first_after, last_before, next_to}
+use Rattle.scratch.specs.Run.{value}
+use Rattle.session.specs.declared.commands.question.Look.{Look}
+use Rattle.session.specs.declared.commands.question.Look.TheVariants as look
+use Rattle.session.specs.declared.commands.question.Question.{Question}
+use Rattle.edits.specs.declared.fault.EditFault.{EditFault}
+use Rattle.edits.specs.declared.fault.EditFault.TheVariants.{UnknownNet, TimeTooLarge}
+use Rattle.session.specs.Replies.{change_or_none, value_line, wave_lines}
+
+-- the changes of a net's wave, up to the horizon
+abbrev pub wave_of : Netlist → NetEntry → List (ℕ × Value)
+wave_of d n = wave_changes_below (value advance d n) (suc d.horizon)
+
+-- what is asked is about a moment after the horizon
+abbrev pub is_past : ℕ → Look → Bool
+is_past horizon look.Wave = false
+is_past horizon (look.Value t) = nat_lt horizon t
+is_past horizon (look.Next t) = nat_lt horizon t
+is_past horizon (look.Prev t) = nat_lt horizon t
+is_past horizon (look.Seek t v) = nat_lt horizon t
+
+-- the changes of the wave that is asked about, or why the question is refused: there must be a net of the name, and the
+-- moment must not lie after the horizon
+abbrev pub changes_within : Netlist → Look → Option NetEntry → Result (List (ℕ × Value)) EditFault
+changes_within d asked None = Err UnknownNet
+changes_within d asked (Some n) = if is_past d.horizon asked then Err TimeTooLarge else Ok (wave_of d n)
+
+abbrev pub changes_asked : Netlist → Question → Result (List (ℕ × Value)) EditFault
+changes_asked d question = changes_within d question.look (net_named d question.net)
+
+-- the lines that answer what is asked about these changes
+abbrev pub told : List (ℕ × Value) → Look → List ℕ
+told changes (look.Value t) = value_line (wave_at changes t)
+told changes look.Wave = wave_lines changes
+told changes (look.Next t) = change_or_none (first_after changes t)
+told changes (look.Prev t) = change_or_none (last_before changes t)
+told changes (look.Seek t v) = change_or_none (next_to same_value changes t v)

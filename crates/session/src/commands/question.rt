@@ -1,0 +1,45 @@
+//! Questions about the wave of a net.
+
+ghost use Rattle.std.specs.Prelude.{◌≡◌};
+ghost use Rattle.session.specs.Questions.{is_past};
+
+use crate::words::WordRef;
+use fourstate::Value;
+
+/// What is asked about a wave. Moments are in time units.
+#[derive(Clone, Copy, Debug, PartialEq, Eq)]
+pub enum Look {
+    /// The value at a moment.
+    Value(u64),
+    /// All changes.
+    Wave,
+    /// The first change after a moment.
+    Next(u64),
+    /// The last change before a moment.
+    Prev(u64),
+    /// The first change after a moment to this value.
+    Seek(u64, Value),
+}
+
+impl Look {
+    /// Whether it is about a moment after `horizon`.
+    pub fn is_past(self, horizon: u64) -> bool
+        ensures { result ≡ is_past horizon self }
+    {
+        match self {
+            Look::Wave => false,
+            Look::Value(time) | Look::Next(time) | Look::Prev(time) | Look::Seek(time, _) => {
+                time > horizon
+            }
+        }
+    }
+}
+
+/// A question about the wave of the net of this name. It borrows the name from its line.
+#[derive(Drop)]
+pub struct Question<'a> {
+    /// The name of the net.
+    pub net: WordRef<'a>,
+    /// What is asked.
+    pub look: Look,
+}

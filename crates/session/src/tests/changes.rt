@@ -1,0 +1,78 @@
+//! Edits, one by one, and what they make of waves.
+
+use super::{EMPTY, answered};
+use std::test::Fail;
+
+const CHANGES: &[u8] =
+    b"input a\nnet y wire\ngate g buf 5 5 y a\nstim a 0 0\nstim a 10 1\nwave y\nunstim a 10\nstim a 12 1\nwave y\n\
+drop g\nwave y\ngate h not 2 2 y a\nwave y\ntype h buf\nwave y\ndelay h 4 1\nwave y\nnet b wire\nwire h b a\nwave y\nwave b\n\
+dropnet y\nwave y\ndropnet b\nkind b wand\nwave b\nhorizon 10\nwave b\nvalue b 11\nhorizon 20\nwave b\n";
+
+const CHANGE_REPLIES: &[u8] =
+    b"ok 1\nok 2\nok 3\nok 4\nok 5\n0 x\n5 0\n15 1\nok 5\nok 6\nok 7\n0 x\n5 0\n17 1\nok 7\n\
+ok 8\n0 z\nok 8\nok 9\n0 x\n2 1\n14 0\nok 9\nok 10\n0 x\n2 0\n14 1\nok 10\nok 11\n0 x\n1 0\n16 1\nok 11\nok 12\nok 13\n0 z\nok 13\n\
+0 x\n1 0\n16 1\nok 13\nok 14\nno 1 UnknownNet\nno 10 NetInUse\nok 15\n0 x\n1 0\n16 1\nok 15\nok 16\n0 x\n1 0\nok 16\n\
+no 11 TimeTooLarge\nok 17\n0 x\n1 0\n16 1\nok 17\n";
+
+#[test]
+fn each_edit_changes_the_waves(rt: HostRuntime) {
+    let (result, replies) = answered(&rt, rt.alloc(), EMPTY, 20, CHANGES);
+    assert_eq!(rt; result, Ok(()));
+    assert_eq!(rt; replies.as_slice(), CHANGE_REPLIES);
+}
+
+// A design to be refused edits of: the input a, the net b, and h, which drives b by a.
+const BASE: &[u8] = b"input a\nnet b wire\ngate h buf 1 1 b a\nstim a 0 1\n";
+
+const REFUSALS: [(&[u8], &[u8]); 34] = [
+    (b"dropnet q", b"1 UnknownNet"),
+    (b"dropnet a", b"10 NetInUse"),
+    (b"dropnet a b", b"16 BadCommand"),
+    (b"drop q", b"2 UnknownGate"),
+    (b"drop", b"16 BadCommand"),
+    (b"kind q wor", b"1 UnknownNet"),
+    (b"kind b and", b"16 BadCommand"),
+    (b"kind b", b"16 BadCommand"),
+    (b"type q and", b"2 UnknownGate"),
+    (b"type h wire", b"16 BadCommand"),
+    (b"type h bufif1", b"7 WrongArity"),
+    (b"wire q b a", b"2 UnknownGate"),
+    (b"wire h b a a", b"7 WrongArity"),
+    (b"wire h b", b"7 WrongArity"),
+    (b"wire h", b"16 BadCommand"),
+    (b"wire h q a", b"1 UnknownNet"),
+    (b"wire h b q", b"1 UnknownNet"),
+    (b"wire h a q", b"1 UnknownNet"),
+    (b"wire h a b", b"8 DrivenInput"),
+    (b"wire h b 1'b2", b"16 BadCommand"),
+    (b"delay q 1 1", b"2 UnknownGate"),
+    (b"delay h 1000001 0", b"5 ZeroDelay"),
+    (b"delay h 1 1000001", b"6 DelayTooLarge"),
+    (b"delay h 1", b"16 BadCommand"),
+    (b"delay h 1 x", b"16 BadCommand"),
+    (b"unstim q 0", b"1 UnknownNet"),
+    (b"unstim b 0", b"9 NotInput"),
+    (b"unstim a 3", b"12 NoSuchPoint"),
+    (b"unstim a 1000000001", b"12 NoSuchPoint"),
+    (b"unstim a", b"16 BadCommand"),
+    (b"horizon 1000000001", b"11 TimeTooLarge"),
+    (b"horizon", b"16 BadCommand"),
+    (b"horizon 1 2", b"16 BadCommand"),
+    (b"begin", b"16 BadCommand"),
+];
+
+#[test]
+fn refused_edits_change_nothing(rt: HostRuntime) -> Result<(), Fail> {
+    for (line, cause) in REFUSALS {
+        let mut input = Vec::from_slice(rt.alloc(), BASE)?;
+        input.extend_from_slice(line)?;
+        input.extend_from_slice(b"\nwave b\n")?;
+        let mut want = Vec::from_slice(rt.alloc(), b"ok 1\nok 2\nok 3\nok 4\nno ")?;
+        want.extend_from_slice(cause)?;
+        want.extend_from_slice(b"\n0 x\n1 1\nok 4\n")?;
+        let (result, replies) = answered(&rt, rt.alloc(), EMPTY, 5, input.as_slice());
+        assert_eq!(rt; result, Ok(()));
+        assert_eq!(rt; replies.as_slice(), want.as_slice());
+    }
+    Ok(())
+}

@@ -1,0 +1,122 @@
+use super::{EMPTY, answered, answered_in_pieces};
+use std::test::Fail;
+
+// A pulse of 3 units through a buffer of 3 and 3: the wave of y is x from 0, 0 from 3, 1 from 13, 0 from 16. The net n has no
+// driver and the input b no point, so their waves have the value at 0 alone, z and x.
+const PULSE: &[u8] =
+    b"input a\nnet y wire\ngate g buf 3 3 y a\nstim a 0 0\nstim a 10 1\nstim a 13 0\nnet n wire\ninput b\n\
+next y 3\nprev y 3\nseek y 0 0\nnext y 16\nvalue y 12\nvalue y 101\n";
+
+const PULSE_REPLIES: &[u8] = b"ok 1\nok 2\nok 3\nok 4\nok 5\nok 6\nok 7\nok 8\n\
+13 1\nok 8\n0 x\nok 8\n3 0\nok 8\nnone\nok 8\n0\nok 8\nno 11 TimeTooLarge\n";
+
+#[test]
+fn the_pulse(rt: HostRuntime) {
+    let (result, replies) = answered(&rt, rt.alloc(), EMPTY, 100, PULSE);
+    assert_eq!(rt; result, Ok(()));
+    assert_eq!(rt; replies.as_slice(), PULSE_REPLIES);
+}
+
+#[test]
+fn pieces_make_no_difference_to_questions(rt: HostRuntime) {
+    for most in [1, 2, 4096] {
+        let (result, replies) = answered_in_pieces(&rt, rt.alloc(), 100, PULSE, most);
+        assert_eq!(rt; result, Ok(()), "in {most}");
+        assert_eq!(rt; replies.as_slice(), PULSE_REPLIES, "in {most}");
+    }
+}
+
+// What is answered behind the replies of the pulse, up to the horizon 100.
+const ROWS: &[(&[u8], &[u8])] = &[
+    // at each change, and beside it
+    (b"value y 0", b"x\nok 8\n"),
+    (b"value y 2", b"x\nok 8\n"),
+    (b"value y 3", b"0\nok 8\n"),
+    (b"value y 13", b"1\nok 8\n"),
+    (b"value y 15", b"1\nok 8\n"),
+    (b"value y 16", b"0\nok 8\n"),
+    (b"next y 0", b"3 0\nok 8\n"),
+    (b"next y 2", b"3 0\nok 8\n"),
+    (b"next y 13", b"16 0\nok 8\n"),
+    (b"next y 15", b"16 0\nok 8\n"),
+    (b"prev y 0", b"none\nok 8\n"),
+    (b"prev y 1", b"0 x\nok 8\n"),
+    (b"prev y 4", b"3 0\nok 8\n"),
+    (b"prev y 16", b"13 1\nok 8\n"),
+    (b"prev y 17", b"16 0\nok 8\n"),
+    // a search begins behind its moment, also where that is a change to the value
+    (b"seek y 3 0", b"16 0\nok 8\n"),
+    (b"seek y 2 0", b"3 0\nok 8\n"),
+    (b"seek y 16 0", b"none\nok 8\n"),
+    (b"seek y 3 1", b"13 1\nok 8\n"),
+    (b"seek y 13 1", b"none\nok 8\n"),
+    (b"seek y 0 x", b"none\nok 8\n"),
+    (b"seek y 0 z", b"none\nok 8\n"),
+    // the horizon is within, and a moment after it is not
+    (b"value y 100", b"0\nok 8\n"),
+    (b"next y 100", b"none\nok 8\n"),
+    (b"prev y 100", b"16 0\nok 8\n"),
+    (b"seek y 100 0", b"none\nok 8\n"),
+    (b"next y 101", b"no 11 TimeTooLarge\n"),
+    (b"prev y 101", b"no 11 TimeTooLarge\n"),
+    (b"seek y 101 0", b"no 11 TimeTooLarge\n"),
+    (b"prev y 18446744073709551616", b"no 11 TimeTooLarge\n"),
+    // the name comes before the moment
+    (b"value q 101", b"no 1 UnknownNet\n"),
+    (b"next q 101", b"no 1 UnknownNet\n"),
+    (b"prev a'b 0", b"no 1 UnknownNet\n"),
+    (b"seek 1'b0 101 0", b"no 1 UnknownNet\n"),
+    // waves without a change after 0
+    (b"value n 50", b"z\nok 8\n"),
+    (b"next n 0", b"none\nok 8\n"),
+    (b"prev n 0", b"none\nok 8\n"),
+    (b"prev n 50", b"0 z\nok 8\n"),
+    (b"seek n 0 z", b"none\nok 8\n"),
+    (b"value b 100", b"x\nok 8\n"),
+    (b"prev b 100", b"0 x\nok 8\n"),
+    // an input's wave
+    (b"next a 0", b"10 1\nok 8\n"),
+    (b"seek a 0 0", b"13 0\nok 8\n"),
+    // words
+    (b"value y 007", b"0\nok 8\n"),
+    (b" value\ty  12 \r", b"0\nok 8\n"),
+    (b"value y", b"no 16 BadCommand\n"),
+    (b"value y 1 2", b"no 16 BadCommand\n"),
+    (b"value y +1", b"no 16 BadCommand\n"),
+    (b"value q x", b"no 16 BadCommand\n"),
+    (b"next", b"no 16 BadCommand\n"),
+    (b"next y 1_0", b"no 16 BadCommand\n"),
+    (b"prev y 0x1", b"no 16 BadCommand\n"),
+    (b"prev y 3 0", b"no 16 BadCommand\n"),
+    (b"seek y 0", b"no 16 BadCommand\n"),
+    (b"seek y 0 X", b"no 16 BadCommand\n"),
+    (b"seek y 0 01", b"no 16 BadCommand\n"),
+    (b"seek y x 0", b"no 16 BadCommand\n"),
+    (b"seek y 101 2", b"no 16 BadCommand\n"),
+    (b"Next y 0", b"no 16 BadCommand\n"),
+    (b"wave y 0", b"no 16 BadCommand\n"),
+];
+
+#[test]
+fn each_question(rt: HostRuntime) -> Result<(), Fail> {
+    for (line, want) in ROWS.iter().copied() {
+        let mut input = Vec::from_slice(rt.alloc(), PULSE)?;
+        input.extend_from_slice(line)?;
+        let (result, replies) = answered(&rt, rt.alloc(), EMPTY, 100, input.as_slice());
+        assert_eq!(rt; result, Ok(()));
+        let last = replies.as_slice().strip_prefix(PULSE_REPLIES);
+        assert_eq!(rt; last, Some(want), "{line:?}");
+    }
+    Ok(())
+}
+
+#[test]
+fn questions_ask_the_present_design(rt: HostRuntime) {
+    let input =
+        b"input a\nstim a 5 1\nvalue a 7\nseek a 0 1\nstim a 5 0\nvalue a 7\nseek a 0 1\nvalue a 9\nstim a 11 1\nnext a 5\n";
+    let want =
+        b"ok 1\nok 2\n1\nok 2\n5 1\nok 2\nok 3\n0\nok 3\nnone\nok 3\n0\nok 3\nok 4\nnone\nok 4\n";
+    let (result, replies) = answered(&rt, rt.alloc(), EMPTY, 10, input);
+    assert_eq!(rt; result, Ok(()));
+    assert_eq!(rt; replies.as_slice(), want.as_slice());
+}

@@ -1,0 +1,12 @@
+pub mod NameLemmas
+pub mod GateLemmas
+pub mod WalkLemmas
+pub mod FindLemmas
+pub mod ReadLemmas
+pub mod WalkLaws
+pub mod TreeLemmas
+pub mod ReadLaws
+pub mod SpelledLemmas
+pub mod WalkEnds
+pub mod CountLemmas
+pub mod NumberLemmas

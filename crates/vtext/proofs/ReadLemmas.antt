@@ -1,0 +1,57 @@
+-- From the walk over words to what a text says.
+use Rattle.std.proofs.Common.{◌≡◌, ℕ, ◌≤◌, List, Option, None, inr, length, ap, subst, ◌∙◌}
+use Rattle.lexing.specs.Lines.{line_of}
+use Rattle.lexing.specs.Texts.{Spells}
+use Rattle.lexing.specs.declared.limits.TheConstants.{MAX_TEXT}
+use Rattle.lexing.specs.declared.token.Token.{Token}
+use Rattle.vtext.specs.declared.cause.Cause.{Cause}
+use Rattle.vtext.specs.declared.fault.ReadFault.{ReadFault}
+use Rattle.vtext.specs.declared.place.Place.TheVariants.{Outside}
+use Rattle.vtext.specs.declared.word.Placed.{Placed}
+use Rattle.vtext.specs.Modules.{ModuleList}
+use Rattle.vtext.specs.ReadFaults.{kind_of}
+use Rattle.vtext.specs.Readings.{Reading}
+use Rattle.vtext.specs.Reads.{IsFirstFault, Says, start_of}
+use Rattle.vtext.specs.Walks.{IsFault, Leads, start}
+use Rattle.vtext.specs.Words.{names_of, words_of}
+
+-- `read` and `said` are what the code holds of the tokens and the words
+pub says : (default : Option ℕ) (text : List ℕ) (tokens read : List Token) (names : List (List ℕ)) (words said : List Placed) (last : Reading) (list : ModuleList)
+    → length text ≤ MAX_TEXT → Spells text 0 tokens → read ≡ tokens → names ≡ names_of text read → words ≡ words_of text read → said ≡ words
+    → Leads default names start said None (record { place = Outside; so_far = last })
+    → list ≡ record { names = names; unit = last.unit; modules = last.modules }
+    → Says default text list
+says default text tokens read names words said last list short spelled r n w s leads e =
+    let P : List (List ℕ) → List Placed → Type 0 = λ ns ws. Leads default ns start ws None (record { place = Outside; so_far = last }) in
+    let table : names ≡ names_of text tokens = n ∙ ap (names_of text) r in
+    let all : said ≡ words_of text tokens = s ∙ w ∙ ap (words_of text) r in
+    record {
+      short = short;
+      tokens = tokens;
+      spelled = spelled;
+      names = ap (λ (l : ModuleList). l.names) e ∙ table;
+      last = last;
+      leads = subst (P (names_of text tokens)) all (subst (λ (ns : List (List ℕ)). P ns said) table leads);
+      unit = ap (λ (l : ModuleList). l.unit) e;
+      modules = ap (λ (l : ModuleList). l.modules) e;
+    }
+
+pub refused : (default : Option ℕ) (text : List ℕ) (tokens read again : List Token) (names : List (List ℕ)) (words said : List Placed) (place : ℕ) (why : Cause) (fault : ReadFault)
+    → length text ≤ MAX_TEXT → Spells text 0 tokens → read ≡ tokens → again ≡ tokens → names ≡ names_of text read → words ≡ words_of text read → said ≡ words
+    → IsFault default names said place why
+    → fault ≡ record { line = line_of text (start_of text again place); kind = kind_of why }
+    → IsFirstFault default text fault
+refused default text tokens read again names words said place why fault short spelled r a n w s first e =
+    let P : List (List ℕ) → List Placed → Type 0 = λ ns ws. IsFault default ns ws place why in
+    let table : names ≡ names_of text tokens = n ∙ ap (names_of text) r in
+    let all : said ≡ words_of text tokens = s ∙ w ∙ ap (words_of text) r in
+    inr (record {
+      short = short;
+      tokens = tokens;
+      spelled = spelled;
+      place = place;
+      why = why;
+      first = subst (P (names_of text tokens)) all (subst (λ (ns : List (List ℕ)). P ns said) table first);
+      line = ap (λ (f : ReadFault). f.line) e ∙ ap (λ (t : List Token). line_of text (start_of text t place)) a;
+      kind = ap (λ (f : ReadFault). f.kind) e;
+    })

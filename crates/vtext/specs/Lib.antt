@@ -1,0 +1,15 @@
+pub mod Causes
+pub mod GateNames
+pub mod Grammar
+pub mod Instances
+pub mod Keywords
+pub mod Modules
+pub mod Names
+pub mod Nets
+pub mod Notes
+pub mod ReadFaults
+pub mod Readings
+pub mod Reads
+pub mod Trees
+pub mod Walks
+pub mod Words

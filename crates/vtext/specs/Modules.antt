@@ -1,0 +1,30 @@
+-- Modules: what a text says of nets and gates, names being numbers of a table (IEEE 1364-2005, 7.1, 12.1).
+use Rattle.std.specs.Prelude.{ℕ, List, Option}
+use Rattle.fourstate.specs.declared.gate.GateKind.{GateKind}
+use Rattle.lexing.specs.declared.unit.TimeUnit.{TimeUnit}
+use Rattle.vtext.specs.declared.gate.Terminal.{Terminal}
+use Rattle.vtext.specs.declared.gate.InstanceName.{InstanceName}
+use Rattle.vtext.specs.declared.net.Net.{Net}
+
+-- a gate: the instance that it is of, and the number of its output in it, from 1, where the instance has several
+pub record GateEntry : Type 0 where
+  pub kind : GateKind
+  pub rise : ℕ
+  pub fall : ℕ
+  pub instance : InstanceName
+  pub part : Option ℕ
+  pub output : ℕ
+  pub inputs : List Terminal
+
+-- a module: where its word `module` begins, its nets in order, its gates in order
+pub record ModuleEntry : Type 0 where
+  pub start : ℕ
+  pub name : ℕ
+  pub nets : List (ℕ × Net)
+  pub gates : List GateEntry
+
+-- the modules of a text in order, with the table of its names, and the time unit of its directives
+pub record ModuleList : Type 0 where
+  pub names : List (List ℕ)
+  pub unit : Option TimeUnit
+  pub modules : List ModuleEntry

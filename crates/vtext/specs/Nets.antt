@@ -1,0 +1,60 @@
+-- What a module says of a net (IEEE 1364-2005, 4.5, 6.1.1, 12.3).
+use Rattle.std.specs.Prelude.{Bool, true, false, ℕ, nat_eq, ◌&&◌, ◌||◌, not, if◌then◌else◌, List, Option, Some, None, is_some, unwrap_or}
+use Rattle.std.specs.Option.{option_or}
+use Rattle.std.specs.Map.{lookup}
+use Rattle.indexmap.specs.IndexMap.{insert_entry}
+use Rattle.fourstate.specs.declared.net.NetKind.{NetKind}
+use Rattle.fourstate.specs.declared.net.NetKind.TheVariants.{Wire}
+use Rattle.vtext.specs.declared.word.Direction.{Direction}
+use Rattle.vtext.specs.declared.word.Direction.TheVariants.{Input}
+use Rattle.vtext.specs.declared.net.Net.{Net}
+
+-- nothing is said of it
+abbrev pub blank : Net
+blank = record { port = false; direction = None; kind = None; implicit = false }
+
+-- the header names it, and says no more
+abbrev pub listed : Net
+listed = record blank { port = true }
+
+-- the header declares it
+abbrev pub ported : Direction → Option NetKind → Net
+ported direction kind = record { port = true; direction = Some direction; kind = kind; implicit = false }
+
+-- its kind: the written one, else `wire`
+abbrev pub net_kind : Net → NetKind
+net_kind net = unwrap_or net.kind Wire
+
+abbrev pub is_input_direction : Option Direction → Bool
+is_input_direction (Some Input) = true
+is_input_direction direction = false
+
+-- an input port
+abbrev pub is_input : Net → Bool
+is_input net = is_input_direction net.direction
+
+-- it has a direction or a net declaration
+abbrev pub is_declared : Net → Bool
+is_declared net = is_some net.direction || is_some net.kind
+
+-- the header names it, and it has no direction
+abbrev pub is_undirected : Net → Bool
+is_undirected net = net.port && not (is_some net.direction)
+
+-- after a port declaration, which may write a kind
+abbrev pub directed : Direction → Option NetKind → Net → Net
+directed direction kind net = record net { direction = Some direction; kind = option_or kind net.kind }
+
+-- after its use as a terminal: without a declaration before, it is an implicit net
+abbrev pub used : Net → Net
+used net = if is_declared net then net else record net { implicit = true }
+
+-- The nets of a module are a list of numbers of names, each with what is said of it.
+
+-- what is said of a net so far
+abbrev pub net_of : List (ℕ × Net) → ℕ → Option Net
+net_of nets n = lookup (nat_eq n) nets
+
+-- a net says so from now on: it keeps its place, and a new one goes last
+abbrev pub with_net : List (ℕ × Net) → ℕ → Net → List (ℕ × Net)
+with_net nets n net = insert_entry nat_eq nets n net

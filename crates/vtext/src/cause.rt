@@ -1,0 +1,24 @@
+//! Why a token is refused.
+
+/// Why the first pass refuses a token, of the causes that a token can have.
+#[derive(Clone, Copy, Debug, PartialEq, Eq)]
+pub enum Cause {
+    /// A byte that no text may hold.
+    Byte,
+    /// A form of Verilog that is left out.
+    Unsupported,
+    /// The token can't continue the text.
+    Syntax,
+    /// A name that is too long, holds a dot or an apostrophe, or is `$end`.
+    BadName,
+    /// A delay of 0, or none at all.
+    ZeroDelay,
+    /// A delay over the limit.
+    DelayTooLarge,
+    /// A name that is taken.
+    DuplicateName,
+    /// The number of terminals doesn't fit the gate.
+    WrongArity,
+    /// A constant as an output.
+    PortKind,
+}

@@ -1,0 +1,118 @@
+//! The gates of a module.
+
+ghost use Rattle.std.specs.Prelude.{◌≡◌};
+
+use fourstate::{GateKind, Value};
+use std::marker::Model;
+
+/// What a terminal of a gate is connected to.
+#[derive(Clone, Copy, Debug, PartialEq, Eq)]
+pub enum Terminal {
+    /// The net whose name has this number.
+    Net(u32),
+    /// A value that never changes.
+    Constant(Value),
+}
+
+/// What a gate instance is called.
+#[derive(Clone, Copy, Debug, PartialEq, Eq)]
+pub enum InstanceName {
+    /// The name of this number.
+    Written(u32),
+    /// It is the unnamed gate instance of this number in its module, from 1, and is called `$` and the number (own).
+    Unnamed(u64),
+}
+
+/// A gate. An instance of several outputs is a gate for each (own).
+#[derive(Debug, Drop)]
+pub struct Gate {
+    kind: GateKind,
+    rise: u32,
+    fall: u32,
+    instance: InstanceName,
+    part: Option<usize>,
+    output: u32,
+    inputs: Vec<Terminal>,
+}
+
+impl Model for Gate {
+    ghost use Rattle.vtext.specs.Modules.{GateEntry};
+
+    ghost Value = { GateEntry };
+
+    ghost view = { λ a. record { kind = a.kind; rise = a.rise; fall = a.fall; instance = a.instance; part = a.part; output = a.output; inputs = a.inputs.items } };
+}
+
+impl Gate {
+    /// A gate of an instance, and of its output of this number, from 1, where the instance has several.
+    pub fn new(
+        kind: GateKind,
+        rise: u32,
+        fall: u32,
+        instance: InstanceName,
+        part: Option<usize>,
+        output: u32,
+        inputs: Vec<Terminal>,
+    ) -> Gate
+        ensures { result ≡ record { kind = kind; rise = rise; fall = fall; instance = instance; part = part; output = output; inputs = inputs.items } }
+    {
+        Gate {
+            kind,
+            rise,
+            fall,
+            instance,
+            part,
+            output,
+            inputs,
+        }
+    }
+
+    /// The gate's kind.
+    pub fn kind(&self) -> GateKind
+        ensures { result ≡ self.now.kind }
+    {
+        self.kind
+    }
+
+    /// Its delay to 1, in time units, 1 to 1,000,000.
+    pub fn rise(&self) -> u32
+        ensures { result ≡ self.now.rise }
+    {
+        self.rise
+    }
+
+    /// Its delay to 0, in time units, 1 to 1,000,000.
+    pub fn fall(&self) -> u32
+        ensures { result ≡ self.now.fall }
+    {
+        self.fall
+    }
+
+    /// What its instance is called.
+    pub fn instance(&self) -> InstanceName
+        ensures { result ≡ self.now.instance }
+    {
+        self.instance
+    }
+
+    /// The number of its output in its instance, from 1, where the instance has several.
+    pub fn part(&self) -> Option<usize>
+        ensures { result ≡ self.now.part }
+    {
+        self.part
+    }
+
+    /// The net that it drives, by the number of the name.
+    pub fn output(&self) -> u32
+        ensures { result ≡ self.now.output }
+    {
+        self.output
+    }
+
+    /// What each input is connected to, in order.
+    pub fn inputs(&self) -> &[Terminal]
+        ensures { result.now ≡ self.now.inputs }
+    {
+        self.inputs.as_slice()
+    }
+}

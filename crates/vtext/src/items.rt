@@ -1,0 +1,166 @@
+//! What the words of a module say outside of declarations.
+
+ghost use Rattle.std.specs.Prelude.{◌≡◌, ◌<◌, ◌-◌, ◌^◌, OnOk};
+ghost use Rattle.vtext.specs.Notes.{at_delay, at_fall_delay, at_instance_start, at_items, at_module_name, at_outside, at_terminal_end, at_terminal_start, finished, noted};
+ghost use Rattle.vtext.specs.Readings.{view};
+
+use crate::draft::Draft;
+use crate::gate::Terminal;
+use crate::module::Module;
+use crate::names::Names;
+use crate::place::Place;
+use crate::word::{Placed, Word};
+use indexmap::{IndexMap, IndexSet};
+use std::alloc::{AllocError, Global};
+use std::mem;
+
+impl Draft {
+    fn at_outside(&mut self, start: u32, word: Word)
+        ensures { view self.new ≡ at_outside (view self.old) start word }
+    {
+        match word {
+            Word::Timescale(unit) => self.unit = Some(unit),
+            Word::Module => self.start = start,
+            _ => {}
+        }
+    }
+
+    fn at_module_name(&mut self, word: Word)
+        ensures { view self.new ≡ at_module_name (view self.old) word }
+    {
+        if let Word::Name(name) = word {
+            self.name = name;
+        }
+    }
+
+    fn finish(&mut self, alloc: Global) -> Result<(), AllocError>
+        ensures { OnOk result (view self.new ≡ finished (view self.old)) }
+    {
+        let nets = mem::replace(&mut self.nets, IndexMap::new(alloc));
+        let gates = mem::replace(&mut self.gates, Vec::new(alloc));
+        self.taken = IndexSet::new(alloc);
+        self.inline = false;
+        self.unnamed = 0;
+        let module = Module::new(self.start, self.name, nets, gates);
+        self.modules.push(module)?;
+        Ok(())
+    }
+
+    fn at_items(
+        &mut self,
+        alloc: Global,
+        default: Option<u32>,
+        word: Word,
+    ) -> Result<(), AllocError>
+        ensures { OnOk result (view self.new ≡ at_items default (view self.old) word) }
+    {
+        match word {
+            Word::PortWord(direction) => {
+                self.direction = direction;
+                self.kind = None;
+            }
+            Word::NetWord(kind) => self.kind = Some(kind),
+            Word::GateWord(kind) => {
+                self.gate = kind;
+                self.rise = default.unwrap_or(0);
+                self.fall = self.rise;
+            }
+            Word::Endmodule => self.finish(alloc)?,
+            _ => {}
+        }
+        Ok(())
+    }
+
+    fn at_delay(&mut self, word: Word)
+        ensures { view self.new ≡ at_delay (view self.old) word }
+    {
+        if let Word::Number(time) = word {
+            self.rise = time;
+            self.fall = time;
+        }
+    }
+
+    fn at_fall_delay(&mut self, word: Word)
+        ensures { view self.new ≡ at_fall_delay (view self.old) word }
+    {
+        if let Word::Number(time) = word {
+            self.fall = time;
+        }
+    }
+
+    fn at_instance_start(&mut self, word: Word) -> Result<(), AllocError>
+        ensures { OnOk result (view self.new ≡ at_instance_start (view self.old) word) }
+    {
+        match word {
+            Word::Name(name) => {
+                self.take_name(name)?;
+                self.instance = Some(name);
+            }
+            Word::Open => self.instance = None,
+            _ => {}
+        }
+        Ok(())
+    }
+
+    fn at_terminal_start(&mut self, word: Word) -> Result<(), AllocError>
+        ensures { OnOk result (view self.new ≡ at_terminal_start (view self.old) word) }
+    {
+        match word {
+            Word::Name(name) => self.use_net(name)?,
+            Word::Literal(value) => self.terminals.push(Terminal::Constant(value))?,
+            _ => {}
+        }
+        Ok(())
+    }
+
+    fn at_terminal_end(
+        &mut self,
+        alloc: Global,
+        names: &Names,
+        word: Word,
+    ) -> Result<(), AllocError>
+        requires { (view self.old).unnamed < 2 ^ 64 - 1 }
+        ensures { OnOk result (view self.new ≡ at_terminal_end names.now (view self.old) word) }
+    {
+        match word {
+            Word::Close => self.complete(alloc, names),
+            _ => Ok(()),
+        }
+    }
+
+    /// Notes what one more word says at its place.
+    pub fn note(
+        &mut self,
+        alloc: Global,
+        default: Option<u32>,
+        names: &Names,
+        place: Place,
+        next: Placed,
+    ) -> Result<(), AllocError>
+        requires { (view self.old).unnamed < 2 ^ 64 - 1 }
+        ensures { OnOk result (view self.new ≡ noted default names.now (view self.old) place next) }
+    {
+        match place {
+            Place::Outside => self.at_outside(next.start, next.word),
+            Place::ModuleName => self.at_module_name(next.word),
+            Place::Header => self.at_header(next.word)?,
+            Place::OlderName => self.at_older_name(next.word)?,
+            Place::InlineStart => self.at_inline_start(next.word)?,
+            Place::InlineName => self.at_inline_name(next.word)?,
+            Place::InlineMore => self.at_inline_more(next.word)?,
+            Place::Items => self.at_items(alloc, default, next.word)?,
+            Place::PortStart => self.at_port_start(next.word)?,
+            Place::PortName => self.at_port_name(next.word)?,
+            Place::NetName => self.at_net_name(next.word)?,
+            Place::GateStart => self.at_instance_start(next.word)?,
+            Place::Delay => self.at_delay(next.word),
+            Place::RiseDelay => self.at_delay(next.word),
+            Place::FallDelay => self.at_fall_delay(next.word),
+            Place::InstanceStart => self.at_instance_start(next.word)?,
+            Place::TerminalStart => self.at_terminal_start(next.word)?,
+            Place::TerminalEnd => self.at_terminal_end(alloc, names, next.word)?,
+            _ => {}
+        }
+        Ok(())
+    }
+}

@@ -1,0 +1,195 @@
+//! The words of Verilog.
+
+ghost use Rattle.std.specs.Prelude.{◌≡◌};
+ghost use Rattle.std.specs.List.{list_any};
+ghost use Rattle.std.specs.Str.{bytes_eq};
+ghost use Rattle.vtext.specs.Keywords.{is_bad_byte, is_misnamed, is_refused, mark_of, name_word, plain_word, unkept_word};
+
+use crate::names::Names;
+use crate::word::{Direction, Word};
+use fourstate::{GateKind, NetKind};
+
+/// The most bytes of a name.
+pub const MAX_NAME: usize = 1_024;
+
+/// The words of Verilog that are refused.
+const REFUSED: [&str; 85] = [
+    "always",
+    "assign",
+    "automatic",
+    "begin",
+    "case",
+    "casex",
+    "casez",
+    "cmos",
+    "deassign",
+    "default",
+    "defparam",
+    "disable",
+    "edge",
+    "else",
+    "end",
+    "endcase",
+    "endfunction",
+    "endgenerate",
+    "endprimitive",
+    "endspecify",
+    "endtable",
+    "endtask",
+    "event",
+    "for",
+    "force",
+    "forever",
+    "fork",
+    "function",
+    "generate",
+    "genvar",
+    "if",
+    "initial",
+    "inout",
+    "integer",
+    "join",
+    "large",
+    "localparam",
+    "macromodule",
+    "medium",
+    "negedge",
+    "nmos",
+    "parameter",
+    "pmos",
+    "posedge",
+    "primitive",
+    "pull0",
+    "pull1",
+    "pulldown",
+    "pullup",
+    "rcmos",
+    "real",
+    "realtime",
+    "reg",
+    "release",
+    "repeat",
+    "rnmos",
+    "rpmos",
+    "rtran",
+    "rtranif0",
+    "rtranif1",
+    "scalared",
+    "signed",
+    "small",
+    "specify",
+    "specparam",
+    "strong0",
+    "strong1",
+    "supply0",
+    "supply1",
+    "table",
+    "task",
+    "time",
+    "tran",
+    "tranif0",
+    "tranif1",
+    "tri0",
+    "tri1",
+    "trireg",
+    "unsigned",
+    "uwire",
+    "vectored",
+    "wait",
+    "weak0",
+    "weak1",
+    "while",
+];
+
+/// Whether bytes are one of these words.
+fn is_among(bytes: &[u8], words: &[&str]) -> bool
+    ensures { result ≡ list_any (λ word. bytes_eq bytes.now word.now) words.now }
+{
+    words.iter().any(|word| bytes == word.as_bytes())
+}
+
+/// Whether a word is one of those that are refused.
+fn is_refused(bytes: &[u8]) -> bool
+    ensures { result ≡ is_refused bytes.now }
+{
+    is_among(bytes, &REFUSED)
+}
+
+fn has_bad_byte(bytes: &[u8]) -> bool
+    ensures { result ≡ list_any is_bad_byte bytes.now }
+{
+    bytes.iter().any(|byte| *byte == b'.' || *byte == b'\'')
+}
+
+/// Whether a name is too long, holds a dot or an apostrophe, or is `$end`.
+fn is_misnamed(bytes: &[u8]) -> bool
+    ensures { result ≡ is_misnamed bytes.now }
+{
+    bytes.len() > MAX_NAME || has_bad_byte(bytes) || bytes == b"$end".as_slice()
+}
+
+/// A name, by its number in the table.
+pub fn name_word(names: &Names, bytes: &[u8]) -> Word
+    ensures { result ≡ name_word names.now bytes.now }
+{
+    if is_misnamed(bytes) {
+        return Word::Misnamed;
+    }
+    match names.find(bytes) {
+        Some(name) => Word::Name(name),
+        None => Word::Misnamed,
+    }
+}
+
+/// A name that is not escaped and is no word of the grammar.
+fn unkept_word(names: &Names, bytes: &[u8]) -> Word
+    ensures { result ≡ unkept_word names.now bytes.now }
+{
+    if is_refused(bytes) {
+        Word::Refused
+    } else {
+        name_word(names, bytes)
+    }
+}
+
+/// A word, or a name that is not escaped (IEEE 1364-2005, annex B).
+pub fn plain_word(names: &Names, bytes: &[u8]) -> Word
+    ensures { result ≡ plain_word names.now bytes.now }
+{
+    if bytes == b"module".as_slice() {
+        return Word::Module;
+    }
+    if bytes == b"endmodule".as_slice() {
+        return Word::Endmodule;
+    }
+    if bytes == b"input".as_slice() {
+        return Word::PortWord(Direction::Input);
+    }
+    if bytes == b"output".as_slice() {
+        return Word::PortWord(Direction::Output);
+    }
+    match (NetKind::from_keyword(bytes), GateKind::from_keyword(bytes)) {
+        (Some(kind), _) => Word::NetWord(kind),
+        (None, Some(kind)) => Word::GateWord(kind),
+        (None, None) => unkept_word(names, bytes),
+    }
+}
+
+/// A byte that is a token by itself.
+pub fn mark(byte: u8) -> Word
+    ensures { result ≡ mark_of byte }
+{
+    match byte {
+        b'(' => Word::Open,
+        b')' => Word::Close,
+        b',' => Word::Comma,
+        b';' => Word::Semicolon,
+        b'#' => Word::Hash,
+        b'.' => Word::Dot,
+        b':' => Word::Colon,
+        b'[' => Word::OpenBracket,
+        b']' => Word::CloseBracket,
+        b'\\' => Word::Broken,
+        _ => Word::Refused,
+    }
+}

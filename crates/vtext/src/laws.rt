@@ -1,0 +1,77 @@
+//! Laws of the walk: each contract is the law, and no function gives anything.
+
+ghost use Rattle.std.specs.Prelude.{◌≡◌, ◌<◌, ◌⊎◌, ◌++◌, ℕ, true, List, [], ◌∷◌, Option, None, Some, IsSome, length, map};
+ghost use Rattle.lexing.specs.Texts.{name_bytes};
+ghost use Rattle.lexing.specs.declared.token.Token as tokens;
+ghost use Rattle.vtext.specs.Names.{name_at, number_of};
+ghost use Rattle.vtext.specs.Words.{is_named, names_of};
+ghost use Rattle.vtext.specs.Modules.{ModuleList};
+ghost use Rattle.vtext.specs.Readings.{Reading};
+ghost use Rattle.vtext.specs.Reads.{IsFirstFault, Says};
+ghost use Rattle.vtext.specs.Trees.{Header, IsModuleAdmitted, Item, Part, after_module, module_then, parts_then};
+ghost use Rattle.vtext.specs.Walks.{IsFault, Leads, Walk, start};
+ghost use Rattle.vtext.specs.declared.cause.Cause as causes;
+ghost use Rattle.vtext.specs.declared.fault.ReadFault as faults;
+ghost use Rattle.vtext.specs.declared.place.Place.TheVariants.{Outside};
+ghost use Rattle.vtext.specs.declared.word.Placed as placed;
+ghost use Rattle.vtext.specs.declared.word.Word as words;
+
+use lexing::laws::{one_spelling, some_spelling};
+
+/// Words lead from where a walk stands to one place, with one reading.
+#[tactic(auto, using(crate::proofs::WalkLaws::one_walk))]
+pub fn one_walk()
+    ensures { (default : Option ℕ) (names : List (List ℕ)) (said : List placed.Placed) (from : Walk) (after : Option words.Word) (a b : Walk) →
+        Leads default names from said after a → Leads default names from said after b → a ≡ b }
+{}
+
+/// Words have one first fault, at one place.
+pub fn one_fault()
+    ensures { (default : Option ℕ) (names : List (List ℕ)) (said : List placed.Placed) (k j : ℕ) (why because : causes.Cause) →
+        IsFault default names said k why → IsFault default names said j because → (k ≡ j) × (why ≡ because) }
+{}
+
+/// Words that are read to their end have no fault.
+pub fn no_fault()
+    ensures { (default : Option ℕ) (names : List (List ℕ)) (said : List placed.Placed) (to : Walk) (k : ℕ) (why : causes.Cause) → to.place ≡ Outside →
+        Leads default names start said None to → ¬ (IsFault default names said k why) }
+{}
+
+/// A module is read from the words that write it, as what its parts say, where no cause holds at any of them.
+pub fn module_is_read()
+    ensures { (default : Option ℕ) (names : List (List ℕ)) (first : placed.Placed) (more : List placed.Placed) (name : ℕ) (header : Header) (items : List Item) →
+        map (λ (next : placed.Placed). next.word) (first ∷ more) ≡ module_then name header items [] →
+        IsModuleAdmitted default names first.start name header items →
+        Leads default names start (first ∷ more) None (record { place = Outside; so_far = after_module default names first.start name header items }) }
+{}
+
+/// A text says one list of modules, or has one first fault, and not both.
+pub fn one_reading(text: &[u8])
+    ensures list { (default : Option ℕ) (a b : ModuleList) → Says default text.now a → Says default text.now b → a ≡ b }
+    ensures fault { (default : Option ℕ) (f g : faults.ReadFault) → IsFirstFault default text.now f → IsFirstFault default text.now g → f ≡ g }
+    ensures apart { (default : Option ℕ) (a : ModuleList) (f : faults.ReadFault) → Says default text.now a → IsFirstFault default text.now f → ⊥ }
+{
+    one_spelling(text);
+}
+
+/// What is read to its end is written by the grammar: by directives and modules in some order.
+pub fn reading_is_written()
+    ensures { (default : Option ℕ) (names : List (List ℕ)) (said : List placed.Placed) (last : Reading) →
+        Leads default names start said None (record { place = Outside; so_far = last }) →
+        (parts : List Part) × (map (λ (next : placed.Placed). next.word) said ≡ parts_then parts []) }
+{}
+
+/// Each text says a list of modules or has a first fault.
+pub fn some_reading(text: &[u8])
+    ensures { (default : Option ℕ) → ((list : ModuleList) × Says default text.now list) ⊎ ((fault : faults.ReadFault) × IsFirstFault default text.now fault) }
+{
+    some_spelling(text);
+}
+
+/// Two names have one number exactly where their bytes are the same, and each name of a text has a number.
+pub fn names_are_numbers()
+    ensures bytes { (names : List (List ℕ)) (bytes : List ℕ) (n : ℕ) → number_of names bytes ≡ Some n → (n < length names) × (name_at names n ≡ bytes) }
+    ensures same { (names : List (List ℕ)) (a b : List ℕ) (n : ℕ) → number_of names a ≡ Some n → number_of names b ≡ Some n → a ≡ b }
+    ensures there { (text : List ℕ) (before after : List tokens.Token) (token : tokens.Token) → is_named token.shape ≡ true →
+        IsSome (number_of (names_of text (before ++ token ∷ after)) (name_bytes text token)) }
+{}

@@ -1,0 +1,38 @@
+//! The module list of a structural Verilog text (IEEE 1364-2005, 3, 7 and 12), or its first fault.
+#![tactic(auto)]
+
+mod cause;
+mod causes;
+mod draft;
+mod fault;
+mod gate;
+mod gate_names;
+mod instances;
+mod items;
+mod keywords;
+pub mod laws;
+mod module;
+mod module_list;
+mod names;
+mod net;
+mod nets;
+mod place;
+mod read;
+mod steps;
+mod terminals;
+#[cfg(test)]
+mod tests;
+mod units;
+mod walks;
+mod word;
+mod words;
+
+pub use fault::{ReadFault, ReadFaultKind};
+pub use gate::{Gate, InstanceName, Terminal};
+pub use gate_names::gate_name;
+pub use module::Module;
+pub use module_list::Modules;
+pub use names::Names;
+pub use net::Net;
+pub use read::modules;
+pub use word::Direction;

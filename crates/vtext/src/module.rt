@@ -1,0 +1,77 @@
+//! Modules as they are read.
+
+ghost use Rattle.std.specs.Prelude.{◌≡◌, ◌<◌, length, slice_get};
+ghost use Rattle.vtext.specs.Modules.{ModuleEntry};
+
+use crate::gate::Gate;
+use crate::net::Net;
+use indexmap::IndexMap;
+use std::marker::Model;
+
+/// A module: its nets by the numbers of their names, first the ports in the header's order, then the others by first
+/// appearance, and its gates in the text's order.
+#[derive(Drop)]
+pub struct Module {
+    start: u32,
+    name: u32,
+    nets: IndexMap<u32, Net>,
+    gates: Vec<Gate>,
+}
+
+impl Model for Module {
+    ghost use Rattle.vtext.specs.Modules.{ModuleEntry};
+
+    ghost Value = { ModuleEntry };
+
+    ghost view = { λ a. record { start = a.start; name = a.name; nets = a.nets.entries; gates = a.gates.items } };
+}
+
+impl Module {
+    /// A module of these nets and gates.
+    pub fn new(start: u32, name: u32, nets: IndexMap<u32, Net>, gates: Vec<Gate>) -> Module
+        ensures { result ≡ record { start = start; name = name; nets = nets.entries; gates = gates.items } }
+    {
+        Module {
+            start,
+            name,
+            nets,
+            gates,
+        }
+    }
+
+    /// Where the word `module` begins in the text, from 0.
+    pub fn start(&self) -> u32
+        ensures { result ≡ self.now.start }
+    {
+        self.start
+    }
+
+    /// The module's name, by its number.
+    pub fn name(&self) -> u32
+        ensures { result ≡ self.now.name }
+    {
+        self.name
+    }
+
+    /// How many nets there are.
+    pub fn net_count(&self) -> usize
+        ensures { result ≡ length self.now.nets }
+    {
+        self.nets.len()
+    }
+
+    /// The net at a place of the module's order, with the number of its name.
+    pub fn net_at(&self, place: usize) -> Option<(u32, Net)>
+        ensures { result ≡ slice_get self.now.nets place }
+    {
+        let (name, net) = self.nets.get_index(place)?;
+        Some((*name, *net))
+    }
+
+    /// The gates in order.
+    pub fn gates(&self) -> &[Gate]
+        ensures { result.now ≡ self.now.gates }
+    {
+        self.gates.as_slice()
+    }
+}

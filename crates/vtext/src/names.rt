@@ -1,0 +1,70 @@
+//! The table of names.
+
+ghost use Rattle.std.specs.Prelude.{◌≡◌, [], OnOk, OnErr};
+ghost use Rattle.vtext.specs.Names.{name_at, number_of, with_name};
+
+use indexmap::IndexSet;
+use std::alloc::{AllocError, Global};
+use std::marker::Model;
+
+/// The names of a text, each once: a name is known by its place, its number. There is room for 4,294,967,296.
+#[derive(Drop)]
+pub struct Names {
+    texts: IndexSet<Vec<u8>>,
+}
+
+impl Model for Names {
+    ghost use Rattle.std.specs.Prelude.{ℕ, ◌^◌, ◌≤◌, List, map, length};
+
+    ghost Value = { List (List ℕ) };
+
+    ghost view = { λ a. map (λ text. text.items) a.texts.keys };
+
+    ghost invariant = { λ a. length a.texts.keys ≤ 2 ^ 32 };
+}
+
+impl Names {
+    /// No names.
+    pub fn new(alloc: Global) -> Names
+        ensures { result ≡ [] }
+    {
+        Names {
+            texts: IndexSet::new(alloc),
+        }
+    }
+
+    /// The number of a name; none of one that is not there.
+    #[tactic(auto, using(crate::proofs::NameLemmas::texts_found))]
+    pub fn find(&self, name: &[u8]) -> Option<u32>
+        ensures { result ≡ number_of self.now name.now }
+    {
+        let place = self.texts.get_index_of(name)?;
+        Some(place as u32)
+    }
+
+    /// The name of a number; empty where there is none.
+    pub fn text(&self, number: u32) -> &[u8]
+        ensures { result.now ≡ name_at self.now number }
+    {
+        match self.texts.get_index(number as usize) {
+            Some(text) => text.as_slice(),
+            None => &[],
+        }
+    }
+
+    /// Adds a name where it is new.
+    pub fn add(&mut self, alloc: Global, name: &[u8]) -> Result<(), AllocError>
+        ensures ok { OnOk result (self.new ≡ with_name self.old name.now) }
+        ensures err { OnErr result (self.new ≡ self.old) }
+    {
+        if self.texts.contains(name) {
+            return Ok(());
+        }
+        if self.texts.len() > u32::MAX as usize {
+            return Err(AllocError);
+        }
+        let text = Vec::from_slice(alloc, name)?;
+        self.texts.insert(text)?;
+        Ok(())
+    }
+}

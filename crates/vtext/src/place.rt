@@ -1,0 +1,62 @@
+//! The points of the grammar.
+
+/// A point within a line of the grammar: what has been read of it, and so what may come next. Nothing in the grammar nests.
+#[derive(Clone, Copy, Debug, PartialEq, Eq)]
+pub enum Place {
+    /// Outside modules.
+    Outside,
+    /// Behind `module`.
+    ModuleName,
+    /// Behind a module's name.
+    ModuleHead,
+    /// Behind the `(` of a header.
+    Header,
+    /// Behind a port's name in the older form.
+    OlderNext,
+    /// Behind a comma in the older form.
+    OlderName,
+    /// Behind a direction in the inline form.
+    InlineStart,
+    /// Behind a net kind in the inline form.
+    InlineName,
+    /// Behind a port's name in the inline form.
+    InlineNext,
+    /// Behind a comma in the inline form.
+    InlineMore,
+    /// Behind the `)` of a header.
+    HeaderEnd,
+    /// Between the items of a module.
+    Items,
+    /// Behind the direction of an item.
+    PortStart,
+    /// Where a port declaration wants a name.
+    PortName,
+    /// Behind a name of a port declaration.
+    PortNext,
+    /// Where a net declaration wants a name.
+    NetName,
+    /// Behind a name of a net declaration.
+    NetNext,
+    /// Behind the word of a gate kind.
+    GateStart,
+    /// Behind `#`.
+    Delay,
+    /// Behind `#(`.
+    RiseDelay,
+    /// Behind the first number of a delay in parentheses.
+    RiseEnd,
+    /// Behind the comma of a delay.
+    FallDelay,
+    /// Behind the second number of a delay.
+    FallEnd,
+    /// Where a gate instance begins.
+    InstanceStart,
+    /// Behind the name of a gate instance.
+    InstanceOpen,
+    /// Where a terminal is wanted.
+    TerminalStart,
+    /// Behind a terminal.
+    TerminalEnd,
+    /// Behind the `)` of a gate instance.
+    InstanceEnd,
+}

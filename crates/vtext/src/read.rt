@@ -1,0 +1,63 @@
+//! The module list of a text, or its first fault.
+
+ghost use Rattle.std.specs.Prelude.{◌≡◌, ◌<◌, ◌≤◌, ◌⊎◌, All, IfErr, IfOk, Err, length};
+ghost use Rattle.lexing.specs.Lines.{line_of};
+ghost use Rattle.lexing.specs.Texts.{IsInside};
+ghost use Rattle.lexing.specs.declared.limits.TheConstants.{MAX_TEXT};
+ghost use Rattle.vtext.specs.ReadFaults.{kind_of, out_of_memory, too_long};
+ghost use Rattle.vtext.specs.Reads.{IsFirstFault, Says, start_of};
+
+use crate::cause::Cause;
+use crate::fault::{ReadFault, kind_of};
+use crate::module_list::Modules;
+use crate::walks::{Refusal, walk};
+use crate::words::words;
+use lexing::{MAX_TEXT, Token, line, tokens};
+use std::alloc::Global;
+
+/// Where the token at a place begins; past the last one, the text's end.
+fn start_of(text: &[u8], tokens: &[Token], place: usize) -> usize
+    requires { All (IsInside (length text.now)) tokens.now }
+    ensures value { result ≡ start_of text.now tokens.now place }
+    ensures within { result ≤ length text.now }
+{
+    match tokens.get(place) {
+        Some(token) => token.start as usize,
+        None => text.len(),
+    }
+}
+
+fn fault_at(text: &[u8], tokens: &[Token], place: usize, cause: Cause) -> ReadFault
+    requires { All (IsInside (length text.now)) tokens.now }
+    ensures { result ≡ record { line = line_of text.now (start_of text.now tokens.now place); kind = kind_of cause } }
+{
+    let start = start_of(text, tokens, place);
+    ReadFault {
+        line: line(text, start) as u64,
+        kind: kind_of(cause),
+    }
+}
+
+/// The modules of a structural Verilog text, or its first fault with its line: the first pass over a design text. `default`
+/// is the delay, in time units, of gate items without one.
+pub fn modules(alloc: Global, text: &[u8], default: Option<u32>) -> Result<Modules, ReadFault>
+    // The modules are those that the text says.
+    ensures list { IfOk result (Says default text.now) }
+    // A fault is the first one of the text, or a growth was refused.
+    ensures fault { IfErr result (λ fault. (fault ≡ out_of_memory) ⊎ IsFirstFault default text.now fault) }
+    // A text over its limit is looked at no further.
+    ensures long { MAX_TEXT < length text.now → result ≡ Err too_long }
+{
+    if text.len() > MAX_TEXT {
+        return Err(ReadFault::too_long());
+    }
+    let tokens = tokens(alloc, text)?;
+    let (names, words) = words(alloc, text, tokens.as_slice())?;
+    match walk(alloc, default, &names, words.as_slice()) {
+        Ok(draft) => Ok(Modules::new(names, draft)),
+        Err(Refusal::OutOfMemory) => Err(ReadFault::out_of_memory()),
+        Err(Refusal::Fault(place, cause)) => {
+            Err(fault_at(text, tokens.as_slice(), place, cause))
+        }
+    }
+}

@@ -1,0 +1,91 @@
+//! Time units of directives.
+
+ghost use Rattle.std.specs.Prelude.{◌≡◌, ◌≤◌, All, length};
+ghost use Rattle.lexing.specs.Texts.{IsInside};
+ghost use Rattle.vtext.specs.Words.{directive_word, first_unit, is_timescale, magnitude_power, power_of, same_unit, unit_at, unit_power};
+
+use crate::word::Word;
+use lexing::{Magnitude, Shape, TimeUnit, Token, Unit, timescale};
+
+fn magnitude_power(magnitude: Magnitude) -> u8
+    ensures value { result ≡ magnitude_power magnitude }
+    ensures small { result ≤ 2 }
+{
+    match magnitude {
+        Magnitude::One => 0,
+        Magnitude::Ten => 1,
+        Magnitude::Hundred => 2,
+    }
+}
+
+fn unit_power(unit: Unit) -> u8
+    ensures value { result ≡ unit_power unit }
+    ensures small { result ≤ 15 }
+{
+    match unit {
+        Unit::Femtosecond => 0,
+        Unit::Picosecond => 3,
+        Unit::Nanosecond => 6,
+        Unit::Microsecond => 9,
+        Unit::Millisecond => 12,
+        Unit::Second => 15,
+    }
+}
+
+fn power(unit: TimeUnit) -> u8
+    ensures { result ≡ power_of unit }
+{
+    unit_power(unit.unit) + magnitude_power(unit.magnitude)
+}
+
+fn is_same(first: TimeUnit, this: TimeUnit) -> bool
+    ensures { result ≡ same_unit first this }
+{
+    power(first) == power(this)
+}
+
+/// What a directive of this unit says, after the first one.
+pub fn directive_word(first: Option<TimeUnit>, this: Option<TimeUnit>) -> Word
+    ensures { result ≡ directive_word first this }
+{
+    match (first, this) {
+        (Some(first), Some(this)) => {
+            if is_same(first, this) {
+                Word::Timescale(this)
+            } else {
+                Word::Refused
+            }
+        }
+        _ => Word::Refused,
+    }
+}
+
+/// The unit of a directive.
+pub fn unit_at(text: &[u8], token: Token) -> Option<TimeUnit>
+    requires { IsInside (length text.now) token }
+    ensures { result ≡ unit_at text.now token }
+{
+    timescale(&text[token.start as usize..])
+}
+
+fn is_timescale(token: Token) -> bool
+    ensures { result ≡ is_timescale token.shape }
+{
+    match token.shape {
+        Shape::Timescale => true,
+        _ => false,
+    }
+}
+
+/// The unit of the first directive of a text.
+pub fn first_unit(text: &[u8], tokens: &[Token]) -> Option<TimeUnit>
+    requires { All (IsInside (length text.now)) tokens.now }
+    ensures { result ≡ first_unit text.now tokens.now }
+{
+    for token in tokens {
+        if is_timescale(*token) {
+            return unit_at(text, *token);
+        }
+    }
+    None
+}

@@ -1,0 +1,94 @@
+//! The first pass over the words of a text.
+
+ghost use Rattle.std.specs.Prelude.{◌≡◌, ◌<◌, ◌-◌, ◌^◌, None, IfErr, IfOk};
+ghost use Rattle.vtext.specs.declared.place.Place.TheVariants.{Outside};
+ghost use Rattle.vtext.specs.Readings.{view};
+ghost use Rattle.vtext.specs.Walks.{IsRefusal, Leads, judge, start, word_at};
+
+use crate::cause::Cause;
+use crate::draft::Draft;
+use crate::names::Names;
+use crate::place::Place;
+use crate::steps::{misfit, step};
+use crate::word::{Placed, Word};
+use std::alloc::{AllocError, Global};
+
+/// Why a list of words was refused.
+#[derive(Clone, Copy, Debug, PartialEq, Eq)]
+pub enum Refusal {
+    OutOfMemory,
+    /// The first word that is refused, by its place, and why; past the last word where the list ends too early.
+    Fault(usize, Cause),
+}
+
+impl From<AllocError> for Refusal {
+    ghost use Rattle.std.specs.Prelude.{◌≡◌};
+    ghost use Rattle.vtext.specs.declared.walks.Refusal.TheVariants.{OutOfMemory};
+
+    ghost from_gives = { λ _ refusal. refusal ≡ OutOfMemory };
+
+    fn from(_error: AllocError) -> Refusal {
+        Refusal::OutOfMemory
+    }
+}
+
+/// The word at a place.
+fn word_at(words: &[Placed], place: usize) -> Option<Word>
+    ensures { result ≡ word_at words.now place }
+{
+    match words.get(place) {
+        Some(next) => Some(next.word),
+        None => None,
+    }
+}
+
+/// Where a word leads, or why it is refused.
+fn judge(
+    alloc: Global,
+    default: Option<u32>,
+    names: &Names,
+    draft: &Draft,
+    place: Place,
+    word: Word,
+    after: Option<Word>,
+) -> Result<Result<Place, Cause>, AllocError>
+    requires { (view draft.now).unnamed < 2 ^ 64 - 1 }
+    ensures { IfOk result (λ found. found ≡ judge default names.now (record { place = place; so_far = view draft.now }) word after) }
+{
+    let Some(to) = step(place, word) else {
+        return Ok(Err(misfit(place, word)));
+    };
+    match draft.cause(alloc, default, names, place, word, after)? {
+        Some(cause) => Ok(Err(cause)),
+        None => Ok(Ok(to)),
+    }
+}
+
+/// What a list of words says, or its first fault.
+pub fn walk(
+    alloc: Global,
+    default: Option<u32>,
+    names: &Names,
+    words: &[Placed],
+) -> Result<Draft, Refusal>
+    ensures text { IfOk result (λ draft. Leads default names.now start words.now None (record { place = Outside; so_far = view draft })) }
+    ensures fault { IfErr result (IsRefusal default names.now words.now) }
+{
+    let mut draft = Draft::new(alloc);
+    let mut place = Place::Outside;
+    for i in 0..words.len() {
+        let next = words[i];
+        let after = word_at(words, i + 1);
+        match judge(alloc, default, names, &draft, place, next.word, after)? {
+            Ok(to) => {
+                draft.note(alloc, default, names, place, next)?;
+                place = to;
+            }
+            Err(cause) => return Err(Refusal::Fault(i, cause)),
+        }
+    }
+    match place {
+        Place::Outside => Ok(draft),
+        _ => Err(Refusal::Fault(words.len(), Cause::Syntax)),
+    }
+}
