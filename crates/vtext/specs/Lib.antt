@@ -12,4 +12,5 @@ pub mod Readings
 pub mod Reads
 pub mod Trees
 pub mod Walks
+pub mod Sound
 pub mod Words
