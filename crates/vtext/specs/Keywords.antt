@@ -7,7 +7,7 @@ use Rattle.fourstate.specs.Keywords.{gate_kind_of, net_kind_of}
 use Rattle.vtext.specs.declared.word.Direction.TheVariants.{Input, Output}
 use Rattle.vtext.specs.declared.word.Word.{Word}
 use Rattle.vtext.specs.declared.word.Word.TheVariants.{Module, Endmodule, PortWord, NetWord, GateWord, Name, Misnamed, Open, Close, Comma, Semicolon, Hash, Dot, Colon, OpenBracket, CloseBracket, Refused, Broken}
-use Rattle.vtext.specs.declared.keywords.TheConstants.{MAX_NAME}
+use Rattle.design.specs.declared.limits.TheConstants.{MAX_NAME}
 use Rattle.vtext.specs.Names.{number_of}
 
 -- the words that are refused

@@ -7,10 +7,8 @@ ghost use Rattle.vtext.specs.Keywords.{is_bad_byte, is_misnamed, is_refused, mar
 
 use crate::names::Names;
 use crate::word::{Direction, Word};
+use design::MAX_NAME;
 use fourstate::{GateKind, NetKind};
-
-/// The most bytes of a name.
-pub const MAX_NAME: usize = 1_024;
 
 /// The words of Verilog that are refused.
 const REFUSED: [&str; 85] = [

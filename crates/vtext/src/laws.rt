@@ -1,6 +1,6 @@
 //! Laws of the walk: each contract is the law, and no function gives anything.
 
-ghost use Rattle.std.specs.Prelude.{◌≡◌, ◌<◌, ◌⊎◌, ◌++◌, ℕ, true, List, [], ◌∷◌, Option, None, Some, IsSome, length, map};
+ghost use Rattle.std.specs.Prelude.{◌≡◌, ◌<◌, ◌⊎◌, ◌++◌, ℕ, true, List, [], ◌∷◌, Option, None, Some, IsSome, All, length, map};
 ghost use Rattle.lexing.specs.Texts.{name_bytes};
 ghost use Rattle.lexing.specs.declared.token.Token as tokens;
 ghost use Rattle.vtext.specs.Names.{name_at, number_of};
@@ -8,6 +8,7 @@ ghost use Rattle.vtext.specs.Words.{is_named, names_of};
 ghost use Rattle.vtext.specs.Modules.{ModuleList};
 ghost use Rattle.vtext.specs.Readings.{Reading};
 ghost use Rattle.vtext.specs.Reads.{IsFirstFault, Says};
+ghost use Rattle.vtext.specs.Sound.{IsSoundModule};
 ghost use Rattle.vtext.specs.Trees.{Header, IsModuleAdmitted, Item, Part, after_module, module_then, parts_then};
 ghost use Rattle.vtext.specs.Walks.{IsFault, Leads, Walk, start};
 ghost use Rattle.vtext.specs.declared.cause.Cause as causes;
@@ -74,4 +75,10 @@ pub fn names_are_numbers()
     ensures same { (names : List (List ℕ)) (a b : List ℕ) (n : ℕ) → number_of names a ≡ Some n → number_of names b ≡ Some n → a ≡ b }
     ensures there { (text : List ℕ) (before after : List tokens.Token) (token : tokens.Token) → is_named token.shape ≡ true →
         IsSome (number_of (names_of text (before ++ token ∷ after)) (name_bytes text token)) }
+{}
+
+/// The modules of every text are sound: a design may have their names, nets and gates have different ones, and gates fit their
+/// nets.
+pub fn modules_are_sound()
+    ensures { (default : Option ℕ) (text : List ℕ) (list : ModuleList) → Says default text list → All (IsSoundModule list.names) list.modules }
 {}

@@ -2,6 +2,7 @@
 
 ghost use Rattle.std.specs.Prelude.{◌≡◌, ◌<◌, length, slice_get};
 ghost use Rattle.vtext.specs.Modules.{ModuleEntry};
+ghost use Rattle.vtext.specs.Nets.{net_of};
 
 use crate::gate::Gate;
 use crate::net::Net;
@@ -66,6 +67,13 @@ impl Module {
     {
         let (name, net) = self.nets.get_index(place)?;
         Some((*name, *net))
+    }
+
+    /// What is said of the net of this name, by its number; none where there is no such net.
+    pub fn net(&self, name: u32) -> Option<Net>
+        ensures { result ≡ net_of self.now.nets name }
+    {
+        self.nets.get(&name).copied()
     }
 
     /// The gates in order.

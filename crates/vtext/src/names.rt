@@ -3,6 +3,7 @@
 ghost use Rattle.std.specs.Prelude.{◌≡◌, [], OnOk, OnErr};
 ghost use Rattle.vtext.specs.Names.{name_at, number_of, with_name};
 
+use design::NameHasher;
 use indexmap::IndexSet;
 use std::alloc::{AllocError, Global};
 use std::marker::Model;
@@ -10,7 +11,7 @@ use std::marker::Model;
 /// The names of a text, each once: a name is known by its place, its number. There is room for 4,294,967,296.
 #[derive(Drop)]
 pub struct Names {
-    texts: IndexSet<Vec<u8>>,
+    texts: IndexSet<Vec<u8>, NameHasher>,
 }
 
 impl Model for Names {
@@ -24,12 +25,12 @@ impl Model for Names {
 }
 
 impl Names {
-    /// No names.
-    pub fn new(alloc: Global) -> Names
+    /// No names, to be hashed so.
+    pub fn new(alloc: Global, hasher: NameHasher) -> Names
         ensures { result ≡ [] }
     {
         Names {
-            texts: IndexSet::new(alloc),
+            texts: IndexSet::with_hasher(alloc, hasher),
         }
     }
 

@@ -12,6 +12,7 @@ use crate::fault::{ReadFault, kind_of};
 use crate::module_list::Modules;
 use crate::walks::{Refusal, walk};
 use crate::words::words;
+use design::NameHasher;
 use lexing::{MAX_TEXT, Token, line, tokens};
 use std::alloc::Global;
 
@@ -39,8 +40,13 @@ fn fault_at(text: &[u8], tokens: &[Token], place: usize, cause: Cause) -> ReadFa
 }
 
 /// The modules of a structural Verilog text, or its first fault with its line: the first pass over a design text. `default`
-/// is the delay, in time units, of gate items without one.
-pub fn modules(alloc: Global, text: &[u8], default: Option<u32>) -> Result<Modules, ReadFault>
+/// is the delay, in time units, of gate items without one; the names of the text are hashed by `hasher`.
+pub fn modules(
+    alloc: Global,
+    hasher: NameHasher,
+    text: &[u8],
+    default: Option<u32>,
+) -> Result<Modules, ReadFault>
     // The modules are those that the text says.
     ensures list { IfOk result (Says default text.now) }
     // A fault is the first one of the text, or a growth was refused.
@@ -52,7 +58,7 @@ pub fn modules(alloc: Global, text: &[u8], default: Option<u32>) -> Result<Modul
         return Err(ReadFault::too_long());
     }
     let tokens = tokens(alloc, text)?;
-    let (names, words) = words(alloc, text, tokens.as_slice())?;
+    let (names, words) = words(alloc, hasher, text, tokens.as_slice())?;
     match walk(alloc, default, &names, words.as_slice()) {
         Ok(draft) => Ok(Modules::new(names, draft)),
         Err(Refusal::OutOfMemory) => Err(ReadFault::out_of_memory()),

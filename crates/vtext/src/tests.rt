@@ -4,6 +4,7 @@ use crate::{
     Direction, Gate, Module, Modules, Names, Net, ReadFault, ReadFaultKind, Terminal, gate_name,
     modules,
 };
+use design::NameHasher;
 use edits::EditFault;
 use fourstate::{NetKind, Value};
 use lexing::{MAX_TEXT, Magnitude, TimeUnit, Unit};
@@ -84,7 +85,7 @@ fn add_module(
 // What a text says, or its fault as `line L: C NAME`.
 fn shown(alloc: Global, text: &[u8], default: Option<u32>) -> Result<String, AllocError> {
     let mut shown = String::new(alloc);
-    match modules(alloc, text, default) {
+    match modules(alloc, NameHasher::fixed(), text, default) {
         Ok(read) => {
             for module in read.list() {
                 add_module(alloc, &mut shown, read.names(), module)?;
@@ -281,7 +282,7 @@ fn faults_with_their_lines(rt: HostRuntime) -> Result<(), Fail> {
 fn directives(rt: HostRuntime) -> Result<(), Fail> {
     let alloc = rt.alloc();
     let text = b"`timescale 10 ps/1fs module m; endmodule `timescale 10ps / 10 ps";
-    let Ok(read) = modules(alloc, text, None) else {
+    let Ok(read) = modules(alloc, NameHasher::fixed(), text, None) else {
         return Err(AllocError)?;
     };
     let unit = TimeUnit {
@@ -310,7 +311,7 @@ fn directives(rt: HostRuntime) -> Result<(), Fail> {
 
 // The fault of a text, as its line and kind.
 fn fault_of(alloc: Global, text: &[u8]) -> Option<ReadFault> {
-    match modules(alloc, text, None) {
+    match modules(alloc, NameHasher::fixed(), text, None) {
         Ok(_) => None,
         Err(fault) => Some(fault),
     }
@@ -352,7 +353,7 @@ fn texts_cut_anywhere(rt: HostRuntime) -> Result<(), Fail> {
     let alloc = rt.alloc();
     let lines = [1, 2, 3, 4, 5, 6];
     for end in 0..NETLIST.len() {
-        match modules(alloc, &NETLIST[..end], Some(2)) {
+        match modules(alloc, NameHasher::fixed(), &NETLIST[..end], Some(2)) {
             Ok(read) => assert!(rt; end == 0 && read.list().is_empty()),
             Err(fault) => {
                 assert!(rt; lines.contains(&fault.line), "{end}");

@@ -8,6 +8,7 @@ use crate::keywords::{mark, name_word, plain_word};
 use crate::names::Names;
 use crate::units::{directive_word, first_unit, unit_at};
 use crate::word::{Placed, Word};
+use design::NameHasher;
 use lexing::{Shape, TimeUnit, Token, constant_value, number_value};
 use std::alloc::{AllocError, Global};
 
@@ -34,11 +35,16 @@ impl Names {
 }
 
 /// The names of a text, in the order of their first appearance.
-fn names(alloc: Global, text: &[u8], tokens: &[Token]) -> Result<Names, AllocError>
+fn names(
+    alloc: Global,
+    hasher: NameHasher,
+    text: &[u8],
+    tokens: &[Token],
+) -> Result<Names, AllocError>
     requires { All (IsInside (length text.now)) tokens.now }
     ensures { IfOk result (λ names. names ≡ names_of text.now tokens.now) }
 {
-    let mut names = Names::new(alloc);
+    let mut names = Names::new(alloc, hasher);
     for token in tokens {
         names.add_token(alloc, text, *token)?;
     }
@@ -84,9 +90,10 @@ fn said(
     Ok(words)
 }
 
-/// What the tokens of a text say, each at its place, with the table of its names.
+/// What the tokens of a text say, each at its place, with the table of its names, hashed so.
 pub fn words(
     alloc: Global,
+    hasher: NameHasher,
     text: &[u8],
     tokens: &[Token],
 ) -> Result<(Names, Vec<Placed>), AllocError>
@@ -94,7 +101,7 @@ pub fn words(
     ensures names { IfOk result (λ said. said.0 ≡ names_of text.now tokens.now) }
     ensures words { IfOk result (λ said. said.1.items ≡ words_of text.now tokens.now) }
 {
-    let names = names(alloc, text, tokens)?;
+    let names = names(alloc, hasher, text, tokens)?;
     let words = said(alloc, &names, first_unit(text, tokens), text, tokens)?;
     Ok((names, words))
 }

@@ -1,0 +1,5 @@
+pub mod LateFaults
+pub mod Netlists
+pub mod Parts
+pub mod Reads
+pub mod Tops

@@ -1,0 +1,16 @@
+//! The design that a structural Verilog text spells (IEEE 1364-2005, 12), or the text's fault.
+#![tactic(auto)]
+
+mod build;
+mod gates;
+mod late;
+pub mod laws;
+mod names;
+mod nets;
+mod reading;
+#[cfg(test)]
+mod tests;
+mod units;
+
+pub use reading::read;
+pub use vtext::{ReadFault, ReadFaultKind};

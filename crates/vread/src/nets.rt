@@ -1,0 +1,78 @@
+//! The nets of a design, from those of a module.
+
+ghost use Rattle.std.specs.Prelude.{◌≡◌, ◌+◌, ◌<◌, [], false, true, IfOk, length, map, slice_get, take, Some};
+ghost use Rattle.design.specs.declared.limits.TheConstants.{MAX_NETS};
+ghost use Rattle.design.specs.Netlist.{has_net, new_net, with_net};
+ghost use Rattle.vread.specs.Netlists.{net_entry};
+ghost use Rattle.vread.specs.Parts.{IsFitModule};
+ghost use Rattle.vtext.specs.Nets.{is_input, net_kind};
+
+use crate::names::name_of;
+use design::{Design, Name};
+use fourstate::NetKind;
+use std::alloc::{AllocError, Global};
+use vtext::{Module, Names, Net};
+
+/// The design with the nets of a module, in their order.
+pub fn with_nets(
+    alloc: Global,
+    design: Design,
+    names: &Names,
+    module: &Module,
+) -> Result<Design, AllocError>
+    requires fit { IsFitModule names.now module.now }
+    requires bare { design.netlist.nets ≡ [] }
+    ensures { IfOk result (λ made. made.netlist ≡ record design.netlist { nets = map (net_entry names.now) module.now.nets }) }
+{
+    let mut made = design;
+    for place in 0..module.net_count() {
+        made = with_net_at(alloc, made, names, module, place)?;
+    }
+    Ok(made)
+}
+
+/// The design with the net at a place of a module, after those before it.
+fn with_net_at(
+    alloc: Global,
+    design: Design,
+    names: &Names,
+    module: &Module,
+    place: usize,
+) -> Result<Design, AllocError>
+    requires fit { IsFitModule names.now module.now }
+    requires within { place < length module.now.nets }
+    requires before { design.netlist.nets ≡ map (net_entry names.now) (take place module.now.nets) }
+    ensures { IfOk result (λ made. made.netlist ≡ record design.netlist { nets = map (net_entry names.now) (take (place + 1) module.now.nets) }) }
+{
+    let Some((number, net)) = module.net_at(place) else {
+        unreachable!()
+    };
+    let name = name_of(alloc, names, number)?;
+    with_net(design, name, net)
+}
+
+/// The design with a net more.
+fn with_net(design: Design, name: Name, net: Net) -> Result<Design, AllocError>
+    requires absent { has_net design.netlist name ≡ false }
+    requires room { length design.netlist.nets < MAX_NETS }
+    ensures { IfOk result (λ made. made.netlist ≡ with_net design.netlist (new_net name (net_kind net) (is_input net))) }
+{
+    if net.is_input() {
+        with_input(design, name, net.net_kind())
+    } else {
+        let (design, _key) = design.add_net(name, net.net_kind())?;
+        Ok(design)
+    }
+}
+
+/// The design with an input more.
+fn with_input(design: Design, name: Name, kind: NetKind) -> Result<Design, AllocError>
+    requires absent { has_net design.netlist name ≡ false }
+    requires room { length design.netlist.nets < MAX_NETS }
+    ensures { IfOk result (λ made. made.netlist ≡ with_net design.netlist (new_net name kind true)) }
+{
+    let place = design.net_count();
+    let (design, _key) = design.add_input(name)?;
+    let key = design.net_key_at(place);
+    design.set_net_kind(key, kind)
+}

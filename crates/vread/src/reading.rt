@@ -1,0 +1,27 @@
+//! The design that a text spells, or the text's fault.
+
+ghost use Rattle.std.specs.Prelude.{◌≡◌, ◌⊎◌, IfErr, IfOk};
+ghost use Rattle.vread.specs.Reads.{IsReadFault, Spells};
+ghost use Rattle.vtext.specs.ReadFaults.{out_of_memory};
+
+use crate::build::design_of;
+use design::{Design, NameHasher};
+use std::alloc::Global;
+use vtext::laws::modules_are_sound;
+use vtext::{ReadFault, modules};
+
+/// The design that a text spells, with the horizon 0 and no points; or the text's fault, the first one in the order of
+/// passes, with its line. `default` is the delay, in time units, of gate items without one.
+pub fn read(
+    alloc: Global,
+    hasher: NameHasher,
+    text: &[u8],
+    default: Option<u32>,
+) -> Result<Design, ReadFault>
+    ensures ok { IfOk result (λ design. Spells default text.now design.netlist) }
+    ensures err { IfErr result (λ fault. (fault ≡ out_of_memory) ⊎ IsReadFault default text.now fault) }
+{
+    modules_are_sound();
+    let modules = modules(alloc, hasher, text, default)?;
+    design_of(alloc, hasher, text, &modules)
+}
