@@ -4,9 +4,9 @@ use Rattle.std.specs.Io.{StartsWith}
 use Rattle.std.specs.Io.KnownBytes.{Appends}
 use Rattle.gatestep.specs.Devices.Traffic.{failures_after}
 use Rattle.edits.specs.EditFaults.{fault_code, fault_name}
-use Rattle.session.specs.ReadFaults.{kind_code, kind_name}
 use Rattle.edits.specs.declared.fault.EditFault.{EditFault}
-use Rattle.session.specs.declared.header.ReadFault.{ReadFault}
+use Rattle.vtext.specs.ReadFaults.{kind_code, kind_name}
+use Rattle.vtext.specs.declared.fault.ReadFault.{ReadFault}
 use Rattle.session.specs.declared.SessionFault.{SessionFault}
 use Rattle.session.specs.declared.SessionFault.TheVariants.{Design, Edit, OutOfMemory, WorkerLost, Read, Write}
 

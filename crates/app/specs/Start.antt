@@ -1,8 +1,10 @@
--- What the system gives at the start: the words of the command line, and the file of the design.
+-- What the system gives at the start, the words of the command line and the file of the design, and how a session is opened with them.
 use Rattle.std.specs.declared.io.ErrorKind.{ErrorKind}
 use Rattle.std.specs.declared.io.ErrorKind.TheVariants as kind
+use Rattle.session.specs.declared.Options.{Options}
 use Rattle.session.specs.declared.SessionFault.{SessionFault}
 use Rattle.session.specs.declared.SessionFault.TheVariants.{OutOfMemory, Read}
+use Rattle.app.specs.declared.arguments.Args.{Args}
 use Rattle.app.specs.declared.arguments.ArgsFault.{ArgsFault}
 use Rattle.app.specs.declared.arguments.ArgsFault.TheVariants as words
 
@@ -15,3 +17,7 @@ unread_fault _ = Read
 abbrev pub no_words_fault : ErrorKind → ArgsFault
 no_words_fault kind.OutOfMemory = words.OutOfMemory
 no_words_fault _ = words.Refused
+
+-- how the session is opened
+abbrev pub options_of : Args → Options
+options_of args = record { horizon = args.horizon; delay = args.delay }

@@ -8,7 +8,7 @@ use crate::status::{BROKEN_OFF, DESIGN_REFUSED, ENDED, WORDS_REFUSED};
 use edits::EditFault;
 use gatestep::{Sink, Writer};
 use session::SessionFault;
-use session::header::ReadFault;
+use vtext::ReadFault;
 
 /// Writes a line to `sink` that says why a session broke off or did not open, and answers the status.
 /// It writes nothing where the session ended well, and a write that fails is passed over (own).

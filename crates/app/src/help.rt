@@ -17,12 +17,14 @@ Usage: gatebench DESIGN [--horizon H] [--delay D]
                  and 1000 if it is not given
   --delay D      the delay of gates that the design text writes without one: 1 to 1000000
 
-The design text is an empty module; commands add all else:
+The design text is structural Verilog, one module of nets and gates:
 
-    module m; endmodule
+    module m(input a, output y);
+      not #(2,3) g(y, a);
+    endmodule
 
 Commands come from the standard input, one a line. Each gets its reply on the standard
-output: `ok V`, V being the number of changes so far, or `no CODE NAME`.
+output: `ok V`, V being the number of changes so far, or `no CODE NAME`. Some of them:
 
     input N                   adds an input of the design
     net N KIND                adds a net: wire, tri, wand, triand, wor or trior
@@ -34,11 +36,11 @@ output: `ok V`, V being the number of changes so far, or `no CODE NAME`.
 
 A line that begins with # is a comment. Lines to try:
 
-    input a
-    net y wire
-    gate g not 2 3 y a
     stim a 0 0
     wave y
+    net z wire
+    gate h buf 1 1 z y
+    wave z
     quit
 
 The status is 0 after `quit` or the end of the input, 1 where the design text is refused,

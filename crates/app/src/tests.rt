@@ -7,13 +7,13 @@ use edits::EditFault;
 use gatestep::Device;
 use gatestep::devices::faulty::Failing;
 use session::SessionFault;
-use session::header::{ReadFault, ReadFaultKind};
 use std::alloc::AllocError;
 use std::io;
 use std::io::Write;
 use std::random::RandomSource;
 use std::sync::Wait;
 use std::test::Fail;
+use vtext::{ReadFault, ReadFaultKind};
 
 #[test]
 fn words_are_read(rt: HostRuntime) -> Result<(), Fail> {
@@ -137,7 +137,7 @@ fn a_file_is_simulated(rt: HostRuntime) -> Result<(), Fail> {
         replies.as_slice(),
         b"ok 1\nok 2\n0 x\n4 1\nok 2\nok 2\n".as_slice()
     );
-    let text = Vec::from_slice(rt.alloc(), b"module m; endmodul".as_slice())?;
+    let text = Vec::from_slice(rt.alloc(), b"module m; endmodule m".as_slice())?;
     let (outcome, replies) = simulated(&rt, Ok(text));
     let syntax = ReadFault {
         line: 1,

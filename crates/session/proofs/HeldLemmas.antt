@@ -36,18 +36,18 @@ has_failed : (wf wf' : ℕ) (stopped : Bool) → stopped ≡ true → wf' ≡ fa
 has_failed wf wf' stopped e is = is ∙ ap (failures_after wf) e
 
 -- a session that has quit had answered all that the source had to give
-quit_all : (first : SessionState) (had has before after : Option (List ℕ)) (text out : List ℕ) → HasQuit first text out → Consumes had has text → Appends before after out → AnswersAll (Some first) had before after
+quit_all : (first : SessionState) (had has before after : Option (List ℕ)) (text out : List ℕ) → HasQuit first text out → Consumes had has text → Appends before after out → AnswersAll first had before after
 quit_all first None has before after text out quit consumed written =
-    record { first = first; opened = refl; input = text ++ []; all = tt; out = out; transcript = quit []; written = written }
+    record { input = text ++ []; all = tt; out = out; transcript = quit []; written = written }
 quit_all first (Some bytes) None before after text out quit consumed written = absurd consumed
 quit_all first (Some bytes) (Some rest) before after text out quit consumed written =
-    record { first = first; opened = refl; input = text ++ rest; all = sym consumed; out = out; transcript = quit rest; written = written }
+    record { input = text ++ rest; all = sym consumed; out = out; transcript = quit rest; written = written }
 
 pub held : (e : End) (first : SessionState) (had has : Option (List ℕ)) (rf rf' : ℕ) (before after : Option (List ℕ)) (wf wf' : ℕ) (r : Incoming) (w : Outgoing)
     → Devices had has rf rf' before after wf wf' r w (read_failures (Some e)) → Ends e first r w → Held e first had has rf rf' before after wf wf'
 held end.Input first had has rf rf' before after wf wf' r w d ends =
     let P : Option (List ℕ) → Type 0 = λ h. IsAllOf h r.text in (
-      record { first = first; opened = refl; input = r.text; all = subst P d.had_is ends.0; out = w.text; transcript = ends.1; written = written_text w before after ends.2 d.before_is d.written },
+      record { input = r.text; all = subst P d.had_is ends.0; out = w.text; transcript = ends.1; written = written_text w before after ends.2 d.before_is d.written },
       omega (arith, d.read_failed),
       not_failed wf wf' w.stopped ends.2.goes_on d.write_failed,
     )
@@ -59,14 +59,14 @@ held end.Quit first had has rf rf' before after wf wf' r w d ends =
     )
 held end.ReadFailed first had has rf rf' before after wf wf' r w d ends =
     let P : Option (List ℕ) → Type 0 = λ h. Consumes h has r.text in (
-      record { first = first; opened = refl; input = r.text; read = subst P d.had_is d.consumed; out = w.text; transcript = ends.0; written = written_text w before after ends.1 d.before_is d.written },
+      record { input = r.text; read = subst P d.had_is d.consumed; out = w.text; transcript = ends.0; written = written_text w before after ends.1 d.before_is d.written },
       d.read_failed,
       not_failed wf wf' w.stopped ends.1.goes_on d.write_failed,
     )
 held end.WriteFailed first had has rf rf' before after wf wf' r w d ends =
     let P : Option (List ℕ) → Type 0 = λ h. Consumes h has r.text in
     let Q : Option (List ℕ) → Type 0 = λ b. Appends b after w.gone in (
-      record { first = first; opened = refl; input = r.text; read = subst P d.had_is d.consumed; out = ends.out; transcript = ends.transcript; gone = w.gone; beginning = ends.beginning; written = subst Q d.before_is d.written },
+      record { input = r.text; read = subst P d.had_is d.consumed; out = ends.out; transcript = ends.transcript; gone = w.gone; beginning = ends.beginning; written = subst Q d.before_is d.written },
       omega (arith, d.read_failed),
       has_failed wf wf' w.stopped ends.stopped d.write_failed,
     )

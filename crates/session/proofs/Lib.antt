@@ -1,7 +1,7 @@
 pub mod RunLemmas
+pub mod OpeningLemmas
 pub mod HeldLemmas
 pub mod ExchangeLemmas
-pub mod HeaderLemmas
 pub mod AnswerLemmas
 pub mod LineLemmas
 pub mod PinLemmas

@@ -9,7 +9,5 @@ pub mod Refused
 pub mod State
 pub mod Transcripts
 pub mod Talk
-pub mod Header
 pub mod Opening
-pub mod ReadFaults
 pub mod Held

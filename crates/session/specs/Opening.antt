@@ -1,46 +1,53 @@
 -- How a session opens.
-use Rattle.std.specs.Prelude.{ℕ, nat_lt, if◌then◌else◌, List, Option, Some, None, option_map, is_none}
+use Rattle.std.specs.Prelude.{◌≡◌, ◌≤◌, ◌<◌, ℕ, List, Option}
 use Rattle.fourstate.specs.declared.limits.TheConstants.{MAX_TIME}
-use Rattle.design.specs.declared.unit.TimeUnit.{TimeUnit}
-use Rattle.design.specs.declared.unit.Magnitude.TheVariants.{One}
-use Rattle.design.specs.declared.unit.Unit.TheVariants.{Nanosecond}
-use Rattle.design.specs.Netlist.{Netlist, empty_netlist, with_horizon}
-use Rattle.edits.specs.declared.fault.EditFault.TheVariants.{TimeTooLarge}
+use Rattle.design.specs.Netlist.{Netlist, with_horizon}
+use Rattle.edits.specs.declared.fault.EditFault.TheVariants as edit
+use Rattle.vread.specs.Reads.{IsReadFault, Spells}
+use Rattle.vtext.specs.declared.fault.ReadFault.{ReadFault}
+use Rattle.vtext.specs.declared.fault.ReadFaultKind.{ReadFaultKind}
+use Rattle.vtext.specs.declared.fault.ReadFaultKind.TheVariants as read
 use Rattle.session.specs.declared.fault.SessionFault.{SessionFault}
 use Rattle.session.specs.declared.fault.SessionFault.TheVariants as fault
-use Rattle.session.specs.declared.header.fault.ReadFaultKind.TheVariants.{Syntax}
-use Rattle.session.specs.Header.{header_name}
+use Rattle.session.specs.declared.open.Options.{Options}
 use Rattle.session.specs.State.{SessionState}
 
--- the default unit, 1 ns
-abbrev pub default_unit : TimeUnit
-default_unit = record { magnitude = One; unit = Nanosecond }
+-- A session opens in this state: version 0, and the design that the text spells, up to the horizon.
+pub record Opens (text : List ℕ) (options : Options) (first : SessionState) : Type 0 where
+  pub spelled : Netlist
+  pub spells : Spells options.delay text spelled
+  pub within : options.horizon ≤ MAX_TIME
+  pub state : first ≡ record { version = 0; netlist = with_horizon spelled options.horizon }
 
--- the design that a text of this name opens with
-abbrev pub opening_netlist : List ℕ → ℕ → Netlist
-opening_netlist name horizon = with_horizon (empty_netlist name default_unit) horizon
+-- a session opens in a state of which this holds
+abbrev pub FromOpening : List ℕ → Options → (SessionState → Type 0) → Type 0
+FromOpening text options P = (first : SessionState) × Opens text options first × P first
 
--- the state in which a session opens: version 0, and the design that the text spells, up to the horizon
-abbrev pub opening_state : List ℕ → ℕ → SessionState
-opening_state name horizon = record { version = 0; netlist = opening_netlist name horizon }
+-- the text spells a design, and the horizon is over the limit
+pub record IsHorizonOver (text : List ℕ) (options : Options) : Type 0 where
+  pub spelled : Netlist
+  pub spells : Spells options.delay text spelled
+  pub over : MAX_TIME < options.horizon
 
-abbrev pub opening : List ℕ → ℕ → Option SessionState
-opening text horizon = option_map (λ name. opening_state name horizon) (header_name text)
+-- what a fault of this kind of a text gives
+abbrev pub fault_by : ReadFaultKind → ReadFault → SessionFault
+fault_by (read.Edit edit.OutOfMemory) f = fault.OutOfMemory
+fault_by kind f = fault.Design f
 
--- why a session does not open, if it does not: the text first, then the horizon
-abbrev pub opening_fault : List ℕ → ℕ → Option SessionFault
-opening_fault text horizon =
-    if is_none (header_name text) then Some (fault.Design (record { line = 1; kind = Syntax }))
-    else (if nat_lt MAX_TIME horizon then Some (fault.Edit TimeTooLarge) else None)
+-- why a text opens no session
+abbrev pub IsTextRefused : Option ℕ → List ℕ → SessionFault → Type 0
+IsTextRefused delay text (fault.Design f) = IsReadFault delay text f
+IsTextRefused delay text fault.OutOfMemory = Unit {0}
+IsTextRefused delay text _ = ⊥
 
--- the fault tells neither of the text nor of the horizon
-abbrev pub IsLater : SessionFault → Type 0
-IsLater (fault.Design f) = ⊥
-IsLater (fault.Edit f) = ⊥
-IsLater fault.OutOfMemory = Unit {0}
-IsLater fault.WorkerLost = Unit {0}
-IsLater fault.Read = Unit {0}
-IsLater fault.Write = Unit {0}
+-- Why a session does not open: the text first, then the horizon. A growth may be refused, or a worker lost.
+abbrev pub Refuses : List ℕ → Options → SessionFault → Type 0
+Refuses text options (fault.Design f) = IsReadFault options.delay text f
+Refuses text options (fault.Edit f) = (f ≡ edit.TimeTooLarge) × IsHorizonOver text options
+Refuses text options fault.OutOfMemory = Unit {0}
+Refuses text options fault.WorkerLost = Unit {0}
+Refuses text options fault.Read = ⊥
+Refuses text options fault.Write = ⊥
 
 -- the fault comes at the opening
 abbrev pub IsOpeningFault : SessionFault → Type 0

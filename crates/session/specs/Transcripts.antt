@@ -1,18 +1,16 @@
 -- What a session wrote for what it read (own). Where a device's bytes are not known, these say that there are such bytes.
-use Rattle.std.specs.Prelude.{◌≡◌, ℕ, List, Option, Some}
+use Rattle.std.specs.Prelude.{ℕ, List, Option}
 use Rattle.std.specs.Io.{StartsWith}
 use Rattle.std.specs.Io.KnownBytes.{Appends, Consumes}
 use Rattle.gatestep.specs.Devices.Incoming.{IsAllOf}
 use Rattle.session.specs.Lines.{lines, whole_lines}
 use Rattle.session.specs.State.{SessionState, Transcript}
 
--- Below, `opening` is the state in which a session opens, if it does; `had` and `has` are what the source has to give before and after, and
+-- Below, `first` is the state in which a session opens; `had` and `has` are what the source has to give before and after, and
 -- `before` and `after` what the sink holds.
 
 -- all that the source had to give was answered, up to and with the line that ends the session
-pub record AnswersAll (opening : Option SessionState) (had before after : Option (List ℕ)) : Type 0 where
-  pub first : SessionState
-  pub opened : opening ≡ Some first
+pub record AnswersAll (first : SessionState) (had before after : Option (List ℕ)) : Type 0 where
   pub input : List ℕ
   pub all : IsAllOf had input
   pub out : List ℕ
@@ -20,9 +18,7 @@ pub record AnswersAll (opening : Option SessionState) (had before after : Option
   pub written : Appends before after out
 
 -- all whole lines that were read were answered
-pub record AnswersWholeLines (opening : Option SessionState) (had has before after : Option (List ℕ)) : Type 0 where
-  pub first : SessionState
-  pub opened : opening ≡ Some first
+pub record AnswersWholeLines (first : SessionState) (had has before after : Option (List ℕ)) : Type 0 where
   pub input : List ℕ
   pub read : Consumes had has input
   pub out : List ℕ
@@ -30,9 +26,7 @@ pub record AnswersWholeLines (opening : Option SessionState) (had has before aft
   pub written : Appends before after out
 
 -- an exact beginning of the answers to what was read was written
-pub record AnswersPartly (opening : Option SessionState) (had has before after : Option (List ℕ)) : Type 0 where
-  pub first : SessionState
-  pub opened : opening ≡ Some first
+pub record AnswersPartly (first : SessionState) (had has before after : Option (List ℕ)) : Type 0 where
   pub input : List ℕ
   pub read : Consumes had has input
   pub out : List ℕ

@@ -1,8 +1,8 @@
 //! Why a session did not open, or broke off.
 
-use crate::header::ReadFault;
 use edits::EditFault;
 use thiserror::Error;
+use vtext::ReadFault;
 
 /// Why a session did not open, or broke off.
 #[derive(Clone, Copy, Debug, PartialEq, Eq, Error)]

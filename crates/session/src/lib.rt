@@ -3,7 +3,6 @@
 
 mod commands;
 mod fault;
-pub mod header;
 #[cfg(test)]
 mod lost_worker;
 mod machine;

@@ -1,31 +1,34 @@
 //! The opening of a session.
 
-ghost use Rattle.std.specs.Prelude.{◌≡◌, ◌≤◌, ◌+◌, [], true, None, Some, IfErr, IfOk, IsErrOf, OnOk, ◌⊎◌};
+ghost use Rattle.std.specs.Prelude.{◌≡◌, ◌≤◌, ◌<◌, ◌+◌, [], IfErr, IfOk, IsErrOf, OnOk};
 ghost use Rattle.fourstate.specs.declared.limits.TheConstants.{MAX_TIME};
 ghost use Rattle.gatestep.specs.Step.{advance};
-ghost use Rattle.session.specs.Header.{is_plain_name};
+ghost use Rattle.design.specs.Netlist.{with_horizon};
+ghost use Rattle.vread.specs.Reads.{Spells};
 ghost use Rattle.session.specs.Held.{outcome_of};
-ghost use Rattle.session.specs.Opening.{IsOpeningFault, IsLater, opening, opening_fault, opening_state};
+ghost use Rattle.session.specs.Opening.{FromOpening, IsOpeningFault, IsTextRefused, Opens, Refuses, fault_by};
 ghost use Rattle.session.specs.Transcripts.{AnswersAll, AnswersPartly, AnswersWholeLines};
 
 use crate::fault::SessionFault;
-use crate::header::{ReadFault, ReadFaultKind, empty_design, module_name};
 use crate::machine::Machine;
 use crate::talk::{End, Line, Session, hold};
-use design::NameHasher;
+use design::{Design, NameHasher};
 use edits::EditFault;
 use fourstate::MAX_TIME;
 use gatestep::{Sink, Source, StepFault, Stepper};
 use std::alloc::Global;
 use std::random::RandomSource;
 use std::sync::Wait;
+use vread::read;
+use vtext::{ReadFault, ReadFaultKind};
 
 /// How a session is opened.
 #[derive(Clone, Copy, Debug, PartialEq, Eq)]
 pub struct Options {
     /// The last moment of the runs, in time units, at most `MAX_TIME`.
     pub horizon: u64,
-    /// The delay of gates that the design text writes without one, in time units. It has no use yet.
+    /// The delay of gates that the design text writes without one, in time units, 1 to `MAX_DELAY`. Without it such a gate
+    /// is a fault of the text.
     pub delay: Option<u32>,
 }
 
@@ -43,24 +46,21 @@ pub fn run<T: Wait + RandomSource, R: Source, W: Sink, S: Stepper + Drop>(
 ) -> Result<(), SessionFault>
     requires { S.answer ≡ advance }
     // Every line was answered, up to and with `quit`, and neither device failed.
-    ensures ok { OnOk result (AnswersAll (opening design.now options.now.horizon) (R.remaining source.old) (W.contents sink.old) (W.contents sink.new)
+    ensures ok { OnOk result (FromOpening design.now options.now (λ first. AnswersAll first (R.remaining source.old) (W.contents sink.old) (W.contents sink.new))
         × (R.failures source.new ≡ R.failures source.old) × (W.failures sink.new ≡ W.failures sink.old)) }
     // The source failed once, and the whole lines before were answered.
     ensures read { IsErrOf result SessionFault.Read →
-        AnswersWholeLines (opening design.now options.now.horizon) (R.remaining source.old) (R.remaining source.new) (W.contents sink.old) (W.contents sink.new)
+        FromOpening design.now options.now (λ first. AnswersWholeLines first (R.remaining source.old) (R.remaining source.new) (W.contents sink.old) (W.contents sink.new))
         × (R.failures source.new ≡ R.failures source.old + 1) × (W.failures sink.new ≡ W.failures sink.old) }
     // The sink failed once, and an exact beginning of the replies went out.
     ensures write { IsErrOf result SessionFault.Write →
-        AnswersPartly (opening design.now options.now.horizon) (R.remaining source.old) (R.remaining source.new) (W.contents sink.old) (W.contents sink.new)
+        FromOpening design.now options.now (λ first. AnswersPartly first (R.remaining source.old) (R.remaining source.new) (W.contents sink.old) (W.contents sink.new))
         × (R.failures source.new ≡ R.failures source.old) × (W.failures sink.new ≡ W.failures sink.old + 1) }
-    // A text of another form or a horizon over the limit gives its fault, and nothing else does.
-    ensures refused { (fault : SessionFault) → opening_fault design.now options.now.horizon ≡ Some fault → result ≡ Err fault }
-    ensures accepted { opening_fault design.now options.now.horizon ≡ None → IfErr result IsLater }
-    // A session that does not open reads and writes nothing.
-    ensures unopened { IfErr result (λ fault. IsOpeningFault fault → (source.new ≡ source.old) × (sink.new ≡ sink.old)) }
+    // A session that does not open reads and writes nothing. The text is refused by its fault, and then a horizon over the limit.
+    ensures unopened { IfErr result (λ fault. IsOpeningFault fault → Refuses design.now options.now fault × (source.new ≡ source.old) × (sink.new ≡ sink.old)) }
 {
     let names = NameHasher::new(rt);
-    let mut session = open(alloc, names, design, options.horizon, stepper)?;
+    let mut session = open(alloc, names, design, options, stepper)?;
     let end = hold(rt, &mut session, source, sink);
     outcome(end)
 }
@@ -78,45 +78,81 @@ fn outcome(end: End) -> Result<(), SessionFault>
 fn open<S: Stepper + Drop>(
     alloc: Global,
     names: NameHasher,
-    design: &[u8],
-    horizon: u64,
+    text: &[u8],
+    options: &Options,
     stepper: S,
 ) -> Result<Session<S>, SessionFault>
     requires { S.answer ≡ advance }
-    ensures state { IfOk result (λ session. (session.line ≡ []) × (opening design.now horizon ≡ Some session.machine)) }
-    ensures accepted { OnOk result (opening_fault design.now horizon ≡ None) }
-    ensures refused { IfErr result (λ fault. (opening_fault design.now horizon ≡ Some fault) ⊎ ((opening_fault design.now horizon ≡ None) × IsLater fault × IsOpeningFault fault)) }
+    ensures state { IfOk result (λ session. (session.line ≡ []) × Opens text.now options.now session.machine) }
+    ensures refused { IfErr result (λ fault. IsOpeningFault fault × Refuses text.now options.now fault) }
 {
-    let Some(name) = module_name(design) else {
-        return Err(SessionFault::Design(ReadFault {
-            line: 1,
-            kind: ReadFaultKind::Syntax,
-        }));
-    };
-    if horizon > MAX_TIME {
-        return Err(SessionFault::Edit(EditFault::TimeTooLarge));
-    }
-    match start(alloc, names, name, horizon, stepper) {
+    let design = opened(alloc, names, text, options)?;
+    match start(alloc, design, stepper) {
         Ok(session) => Ok(session),
         Err(StepFault::OutOfMemory) => Err(SessionFault::OutOfMemory),
         Err(StepFault::WorkerLost) => Err(SessionFault::WorkerLost),
     }
 }
 
-fn start<S: Stepper + Drop>(
+// The design that a text spells, up to the horizon.
+fn opened(
     alloc: Global,
     names: NameHasher,
-    name: &[u8],
-    horizon: u64,
+    text: &[u8],
+    options: &Options,
+) -> Result<Design, SessionFault>
+    ensures state { IfOk result (λ design. Opens text.now options.now (record { version = 0; netlist = design.netlist })) }
+    ensures refused { IfErr result (λ fault. IsOpeningFault fault × Refuses text.now options.now fault) }
+{
+    let design = spelled(alloc, names, text, options.delay)?;
+    up_to(design, options.horizon)
+}
+
+fn spelled(
+    alloc: Global,
+    names: NameHasher,
+    text: &[u8],
+    delay: Option<u32>,
+) -> Result<Design, SessionFault>
+    ensures design { IfOk result (λ design. Spells delay text.now design.netlist) }
+    ensures refused { IfErr result (IsTextRefused delay text.now) }
+{
+    match read(alloc, names, text, delay) {
+        Ok(design) => Ok(design),
+        Err(fault) => Err(text_fault(fault)),
+    }
+}
+
+fn text_fault(fault: ReadFault) -> SessionFault
+    ensures { result ≡ fault_by fault.kind fault }
+{
+    match fault.kind {
+        ReadFaultKind::Edit(EditFault::OutOfMemory) => SessionFault::OutOfMemory,
+        _ => SessionFault::Design(fault),
+    }
+}
+
+fn up_to(design: Design, horizon: u64) -> Result<Design, SessionFault>
+    ensures within { OnOk result (horizon ≤ MAX_TIME) }
+    ensures design { IfOk result (λ made. made.netlist ≡ with_horizon design.netlist horizon) }
+    ensures over { IfErr result (λ fault. (fault ≡ SessionFault.Edit EditFault.TimeTooLarge) × (MAX_TIME < horizon)) }
+{
+    if horizon > MAX_TIME {
+        Err(SessionFault::Edit(EditFault::TimeTooLarge))
+    } else {
+        Ok(design.set_horizon(horizon))
+    }
+}
+
+fn start<S: Stepper + Drop>(
+    alloc: Global,
+    design: Design,
     stepper: S,
 ) -> Result<Session<S>, StepFault>
-    requires answer { S.answer ≡ advance }
-    requires plain { is_plain_name name.now ≡ true }
-    requires within { horizon ≤ MAX_TIME }
-    ensures { IfOk result (λ session. (session.line ≡ []) × (session.machine ≡ opening_state name.now horizon)) }
+    requires { S.answer ≡ advance }
+    ensures { IfOk result (λ session. (session.line ≡ []) × (session.machine ≡ record { version = 0; netlist = design.netlist })) }
 {
     let line = Line::new(alloc)?;
-    let design = empty_design(alloc, names, name, horizon)?;
     let machine = Machine::open(alloc, design, stepper)?;
     Ok(Session { line, machine })
 }

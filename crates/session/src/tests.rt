@@ -2,8 +2,8 @@ ghost use Rattle.std.specs.Prelude.{◌<◌};
 
 mod changes;
 mod questions;
+mod texts;
 
-use crate::header::{ReadFault, ReadFaultKind};
 use crate::{Options, SessionFault, run};
 use edits::EditFault;
 use gatestep::devices::faulty::{Failing, Pieces};
@@ -22,12 +22,24 @@ fn up_to(horizon: u64) -> Options {
     }
 }
 
-// What a session writes for this input, in pieces of so many bytes.
+// What a session writes for this input.
 fn answered(
     rt: &(impl Wait + RandomSource),
     alloc: Global,
     design: &[u8],
     horizon: u64,
+    input: &[u8],
+) -> (Result<(), SessionFault>, Vec<u8>) {
+    opened(rt, alloc, design, horizon, None, input)
+}
+
+// The same of a text with gates that have this delay where it writes none.
+fn opened(
+    rt: &(impl Wait + RandomSource),
+    alloc: Global,
+    design: &[u8],
+    horizon: u64,
+    delay: Option<u32>,
     input: &[u8],
 ) -> (Result<(), SessionFault>, Vec<u8>) {
     let mut source = Device::new(input);
@@ -36,7 +48,7 @@ fn answered(
         rt,
         alloc,
         design,
-        &up_to(horizon),
+        &Options { horizon, delay },
         &mut source,
         &mut sink,
         Serial::new(),
@@ -238,52 +250,6 @@ fn lines_that_are_too_long(rt: HostRuntime) -> Result<(), Fail> {
     Ok(())
 }
 
-const SYNTAX: SessionFault = SessionFault::Design(ReadFault {
-    line: 1,
-    kind: ReadFaultKind::Syntax,
-});
-
-#[test]
-fn design_texts(rt: HostRuntime) {
-    for text in [
-        b"module m;endmodule".as_slice(),
-        b" \t\x0c\r\n module\n_a$1 \t; endmodule\n".as_slice(),
-        b"module wire; endmodule".as_slice(),
-        b"module Module; endmodule".as_slice(),
-    ] {
-        let (result, replies) = answered(&rt, rt.alloc(), text, 0, b"quit");
-        assert_eq!(rt; result, Ok(()));
-        assert_eq!(rt; replies.as_slice(), b"ok 0\n".as_slice());
-    }
-    for text in [
-        b"".as_slice(),
-        b"module m; endmodul".as_slice(),
-        b"modulem; endmodule".as_slice(),
-        b"module 1; endmodule".as_slice(),
-        b"module ; endmodule".as_slice(),
-        b"module module; endmodule".as_slice(),
-        b"module endmodule; endmodule".as_slice(),
-        b"module m endmodule".as_slice(),
-        b"module m; endmodule x".as_slice(),
-        b"module m;\x0bendmodule".as_slice(),
-        b"module m-n; endmodule".as_slice(),
-    ] {
-        let (result, replies) = answered(&rt, rt.alloc(), text, 0, b"quit");
-        assert_eq!(rt; result, Err(SYNTAX));
-        assert_eq!(rt; replies.as_slice(), b"".as_slice());
-    }
-}
-
-#[test]
-fn horizons(rt: HostRuntime) {
-    let fault = Err(SessionFault::Edit(EditFault::TimeTooLarge));
-    let (result, replies) = answered(&rt, rt.alloc(), EMPTY, 1_000_000_001, b"quit");
-    assert_eq!(rt; result, fault);
-    assert_eq!(rt; replies.as_slice(), b"".as_slice());
-    let (text_first, _) = answered(&rt, rt.alloc(), b"x", 1_000_000_001, b"quit");
-    assert_eq!(rt; text_first, Err(SYNTAX));
-}
-
 #[test]
 fn codes_and_names(rt: HostRuntime) {
     assert_eq!(rt; EditFault::UnknownNet.code(), 1);
@@ -292,10 +258,5 @@ fn codes_and_names(rt: HostRuntime) {
     assert_eq!(rt;
         EditFault::NoSuchPoint.name().as_bytes(),
         b"NoSuchPoint".as_slice()
-    );
-    assert_eq!(rt; ReadFaultKind::Syntax.code(), 2);
-    assert_eq!(rt;
-        ReadFaultKind::Syntax.name().as_bytes(),
-        b"Syntax".as_slice()
     );
 }
