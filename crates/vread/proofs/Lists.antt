@@ -29,9 +29,6 @@ pub one_more : {X Y : Type 0} (f : X → Y) (xs : List X) (k : ℕ) (x : X) → 
 one_more f xs k x e = rw add-one (one_more_suc f xs k x e)
 
 -- a change of what passes changes the last one alone, where none of the others passes
-change_one : {X : Type 0} (p : X → Bool) (h : X → X) (x : X) (b : Bool) → p x ≡ b → b ≡ false → (if p x then h x else x) ≡ x
-change_one p h x b e f = rw (e, f) refl
-
 pub change_last : {X : Type 0} (p : X → Bool) (h : X → X) (xs : List X) (y : X) → list_any p xs ≡ false → p y ≡ true → map (λ x. if p x then h x else x) (xs ++ y ∷ []) ≡ xs ++ h y ∷ []
 change_last p h [] y none here = rw here refl
 change_last p h (x ∷ xs) y none here =
@@ -39,7 +36,7 @@ change_last p h (x ∷ xs) y none here =
     let rest = change_last p h xs y parts.1 here in
     rw (parts.0, rest) refl
 
--- the first in the list is at its place
+-- the last one is at its place
 pub last_at : {X : Type 0} (xs : List X) (y : X) → slice_get (xs ++ y ∷ []) (length xs) ≡ Some y
 last_at [] y = refl
 last_at (x ∷ xs) y = last_at xs y

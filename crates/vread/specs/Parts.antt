@@ -1,5 +1,6 @@
 -- What may be made of a module: its nets and gates, one after another.
 use Rattle.std.specs.Prelude.{◌≡◌, ◌≤◌, ℕ, false, IsTrue, List, length, All}
+use Rattle.std.specs.List.{list_any}
 use Rattle.fourstate.specs.Delays.{AreDelays}
 use Rattle.fourstate.specs.Gates.{takes_inputs}
 use Rattle.design.specs.declared.limits.TheConstants.{MAX_GATES, MAX_NETS}
@@ -10,7 +11,6 @@ use Rattle.vtext.specs.GateNames.{gate_bytes}
 use Rattle.vtext.specs.Modules.{GateEntry, ModuleEntry}
 use Rattle.vtext.specs.Names.{name_at}
 use Rattle.vtext.specs.Sound.{IsSoundModule}
-use Rattle.std.specs.List.{list_any}
 use Rattle.vread.specs.LateFaults.{drives_input, is_long_named}
 
 -- the name of this number is one that a design may have
