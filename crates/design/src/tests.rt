@@ -30,7 +30,11 @@ fn add_net(
     text: &str,
 ) -> Result<(Design, NetKey), Fail> {
     let name = name(rt, alloc, text)?;
-    assert!(rt; !design.has_net(name.as_str()), "{text}");
+    put_net(rt, design, name)
+}
+
+fn put_net(rt: &impl Abort, design: Design, name: Name) -> Result<(Design, NetKey), Fail> {
+    assert!(rt; !design.has_net(name.as_str()));
     assert!(rt; design.net_count() < MAX_NETS);
     Ok(design.add_net(name, NetKind::Tri)?)
 }

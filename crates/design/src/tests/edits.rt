@@ -4,7 +4,7 @@ use super::{
     add_gate, add_input, add_net, check_drivers, check_fanout, check_net, check_stimulus, empty,
     gate, name, nets_read, set_point,
 };
-use crate::{Design, GateKey, NetKey, Terminal};
+use crate::{Design, GateKey, Name, NetKey, Terminal};
 use fourstate::{Delays, GateKind, NetKind, Value, delay, fits};
 use std::alloc::Global;
 use std::process::Abort;
@@ -42,11 +42,9 @@ pub fn rewire(
     rt: &impl Abort,
     design: Design,
     gate: GateKey,
-    output: &str,
+    output: Name,
     inputs: Vec<Terminal>,
-    alloc: Global,
 ) -> Result<Design, Fail> {
-    let output = name(rt, alloc, output)?;
     assert!(rt; design.has_gate_key(gate));
     assert!(rt; fits(design.gate_of(gate).kind(), inputs.len()));
     assert!(rt; design.is_drivable(output.as_str()));
@@ -83,16 +81,18 @@ fn removed_gate(rt: HostRuntime) -> Result<(), Fail> {
 #[test]
 fn gate_moved_and_moved_back(rt: HostRuntime) -> Result<(), Fail> {
     let alloc = rt.alloc();
+    let z = name(&rt, alloc, "z")?;
+    let other = nets_read(&rt, alloc, &["b"])?;
+    let y = name(&rt, alloc, "y")?;
+    let back = nets_read(&rt, alloc, &["a"])?;
     let (design, [g, h, i]) = three_readers(&rt, alloc)?;
     let (design, _) = add_net(&rt, alloc, design, "z")?;
-    let other = nets_read(&rt, alloc, &["b"])?;
-    let design = rewire(&rt, design, h, "z", other, alloc)?;
+    let design = rewire(&rt, design, h, z, other)?;
     check_fanout(&rt, &design, net_key(&rt, &design, "a"), &[g, i]);
     check_fanout(&rt, &design, net_key(&rt, &design, "b"), &[h]);
     check_drivers(&rt, &design, net_key(&rt, &design, "y"), &[g, i]);
     check_drivers(&rt, &design, net_key(&rt, &design, "z"), &[h]);
-    let back = nets_read(&rt, alloc, &["a"])?;
-    let design = rewire(&rt, design, h, "y", back, alloc)?;
+    let design = rewire(&rt, design, h, y, back)?;
     check_fanout(&rt, &design, net_key(&rt, &design, "a"), &[g, h, i]);
     check_fanout(&rt, &design, net_key(&rt, &design, "b"), &[]);
     check_drivers(&rt, &design, net_key(&rt, &design, "y"), &[g, h, i]);

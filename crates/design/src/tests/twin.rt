@@ -3,8 +3,8 @@
 ghost use Rattle.std.specs.Prelude.{◌<◌};
 
 use super::edits::{remove_gate, remove_net, rewire};
-use super::{add_gate, add_net, empty, gate, nets_read};
-use crate::{Design, GateKey};
+use super::{add_gate, empty, gate, name, nets_read, put_net};
+use crate::{Design, Gate, GateKey, Name, NetKey, Terminal};
 use fourstate::GateKind;
 use std::alloc::Global;
 use std::process::Abort;
@@ -69,64 +69,98 @@ impl Plain {
         self.gates.iter().any(|gate| gate.uses(net))
     }
 
+    fn put(&mut self, wanted: PlainGate) {
+        for kept in &mut self.gates {
+            if kept.name == wanted.name {
+                *kept = wanted;
+            }
+        }
+    }
+
     fn fits(&self, gate: &PlainGate) -> bool {
         self.has_net(gate.output) && self.has_net(gate.inputs[0]) && self.has_net(gate.inputs[1])
     }
 }
 
-fn edit_net(
-    rt: &impl Abort,
-    alloc: Global,
-    design: Design,
-    plain: &mut Plain,
-    name: &'static str,
-) -> Result<Design, Fail> {
-    if !plain.has_net(name) {
-        plain.nets.push(name)?;
-        let (design, _) = add_net(rt, alloc, design, name)?;
-        return Ok(design);
-    }
-    let net = design.net(name).expect(rt, "a net of this name");
-    assert!(rt; design.has_net_key(net));
-    assert_eq!(rt; design.is_used(net), plain.uses(name));
-    if plain.uses(name) {
-        return Ok(design);
-    }
-    plain.nets.retain(|kept| *kept != name);
-    remove_net(rt, design, net)
+/// What a turn does to a design.
+#[derive(Drop)]
+enum Step {
+    Nothing,
+    AddNet(Name),
+    RemoveNet(NetKey),
+    AddGate(Gate),
+    RemoveGate(GateKey),
+    Rewire(GateKey, Name, Vec<Terminal>),
 }
 
-fn edit_gate(
+fn net_step(
     rt: &impl Abort,
     alloc: Global,
-    design: Design,
+    design: &Design,
+    plain: &mut Plain,
+    text: &'static str,
+) -> Result<Step, Fail> {
+    if !plain.has_net(text) {
+        plain.nets.push(text)?;
+        return Ok(Step::AddNet(name(rt, alloc, text)?));
+    }
+    let net = design.net(text).expect(rt, "a net of this name");
+    assert!(rt; design.has_net_key(net));
+    assert_eq!(rt; design.is_used(net), plain.uses(text));
+    if plain.uses(text) {
+        return Ok(Step::Nothing);
+    }
+    plain.nets.retain(|kept| *kept != text);
+    Ok(Step::RemoveNet(net))
+}
+
+fn gate_step(
+    rt: &impl Abort,
+    alloc: Global,
+    design: &Design,
     plain: &mut Plain,
     wanted: PlainGate,
     removes: bool,
-) -> Result<Design, Fail> {
+) -> Result<Step, Fail> {
     let there = plain.has_gate(wanted.name);
     if there && removes {
         plain.gates.retain(|kept| kept.name != wanted.name);
         let key = design.gate(wanted.name).expect(rt, "a gate of this name");
-        return remove_gate(rt, design, key);
+        return Ok(Step::RemoveGate(key));
     }
     if !plain.fits(&wanted) {
-        return Ok(design);
+        return Ok(Step::Nothing);
     }
     let inputs = nets_read(rt, alloc, &wanted.inputs)?;
     if !there {
         plain.gates.push(wanted)?;
         let gate = gate(rt, alloc, wanted.name, GateKind::Xor, wanted.output, inputs)?;
-        let (design, _) = add_gate(rt, design, gate)?;
-        return Ok(design);
+        return Ok(Step::AddGate(gate));
     }
-    for kept in &mut plain.gates {
-        if kept.name == wanted.name {
-            *kept = wanted;
-        }
-    }
+    plain.put(wanted);
     let key = design.gate(wanted.name).expect(rt, "a gate of this name");
-    rewire(rt, design, key, wanted.output, inputs, alloc)
+    Ok(Step::Rewire(key, name(rt, alloc, wanted.output)?, inputs))
+}
+
+fn take_step(rt: &impl Abort, design: Design, step: Step) -> Result<Design, Fail> {
+    match step {
+        Step::Nothing => Ok(design),
+        Step::AddNet(name) => with_net(rt, design, name),
+        Step::RemoveNet(net) => remove_net(rt, design, net),
+        Step::AddGate(gate) => with_gate(rt, design, gate),
+        Step::RemoveGate(gate) => remove_gate(rt, design, gate),
+        Step::Rewire(gate, output, inputs) => rewire(rt, design, gate, output, inputs),
+    }
+}
+
+fn with_net(rt: &impl Abort, design: Design, name: Name) -> Result<Design, Fail> {
+    let (design, _) = put_net(rt, design, name)?;
+    Ok(design)
+}
+
+fn with_gate(rt: &impl Abort, design: Design, gate: Gate) -> Result<Design, Fail> {
+    let (design, _) = add_gate(rt, design, gate)?;
+    Ok(design)
 }
 
 /// The keys of the gates that read a net, or that drive it, in order.
@@ -172,13 +206,13 @@ fn compare(rt: &impl Abort, alloc: Global, design: &Design, plain: &Plain) -> Re
     Ok(())
 }
 
-fn turn(
+fn next_step(
     rt: &impl Abort,
     alloc: Global,
     dice: &mut Dice,
-    design: Design,
+    design: &Design,
     plain: &mut Plain,
-) -> Result<Design, Fail> {
+) -> Result<Step, Fail> {
     let net = NETS[dice.below(5) as usize];
     let wanted = PlainGate {
         name: GATES[dice.below(5) as usize],
@@ -186,10 +220,23 @@ fn turn(
         inputs: [NETS[dice.below(5) as usize], NETS[dice.below(5) as usize]],
     };
     match dice.below(4) {
-        0 => edit_net(rt, alloc, design, plain, net),
-        1 => edit_gate(rt, alloc, design, plain, wanted, true),
-        _ => edit_gate(rt, alloc, design, plain, wanted, false),
+        0 => net_step(rt, alloc, design, plain, net),
+        1 => gate_step(rt, alloc, design, plain, wanted, true),
+        _ => gate_step(rt, alloc, design, plain, wanted, false),
     }
+}
+
+// The design after a step by chance. A copy of the one before goes on beside it for a while.
+fn turn(
+    rt: &impl Abort,
+    alloc: Global,
+    dice: &mut Dice,
+    design: Design,
+    plain: &mut Plain,
+) -> Result<Design, Fail> {
+    let before = design.try_clone()?;
+    let step = next_step(rt, alloc, dice, &before, plain)?;
+    take_step(rt, design, step)
 }
 
 #[test]
@@ -202,10 +249,8 @@ fn edits_by_chance(rt: HostRuntime) -> Result<(), Fail> {
         gates: Vec::new(alloc),
     };
     for _ in 0..400 {
-        let before = design.try_clone()?;
         design = turn(&rt, alloc, &mut dice, design, &mut plain)?;
         compare(&rt, alloc, &design, &plain)?;
-        drop(before);
     }
     assert!(rt; plain.gates.len() > 1);
     Ok(())
