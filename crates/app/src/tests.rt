@@ -216,6 +216,6 @@ fn help_teaches_and_refuses(rt: HostRuntime) {
     assert_eq!(rt; help(&mut sink), 2);
     assert_eq!(rt; sink.inner.as_slice(), HELP.as_bytes());
     assert!(rt; HELP.contains("Usage: gatebench DESIGN [--horizon H] [--delay D]\n"));
-    assert!(rt; HELP.contains("module m; endmodule\n"));
-    assert!(rt; HELP.contains("    gate g not 2 3 y a\n"));
+    assert!(rt; HELP.contains("    module m(input a, output y);\n"));
+    assert!(rt; HELP.contains("    gate h buf 1 1 z y\n"));
 }
