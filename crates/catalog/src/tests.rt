@@ -2,9 +2,8 @@
 
 use crate::plain::PlainCatalog;
 use crate::{Catalog, NameHasher, Named};
-use std::alloc::{AllocError, Global};
+use std::alloc::Global;
 use std::process::Abort;
-use std::test::Fail;
 
 #[derive(Drop)]
 struct Item {
@@ -22,9 +21,9 @@ impl Named for Item {
     }
 }
 
-fn make_item(alloc: Global, name: &str, value: u32) -> Result<Item, AllocError> {
-    let name = String::from_str(alloc, name)?;
-    Ok(Item { name, value })
+fn make_item(rt: &impl Abort, alloc: Global, name: &str, value: u32) -> Item {
+    let name = String::from_str(alloc, name).expect(rt, "a name");
+    Item { name, value }
 }
 
 fn add(
@@ -33,10 +32,10 @@ fn add(
     catalog: Catalog<Item>,
     name: &str,
     value: u32,
-) -> Result<(Catalog<Item>, usize), Fail> {
-    let item = make_item(alloc, name, value)?;
+) -> (Catalog<Item>, usize) {
+    let item = make_item(rt, alloc, name, value);
     assert!(rt; catalog.key(item.name()).is_none(), "{name}");
-    Ok(catalog.push(item)?)
+    catalog.push(item).expect(rt, "a record more")
 }
 
 fn put(
@@ -46,16 +45,28 @@ fn put(
     key: usize,
     name: &str,
     value: u32,
-) -> Result<Catalog<Item>, Fail> {
-    let item = make_item(alloc, name, value)?;
-    let old = catalog.get(key).ok_or("no record")?;
+) -> Catalog<Item> {
+    let item = make_item(rt, alloc, name, value);
+    let old = catalog.get(key).expect(rt, "a record");
     assert!(rt; old.name() == item.name(), "{name}");
-    Ok(catalog.replace(key, item)?)
+    catalog.replace(key, item).expect(rt, "another record")
 }
 
-fn take(rt: &impl Abort, catalog: Catalog<Item>, key: usize) -> Result<Catalog<Item>, Fail> {
+fn take(rt: &impl Abort, catalog: Catalog<Item>, key: usize) -> Catalog<Item> {
     assert!(rt; catalog.get(key).is_some(), "{key}");
-    Ok(catalog.remove(key)?)
+    catalog.remove(key).expect(rt, "a record less")
+}
+
+fn copy(rt: &impl Abort, catalog: &Catalog<Item>) -> Catalog<Item> {
+    catalog.try_clone().expect(rt, "a copy")
+}
+
+fn closed_up(rt: &impl Abort, catalog: Catalog<Item>) -> Catalog<Item> {
+    catalog.close_up().expect(rt, "the same catalog")
+}
+
+fn numbered(rt: &impl Abort, alloc: Global, letters: &str, number: u64) -> String {
+    format!(in alloc; "{letters}{number}").expect(rt, "a name")
 }
 
 fn value_of(catalog: &Catalog<Item>, name: &str) -> Option<u32> {
@@ -78,114 +89,141 @@ fn check_all(rt: &impl Abort, catalog: &Catalog<Item>, wanted: &[(&str, u32)]) {
 }
 
 #[test]
-fn records_are_found_by_name_key_and_place(rt: HostRuntime) -> Result<(), Fail> {
+fn records_are_found_by_name_key_and_place(rt: HostRuntime) {
     let alloc = rt.alloc();
     let catalog = Catalog::new(alloc, NameHasher::fixed());
     check_all(&rt, &catalog, &[]);
-    let (catalog, a) = add(&rt, alloc, catalog, "a", 1)?;
-    let (catalog, b) = add(&rt, alloc, catalog, "b", 2)?;
-    let (catalog, c) = add(&rt, alloc, catalog, "c", 3)?;
+    let (catalog, a) = add(&rt, alloc, catalog, "a", 1);
+    let (catalog, b) = add(&rt, alloc, catalog, "b", 2);
+    let (catalog, c) = add(&rt, alloc, catalog, "c", 3);
     check_all(&rt, &catalog, &[("a", 1), ("b", 2), ("c", 3)]);
     assert!(rt; a != b && b != c && a != c);
     assert_eq!(rt; catalog.key("d"), None);
     assert!(rt; catalog.get(99).is_none());
     assert_eq!(rt; catalog.place(99), None);
-    let catalog = put(&rt, alloc, catalog, b, "b", 20)?;
+    let catalog = put(&rt, alloc, catalog, b, "b", 20);
     check_all(&rt, &catalog, &[("a", 1), ("b", 20), ("c", 3)]);
-    Ok(())
 }
 
 #[test]
-fn a_removal_keeps_the_order_and_its_key_may_come_again(rt: HostRuntime) -> Result<(), Fail> {
+fn a_removal_keeps_the_order_and_its_key_may_come_again(rt: HostRuntime) {
     let alloc = rt.alloc();
     let catalog = Catalog::new(alloc, NameHasher::new(&rt));
-    let (catalog, _) = add(&rt, alloc, catalog, "a", 1)?;
-    let (catalog, b) = add(&rt, alloc, catalog, "b", 2)?;
-    let (catalog, c) = add(&rt, alloc, catalog, "c", 3)?;
-    let catalog = take(&rt, catalog, b)?;
+    let (catalog, _) = add(&rt, alloc, catalog, "a", 1);
+    let (catalog, b) = add(&rt, alloc, catalog, "b", 2);
+    let (catalog, c) = add(&rt, alloc, catalog, "c", 3);
+    let catalog = take(&rt, catalog, b);
     check_all(&rt, &catalog, &[("a", 1), ("c", 3)]);
     assert_eq!(rt; catalog.key("b"), None);
-    let (catalog, d) = add(&rt, alloc, catalog, "d", 4)?;
+    let (catalog, d) = add(&rt, alloc, catalog, "d", 4);
     assert_eq!(rt; d, b, "the key is used again");
     assert_eq!(rt; catalog.key("b"), None);
     check_all(&rt, &catalog, &[("a", 1), ("c", 3), ("d", 4)]);
-    let catalog = catalog.close_up()?;
+    let catalog = closed_up(&rt, catalog);
     check_all(&rt, &catalog, &[("a", 1), ("c", 3), ("d", 4)]);
     assert_eq!(rt; catalog.key("c"), Some(c));
-    let (catalog, _) = add(&rt, alloc, catalog, "b", 5)?;
+    let (catalog, _) = add(&rt, alloc, catalog, "b", 5);
     check_all(&rt, &catalog, &[("a", 1), ("c", 3), ("d", 4), ("b", 5)]);
-    Ok(())
 }
 
 #[test]
-fn copies_keep_what_they_had(rt: HostRuntime) -> Result<(), Fail> {
+fn copies_keep_what_they_had(rt: HostRuntime) {
     let alloc = rt.alloc();
     let catalog = Catalog::new(alloc, NameHasher::fixed());
-    let (catalog, a) = add(&rt, alloc, catalog, "a", 1)?;
-    let (catalog, _) = add(&rt, alloc, catalog, "b", 2)?;
-    let first = catalog.try_clone()?;
-    let (catalog, _) = add(&rt, alloc, catalog, "c", 3)?;
-    let second = catalog.try_clone()?;
-    let catalog = put(&rt, alloc, catalog, a, "a", 10)?;
-    let third = catalog.try_clone()?;
-    let catalog = take(&rt, catalog, a)?.close_up()?;
+    let (catalog, a) = add(&rt, alloc, catalog, "a", 1);
+    let (catalog, _) = add(&rt, alloc, catalog, "b", 2);
+    let first = copy(&rt, &catalog);
+    let (catalog, _) = add(&rt, alloc, catalog, "c", 3);
+    let second = copy(&rt, &catalog);
+    let catalog = put(&rt, alloc, catalog, a, "a", 10);
+    let third = copy(&rt, &catalog);
+    let catalog = closed_up(&rt, take(&rt, catalog, a));
     check_all(&rt, &first, &[("a", 1), ("b", 2)]);
     check_all(&rt, &second, &[("a", 1), ("b", 2), ("c", 3)]);
     check_all(&rt, &third, &[("a", 10), ("b", 2), ("c", 3)]);
     check_all(&rt, &catalog, &[("b", 2), ("c", 3)]);
-    Ok(())
 }
 
 /// More names than are kept apart, so that all are gathered anew, more than once.
 #[test]
-fn many_names_are_found_in_a_copy(rt: HostRuntime) -> Result<(), Fail> {
+fn many_names_are_found_in_a_copy(rt: HostRuntime) {
     let alloc = rt.alloc();
     let catalog = Catalog::new(alloc, NameHasher::new(&rt));
-    let (catalog, _) = add(&rt, alloc, catalog, "first", 7)?;
-    let kept = catalog.try_clone()?;
+    let (catalog, _) = add(&rt, alloc, catalog, "first", 7);
+    let kept = copy(&rt, &catalog);
     let mut catalog = catalog;
     for i in 0..2_100u32 {
-        let name = format!(in alloc; "name_{i}")?;
-        let (more, _) = add(&rt, alloc, catalog, name.as_str(), i)?;
+        let name = numbered(&rt, alloc, "name_", u64::from(i));
+        let (more, _) = add(&rt, alloc, catalog, name.as_str(), i);
         catalog = more;
     }
     assert_eq!(rt; catalog.len(), 2_101);
     assert_eq!(rt; value_of(&catalog, "first"), Some(7));
     for i in 0..2_100u32 {
-        let name = format!(in alloc; "name_{i}")?;
+        let name = numbered(&rt, alloc, "name_", u64::from(i));
         assert_eq!(rt; value_of(&catalog, name.as_str()), Some(i));
     }
     check_all(&rt, &kept, &[("first", 7)]);
-    Ok(())
+}
+
+/// A record more in both.
+fn add_to_both(
+    rt: &impl Abort,
+    alloc: Global,
+    both: (Catalog<Item>, PlainCatalog<Item>),
+    name: &str,
+    value: u32,
+) -> (Catalog<Item>, PlainCatalog<Item>) {
+    let (catalog, plain) = both;
+    let item = make_item(rt, alloc, name, value);
+    assert!(rt; plain.key(item.name()).is_none(), "{name}");
+    let (plain, _) = plain.push(item).expect(rt, "a record more");
+    let (catalog, _) = add(rt, alloc, catalog, name, value);
+    (catalog, plain)
+}
+
+fn plain_put(
+    rt: &impl Abort,
+    alloc: Global,
+    plain: PlainCatalog<Item>,
+    key: usize,
+    name: &str,
+    value: u32,
+) -> PlainCatalog<Item> {
+    let item = make_item(rt, alloc, name, value);
+    let old = plain.get(key).expect(rt, "a record");
+    assert!(rt; old.name() == item.name(), "{name}");
+    plain.replace(key, item).expect(rt, "another record")
+}
+
+fn plain_take(rt: &impl Abort, plain: PlainCatalog<Item>, key: usize) -> PlainCatalog<Item> {
+    assert!(rt; plain.get(key).is_some(), "{key}");
+    plain.remove(key).expect(rt, "a record less")
+}
+
+fn plain_copy(rt: &impl Abort, plain: &PlainCatalog<Item>) -> PlainCatalog<Item> {
+    plain.try_clone().expect(rt, "a copy")
 }
 
 /// One change to both, where it can be made: a record more, another value or a removal.
 fn step(
     rt: &impl Abort,
     alloc: Global,
-    catalog: Catalog<Item>,
-    plain: PlainCatalog<Item>,
+    both: (Catalog<Item>, PlainCatalog<Item>),
     change: u64,
     name: &str,
     value: u32,
-) -> Result<(Catalog<Item>, PlainCatalog<Item>), Fail> {
-    let (Some(key), Some(plain_key)) = (catalog.key(name), plain.key(name)) else {
-        let item = make_item(alloc, name, value)?;
-        assert!(rt; plain.key(item.name()).is_none(), "{name}");
-        let (plain, _) = plain.push(item)?;
-        let (catalog, _) = add(rt, alloc, catalog, name, value)?;
-        return Ok((catalog, plain));
+) -> (Catalog<Item>, PlainCatalog<Item>) {
+    let (Some(key), Some(plain_key)) = (both.0.key(name), both.1.key(name)) else {
+        return add_to_both(rt, alloc, both, name, value);
     };
+    let (catalog, plain) = both;
     if change < 5 {
-        assert!(rt; plain.get(plain_key).is_some(), "{name}");
-        let plain = plain.remove(plain_key)?;
-        Ok((take(rt, catalog, key)?, plain))
+        let plain = plain_take(rt, plain, plain_key);
+        (take(rt, catalog, key), plain)
     } else {
-        let item = make_item(alloc, name, value)?;
-        let old = plain.get(plain_key).ok_or("no record")?;
-        assert!(rt; old.name() == item.name(), "{name}");
-        let plain = plain.replace(plain_key, item)?;
-        Ok((put(rt, alloc, catalog, key, name, value)?, plain))
+        let plain = plain_put(rt, alloc, plain, plain_key, name, value);
+        (put(rt, alloc, catalog, key, name, value), plain)
     }
 }
 
@@ -204,35 +242,28 @@ fn check_same(rt: &impl Abort, catalog: &Catalog<Item>, plain: &PlainCatalog<Ite
 }
 
 #[test]
-fn random_changes_make_of_a_catalog_what_they_make_of_its_plain_form(
-    rt: HostRuntime,
-) -> Result<(), Fail> {
+fn random_changes_make_of_a_catalog_what_they_make_of_its_plain_form(rt: HostRuntime) {
     let alloc = rt.alloc();
-    let mut catalog = Catalog::new(alloc, NameHasher::fixed());
-    let mut plain = PlainCatalog::new(alloc, NameHasher::fixed());
-    let mut old = catalog.try_clone()?;
-    let mut old_plain = plain.try_clone()?;
+    let mut both = (
+        Catalog::new(alloc, NameHasher::fixed()),
+        PlainCatalog::new(alloc, NameHasher::fixed()),
+    );
+    let mut old = (copy(&rt, &both.0), plain_copy(&rt, &both.1));
     let mut seed = 20_261u64;
     for i in 0..600u32 {
         seed = seed
             .wrapping_mul(6_364_136_223_846_793_005)
             .wrapping_add(1_442_695_040_888_963_407);
-        let which = (seed >> 33) % 24;
-        let change = (seed >> 48) % 8;
-        let name = format!(in alloc; "n{which}")?;
-        let (next, next_plain) = step(&rt, alloc, catalog, plain, change, name.as_str(), i)?;
-        catalog = next;
-        plain = next_plain;
+        let name = numbered(&rt, alloc, "n", (seed >> 33) % 24);
+        both = step(&rt, alloc, both, (seed >> 48) % 8, name.as_str(), i);
         if i % 16 == 15 {
-            catalog = catalog.close_up()?;
-            check_same(&rt, &catalog, &plain);
+            both.0 = closed_up(&rt, both.0);
+            check_same(&rt, &both.0, &both.1);
         }
         if i % 50 == 49 {
-            check_same(&rt, &old, &old_plain);
-            old = catalog.try_clone()?;
-            old_plain = plain.try_clone()?;
+            check_same(&rt, &old.0, &old.1);
+            old = (copy(&rt, &both.0), plain_copy(&rt, &both.1));
         }
     }
-    check_same(&rt, &catalog, &plain);
-    Ok(())
+    check_same(&rt, &both.0, &both.1);
 }
