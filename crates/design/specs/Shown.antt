@@ -6,4 +6,4 @@ abbrev pub store_of : Inside → Store
 store_of a = record { top = a.top; unit = a.unit; horizon = a.horizon; nets = a.nets; gates = a.gates }
 
 abbrev pub IsWhole : Inside → Type 0
-IsWhole a = IsKept (store_of a) a.points a.fanout a.drivers
+IsWhole a = IsKept (store_of a) a.points a.wires.fanout a.wires.drivers

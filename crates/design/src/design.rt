@@ -8,10 +8,10 @@ ghost use Rattle.design.specs.Netlist.{empty_netlist, point_total};
 
 use crate::gate::Gate;
 use crate::key::{GateKey, NetKey};
-use crate::key_lists::KeyLists;
 use crate::name::Name;
 use crate::net::Net;
 use crate::unit::TimeUnit;
+use crate::wires::Wires;
 use catalog::{Catalog, NameHasher};
 use std::alloc::{AllocError, Global};
 use std::marker::Model;
@@ -27,8 +27,7 @@ pub struct Design {
     pub(crate) nets: Catalog<Net>,
     pub(crate) gates: Catalog<Gate>,
     pub(crate) points: usize,
-    pub(crate) fanout: KeyLists,
-    pub(crate) drivers: KeyLists,
+    pub(crate) wires: Wires,
 }
 
 impl Model for Design {
@@ -58,8 +57,7 @@ impl Design {
             nets: Catalog::new(alloc, hasher),
             gates: Catalog::new(alloc, hasher),
             points: 0,
-            fanout: KeyLists::new(alloc),
-            drivers: KeyLists::new(alloc),
+            wires: Wires::new(alloc),
         }
     }
 
@@ -70,8 +68,7 @@ impl Design {
         let top = self.top.clone()?;
         let nets = self.nets.try_clone()?;
         let gates = self.gates.try_clone()?;
-        let fanout = self.fanout.clone()?;
-        let drivers = self.drivers.clone()?;
+        let wires = self.wires.clone()?;
         Ok(Design {
             top,
             unit: self.unit,
@@ -79,8 +76,7 @@ impl Design {
             nets,
             gates,
             points: self.points,
-            fanout,
-            drivers,
+            wires,
         })
     }
 

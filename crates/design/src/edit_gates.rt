@@ -12,7 +12,6 @@ use crate::gate::Gate;
 use crate::key::GateKey;
 use crate::name::Name;
 use crate::terminal::Terminal;
-use crate::wiring::{add_among, add_at, remove_among, remove_at};
 use fourstate::{Delays, GateKind};
 use std::alloc::AllocError;
 
@@ -32,18 +31,10 @@ impl Design {
         let Some(gate) = gates.get(number) else {
             unreachable!();
         };
-        let fanout = add_among(self.fanout, &self.nets, &gates, gate.inputs(), key)?;
-        let drivers = add_at(
-            self.drivers,
-            &self.nets,
-            &gates,
-            gate.output().as_str(),
-            key,
-        )?;
+        let wires = self.wires.add(&self.nets, &gates, gate, key)?;
         let design = Design {
             gates,
-            fanout,
-            drivers,
+            wires,
             ..self
         };
         Ok((design, key))
@@ -55,17 +46,15 @@ impl Design {
         ensures { IfOk result (λ made. IfSome (gate_by_key self gate) (λ g. made ≡ without_keyed_gate self g gate)) }
     {
         let number = gate.number;
-        let (fanout, drivers) = (self.fanout, self.drivers);
+        let wires = self.wires;
         let Some(old) = self.gates.get(number) else {
             unreachable!();
         };
-        let fanout = remove_among(fanout, &self.nets, old.inputs(), gate)?;
-        let drivers = remove_at(drivers, &self.nets, old.output().as_str(), gate)?;
+        let wires = wires.remove(&self.nets, old, gate)?;
         let gates = self.gates.remove(number)?;
         Ok(Design {
             gates,
-            fanout,
-            drivers,
+            wires,
             ..self
         })
     }
@@ -105,21 +94,18 @@ impl Design {
         ensures { IfOk result (EditsGate self gate (λ g. with_wiring self.netlist g.name output inputs.items)) }
     {
         let number = gate.number;
-        let (fanout, drivers) = (self.fanout, self.drivers);
+        let wires = self.wires;
         let Some(old) = self.gates.get(number) else {
             unreachable!();
         };
-        let fanout = remove_among(fanout, &self.nets, old.inputs(), gate)?;
-        let fanout = add_among(fanout, &self.nets, &self.gates, &inputs, gate)?;
-        let drivers = remove_at(drivers, &self.nets, old.output().as_str(), gate)?;
-        let drivers = add_at(drivers, &self.nets, &self.gates, output.as_str(), gate)?;
         let new = old.clone()?.with_wiring(output, inputs);
         new.lawful();
+        let wires = wires.remove(&self.nets, old, gate)?;
+        let wires = wires.add(&self.nets, &self.gates, &new, gate)?;
         let gates = self.gates.replace(number, new)?;
         Ok(Design {
             gates,
-            fanout,
-            drivers,
+            wires,
             ..self
         })
     }

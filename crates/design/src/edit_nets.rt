@@ -5,7 +5,8 @@ ghost use Rattle.fourstate.specs.declared.limits.TheConstants.{MAX_TIME};
 ghost use Rattle.catalog.specs.Catalog.{record_at, with_record};
 ghost use Rattle.design.specs.declared.limits.TheConstants.{MAX_NETS, MAX_POINTS};
 ghost use Rattle.design.specs.Keys.{EditsNet, net_by_key, with_keyed_net, without_keyed_net};
-ghost use Rattle.design.specs.Netlist.{has_net, has_point, is_used, new_net, point_total, with_net_kind, with_point, without_point};
+ghost use Rattle.design.specs.Records.{net_without_point};
+ghost use Rattle.design.specs.Netlist.{has_net, has_point, is_used, net_with_point, new_net, point_total, with_net_kind, with_point, without_point};
 
 use crate::design::Design;
 use crate::key::NetKey;
@@ -13,7 +14,7 @@ use crate::name::Name;
 use crate::net::Net;
 use catalog::Catalog;
 use fourstate::{NetKind, Value};
-use std::alloc::AllocError;
+use std::alloc::{AllocError, Global};
 
 impl Design {
     /// Adds a net that is no input, and gives its key.
@@ -78,10 +79,8 @@ impl Design {
         ensures { IfOk result (EditsNet self net (λ n. with_point self.netlist n.name t value)) }
     {
         let points = self.points + usize::from(!self.has_point(net, t));
-        let alloc = self.fanout.allocator();
-        let (nets, old) = take(self.nets, net.number)?;
-        let new = old.with_point(alloc, t, value)?;
-        let nets = nets.replace(net.number, new)?;
+        let alloc = self.wires.allocator();
+        let nets = with_point_at(alloc, self.nets, net.number, t, value)?;
         Ok(Design {
             nets,
             points,
@@ -95,16 +94,48 @@ impl Design {
         ensures { IfOk result (EditsNet self net (λ n. without_point self.netlist n.name t)) }
     {
         let points = self.points - 1;
-        let alloc = self.fanout.allocator();
-        let (nets, old) = take(self.nets, net.number)?;
-        let new = old.without_point(alloc, t)?;
-        let nets = nets.replace(net.number, new)?;
+        let alloc = self.wires.allocator();
+        let nets = without_point_at(alloc, self.nets, net.number, t)?;
         Ok(Design {
             nets,
             points,
             ..self
         })
     }
+}
+
+/// The nets with the stimulus of an input set from the moment `t` on, until its next point.
+fn with_point_at(
+    alloc: Global,
+    nets: Catalog<Net>,
+    key: usize,
+    t: u64,
+    value: Value,
+) -> Result<Catalog<Net>, AllocError>
+    requires input { IsSomeAnd (record_at nets key) (λ n. n.is_input ≡ true) }
+    requires moment { t ≤ MAX_TIME }
+    ensures { IfOk result (λ made. IfSome (record_at nets key) (λ n. made ≡ with_record nets key (net_with_point n t value))) }
+{
+    let (nets, old) = take(nets, key)?;
+    let new = old.with_point(alloc, t, value)?;
+    let nets = nets.replace(key, new)?;
+    Ok(nets)
+}
+
+/// The nets without the stimulus point of one at the moment `t`.
+fn without_point_at(
+    alloc: Global,
+    nets: Catalog<Net>,
+    key: usize,
+    t: u64,
+) -> Result<Catalog<Net>, AllocError>
+    requires { IsSome (record_at nets key) }
+    ensures { IfOk result (λ made. IfSome (record_at nets key) (λ n. made ≡ with_record nets key (net_without_point n t))) }
+{
+    let (nets, old) = take(nets, key)?;
+    let new = old.without_point(alloc, t)?;
+    let nets = nets.replace(key, new)?;
+    Ok(nets)
 }
 
 /// The net of a key, and the nets with one without points in its place: so its points are changed where they are, unless

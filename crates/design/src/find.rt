@@ -109,7 +109,7 @@ impl Design {
         ensures readers { IfSome (net_by_key self.now net) (λ n. result.now ≡ reader_keys self.now n.name) }
         ensures gates { All (λ key. IsSome (gate_by_key self.now key)) result.now }
     {
-        self.fanout.at(net)
+        self.wires.fanout.at(net)
     }
 
     /// The keys of the gates that drive a net, in the order of the gates.
@@ -118,7 +118,7 @@ impl Design {
         ensures drivers { IfSome (net_by_key self.now net) (λ n. result.now ≡ driver_keys self.now n.name) }
         ensures gates { All (λ key. IsSome (gate_by_key self.now key)) result.now }
     {
-        self.drivers.at(net)
+        self.wires.drivers.at(net)
     }
 
     /// Whether a gate reads or drives a net.
@@ -126,10 +126,10 @@ impl Design {
         requires { IsSome (net_by_key self.now net) }
         ensures { IfSome (net_by_key self.now net) (λ n. result ≡ is_used self.now.netlist n.name) }
     {
-        if !self.fanout.at(net).is_empty() {
+        if !self.wires.fanout.at(net).is_empty() {
             return true;
         }
-        !self.drivers.at(net).is_empty()
+        !self.wires.drivers.at(net).is_empty()
     }
 
     /// Whether a net has a stimulus point at the moment `t`.

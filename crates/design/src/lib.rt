@@ -19,6 +19,7 @@ mod terminal;
 #[cfg(test)]
 mod tests;
 mod unit;
+mod wires;
 mod wiring;
 
 pub use catalog::NameHasher;

@@ -19,19 +19,19 @@ unreachable-requires c =
     let key = c.in_ok-gates.number in
     none_or_some (record_at c.in_ok-gates.gates key) c.args.gate c.in_default.ensures (ap (λ l. record_at l key) c.in_ok-gates.ensures.entries ∙ record_pushed a.gates key c.args.gate c.in_ok-gates.ensures.fresh)
 
-pub add_among-requires-clause-ordered : goal.add_among-requires-clause-ordered
-add_among-requires-clause-ordered c =
+pub add-requires-clause-readers : goal.add-requires-clause-readers
+add-requires-clause-readers c =
     let a = c.self.inside in
     let key = c.in_ok-gates.number in
     let apart : Apart (λ (e : ℕ × GateEntry). e.0) (a.gates ++ (key, c.args.gate) ∷ []) = rw c.in_ok-gates.ensures.entries at (keys_apart c.in_ok-gates.gates c.lawful-2.ensures.keys) in
-    rw c.in_ok-gates.ensures.entries (λ k. (added_in_order (store_of a) a.points a.fanout a.drivers key c.args.gate c.self.invariant c.in_ok-gates.ensures.fresh apart k).0)
+    rw c.in_ok-gates.ensures.entries (λ k. (added_in_order (store_of a) a.points a.wires.fanout a.wires.drivers key c.args.gate c.self.invariant c.in_ok-gates.ensures.fresh apart k).0)
 
-pub add_at-requires-clause-ordered : goal.add_at-requires-clause-ordered
-add_at-requires-clause-ordered c =
+pub add-requires-clause-drivers : goal.add-requires-clause-drivers
+add-requires-clause-drivers c =
     let a = c.self.inside in
     let key = c.in_ok-gates.number in
     let apart : Apart (λ (e : ℕ × GateEntry). e.0) (a.gates ++ (key, c.args.gate) ∷ []) = rw c.in_ok-gates.ensures.entries at (keys_apart c.in_ok-gates.gates c.lawful-2.ensures.keys) in
-    rw c.in_ok-gates.ensures.entries (λ k. (added_in_order (store_of a) a.points a.fanout a.drivers key c.args.gate c.self.invariant c.in_ok-gates.ensures.fresh apart k).1)
+    rw c.in_ok-gates.ensures.entries (λ k. (added_in_order (store_of a) a.points a.wires.fanout a.wires.drivers key c.args.gate c.self.invariant c.in_ok-gates.ensures.fresh apart k).1)
 
 pub invariant_of-design : goal.invariant_of-design
 invariant_of-design c =
@@ -41,9 +41,9 @@ invariant_of-design c =
     let there : record_at (a.gates ++ (key, g) ∷ []) key ≡ Some g = record_pushed a.gates key g c.in_ok-gates.ensures.fresh in
     let same : c.in-Some.gate.now ≡ g = some_inner c.in-Some.gate.now g (c.in-Some.ensures ∙ ap (λ l. record_at l key) c.in_ok-gates.ensures.entries ∙ there) in
     let keys = keys_of c.in_ok-gates.gates in
-    let readers : AreChanged (is_among a.nets g.inputs) (with_key_in keys key) a.fanout c.in_ok-fanout.fanout = rw (c.inputs.ensures.inputs, same) at c.in_ok-fanout.ensures in
-    let drivers : AreChanged (is_named a.nets g.output) (with_key_in keys key) a.drivers c.in_ok-drivers.drivers = rw (c.as_str.ensures, c.output.ensures, same) at c.in_ok-drivers.ensures in
+    let readers : AreChanged (is_among a.nets g.inputs) (with_key_in keys key) a.wires.fanout c.in_ok-wires.wires.fanout = rw same at c.in_ok-wires.ensures.readers in
+    let drivers : AreChanged (is_named a.nets g.output) (with_key_in keys key) a.wires.drivers c.in_ok-wires.wires.drivers = rw same at c.in_ok-wires.ensures.drivers in
     rw c.in_ok-gates.ensures.entries
-    (kept_gate_added (store_of a) a.points a.fanout a.drivers c.in_ok-fanout.fanout c.in_ok-drivers.drivers key g keys c.self.invariant c.lawful.ensures
+    (kept_gate_added (store_of a) a.points a.wires.fanout a.wires.drivers c.in_ok-wires.wires.fanout c.in_ok-wires.wires.drivers key g keys c.self.invariant c.lawful.ensures
     (record { output = rw (← c.self.view_is) at c.requires.output; inputs = rw (← c.self.view_is) at c.requires.inputs }) (rw (← c.self.view_is) at c.requires.absent) (rw (← c.self.view_is) at c.requires.room)
     c.in_ok-gates.ensures.fresh (ap (λ l. keys_of l) c.in_ok-gates.ensures.entries) there readers drivers)

@@ -11,4 +11,4 @@ pub invariant_of-result : goal.invariant_of-result
 invariant_of-result c =
     let a = c.self.inside in
     rw c.in_ok-nets.ensures.entries
-    (kept_net_added (store_of a) a.points a.fanout a.drivers c.in_ok-nets.number c.args.net c.self.invariant c.lawful.ensures c.requires.bare (rw (← c.self.view_is) at c.requires.absent) (rw (← c.self.view_is) at c.requires.room) c.in_ok-nets.ensures.fresh)
+    (kept_net_added (store_of a) a.points a.wires.fanout a.wires.drivers c.in_ok-nets.number c.args.net c.self.invariant c.lawful.ensures c.requires.bare (rw (← c.self.view_is) at c.requires.absent) (rw (← c.self.view_is) at c.requires.room) c.in_ok-nets.ensures.fresh)

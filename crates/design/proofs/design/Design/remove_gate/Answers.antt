@@ -16,9 +16,9 @@ invariant_of-result c =
     let a = c.self.inside in
     let x = c.in-Some.old.now in
     let key = c.gate.inside.number in
-    let readers : AreChanged (is_among a.nets x.inputs) (λ (list : List ℕ). without_key list key) a.fanout c.in_ok-fanout.fanout = rw (c.inputs.ensures.inputs, ← c.gate.view_is) at c.in_ok-fanout.ensures in
-    let drivers : AreChanged (is_named a.nets x.output) (λ (list : List ℕ). without_key list key) a.drivers c.in_ok-drivers.drivers = rw (c.as_str.ensures, c.output.ensures, ← c.gate.view_is) at c.in_ok-drivers.ensures in
-    rw c.in_ok-gates.ensures (kept_gate_removed (store_of a) a.points a.fanout a.drivers c.in_ok-fanout.fanout c.in_ok-drivers.drivers key x c.self.invariant (sym c.in-Some.ensures) readers drivers)
+    let readers : AreChanged (is_among a.nets x.inputs) (λ (list : List ℕ). without_key list key) a.wires.fanout c.in_ok-wires.wires.fanout = rw (← c.gate.view_is) at c.in_ok-wires.ensures.readers in
+    let drivers : AreChanged (is_named a.nets x.output) (λ (list : List ℕ). without_key list key) a.wires.drivers c.in_ok-wires.wires.drivers = rw (← c.gate.view_is) at c.in_ok-wires.ensures.drivers in
+    rw c.in_ok-gates.ensures (kept_gate_removed (store_of a) a.points a.wires.fanout a.wires.drivers c.in_ok-wires.wires.fanout c.in_ok-wires.wires.drivers key x c.self.invariant (sym c.in-Some.ensures) readers drivers)
 
 pub returns : goal.returns
 returns c =
@@ -27,4 +27,4 @@ returns c =
     let key = c.gate.inside.number in
     let there : record_at a.gates key ≡ Some x = sym c.in-Some.ensures in
     rw (← c.self.view_is, ← c.gate.view_is, by_key a.gates key, there)
-    (ap (λ l. keyed (record (store_of a) { gates = l })) c.in_ok-gates.ensures ∙ keyed_gate_removed (store_of a) a.points a.fanout a.drivers key x c.self.invariant there)
+    (ap (λ l. keyed (record (store_of a) { gates = l })) c.in_ok-gates.ensures ∙ keyed_gate_removed (store_of a) a.points a.wires.fanout a.wires.drivers key x c.self.invariant there)

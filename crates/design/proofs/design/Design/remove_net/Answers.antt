@@ -31,7 +31,7 @@ invariant_of-result c =
     let unused : is_used (netlist_of (store_of a)) x.name ≡ false = rw (← c.self.view_is) at (rw c.net_of.ensures at c.requires.unused) in
     let within : length x.points + (a.points - length c.points.result.now) ≡ a.points =
     omega (arith, sum_without (λ (n : NetEntry). length n.points) a.nets key x (keys_apart a.nets c.self.invariant.net_keys) there, c.self.invariant.points_counted, ap length c.points.ensures) in
-    rw c.in_ok-nets.ensures (kept_net_removed (store_of a) a.points (a.points - length c.points.result.now) a.fanout a.drivers key x c.self.invariant there unused (omega (arith, within)))
+    rw c.in_ok-nets.ensures (kept_net_removed (store_of a) a.points (a.points - length c.points.result.now) a.wires.fanout a.wires.drivers key x c.self.invariant there unused (omega (arith, within)))
 
 pub returns : goal.returns
 returns c =
@@ -40,4 +40,4 @@ returns c =
     let key = c.net.inside.number in
     let there : record_at a.nets key ≡ Some x = sym (by_key a.nets key) ∙ (rw (← c.self.view_is, ← c.net.view_is) at c.net_of.ensures) in
     rw (← c.self.view_is, ← c.net.view_is, by_key a.nets key, there)
-    (ap (λ l. keyed (record (store_of a) { nets = l })) c.in_ok-nets.ensures ∙ keyed_removed (store_of a) a.points a.fanout a.drivers key x c.self.invariant there)
+    (ap (λ l. keyed (record (store_of a) { nets = l })) c.in_ok-nets.ensures ∙ keyed_removed (store_of a) a.points a.wires.fanout a.wires.drivers key x c.self.invariant there)

@@ -20,17 +20,17 @@ unreachable-requires c =
     let there = some_of (record_at a.gates key) P (rw (← c.self.view_is, ← c.gate.view_is, by_key a.gates key) at c.requires.fit) in
     none_or_some (record_at a.gates key) there.0 c.in_default.ensures there.1
 
-pub add_among-requires-clause-ordered : goal.add_among-requires-clause-ordered
-add_among-requires-clause-ordered c =
+pub add-requires-clause-readers : goal.add-requires-clause-readers
+add-requires-clause-readers c =
     let a = c.self.inside in
-    left_in_order (store_of a) a.points a.fanout a.drivers c.self.invariant (is_among a.nets c.inputs.result.now) c.args.gate a.fanout c.in_ok-fanout.fanout
-    (λ k. (kept_in_order (store_of a) a.points a.fanout a.drivers c.self.invariant k).0) c.in_ok-fanout.ensures
+    left_in_order (store_of a) a.points a.wires.fanout a.wires.drivers c.self.invariant (is_among a.nets c.in-Some.old.now.inputs) c.args.gate a.wires.fanout c.in_ok-wires.wires.fanout
+    (λ k. (kept_in_order (store_of a) a.points a.wires.fanout a.wires.drivers c.self.invariant k).0) c.in_ok-wires.ensures.readers
 
-pub add_at-requires-clause-ordered : goal.add_at-requires-clause-ordered
-add_at-requires-clause-ordered c =
+pub add-requires-clause-drivers : goal.add-requires-clause-drivers
+add-requires-clause-drivers c =
     let a = c.self.inside in
-    left_in_order (store_of a) a.points a.fanout a.drivers c.self.invariant (is_named a.nets c.as_str.result.now) c.args.gate a.drivers c.in_ok-drivers.drivers
-    (λ k. (kept_in_order (store_of a) a.points a.fanout a.drivers c.self.invariant k).1) c.in_ok-drivers.ensures
+    left_in_order (store_of a) a.points a.wires.fanout a.wires.drivers c.self.invariant (is_named a.nets c.in-Some.old.now.output) c.args.gate a.wires.drivers c.in_ok-wires.wires.drivers
+    (λ k. (kept_in_order (store_of a) a.points a.wires.fanout a.wires.drivers c.self.invariant k).1) c.in_ok-wires.ensures.drivers
 
 pub with_wiring-new-requires : goal.with_wiring-new-requires
 with_wiring-new-requires c =
@@ -51,12 +51,12 @@ invariant_of-result c =
     let new : c.with_wiring-new.result ≡ y = c.with_wiring-new.ensures ∙ ap (λ (g : GateEntry). gate_with_wiring g c.args.output c.args.inputs.items) c.in_ok-clone.ensures.cases in
     let gate : IsGate y = rw new at c.lawful.ensures in
     let wired : IsWired d y = record { output = rw (← c.self.view_is) at c.requires.output; inputs = rw (← c.self.view_is) at c.requires.inputs } in
-    let out_readers : AreChanged (is_among a.nets x.inputs) (λ (list : List ℕ). without_key list key) a.fanout c.in_ok-fanout.fanout = rw (c.inputs.ensures.inputs, ← c.gate.view_is) at c.in_ok-fanout.ensures in
-    let out_drivers : AreChanged (is_named a.nets x.output) (λ (list : List ℕ). without_key list key) a.drivers c.in_ok-drivers.drivers = rw (c.as_str.ensures, c.output-2.ensures, ← c.gate.view_is) at c.in_ok-drivers.ensures in
-    let in_readers : AreChanged (is_among a.nets c.args.inputs.items) (with_key_in (keys_of a.gates) key) c.in_ok-fanout.fanout c.in_ok-fanout-2.fanout = rw (c.deref.ensures.value, ← c.gate.view_is) at c.in_ok-fanout-2.ensures in
-    let in_drivers : AreChanged (is_named a.nets c.args.output) (with_key_in (keys_of a.gates) key) c.in_ok-drivers.drivers c.in_ok-drivers-2.drivers = rw (c.as_str-2.ensures, ← c.gate.view_is) at c.in_ok-drivers-2.ensures in
+    let out_readers : AreChanged (is_among a.nets x.inputs) (λ (list : List ℕ). without_key list key) a.wires.fanout c.in_ok-wires.wires.fanout = rw (← c.gate.view_is) at c.in_ok-wires.ensures.readers in
+    let out_drivers : AreChanged (is_named a.nets x.output) (λ (list : List ℕ). without_key list key) a.wires.drivers c.in_ok-wires.wires.drivers = rw (← c.gate.view_is) at c.in_ok-wires.ensures.drivers in
+    let in_readers : AreChanged (is_among a.nets c.args.inputs.items) (with_key_in (keys_of a.gates) key) c.in_ok-wires.wires.fanout c.in_ok-wires-2.wires.fanout = rw (new, ← c.gate.view_is) at c.in_ok-wires-2.ensures.readers in
+    let in_drivers : AreChanged (is_named a.nets c.args.output) (with_key_in (keys_of a.gates) key) c.in_ok-wires.wires.drivers c.in_ok-wires-2.wires.drivers = rw (new, ← c.gate.view_is) at c.in_ok-wires-2.ensures.drivers in
     rw (c.in_ok-gates.ensures, new)
-    (kept_gate_rewired (store_of a) a.points a.fanout a.drivers c.in_ok-fanout.fanout c.in_ok-drivers.drivers c.in_ok-fanout-2.fanout c.in_ok-drivers-2.drivers key x y c.self.invariant there (λ i. x.name) gate wired out_readers out_drivers in_readers in_drivers)
+    (kept_gate_rewired (store_of a) a.points a.wires.fanout a.wires.drivers c.in_ok-wires.wires.fanout c.in_ok-wires.wires.drivers c.in_ok-wires-2.wires.fanout c.in_ok-wires-2.wires.drivers key x y c.self.invariant there (λ i. x.name) gate wired out_readers out_drivers in_readers in_drivers)
 
 pub returns : goal.returns
 returns c =
@@ -67,4 +67,4 @@ returns c =
     let new : c.with_wiring-new.result ≡ gate_with_wiring x c.args.output c.args.inputs.items = c.with_wiring-new.ensures ∙ ap (λ (g : GateEntry). gate_with_wiring g c.args.output c.args.inputs.items) c.in_ok-clone.ensures.cases in
     rw (← c.self.view_is, ← c.gate.view_is, by_key a.gates key, there)
     (ap (λ l. keyed (record (store_of a) { gates = l })) (c.in_ok-gates.ensures ∙ ap (λ g. with_record a.gates key g) new)
-    ∙ keyed_gate_put (store_of a) a.points a.fanout a.drivers key x (λ (g : GateEntry). gate_with_wiring g c.args.output c.args.inputs.items) c.self.invariant there)
+    ∙ keyed_gate_put (store_of a) a.points a.wires.fanout a.wires.drivers key x (λ (g : GateEntry). gate_with_wiring g c.args.output c.args.inputs.items) c.self.invariant there)

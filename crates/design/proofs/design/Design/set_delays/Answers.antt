@@ -29,7 +29,7 @@ invariant_of-result c =
     let there : record_at a.gates key ≡ Some x = sym (by_key a.gates key) ∙ (rw (← c.self.view_is, ← c.gate.view_is) at c.gate_of.ensures) in
     let new : c.with_delays-new.result ≡ gate_with_delays x c.args.delays = c.with_delays-new.ensures ∙ ap (λ (g : GateEntry). gate_with_delays g c.args.delays) c.in_ok-clone.ensures.cases in
     let gate : IsGate (gate_with_delays x c.args.delays) = rw new at c.lawful.ensures in
-    rw (c.in_ok-gates.ensures, new) (kept_gate_delays (store_of a) a.points a.fanout a.drivers key x c.args.delays c.self.invariant there gate)
+    rw (c.in_ok-gates.ensures, new) (kept_gate_delays (store_of a) a.points a.wires.fanout a.wires.drivers key x c.args.delays c.self.invariant there gate)
 
 pub returns : goal.returns
 returns c =
@@ -39,4 +39,4 @@ returns c =
     let there : record_at a.gates key ≡ Some x = sym (by_key a.gates key) ∙ (rw (← c.self.view_is, ← c.gate.view_is) at c.gate_of.ensures) in
     let new : c.with_delays-new.result ≡ gate_with_delays x c.args.delays = c.with_delays-new.ensures ∙ ap (λ (g : GateEntry). gate_with_delays g c.args.delays) c.in_ok-clone.ensures.cases in
     rw (← c.self.view_is, ← c.gate.view_is, by_key a.gates key, there)
-    (ap (λ l. keyed (record (store_of a) { gates = l })) (c.in_ok-gates.ensures ∙ ap (λ g. with_record a.gates key g) new) ∙ keyed_gate_put (store_of a) a.points a.fanout a.drivers key x (λ (g : GateEntry). gate_with_delays g c.args.delays) c.self.invariant there)
+    (ap (λ l. keyed (record (store_of a) { gates = l })) (c.in_ok-gates.ensures ∙ ap (λ g. with_record a.gates key g) new) ∙ keyed_gate_put (store_of a) a.points a.wires.fanout a.wires.drivers key x (λ (g : GateEntry). gate_with_delays g c.args.delays) c.self.invariant there)

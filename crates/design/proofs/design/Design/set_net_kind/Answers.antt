@@ -28,7 +28,7 @@ invariant_of-result c =
     let key = c.net.inside.number in
     let there : record_at a.nets key ≡ Some x = sym (by_key a.nets key) ∙ (rw (← c.self.view_is, ← c.net.view_is) at c.net_of.ensures) in
     let new : c.with_kind-new.result ≡ net_with_kind x c.args.kind = c.with_kind-new.ensures ∙ ap (λ (n : NetEntry). net_with_kind n c.args.kind) c.in_ok-clone.ensures.cases in
-    rw (c.in_ok-nets.ensures, new) (kept_net_kind (store_of a) a.points a.fanout a.drivers key x c.args.kind c.self.invariant there)
+    rw (c.in_ok-nets.ensures, new) (kept_net_kind (store_of a) a.points a.wires.fanout a.wires.drivers key x c.args.kind c.self.invariant there)
 
 pub returns : goal.returns
 returns c =
@@ -38,4 +38,4 @@ returns c =
     let there : record_at a.nets key ≡ Some x = sym (by_key a.nets key) ∙ (rw (← c.self.view_is, ← c.net.view_is) at c.net_of.ensures) in
     let new : c.with_kind-new.result ≡ net_with_kind x c.args.kind = c.with_kind-new.ensures ∙ ap (λ (n : NetEntry). net_with_kind n c.args.kind) c.in_ok-clone.ensures.cases in
     rw (← c.self.view_is, ← c.net.view_is, by_key a.nets key, there)
-    (ap (λ l. keyed (record (store_of a) { nets = l })) (c.in_ok-nets.ensures ∙ ap (λ n. with_record a.nets key n) new) ∙ keyed_put (store_of a) a.points a.fanout a.drivers key x (λ (n : NetEntry). net_with_kind n c.args.kind) c.self.invariant there)
+    (ap (λ l. keyed (record (store_of a) { nets = l })) (c.in_ok-nets.ensures ∙ ap (λ n. with_record a.nets key n) new) ∙ keyed_put (store_of a) a.points a.wires.fanout a.wires.drivers key x (λ (n : NetEntry). net_with_kind n c.args.kind) c.self.invariant there)

@@ -1,0 +1,82 @@
+//! Which gates read each net, and which drive it, kept as gates come and go.
+
+ghost use Rattle.std.specs.Prelude.{◌≡◌, ℕ, [], IsSome, IfOk};
+ghost use Rattle.catalog.specs.Catalog.{keys_of, record_at};
+ghost use Rattle.design.specs.Keys.{without_key};
+ghost use Rattle.design.specs.Kept.{is_among, is_named};
+ghost use Rattle.design.specs.Lists.{AreChanged, IsInOrder, list_of, with_key_in};
+
+use crate::gate::Gate;
+use crate::key::GateKey;
+use crate::key_lists::KeyLists;
+use crate::net::Net;
+use crate::wiring::{add_among, add_at, remove_among, remove_at};
+use catalog::Catalog;
+use std::alloc::{AllocError, Global};
+
+/// The keys of the gates that read each net, and of those that drive it.
+#[derive(Debug, Drop)]
+pub struct Wires {
+    pub fanout: KeyLists,
+    pub drivers: KeyLists,
+}
+
+impl Wires {
+    /// No gate reads or drives a net.
+    pub fn new(alloc: Global) -> Wires
+        ensures { result ≡ record { fanout = []; drivers = [] } }
+    {
+        Wires {
+            fanout: KeyLists::new(alloc),
+            drivers: KeyLists::new(alloc),
+        }
+    }
+
+    /// Where the lists are allocated.
+    pub fn allocator(&self) -> Global {
+        self.fanout.allocator()
+    }
+
+    /// The lists with the key of a gate at the nets that it reads and drives.
+    pub fn add(
+        self,
+        nets: &Catalog<Net>,
+        gates: &Catalog<Gate>,
+        gate: &Gate,
+        key: GateKey,
+    ) -> Result<Wires, AllocError>
+        requires there { IsSome (record_at gates.now key) }
+        requires readers { (k : ℕ) → IsInOrder (keys_of gates.now) (list_of self.fanout k) }
+        requires drivers { (k : ℕ) → IsInOrder (keys_of gates.now) (list_of self.drivers k) }
+        ensures readers { IfOk result (λ new. AreChanged (is_among nets.now gate.now.inputs) (with_key_in (keys_of gates.now) key) self.fanout new.fanout) }
+        ensures drivers { IfOk result (λ new. AreChanged (is_named nets.now gate.now.output) (with_key_in (keys_of gates.now) key) self.drivers new.drivers) }
+    {
+        let Wires { fanout, drivers } = self;
+        let fanout = add_among(fanout, nets, gates, gate.inputs(), key)?;
+        let drivers = add_at(drivers, nets, gates, gate.output().as_str(), key)?;
+        Ok(Wires { fanout, drivers })
+    }
+
+    /// The lists without the key of a gate, which stood at the nets that it reads and drives.
+    pub fn remove(self, nets: &Catalog<Net>, gate: &Gate, key: GateKey) -> Result<Wires, AllocError>
+        ensures readers { IfOk result (λ new. AreChanged (is_among nets.now gate.now.inputs) (λ list. without_key list key) self.fanout new.fanout) }
+        ensures drivers { IfOk result (λ new. AreChanged (is_named nets.now gate.now.output) (λ list. without_key list key) self.drivers new.drivers) }
+    {
+        let Wires { fanout, drivers } = self;
+        let fanout = remove_among(fanout, nets, gate.inputs(), key)?;
+        let drivers = remove_at(drivers, nets, gate.output().as_str(), key)?;
+        Ok(Wires { fanout, drivers })
+    }
+}
+
+impl Clone for Wires {
+    ghost use Rattle.std.specs.Prelude.{◌≡◌};
+
+    ghost is_clone = { λ old new. new ≡ old };
+
+    fn clone(&self) -> Result<Wires, AllocError> {
+        let fanout = self.fanout.clone()?;
+        let drivers = self.drivers.clone()?;
+        Ok(Wires { fanout, drivers })
+    }
+}
