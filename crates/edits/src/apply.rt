@@ -45,14 +45,21 @@ fn apply(alloc: Global, design: Design, place: usize, edit: &Edit) -> Result<Des
         (λ new. (refusal place design.netlist edit.now ≡ None) × (new.netlist ≡ edited design.netlist edit.now))
         (λ fault. (refusal place design.netlist edit.now ≡ Some fault) ⊎ (fault ≡ EditFault.OutOfMemory)) }
 {
+    match refusal(place, &design, edit) {
+        Some(fault) => Err(fault),
+        None => match carry_out(alloc, design, edit) {
+            Ok(design) => Ok(design),
+            Err(_) => Err(EditFault::OutOfMemory),
+        },
+    }
+}
+
+/// Why the edit that stands at a place of a list is refused, if it is.
+fn refusal(place: usize, design: &Design, edit: &Edit) -> Option<EditFault>
+    ensures { result ≡ refusal place design.now.netlist edit.now }
+{
     if place >= MAX_EDITS {
-        return Err(EditFault::TooMany);
+        return Some(EditFault::TooMany);
     }
-    if let Some(fault) = check(&design, edit) {
-        return Err(fault);
-    }
-    match carry_out(alloc, design, edit) {
-        Ok(design) => Ok(design),
-        Err(_) => Err(EditFault::OutOfMemory),
-    }
+    check(design, edit)
 }

@@ -30,12 +30,35 @@ pub fn add_gate(
       inputs = map terminal_of inputs.now;
     })) }
 {
-    let delays = delays_of(rise, fall);
-    let name = Name::new(alloc, name)?;
-    let output = name_of_net(alloc, &design, output)?;
-    let inputs = terminals(alloc, &design, inputs)?;
-    let (design, _key) = design.add_gate(Gate::new(name, kind, delays, output, inputs))?;
+    let gate = gate_of(alloc, &design, name, kind, rise, fall, output, inputs)?;
+    let (design, _key) = design.add_gate(gate)?;
     Ok(design)
+}
+
+/// The gate of these words.
+fn gate_of(
+    alloc: Global,
+    design: &Design,
+    name: &str,
+    kind: GateKind,
+    rise: u64,
+    fall: u64,
+    output: &str,
+    inputs: &[Pin],
+) -> Result<Gate, AllocError>
+    requires { TakesGate design.now.netlist name.now kind rise fall output.now inputs.now }
+    ensures { IfOk result (λ gate. gate ≡ record {
+      name = name.now;
+      kind = kind;
+      delays = record { rise = rise; fall = fall };
+      output = output.now;
+      inputs = map terminal_of inputs.now;
+    }) }
+{
+    let name = Name::new(alloc, name)?;
+    let output = name_of_net(alloc, design, output)?;
+    let inputs = terminals(alloc, design, inputs)?;
+    Ok(Gate::new(name, kind, delays_of(rise, fall), output, inputs))
 }
 
 #[tactic(auto, using(crate::proofs::FoundLemmas::gate_found))]

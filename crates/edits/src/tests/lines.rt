@@ -3,9 +3,8 @@
 use crate::{Edit, EditFault, Pin, Pins, Word, apply_all};
 use design::{Design, Name, NameHasher, TimeUnit};
 use fourstate::{GateKind, NetKind, Value};
-use std::alloc::{AllocError, Global};
+use std::alloc::Global;
 use std::process::Abort;
-use std::test::Fail;
 
 fn at<'a>(rt: &impl Abort, words: &[&'a str], place: usize) -> &'a str {
     assert!(rt; place < words.len(), "{place}");
@@ -36,56 +35,58 @@ fn value(rt: &impl Abort, text: &str) -> Value {
     }
 }
 
-fn pin(alloc: Global, text: &str) -> Result<Pin, AllocError> {
+fn word(rt: &impl Abort, alloc: Global, text: &str) -> Word {
+    Word::new(alloc, text).expect(rt, "a word")
+}
+
+fn pin(rt: &impl Abort, alloc: Global, text: &str) -> Pin {
     match text {
-        "1'b0" => Ok(Pin::Constant(Value::Zero)),
-        "1'b1" => Ok(Pin::Constant(Value::One)),
-        _ => Ok(Pin::Net(Word::new(alloc, text)?)),
+        "1'b0" => Pin::Constant(Value::Zero),
+        "1'b1" => Pin::Constant(Value::One),
+        _ => Pin::Net(word(rt, alloc, text)),
     }
 }
 
-fn pins(rt: &impl Abort, alloc: Global, words: &[&str], from: usize) -> Result<Pins, AllocError> {
+fn pins(rt: &impl Abort, alloc: Global, words: &[&str], from: usize) -> Pins {
     assert!(rt; from <= words.len());
     let mut pins = Pins::new(alloc);
     for text in &words[from..] {
-        let pin = pin(alloc, text)?;
-        pins.push(pin)?;
+        let pin = pin(rt, alloc, text);
+        pins.push(pin).expect(rt, "one pin more");
     }
-    Ok(pins)
+    pins
 }
 
 /// The edit of a line.
-pub fn edit(rt: &impl Abort, alloc: Global, line: &str) -> Result<Edit, Fail> {
-    let words: Vec<&str> = line.split(' ').collect(alloc)?;
+pub fn edit(rt: &impl Abort, alloc: Global, line: &str) -> Edit {
+    let words: Vec<&str> = line
+        .split(' ')
+        .collect(alloc)
+        .expect(rt, "the words of a line");
     let words = words.as_slice();
-    let verb = at(rt, words, 0);
-    let name = Word::new(alloc, at(rt, words, 1))?;
-    match verb {
-        "gate" | "wire" => Ok(wired(rt, alloc, words, name)?),
-        _ => Ok(unwired(rt, words, name)),
+    let name = word(rt, alloc, at(rt, words, 1));
+    match at(rt, words, 0) {
+        "gate" | "wire" => wired(rt, alloc, words, name),
+        _ => unwired(rt, words, name),
     }
 }
 
-fn wired(rt: &impl Abort, alloc: Global, words: &[&str], name: Word) -> Result<Edit, AllocError> {
+fn wired(rt: &impl Abort, alloc: Global, words: &[&str], name: Word) -> Edit {
     if at(rt, words, 0) == "wire" {
-        let output = Word::new(alloc, at(rt, words, 2))?;
-        let inputs = pins(rt, alloc, words, 3)?;
-        return Ok(Edit::Rewire {
+        return Edit::Rewire {
             name,
-            output,
-            inputs,
-        });
+            output: word(rt, alloc, at(rt, words, 2)),
+            inputs: pins(rt, alloc, words, 3),
+        };
     }
-    let output = Word::new(alloc, at(rt, words, 5))?;
-    let inputs = pins(rt, alloc, words, 6)?;
-    Ok(Edit::AddGate {
+    Edit::AddGate {
         name,
         kind: gate_kind(rt, at(rt, words, 2)),
         rise: number(rt, at(rt, words, 3)),
         fall: number(rt, at(rt, words, 4)),
-        output,
-        inputs,
-    })
+        output: word(rt, alloc, at(rt, words, 5)),
+        inputs: pins(rt, alloc, words, 6),
+    }
 }
 
 fn unwired(rt: &impl Abort, words: &[&str], name: Word) -> Edit {
@@ -135,42 +136,27 @@ fn timed(rt: &impl Abort, words: &[&str], net: Word) -> Edit {
 }
 
 /// The edits of lines.
-pub fn edits(rt: &impl Abort, alloc: Global, lines: &[&str]) -> Result<Vec<Edit>, Fail> {
+pub fn edits(rt: &impl Abort, alloc: Global, lines: &[&str]) -> Vec<Edit> {
     let mut edits = Vec::new(alloc);
     for line in lines {
-        let edit = edit(rt, alloc, line)?;
-        edits.push(edit)?;
+        let edit = edit(rt, alloc, line);
+        edits.push(edit).expect(rt, "one edit more");
     }
-    Ok(edits)
+    edits
 }
 
 /// A design with no nets and no gates.
-pub fn empty(rt: &impl Abort, alloc: Global) -> Result<Design, Fail> {
+pub fn empty(rt: &impl Abort, alloc: Global) -> Design {
     assert!(rt; Name::is_valid("m"));
-    let top = Name::new(alloc, "m")?;
-    Ok(Design::empty(alloc, NameHasher::fixed(), top, TimeUnit::default()))
+    let top = Name::new(alloc, "m").expect(rt, "a name");
+    Design::empty(alloc, NameHasher::fixed(), top, TimeUnit::default())
 }
 
-/// The design with the edits of lines, which it accepts.
-pub fn with(
-    rt: &impl Abort,
-    alloc: Global,
-    design: &Design,
-    lines: &[&str],
-) -> Result<Design, Fail> {
-    let edits = edits(rt, alloc, lines)?;
-    Ok(carried_out(rt, alloc, design, &edits))
-}
-
-/// The place and the fault of the first edit that is refused.
-pub fn refused(
-    rt: &impl Abort,
-    alloc: Global,
-    design: &Design,
-    lines: &[&str],
-) -> Result<Option<(usize, EditFault)>, Fail> {
-    let edits = edits(rt, alloc, lines)?;
-    Ok(outcome(alloc, design, &edits))
+/// The design that the edits of lines make of one with no nets and no gates.
+pub fn design_of(rt: &impl Abort, alloc: Global, lines: &[&str]) -> Design {
+    let edits = edits(rt, alloc, lines);
+    let start = empty(rt, alloc);
+    carried_out(rt, alloc, &start, &edits)
 }
 
 /// The design with edits, which it accepts.
@@ -181,4 +167,15 @@ pub fn carried_out(rt: &impl Abort, alloc: Global, design: &Design, edits: &[Edi
 /// The place and the fault of the first edit that is refused.
 pub fn outcome(alloc: Global, design: &Design, edits: &[Edit]) -> Option<(usize, EditFault)> {
     apply_all(alloc, design, edits).err()
+}
+
+/// The place and the fault of the first edit of lines that is refused.
+pub fn refused(
+    rt: &impl Abort,
+    alloc: Global,
+    design: &Design,
+    lines: &[&str],
+) -> Option<(usize, EditFault)> {
+    let edits = edits(rt, alloc, lines);
+    outcome(alloc, design, &edits)
 }

@@ -4,13 +4,12 @@ use crate::EditFault::{
     BadName, DelayTooLarge, DrivenInput, DuplicateName, NetInUse, NoSuchPoint, NotInput,
     TimeTooLarge, TooMany, UnknownGate, UnknownNet, WrongArity, ZeroDelay,
 };
-use crate::tests::lines::{carried_out, edit, empty, outcome, refused, with};
+use crate::tests::lines::{carried_out, design_of, edit, edits, outcome, refused};
 use crate::tests::shown::show;
 use crate::{Edit, EditFault, MAX_EDITS};
 use design::{Design, MAX_GATES, MAX_NETS, MAX_POINTS};
-use std::alloc::{AllocError, Global};
+use std::alloc::Global;
 use std::process::Abort;
-use std::test::Fail;
 
 /// The inputs a and b, a net y that g drives, a net n that h drives and reads, and a net u that no gate is at.
 const DESIGN: [&str; 9] = [
@@ -25,10 +24,8 @@ const DESIGN: [&str; 9] = [
     "stim a 10 1",
 ];
 
-fn start(rt: &impl Abort, alloc: Global) -> Result<Design, Fail> {
-    let empty = empty(rt, alloc)?;
-    with(rt, alloc, &empty, &DESIGN)
-}
+/// An edit, and why it is refused.
+type Case<'a> = (&'a str, Option<EditFault>);
 
 fn check_edit(
     rt: &impl Abort,
@@ -36,25 +33,24 @@ fn check_edit(
     design: &Design,
     line: &str,
     want: Option<EditFault>,
-) -> Result<(), Fail> {
-    let outcome = refused(rt, alloc, design, &[line])?;
+) {
+    let outcome = refused(rt, alloc, design, &[line]);
     assert_eq!(rt; outcome, want.map(|fault| (0, fault)), "{line}");
-    Ok(())
 }
 
-fn check_edits(
-    rt: &impl Abort,
-    alloc: Global,
-    cases: &[(&str, Option<EditFault>)],
-) -> Result<(), Fail> {
-    let design = start(rt, alloc)?;
+/// Each edit of its own.
+fn check_each(rt: &impl Abort, alloc: Global, design: &Design, cases: &[Case<'_>]) {
     for (line, want) in cases {
-        check_edit(rt, alloc, &design, line, *want)?;
+        check_edit(rt, alloc, design, line, *want);
     }
-    Ok(())
 }
 
-const EDITS_OF_NETS: [(&str, Option<EditFault>); 20] = [
+fn check_edits(rt: &impl Abort, alloc: Global, cases: &[Case<'_>]) {
+    let design = design_of(rt, alloc, &DESIGN);
+    check_each(rt, alloc, &design, cases);
+}
+
+const EDITS_OF_NETS: [Case<'static>; 20] = [
     ("net m wire", None),
     ("net m' wire", Some(BadName)),
     ("net $end wire", Some(BadName)),
@@ -78,11 +74,11 @@ const EDITS_OF_NETS: [(&str, Option<EditFault>); 20] = [
 ];
 
 #[test]
-fn edits_of_nets(rt: HostRuntime) -> Result<(), Fail> {
-    check_edits(&rt, rt.alloc(), &EDITS_OF_NETS)
+fn edits_of_nets(rt: HostRuntime) {
+    check_edits(&rt, rt.alloc(), &EDITS_OF_NETS);
 }
 
-const NEW_GATES: [(&str, Option<EditFault>); 23] = [
+const NEW_GATES: [Case<'static>; 23] = [
     ("gate k and 1 1000000 u a y 1'b0", None),
     ("gate a buf 1 1 u u", None),
     ("gate k' buf 1 1 u a", Some(BadName)),
@@ -109,11 +105,11 @@ const NEW_GATES: [(&str, Option<EditFault>); 23] = [
 ];
 
 #[test]
-fn new_gates(rt: HostRuntime) -> Result<(), Fail> {
-    check_edits(&rt, rt.alloc(), &NEW_GATES)
+fn new_gates(rt: HostRuntime) {
+    check_edits(&rt, rt.alloc(), &NEW_GATES);
 }
 
-const EDITS_OF_GATES: [(&str, Option<EditFault>); 26] = [
+const EDITS_OF_GATES: [Case<'static>; 26] = [
     ("drop g", None),
     ("drop k", Some(UnknownGate)),
     ("drop y", Some(UnknownGate)),
@@ -143,11 +139,11 @@ const EDITS_OF_GATES: [(&str, Option<EditFault>); 26] = [
 ];
 
 #[test]
-fn edits_of_gates(rt: HostRuntime) -> Result<(), Fail> {
-    check_edits(&rt, rt.alloc(), &EDITS_OF_GATES)
+fn edits_of_gates(rt: HostRuntime) {
+    check_edits(&rt, rt.alloc(), &EDITS_OF_GATES);
 }
 
-const EDITS_OF_THE_STIMULUS: [(&str, Option<EditFault>); 14] = [
+const EDITS_OF_THE_STIMULUS: [Case<'static>; 14] = [
     ("stim a 1000000000 1", None),
     ("stim a 1000000001 1", Some(TimeTooLarge)),
     ("stim y 0 1", Some(NotInput)),
@@ -165,165 +161,201 @@ const EDITS_OF_THE_STIMULUS: [(&str, Option<EditFault>); 14] = [
 ];
 
 #[test]
-fn edits_of_the_stimulus(rt: HostRuntime) -> Result<(), Fail> {
-    check_edits(&rt, rt.alloc(), &EDITS_OF_THE_STIMULUS)
+fn edits_of_the_stimulus(rt: HostRuntime) {
+    check_edits(&rt, rt.alloc(), &EDITS_OF_THE_STIMULUS);
 }
 
-// The fifth edit is refused, though it stands behind others that change what it asks for; what was given stays.
+/// The edits of a list, and the place and the fault of the first that is refused. It stands behind others that change
+/// what it asks for.
+const LISTS: [(&[&str], Option<(usize, EditFault)>); 4] = [
+    (
+        &[
+            "stim a 20 1",
+            "stim a 25 0",
+            "delay g 0 3",
+            "horizon 50",
+            "stim a 30 1",
+        ],
+        Some((2, ZeroDelay)),
+    ),
+    (
+        &[
+            "drop g",
+            "dropnet y",
+            "net y wand",
+            "gate g buf 1 1 y a",
+            "drop k",
+        ],
+        Some((4, UnknownGate)),
+    ),
+    (
+        &["drop h", "dropnet n", "wire g n a", "drop g", "drop g"],
+        Some((2, UnknownNet)),
+    ),
+    (
+        &["drop h", "dropnet n", "input n", "stim n 5 1", "drop g"],
+        None,
+    ),
+];
+
+fn check_lists(rt: &impl Abort, alloc: Global, design: &Design) {
+    let before = show(rt, alloc, design);
+    for (lines, want) in LISTS {
+        assert_eq!(rt; refused(rt, alloc, design, lines), want);
+        let after = show(rt, alloc, design);
+        assert_eq!(rt; after.as_str(), before.as_str());
+    }
+}
+
+// What was given stays.
 #[test]
-fn first_that_is_refused(rt: HostRuntime) -> Result<(), Fail> {
-    let alloc = rt.alloc();
-    let design = start(&rt, alloc)?;
-    let before = show(alloc, &design)?;
-    for (lines, want) in [
-        (
-            [
-                "stim a 20 1",
-                "stim a 25 0",
-                "delay g 0 3",
-                "horizon 50",
-                "stim a 30 1",
-            ],
-            Some((2, ZeroDelay)),
-        ),
-        (
-            [
-                "drop g",
-                "dropnet y",
-                "net y wand",
-                "gate g buf 1 1 y a",
-                "drop k",
-            ],
-            Some((4, UnknownGate)),
-        ),
-        (
-            ["drop h", "dropnet n", "wire g n a", "drop g", "drop g"],
-            Some((2, UnknownNet)),
-        ),
-        (
-            ["drop h", "dropnet n", "input n", "stim n 5 1", "drop g"],
-            None,
-        ),
-    ] {
-        assert_eq!(rt; refused(&rt, alloc, &design, &lines)?, want);
-        assert_eq!(rt; show(alloc, &design)?.as_str(), before.as_str());
-    }
-    Ok(())
+fn first_that_is_refused(rt: HostRuntime) {
+    let design = design_of(&rt, rt.alloc(), &DESIGN);
+    check_lists(&rt, rt.alloc(), &design);
 }
 
-fn add_horizons(list: &mut Vec<Edit>, count: u64) -> Result<(), AllocError> {
+fn add_horizons(rt: &impl Abort, list: &mut Vec<Edit>, count: u64) {
     for time in 0..count {
-        list.push(Edit::Horizon { time })?;
+        list.push(Edit::Horizon { time })
+            .expect(rt, "one edit more");
     }
-    Ok(())
 }
 
 /// Edits that are accepted, then the edit of a line, then edits that are accepted.
-fn between(
-    rt: &impl Abort,
-    alloc: Global,
-    before: u64,
-    line: &str,
-    behind: u64,
-) -> Result<Vec<Edit>, Fail> {
+fn between(rt: &impl Abort, alloc: Global, before: u64, line: &str, behind: u64) -> Vec<Edit> {
+    let edit = edit(rt, alloc, line);
     let mut list = Vec::new(alloc);
-    add_horizons(&mut list, before)?;
-    list.push(edit(rt, alloc, line)?)?;
-    add_horizons(&mut list, behind)?;
-    Ok(list)
+    add_horizons(rt, &mut list, before);
+    list.push(edit).expect(rt, "one edit more");
+    add_horizons(rt, &mut list, behind);
+    list
+}
+
+const LONG_LISTS: [(u64, &str, u64, Option<(usize, EditFault)>); 4] = [
+    (4095, "drop k", 0, Some((4095, UnknownGate))),
+    (4096, "drop k", 0, Some((4096, TooMany))),
+    (4096, "horizon 5", 3, Some((4096, TooMany))),
+    (7, "horizon 1000000001", 5000, Some((7, TimeTooLarge))),
+];
+
+fn check_long_lists(rt: &impl Abort, alloc: Global, design: &Design) {
+    for (before, line, behind, want) in LONG_LISTS {
+        let list = between(rt, alloc, before, line, behind);
+        assert_eq!(rt; outcome(alloc, design, &list), want);
+    }
 }
 
 // The edit behind as many as may be is one too many, whatever it is, unless an earlier one is refused.
 #[test]
-fn one_edit_too_many(rt: HostRuntime) -> Result<(), Fail> {
-    let alloc = rt.alloc();
-    let design = start(&rt, alloc)?;
-    for (before, line, behind, want) in [
-        (4095, "drop k", 0, Some((4095, UnknownGate))),
-        (4096, "drop k", 0, Some((4096, TooMany))),
-        (4096, "horizon 5", 3, Some((4096, TooMany))),
-        (7, "horizon 1000000001", 5000, Some((7, TimeTooLarge))),
-    ] {
-        let list = between(&rt, alloc, before, line, behind)?;
-        assert_eq!(rt; outcome(alloc, &design, &list), want);
-    }
-    Ok(())
+fn one_edit_too_many(rt: HostRuntime) {
+    let design = design_of(&rt, rt.alloc(), &DESIGN);
+    check_long_lists(&rt, rt.alloc(), &design);
 }
 
-/// The design with nets or gates up to the limit, in lists of as many edits as may be.
-fn filled(
-    rt: &impl Abort,
-    alloc: Global,
-    prefix: &str,
-    rest: &str,
-    first: &[&str],
-    count: usize,
-) -> Result<Design, Fail> {
-    let empty = empty(rt, alloc)?;
-    let mut design = with(rt, alloc, &empty, first)?;
+/// As many parts of one sort as a design may have.
+#[derive(Clone, Copy)]
+struct Limit<'a> {
+    /// The edits before the first part.
+    first: &'a [&'a str],
+    /// What stands before the number of a part and behind it.
+    part: (&'a str, &'a str),
+    most: usize,
+    /// Edits where there is room for one part more.
+    with_room: &'a [Case<'a>],
+    /// The last part.
+    last: &'a str,
+    /// Edits where there is no room.
+    without_room: &'a [Case<'a>],
+}
+
+/// The edits that add the parts of these numbers.
+fn parts(rt: &impl Abort, alloc: Global, part: (&str, &str), from: usize, to: usize) -> Vec<Edit> {
+    let (before, behind) = part;
     let mut list = Vec::new(alloc);
-    for number in 0..count {
-        let line = format!(in alloc; "{prefix}{number}{rest}")?;
-        list.push(edit(rt, alloc, line.as_str())?)?;
-        if list.len() == MAX_EDITS || number + 1 == count {
-            design = carried_out(rt, alloc, &design, &list);
-            list.clear();
-        }
+    for number in from..to {
+        let line = format!(in alloc; "{before}{number}{behind}").expect(rt, "a line");
+        let edit = edit(rt, alloc, line.as_str());
+        list.push(edit).expect(rt, "one edit more");
     }
-    Ok(design)
+    list
 }
 
-#[test]
-fn as_many_nets_as_may_be(rt: HostRuntime) -> Result<(), Fail> {
-    let alloc = rt.alloc();
-    let design = filled(&rt, alloc, "net n", " wire", &[], MAX_NETS - 1)?;
-    check_edit(&rt, alloc, &design, "net y wire", None)?;
-    check_edit(&rt, alloc, &design, "input y", None)?;
-    let design = with(&rt, alloc, &design, &["net y wire"])?;
-    check_edit(&rt, alloc, &design, "net z wire", Some(TooMany))?;
-    check_edit(&rt, alloc, &design, "input z", Some(TooMany))?;
-    check_edit(&rt, alloc, &design, "input y", Some(DuplicateName))
+/// The design with all parts but the last, in lists of as many edits as may be.
+fn filled(rt: &impl Abort, alloc: Global, limit: &Limit<'_>) -> Design {
+    let mut design = design_of(rt, alloc, limit.first);
+    let count = limit.most.saturating_sub(1);
+    for from in (0..count).step_by(MAX_EDITS) {
+        let to = count.min(from.saturating_add(MAX_EDITS));
+        let list = parts(rt, alloc, limit.part, from, to);
+        design = carried_out(rt, alloc, &design, &list);
+    }
+    design
 }
 
-#[test]
-fn as_many_gates_as_may_be(rt: HostRuntime) -> Result<(), Fail> {
-    let alloc = rt.alloc();
-    let design = filled(
-        &rt,
-        alloc,
-        "gate g",
-        " buf 1 1 y a",
-        &["input a", "net y wire"],
-        MAX_GATES - 1,
-    )?;
-    check_edit(&rt, alloc, &design, "gate h buf 1 1 y a", None)?;
-    let design = with(&rt, alloc, &design, &["gate h buf 1 1 y a"])?;
-    check_edit(&rt, alloc, &design, "gate k buf 0 1 m", Some(TooMany))?;
-    check_edit(&rt, alloc, &design, "gate h buf 0 1 m", Some(DuplicateName))
+/// What is refused before the last part and behind it.
+fn check_last(rt: &impl Abort, alloc: Global, design: &Design, limit: &Limit<'_>) {
+    check_each(rt, alloc, design, limit.with_room);
+    let last = edits(rt, alloc, &[limit.last]);
+    let full = carried_out(rt, alloc, design, &last);
+    check_each(rt, alloc, &full, limit.without_room);
 }
 
+fn check_limit(rt: &impl Abort, alloc: Global, limit: &Limit<'_>) {
+    let design = filled(rt, alloc, limit);
+    check_last(rt, alloc, &design, limit);
+}
+
+const NETS: Limit<'static> = Limit {
+    first: &[],
+    part: ("net n", " wire"),
+    most: MAX_NETS,
+    with_room: &[("net y wire", None), ("input y", None)],
+    last: "net y wire",
+    without_room: &[
+        ("net z wire", Some(TooMany)),
+        ("input z", Some(TooMany)),
+        ("input y", Some(DuplicateName)),
+    ],
+};
+
 #[test]
-fn as_many_points_as_may_be(rt: HostRuntime) -> Result<(), Fail> {
-    let alloc = rt.alloc();
-    let design = filled(
-        &rt,
-        alloc,
-        "stim a ",
-        " 1",
-        &["input a", "input b"],
-        MAX_POINTS - 1,
-    )?;
-    check_edit(&rt, alloc, &design, "stim b 0 1", None)?;
-    let design = with(&rt, alloc, &design, &["stim b 3 1"])?;
-    check_edit(&rt, alloc, &design, "stim b 0 1", Some(TooMany))?;
-    check_edit(&rt, alloc, &design, "stim b 3 0", None)?;
-    check_edit(
-        &rt,
-        alloc,
-        &design,
-        "stim b 1000000001 0",
-        Some(TimeTooLarge),
-    )
+fn as_many_nets_as_may_be(rt: HostRuntime) {
+    check_limit(&rt, rt.alloc(), &NETS);
+}
+
+const GATES: Limit<'static> = Limit {
+    first: &["input a", "net y wire"],
+    part: ("gate g", " buf 1 1 y a"),
+    most: MAX_GATES,
+    with_room: &[("gate h buf 1 1 y a", None)],
+    last: "gate h buf 1 1 y a",
+    without_room: &[
+        ("gate k buf 0 1 m", Some(TooMany)),
+        ("gate h buf 0 1 m", Some(DuplicateName)),
+    ],
+};
+
+#[test]
+fn as_many_gates_as_may_be(rt: HostRuntime) {
+    check_limit(&rt, rt.alloc(), &GATES);
+}
+
+const POINTS: Limit<'static> = Limit {
+    first: &["input a", "input b"],
+    part: ("stim a ", " 1"),
+    most: MAX_POINTS,
+    with_room: &[("stim b 0 1", None)],
+    last: "stim b 3 1",
+    without_room: &[
+        ("stim b 0 1", Some(TooMany)),
+        ("stim b 3 0", None),
+        ("stim b 1000000001 0", Some(TimeTooLarge)),
+    ],
+};
+
+#[test]
+fn as_many_points_as_may_be(rt: HostRuntime) {
+    check_limit(&rt, rt.alloc(), &POINTS);
 }
 
 #[test]

@@ -2,7 +2,8 @@
 
 use design::{Design, Gate, Net, Terminal};
 use fourstate::{Value, delay};
-use std::alloc::{AllocError, Global};
+use std::alloc::Global;
+use std::process::Abort;
 
 fn symbol(value: Value) -> char {
     match value {
@@ -13,50 +14,46 @@ fn symbol(value: Value) -> char {
     }
 }
 
-fn show_net(alloc: Global, net: &Net) -> Result<String, AllocError> {
+fn add_net(rt: &impl Abort, text: &mut String, net: &Net) {
     let word = if net.is_input() { "input" } else { "net" };
-    let mut text = format!(in alloc; "{word} {} {}", net.name().as_str(), net.kind().keyword())?;
+    let (name, kind) = (net.name().as_str(), net.kind().keyword());
+    write!(text, "{word} {name} {kind}").expect(rt, "a net");
     for (time, value) in net.points() {
-        let point = format!(in alloc; " {time}:{}", symbol(*value))?;
-        text.push_str(&point)?;
+        write!(text, " {time}:{}", symbol(*value)).expect(rt, "a point");
     }
-    text.push('\n')?;
-    Ok(text)
+    text.push('\n').expect(rt, "an end");
 }
 
-fn show_gate(alloc: Global, gate: &Gate) -> Result<String, AllocError> {
-    let delays = gate.delays();
-    let rise = delay(&delays, Value::One);
-    let fall = delay(&delays, Value::Zero);
-    let kind = gate.kind().keyword();
-    let output = gate.output().as_str();
-    let mut text = format!(in alloc;
-        "gate {} {kind} {rise} {fall} {output}",
-        gate.name().as_str()
-    )?;
-    for terminal in gate.inputs() {
-        let input = match terminal {
-            Terminal::Net(name) => format!(in alloc; " {}", name.as_str())?,
-            Terminal::Constant(value) => format!(in alloc; " 1'b{}", symbol(*value))?,
-        };
-        text.push_str(&input)?;
+fn add_input(rt: &impl Abort, text: &mut String, terminal: &Terminal) {
+    match terminal {
+        Terminal::Net(name) => write!(text, " {}", name.as_str()).expect(rt, "a net"),
+        Terminal::Constant(value) => {
+            write!(text, " 1'b{}", symbol(*value)).expect(rt, "a constant");
+        }
     }
-    text.push('\n')?;
-    Ok(text)
+}
+
+fn add_gate(rt: &impl Abort, text: &mut String, gate: &Gate) {
+    let (name, kind) = (gate.name().as_str(), gate.kind().keyword());
+    let rise = delay(&gate.delays(), Value::One);
+    let fall = delay(&gate.delays(), Value::Zero);
+    let output = gate.output().as_str();
+    write!(text, "gate {name} {kind} {rise} {fall} {output}").expect(rt, "a gate");
+    for terminal in gate.inputs() {
+        add_input(rt, text, terminal);
+    }
+    text.push('\n').expect(rt, "an end");
 }
 
 /// The nets and the gates in order, and the horizon.
-pub fn show(alloc: Global, design: &Design) -> Result<String, AllocError> {
+pub fn show(rt: &impl Abort, alloc: Global, design: &Design) -> String {
     let mut text = String::new(alloc);
     for place in 0..design.net_count() {
-        let net = show_net(alloc, design.net_at(place))?;
-        text.push_str(&net)?;
+        add_net(rt, &mut text, design.net_at(place));
     }
     for place in 0..design.gate_count() {
-        let gate = show_gate(alloc, design.gate_at(place))?;
-        text.push_str(&gate)?;
+        add_gate(rt, &mut text, design.gate_at(place));
     }
-    let horizon = format!(in alloc; "horizon {}\n", design.horizon())?;
-    text.push_str(&horizon)?;
-    Ok(text)
+    write!(text, "horizon {}\n", design.horizon()).expect(rt, "a horizon");
+    text
 }
