@@ -4,53 +4,52 @@ use design::{Design, Gate, MAX_GATES, MAX_NETS, MAX_POINTS, Name, NameHasher, Te
 use fourstate::{Delays, GateKind, MAX_TIME, NetKind, Value, fits};
 use std::alloc::Global;
 use std::process::Abort;
-use std::test::Fail;
 
-fn name_of(rt: &impl Abort, alloc: Global, text: &str) -> Result<Name, Fail> {
+fn name_of(rt: &impl Abort, alloc: Global, text: &str) -> Name {
     assert!(rt; Name::is_valid(text));
-    Ok(Name::new(alloc, text)?)
+    Name::new(alloc, text).expect(rt, "a name")
 }
 
 /// A design with no nets and no gates that runs up to this horizon.
-pub fn empty(rt: &impl Abort, alloc: Global, horizon: u64) -> Result<Design, Fail> {
+pub fn empty(rt: &impl Abort, alloc: Global, horizon: u64) -> Design {
     assert!(rt; horizon <= MAX_TIME);
-    let top = name_of(rt, alloc, "m")?;
+    let top = name_of(rt, alloc, "m");
     let design = Design::empty(alloc, NameHasher::fixed(), top, TimeUnit::default());
-    Ok(design.set_horizon(horizon))
+    design.set_horizon(horizon)
 }
 
-pub fn input(rt: &impl Abort, alloc: Global, design: Design, name: &str) -> Result<Design, Fail> {
-    assert!(rt; !design.has_net(name));
-    assert!(rt; design.net_count() < MAX_NETS);
-    let name = name_of(rt, alloc, name)?;
+pub fn input(rt: &impl Abort, alloc: Global, design: Design, name: &str) -> Design {
+    let name = name_of(rt, alloc, name);
     assert!(rt; !design.has_net(name.as_str()));
-    let (design, _) = design.add_input(name)?;
-    Ok(design)
+    assert!(rt; design.net_count() < MAX_NETS);
+    design.add_input(name).expect(rt, "an input").0
 }
 
-pub fn net(
-    rt: &impl Abort,
-    alloc: Global,
-    design: Design,
-    name: &str,
-    kind: NetKind,
-) -> Result<Design, Fail> {
-    assert!(rt; design.net_count() < MAX_NETS);
-    let name = name_of(rt, alloc, name)?;
+pub fn net(rt: &impl Abort, alloc: Global, design: Design, name: &str, kind: NetKind) -> Design {
+    let name = name_of(rt, alloc, name);
     assert!(rt; !design.has_net(name.as_str()));
-    let (design, _) = design.add_net(name, kind)?;
-    Ok(design)
+    assert!(rt; design.net_count() < MAX_NETS);
+    design.add_net(name, kind).expect(rt, "a net").0
 }
 
 /// The terminal of a net name, or of a constant as a text writes it.
-fn terminal(rt: &impl Abort, alloc: Global, text: &str) -> Result<Terminal, Fail> {
+fn terminal(rt: &impl Abort, alloc: Global, text: &str) -> Terminal {
     match text {
-        "1'b0" => Ok(Terminal::Constant(Value::Zero)),
-        "1'b1" => Ok(Terminal::Constant(Value::One)),
-        "1'bx" => Ok(Terminal::Constant(Value::Unknown)),
-        "1'bz" => Ok(Terminal::Constant(Value::HighZ)),
-        _ => Ok(Terminal::Net(name_of(rt, alloc, text)?)),
+        "1'b0" => Terminal::Constant(Value::Zero),
+        "1'b1" => Terminal::Constant(Value::One),
+        "1'bx" => Terminal::Constant(Value::Unknown),
+        "1'bz" => Terminal::Constant(Value::HighZ),
+        _ => Terminal::Net(name_of(rt, alloc, text)),
     }
+}
+
+fn terminals(rt: &impl Abort, alloc: Global, texts: &[&str]) -> Vec<Terminal> {
+    let mut terminals = Vec::new(alloc);
+    for text in texts {
+        let terminal = terminal(rt, alloc, text);
+        terminals.push(terminal).expect(rt, "one terminal more");
+    }
+    terminals
 }
 
 /// A gate of a kind with its rise and fall, and the terminals: the output, then the inputs.
@@ -60,55 +59,40 @@ pub fn gate(
     design: Design,
     name: &str,
     kind: (GateKind, u64, u64),
-    terminals: (&str, &[&str]),
-) -> Result<Design, Fail> {
+    connected: (&str, &[&str]),
+) -> Design {
     let delays = Delays::new(kind.1, kind.2).expect(rt, "lawful delays");
-    let mut inputs = Vec::new(alloc);
-    for text in terminals.1 {
-        inputs.push(terminal(rt, alloc, text)?)?;
-    }
+    let inputs = terminals(rt, alloc, connected.1);
     assert!(rt; fits(kind.0, inputs.as_slice().len()));
-    let name = name_of(rt, alloc, name)?;
-    let output = name_of(rt, alloc, terminals.0)?;
+    let name = name_of(rt, alloc, name);
+    let output = name_of(rt, alloc, connected.0);
     add(rt, design, Gate::new(name, kind.0, delays, output, inputs))
 }
 
-fn add(rt: &impl Abort, design: Design, gate: Gate) -> Result<Design, Fail> {
+fn add(rt: &impl Abort, design: Design, gate: Gate) -> Design {
     assert!(rt; !design.has_gate(gate.name().as_str()));
     assert!(rt; design.gate_count() < MAX_GATES);
     assert!(rt; design.is_drivable(gate.output().as_str()));
     assert!(rt; design.are_readable(gate.inputs()));
-    let (design, _) = design.add_gate(gate)?;
-    Ok(design)
+    design.add_gate(gate).expect(rt, "a gate").0
 }
 
-/// Stimulus points of an input.
-pub fn stimulate(
-    rt: &impl Abort,
-    design: Design,
-    name: &str,
-    points: &[(u64, Value)],
-) -> Result<Design, Fail> {
-    let mut design = design;
-    for (t, value) in points {
-        design = point(rt, design, name, *t, *value)?;
-    }
-    Ok(design)
-}
-
-fn point(
-    rt: &impl Abort,
-    design: Design,
-    name: &str,
-    t: u64,
-    value: Value,
-) -> Result<Design, Fail> {
+/// A stimulus point of an input.
+pub fn point(rt: &impl Abort, design: Design, name: &str, t: u64, value: Value) -> Design {
     let net = design.net(name).expect(rt, "a net of this name");
     assert!(rt; design.has_net_key(net));
     assert!(rt; design.net_of(net).is_input());
     assert!(rt; t <= MAX_TIME);
     assert!(rt; design.point_count() < MAX_POINTS);
-    Ok(design.set_point(net, t, value)?)
+    design.set_point(net, t, value).expect(rt, "a point")
+}
+
+fn points(rt: &impl Abort, design: Design, name: &str, points: &[(u64, Value)]) -> Design {
+    let mut design = design;
+    for (t, value) in points {
+        design = point(rt, design, name, *t, *value);
+    }
+    design
 }
 
 /// A design as tables: its inputs with their points, its other nets, and its gates.
@@ -122,42 +106,28 @@ pub struct Plan<'a> {
 }
 
 /// The design of a plan.
-pub fn build(rt: &impl Abort, alloc: Global, plan: Plan<'_>) -> Result<Design, Fail> {
-    let mut design = empty(rt, alloc, plan.horizon)?;
+pub fn build(rt: &impl Abort, alloc: Global, plan: Plan<'_>) -> Design {
+    let mut design = empty(rt, alloc, plan.horizon);
     for (name, points) in plan.inputs {
-        design = add_stimulated(rt, alloc, design, name, points)?;
+        design = stimulated(rt, alloc, design, name, points);
     }
     for (name, kind) in plan.nets {
-        design = net(rt, alloc, design, name, *kind)?;
+        design = net(rt, alloc, design, name, *kind);
     }
-    for (name, kind, terminals) in plan.gates {
-        design = gate(rt, alloc, design, name, *kind, *terminals)?;
+    for (name, kind, connected) in plan.gates {
+        design = gate(rt, alloc, design, name, *kind, *connected);
     }
-    Ok(design)
+    design
 }
 
-fn add_stimulated(
+/// The design with an input that has these stimulus points.
+pub fn stimulated(
     rt: &impl Abort,
     alloc: Global,
     design: Design,
     name: &str,
     points: &[(u64, Value)],
-) -> Result<Design, Fail> {
-    let design = input(rt, alloc, design, name)?;
-    stimulate(rt, design, name, points)
-}
-
-/// Input a, net y, and a buffer from a to y with these delays.
-pub fn buffer(
-    rt: &impl Abort,
-    alloc: Global,
-    delays: (u64, u64),
-    points: &[(u64, Value)],
-    horizon: u64,
-) -> Result<Design, Fail> {
-    let design = empty(rt, alloc, horizon)?;
-    let design = add_stimulated(rt, alloc, design, "a", points)?;
-    let design = net(rt, alloc, design, "y", NetKind::Wire)?;
-    let kind = (GateKind::Buf, delays.0, delays.1);
-    gate(rt, alloc, design, "g", kind, ("y", &["a"]))
+) -> Design {
+    let design = input(rt, alloc, design, name);
+    self::points(rt, design, name, points)
 }

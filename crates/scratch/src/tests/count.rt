@@ -3,11 +3,13 @@
 ghost use Rattle.gatestep.specs.Step.{advance};
 ghost use Rattle.gatestep.specs.StepLaws.{advance_current, advance_later, advance_stays};
 
-use super::build::{buffer, empty};
+use super::build::{Plan, build};
 use crate::simulate;
 use fourstate::Value::{One, Zero};
+use fourstate::{GateKind, NetKind};
 use gatestep::{Driver, Record, Serial, StepFault, Stepper, Task};
-use std::test::Fail;
+use std::alloc::Global;
+use std::process::Abort;
 
 /// Passes steps on to `Serial` and counts them.
 #[derive(Drop)]
@@ -62,21 +64,35 @@ impl Stepper for Counting {
     ghost answer_stays = { advance_stays };
 }
 
-#[test]
-fn a_gate_is_evaluated_at_each_moment(rt: HostRuntime) -> Result<(), Fail> {
-    let design = buffer(&rt, rt.alloc(), (3, 3), &[(0, Zero), (4, One)], 10)?;
+/// The steps of the run of a design, and the tasks in them all.
+fn count(rt: &impl Abort, alloc: Global, plan: Plan<'_>) -> (u64, u64) {
     let mut stepper = Counting::new();
-    let _run = simulate(rt.alloc(), &design, &mut stepper)?;
-    assert_eq!(rt; stepper.steps, 11);
-    assert_eq!(rt; stepper.tasks, 11);
-    Ok(())
+    let design = build(rt, alloc, plan);
+    let _run = simulate(alloc, &design, &mut stepper).expect(rt, "a run");
+    (stepper.steps, stepper.tasks)
 }
 
 #[test]
-fn no_step_without_a_task(rt: HostRuntime) -> Result<(), Fail> {
-    let design = empty(&rt, rt.alloc(), 1000)?;
-    let mut stepper = Counting::new();
-    let _run = simulate(rt.alloc(), &design, &mut stepper)?;
-    assert_eq!(rt; stepper.steps, 0);
-    Ok(())
+fn a_gate_is_evaluated_at_each_moment(rt: HostRuntime) {
+    let plan = Plan {
+        inputs: &[("a", &[(0, Zero), (4, One)])],
+        nets: &[("y", NetKind::Wire)],
+        gates: &[("g", (GateKind::Buf, 3, 3), ("y", &["a"]))],
+        horizon: 10,
+    };
+    let (steps, tasks) = count(&rt, rt.alloc(), plan);
+    assert_eq!(rt; steps, 11);
+    assert_eq!(rt; tasks, 11);
+}
+
+#[test]
+fn no_step_without_a_task(rt: HostRuntime) {
+    let plan = Plan {
+        inputs: &[],
+        nets: &[],
+        gates: &[],
+        horizon: 1000,
+    };
+    let (steps, _) = count(&rt, rt.alloc(), plan);
+    assert_eq!(rt; steps, 0);
 }

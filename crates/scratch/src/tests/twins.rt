@@ -2,14 +2,14 @@
 
 ghost use Rattle.std.specs.Prelude.{◌<◌};
 
-use super::build::{empty, gate, input, net, stimulate};
+use super::build::{empty, gate, input, net, point};
 use crate::{plain, simulate};
 use design::Design;
 use fourstate::{GateKind, NetKind, Value};
 use gatestep::Serial;
 use std::alloc::Global;
 use std::process::Abort;
-use std::test::Fail;
+use waveform::Run;
 
 /// Numbers in a fixed order that looks like none.
 #[derive(Drop)]
@@ -39,18 +39,13 @@ fn pick(rt: &impl Abort, dice: &mut Dice, names: &[&'static str]) -> &'static st
     names[dice.below(names.len() as u64) as usize]
 }
 
-fn random_points(
-    rt: &impl Abort,
-    dice: &mut Dice,
-    design: Design,
-    name: &str,
-) -> Result<Design, Fail> {
+fn random_points(rt: &impl Abort, dice: &mut Dice, design: Design, name: &str) -> Design {
     let mut design = design;
     for _ in 0..6 {
         let value = VALUES[dice.below(4) as usize];
-        design = stimulate(rt, design, name, &[(dice.below(40), value)])?;
+        design = point(rt, design, name, dice.below(40), value);
     }
-    Ok(design)
+    design
 }
 
 fn random_gate(
@@ -59,7 +54,7 @@ fn random_gate(
     dice: &mut Dice,
     design: Design,
     name: &str,
-) -> Result<Design, Fail> {
+) -> Design {
     let kind = GateKind::ALL[dice.below(12) as usize];
     let delays = (1 + dice.below(5), 1 + dice.below(5));
     let output = pick(rt, dice, &NAMES[2..]);
@@ -70,51 +65,53 @@ fn random_gate(
         GateKind::Buf | GateKind::Not => 1,
         _ => 2,
     };
-    gate(
-        rt,
-        alloc,
-        design,
-        name,
-        (kind, delays.0, delays.1),
-        (output, &both[..count]),
-    )
+    let kind = (kind, delays.0, delays.1);
+    gate(rt, alloc, design, name, kind, (output, &both[..count]))
 }
 
-fn random_design(rt: &impl Abort, alloc: Global, seed: u64) -> Result<Design, Fail> {
+fn random_design(rt: &impl Abort, alloc: Global, seed: u64) -> Design {
     let mut dice = Dice(seed);
-    let mut design = empty(rt, alloc, 60)?;
+    let mut design = empty(rt, alloc, 60);
     for name in &NAMES[..2] {
-        design = input(rt, alloc, design, name)?;
-        design = random_points(rt, &mut dice, design, name)?;
+        design = input(rt, alloc, design, name);
+        design = random_points(rt, &mut dice, design, name);
     }
     for name in &NAMES[2..] {
         let kind = NetKind::ALL[dice.below(6) as usize];
-        design = net(rt, alloc, design, name, kind)?;
+        design = net(rt, alloc, design, name, kind);
     }
     for name in GATES {
-        design = random_gate(rt, alloc, &mut dice, design, name)?;
+        design = random_gate(rt, alloc, &mut dice, design, name);
     }
-    Ok(design)
+    design
+}
+
+/// The values at a moment are those of the run's waves.
+fn check_row(rt: &impl Abort, run: &Run, row: &[Value], t: u64, seed: u64) {
+    for (place, value) in row.iter().enumerate() {
+        let wave = run.wave(place).expect(rt, "a wave for each net");
+        assert_eq!(rt; wave.at(t), *value, "net {place} at {t} of seed {seed}");
+    }
+}
+
+fn check_design(rt: &impl Abort, alloc: Global, design: &Design, seed: u64) {
+    let run = simulate(alloc, design, &mut Serial::new()).expect(rt, "a run");
+    let rows = plain::values(alloc, design, &mut Serial::new()).expect(rt, "the values");
+    assert_eq!(rt; rows.len(), 61);
+    for (t, row) in rows.iter().enumerate() {
+        assert_eq!(rt; row.len(), design.net_count());
+        check_row(rt, &run, row, t as u64, seed);
+    }
+}
+
+fn check_seed(rt: &impl Abort, alloc: Global, seed: u64) {
+    let design = random_design(rt, alloc, seed);
+    check_design(rt, alloc, &design, seed);
 }
 
 #[test]
-fn the_run_has_the_values_of_each_moment(rt: HostRuntime) -> Result<(), Fail> {
+fn the_run_has_the_values_of_each_moment(rt: HostRuntime) {
     for seed in [1, 2, 3, 5, 8, 13, 21, 34] {
-        let design = random_design(&rt, rt.alloc(), seed)?;
-        let run = simulate(rt.alloc(), &design, &mut Serial::new())?;
-        let rows = plain::values(rt.alloc(), &design, &mut Serial::new())?;
-        assert_eq!(rt; rows.len(), 61);
-        for (t, row) in rows.iter().enumerate() {
-            assert_eq!(rt; row.len(), design.net_count());
-            for (place, value) in row.iter().enumerate() {
-                let wave = run.wave(place).expect(&rt, "a wave for each net");
-                assert_eq!(rt;
-                    wave.at(t as u64),
-                    *value,
-                    "net {place} at {t} of seed {seed}"
-                );
-            }
-        }
+        check_seed(&rt, rt.alloc(), seed);
     }
-    Ok(())
 }
