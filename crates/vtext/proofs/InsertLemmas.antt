@@ -1,9 +1,9 @@
 -- A list of nets keeps what it has where one is added or said more of.
-use Rattle.std.proofs.Common.{◌≡◌, ◌≢◌, ℕ, zero, suc, Bool, true, false, cond, List, [], ◌∷◌, Some, IsSome, All, AllPairs, nat_eq, refl, sym, ap, ◌∙◌, arith, true≢false}
+use Rattle.std.proofs.Common.{◌≡◌, ◌≢◌, ℕ, zero, suc, Bool, true, false, cond, ◌||◌, List, [], ◌∷◌, Option, None, Some, unwrap_or, IsSome, All, AllPairs, nat_eq, refl, sym, ap, ◌∙◌, arith, true≢false}
 use Rattle.std.proofs.lemmas.Bool.Decides.{nat_tests}
 use Rattle.std.proofs.lemmas.List.Elements.{All-nil, All-cons, All-head, All-tail}
 use Rattle.vtext.specs.declared.net.Net.{Net}
-use Rattle.vtext.specs.Nets.{net_of, with_net}
+use Rattle.vtext.specs.Nets.{blank, is_declared, is_used, net_of, used, with_net, with_use}
 
 same_number : (n : ℕ) → nat_eq n n ≡ true
 same_number n = grind (arith, nat_tests)
@@ -42,6 +42,31 @@ net_there (e ∷ es) n net = step (nat_eq n e.0) refl (net_there es n net)
     step : (b : Bool) → nat_eq n e.0 ≡ b → IsSome (net_of (with_net es n net) n) → IsSome (net_of (cond b ((e.0, net) ∷ es) (e ∷ with_net es n net)) n)
     step true same rest = rw same refl
     step false same rest = there (nat_eq n e.0) rest
+
+-- A net that says what it said leaves the list as it was.
+
+same_net : (nets : List (ℕ × Net)) (n : ℕ) (net : Net) → net_of nets n ≡ Some net → with_net nets n net ≡ nets
+same_net [] n net h = absurd cc
+same_net (e ∷ es) n net h = step (nat_eq n e.0) (same_net es n net) h
+  where
+    step : (b : Bool) → (net_of es n ≡ Some net → with_net es n net ≡ es) → cond b (Some e.1) (net_of es n) ≡ Some net → cond b ((e.0, net) ∷ es) (e ∷ with_net es n net) ≡ e ∷ es
+    step true rest h = let same : e.1 ≡ net = cc in ap (λ (x : Net). (e.0, x) ∷ es) (sym same)
+    step false rest h = ap (λ (more : List (ℕ × Net)). e ∷ more) (rest h)
+
+used_again : (net : Net) → is_used net ≡ true → used net ≡ net
+used_again net h = step (is_declared net) net.implicit refl h
+  where
+    step : (declared implicit : Bool) → net.implicit ≡ implicit → (declared || implicit) ≡ true → cond declared net (record net { implicit = true }) ≡ net
+    step true implicit e h = refl
+    step false true e h = ap (λ (b : Bool). record net { implicit = b }) (sym e)
+    step false false e h = absurd cc
+
+pub use_again : (nets : List (ℕ × Net)) (n : ℕ) → is_used (unwrap_or (net_of nets n) blank) ≡ true → with_use nets n ≡ nets
+use_again nets n h = step (net_of nets n) refl h
+  where
+    step : (found : Option Net) → net_of nets n ≡ found → is_used (unwrap_or found blank) ≡ true → with_net nets n (used (unwrap_or found blank)) ≡ nets
+    step None e h = absurd cc
+    step (Some net) e h = ap (with_net nets n) (used_again net h) ∙ same_net nets n net e
 
 -- what holds of each number, and of the one
 pub numbers_kept : (P : ℕ → Type 0) (nets : List (ℕ × Net)) (n : ℕ) (net : Net) → P n → All (λ x. P x.0) nets → All (λ x. P x.0) (with_net nets n net)

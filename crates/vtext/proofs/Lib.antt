@@ -10,6 +10,8 @@ pub mod SpelledLemmas
 pub mod WalkEnds
 pub mod CountLemmas
 pub mod NumberLemmas
+pub mod TableLemmas
+pub mod KeywordLemmas
 pub mod NamedBytes
 pub mod GoodWords
 pub mod SpellingLemmas

@@ -1,16 +1,14 @@
 -- The modules of every text are sound.
-use Rattle.std.proofs.Common.{◌≡◌, ◌≢◌, ℕ, ◌+◌, ◌-◌, ◌^◌, ◌<◌, ◌≤◌, List, [], ◌∷◌, Option, None, All, AllPairs, length, drop, sym, subst, arith}
+use Rattle.std.proofs.Common.{◌≡◌, ◌≢◌, ℕ, ◌+◌, ◌-◌, ◌^◌, ◌<◌, ◌≤◌, List, [], ◌∷◌, Option, All, AllPairs, length, drop, sym, subst, arith}
 use Rattle.std.proofs.lemmas.List.{length-drop, length-map}
 use Rattle.std.proofs.lemmas.List.Elements.{All-cons, All-head, All-nil, All-tail}
 use Rattle.lexing.specs.Texts.{Spells, at_end, at_stray, at_token, at_unending, at_white}
 use Rattle.lexing.specs.declared.limits.TheConstants.{MAX_TEXT}
 use Rattle.lexing.specs.declared.token.Token.{Token}
-use Rattle.vtext.specs.declared.place.Place.TheVariants.{Outside}
 use Rattle.vtext.specs.GateNames.{gate_bytes}
-use Rattle.vtext.specs.Modules.{GateEntry, ModuleEntry, ModuleList}
-use Rattle.vtext.specs.Readings.{Reading}
+use Rattle.vtext.specs.Modules.{ModuleEntry, ModuleList}
 use Rattle.vtext.specs.Reads.{Says}
-use Rattle.vtext.specs.Sound.{AreGoodWords, IsSoundModule}
+use Rattle.vtext.specs.Sound.{IsSoundModule}
 use Rattle.vtext.specs.Words.{first_unit, names_of, word_of, words_of}
 use Rattle.vtext.proofs.ApartWalk.{gates_differ}
 use Rattle.vtext.proofs.GoodWords.{good_words}

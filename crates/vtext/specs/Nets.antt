@@ -49,6 +49,10 @@ directed direction kind net = record net { direction = Some direction; kind = op
 abbrev pub used : Net → Net
 used net = if is_declared net then net else record net { implicit = true }
 
+-- a declaration or a use was said of it: a further use says no more
+abbrev pub is_used : Net → Bool
+is_used net = is_declared net || net.implicit
+
 -- The nets of a module are a list of numbers of names, each with what is said of it.
 
 -- what is said of a net so far
@@ -58,3 +62,7 @@ net_of nets n = lookup (nat_eq n) nets
 -- a net says so from now on: it keeps its place, and a new one goes last
 abbrev pub with_net : List (ℕ × Net) → ℕ → Net → List (ℕ × Net)
 with_net nets n net = insert_entry nat_eq nets n net
+
+-- a net is a terminal from now on
+abbrev pub with_use : List (ℕ × Net) → ℕ → List (ℕ × Net)
+with_use nets n = with_net nets n (used (unwrap_or (net_of nets n) blank))

@@ -8,7 +8,7 @@ use Rattle.vtext.specs.declared.place.Place.{Place}
 use Rattle.vtext.specs.declared.place.Place.TheVariants.{Outside, ModuleName, Header, OlderName, InlineStart, InlineName, InlineMore, Items, PortStart, PortName, NetName, GateStart, Delay, RiseDelay, FallDelay, InstanceStart, TerminalStart, TerminalEnd}
 use Rattle.vtext.specs.GateNames.{with_taken}
 use Rattle.vtext.specs.Instances.{completed}
-use Rattle.vtext.specs.Nets.{blank, directed, listed, net_of, ported, used, with_net}
+use Rattle.vtext.specs.Nets.{blank, directed, listed, net_of, ported, with_net, with_use}
 use Rattle.vtext.specs.Readings.{Reading}
 
 -- Nets.
@@ -31,7 +31,7 @@ declare_net r n = record r { nets = with_net r.nets n (record (unwrap_or (net_of
 
 -- a terminal names a net
 abbrev pub use_net : Reading → ℕ → Reading
-use_net r n = record r { nets = with_net r.nets n (used (unwrap_or (net_of r.nets n) blank)); terminals = r.terminals ++ Net n ∷ [] }
+use_net r n = record r { nets = with_use r.nets n; terminals = r.terminals ++ Net n ∷ [] }
 
 -- Modules.
 

@@ -52,9 +52,12 @@ impl Draft {
         ensures { IfOk result (λ taken. taken ≡ is_made_taken names.now (view self.now).taken instance outputs) }
     {
         let own = self.is_own_taken(alloc, names, instance)?;
+        let count = part_count(outputs);
+        if own || count == 0 {
+            return Ok(own);
+        }
         let base = instance_text(alloc, names, instance)?;
-        let parts = self.is_part_taken(alloc, names, base.as_slice(), part_count(outputs))?;
-        Ok(own || parts)
+        self.is_part_taken(alloc, names, base.as_slice(), count)
     }
 
     fn take_own(
@@ -84,8 +87,12 @@ impl Draft {
         ensures { OnOk result (view self.new ≡ record (view self.old) { taken = with_made_taken names.now (view self.old).taken instance outputs }) }
     {
         self.take_own(alloc, names, instance)?;
+        let count = part_count(outputs);
+        if count == 0 {
+            return Ok(());
+        }
         let base = instance_text(alloc, names, instance)?;
-        self.take_parts(alloc, names, base.as_slice(), part_count(outputs))
+        self.take_parts(alloc, names, base.as_slice(), count)
     }
 
     fn add_gate(
@@ -148,13 +155,15 @@ impl Draft {
         ensures { OnOk result (view self.new ≡ completed names.now (view self.old)) }
     {
         let instance = self.instance_name();
-        let terminals = mem::replace(&mut self.terminals, Vec::new(alloc));
+        let mut terminals = mem::replace(&mut self.terminals, Vec::new(alloc));
         let (outputs, inputs) = split(self.gate, terminals.as_slice());
         self.add_gates(alloc, instance, inputs, outputs)?;
         self.take_made(alloc, names, instance, outputs.len())?;
         if self.instance.is_none() {
             self.unnamed += 1;
         }
+        terminals.clear();
+        self.terminals = terminals;
         Ok(())
     }
 }

@@ -1,11 +1,11 @@
 //! The words of Verilog.
 
-ghost use Rattle.std.specs.Prelude.{◌≡◌};
+ghost use Rattle.std.specs.Prelude.{◌≡◌, ℕ, List, Some};
 ghost use Rattle.std.specs.List.{list_any};
 ghost use Rattle.std.specs.Str.{bytes_eq};
-ghost use Rattle.vtext.specs.Keywords.{is_bad_byte, is_misnamed, is_refused, mark_of, name_word, plain_word, unkept_word};
+ghost use Rattle.vtext.specs.Keywords.{is_bad_byte, is_misnamed, is_refused, is_wordlike, mark_of, name_word, plain_word, unkept_word};
+ghost use Rattle.vtext.specs.Names.{number_of};
 
-use crate::names::Names;
 use crate::word::{Direction, Word};
 use design::MAX_NAME;
 use fourstate::{GateKind, NetKind};
@@ -127,33 +127,42 @@ fn is_misnamed(bytes: &[u8]) -> bool
 }
 
 /// A name, by its number in the table.
-pub fn name_word(names: &Names, bytes: &[u8]) -> Word
-    ensures { result ≡ name_word names.now bytes.now }
+pub fn name_word(number: u32, bytes: &[u8]) -> Word
+    ensures { (names : List (List ℕ)) → number_of names bytes.now ≡ Some number → result ≡ name_word names bytes.now }
 {
     if is_misnamed(bytes) {
-        return Word::Misnamed;
-    }
-    match names.find(bytes) {
-        Some(name) => Word::Name(name),
-        None => Word::Misnamed,
+        Word::Misnamed
+    } else {
+        Word::Name(number)
     }
 }
 
 /// A name that is not escaped and is no word of the grammar.
-fn unkept_word(names: &Names, bytes: &[u8]) -> Word
-    ensures { result ≡ unkept_word names.now bytes.now }
+fn unkept_word(number: u32, bytes: &[u8]) -> Word
+    ensures { (names : List (List ℕ)) → number_of names bytes.now ≡ Some number → result ≡ unkept_word names bytes.now }
 {
     if is_refused(bytes) {
         Word::Refused
     } else {
-        name_word(names, bytes)
+        name_word(number, bytes)
     }
 }
 
-/// A word, or a name that is not escaped (IEEE 1364-2005, annex B).
-pub fn plain_word(names: &Names, bytes: &[u8]) -> Word
-    ensures { result ≡ plain_word names.now bytes.now }
+/// Whether bytes are small letters but for the last one, as those of each word are, and of few names.
+fn is_wordlike(bytes: &[u8]) -> bool
+    ensures { result ≡ is_wordlike bytes.now }
 {
+    let head = &bytes[..bytes.len().saturating_sub(1)];
+    head.iter().all(|byte| byte.is_ascii_lowercase())
+}
+
+/// A word, or a name that is not escaped, by its number in the table (IEEE 1364-2005, annex B).
+pub fn plain_word(number: u32, bytes: &[u8]) -> Word
+    ensures { (names : List (List ℕ)) → number_of names bytes.now ≡ Some number → result ≡ plain_word names bytes.now }
+{
+    if !is_wordlike(bytes) {
+        return name_word(number, bytes);
+    }
     if bytes == b"module".as_slice() {
         return Word::Module;
     }
@@ -169,7 +178,7 @@ pub fn plain_word(names: &Names, bytes: &[u8]) -> Word
     match (NetKind::from_keyword(bytes), GateKind::from_keyword(bytes)) {
         (Some(kind), _) => Word::NetWord(kind),
         (None, Some(kind)) => Word::GateWord(kind),
-        (None, None) => unkept_word(names, bytes),
+        (None, None) => unkept_word(number, bytes),
     }
 }
 

@@ -19,6 +19,7 @@ mod nets;
 mod place;
 mod read;
 mod steps;
+mod table;
 mod terminals;
 #[cfg(test)]
 mod tests;

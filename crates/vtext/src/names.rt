@@ -1,6 +1,6 @@
 //! The table of names.
 
-ghost use Rattle.std.specs.Prelude.{◌≡◌, [], OnOk, OnErr};
+ghost use Rattle.std.specs.Prelude.{◌≡◌, [], IfOk, OnOk, OnErr, Some};
 ghost use Rattle.vtext.specs.Names.{name_at, number_of, with_name};
 
 use design::NameHasher;
@@ -53,19 +53,17 @@ impl Names {
         }
     }
 
-    /// Adds a name where it is new.
-    pub fn add(&mut self, alloc: Global, name: &[u8]) -> Result<(), AllocError>
+    /// Adds a name where it is new, and answers its number.
+    pub fn add(&mut self, alloc: Global, name: &[u8]) -> Result<u32, AllocError>
         ensures ok { OnOk result (self.new ≡ with_name self.old name.now) }
+        ensures number { IfOk result (λ number. number_of self.new name.now ≡ Some number) }
         ensures err { OnErr result (self.new ≡ self.old) }
     {
-        if self.texts.contains(name) {
-            return Ok(());
-        }
         if self.texts.len() > u32::MAX as usize {
             return Err(AllocError);
         }
         let text = Vec::from_slice(alloc, name)?;
-        self.texts.insert(text)?;
-        Ok(())
+        let (place, _) = self.texts.insert_full(text)?;
+        Ok(place as u32)
     }
 }

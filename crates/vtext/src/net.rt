@@ -1,7 +1,7 @@
 //! The nets of a module.
 
 ghost use Rattle.std.specs.Prelude.{◌≡◌};
-ghost use Rattle.vtext.specs.Nets.{directed, is_declared, is_input, is_undirected, listed, net_kind, ported, used};
+ghost use Rattle.vtext.specs.Nets.{directed, is_declared, is_input, is_undirected, is_used, listed, net_kind, ported, used};
 
 use crate::word::Direction;
 use fourstate::NetKind;
@@ -72,6 +72,13 @@ impl Net {
         ensures { result ≡ is_declared self }
     {
         self.direction.is_some() || self.kind.is_some()
+    }
+
+    /// Whether it was declared or used before, so that a further use says no more of it.
+    pub fn is_used(self) -> bool
+        ensures { result ≡ is_used self }
+    {
+        self.is_declared() || self.implicit
     }
 
     /// Whether the header names it and no direction was said of it.

@@ -1,6 +1,7 @@
 //! What declarations and terminals say of nets.
 
 ghost use Rattle.std.specs.Prelude.{◌≡◌, OnOk};
+ghost use Rattle.vtext.specs.Nets.{with_use};
 ghost use Rattle.vtext.specs.Notes.{at_header, at_inline_more, at_inline_name, at_inline_start, at_net_name, at_older_name, at_port_name, at_port_start, declare_net, declare_port, direct_port, list_port, use_net};
 ghost use Rattle.vtext.specs.Readings.{view};
 
@@ -40,12 +41,21 @@ impl Draft {
         self.set_net(name, net)
     }
 
+    fn note_use(&mut self, name: u32) -> Result<(), AllocError>
+        ensures { OnOk result (view self.new ≡ record (view self.old) { nets = with_use (view self.old).nets name }) }
+    {
+        let net = self.net(name).unwrap_or(Net::BLANK);
+        if net.is_used() {
+            return Ok(());
+        }
+        self.set_net(name, net.used())
+    }
+
     /// A terminal names a net.
     pub fn use_net(&mut self, name: u32) -> Result<(), AllocError>
         ensures { OnOk result (view self.new ≡ use_net (view self.old) name) }
     {
-        let net = self.net(name).unwrap_or(Net::BLANK);
-        self.set_net(name, net.used())?;
+        self.note_use(name)?;
         self.terminals.push(Terminal::Net(name))?;
         Ok(())
     }

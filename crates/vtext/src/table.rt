@@ -1,0 +1,68 @@
+//! The table of names, with what each says as a word.
+
+ghost use Rattle.std.specs.Prelude.{◌≡◌, [], IfOk, OnOk, Some};
+ghost use Rattle.vtext.specs.Keywords.{meanings_of, name_word, plain_word};
+ghost use Rattle.vtext.specs.Names.{number_of, with_name};
+
+use crate::keywords::{name_word, plain_word};
+use crate::names::Names;
+use crate::word::Word;
+use design::NameHasher;
+use std::alloc::{AllocError, Global};
+
+/// The names of a text so far, and what each says where it is not escaped, by its number.
+#[derive(Drop)]
+pub struct Table {
+    pub names: Names,
+    pub meanings: Vec<Word>,
+}
+
+impl Table {
+    /// No names, to be hashed so.
+    pub fn new(alloc: Global, hasher: NameHasher) -> Table
+        ensures names { result.names ≡ [] }
+        ensures meanings { result.meanings.items ≡ [] }
+    {
+        Table {
+            names: Names::new(alloc, hasher),
+            meanings: Vec::new(alloc),
+        }
+    }
+
+    /// The number of a name, which is added where it is new.
+    fn number(&mut self, alloc: Global, name: &[u8]) -> Result<u32, AllocError>
+        requires { self.old.meanings.items ≡ meanings_of self.old.names }
+        ensures names { OnOk result (self.new.names ≡ with_name self.old.names name.now) }
+        ensures meanings { OnOk result (self.new.meanings.items ≡ meanings_of self.new.names) }
+        ensures number { IfOk result (λ number. number_of self.new.names name.now ≡ Some number) }
+    {
+        if let Some(number) = self.names.find(name) {
+            return Ok(number);
+        }
+        let number = self.names.add(alloc, name)?;
+        self.meanings.push(plain_word(number, name))?;
+        Ok(number)
+    }
+
+    /// A word, or a name that is not escaped.
+    pub fn plain_word(&mut self, alloc: Global, name: &[u8]) -> Result<Word, AllocError>
+        requires { self.old.meanings.items ≡ meanings_of self.old.names }
+        ensures names { OnOk result (self.new.names ≡ with_name self.old.names name.now) }
+        ensures meanings { OnOk result (self.new.meanings.items ≡ meanings_of self.new.names) }
+        ensures word { IfOk result (λ word. word ≡ plain_word self.new.names name.now) }
+    {
+        let number = self.number(alloc, name)?;
+        Ok(self.meanings[number as usize])
+    }
+
+    /// An escaped name.
+    pub fn name_word(&mut self, alloc: Global, name: &[u8]) -> Result<Word, AllocError>
+        requires { self.old.meanings.items ≡ meanings_of self.old.names }
+        ensures names { OnOk result (self.new.names ≡ with_name self.old.names name.now) }
+        ensures meanings { OnOk result (self.new.meanings.items ≡ meanings_of self.new.names) }
+        ensures word { IfOk result (λ word. word ≡ name_word self.new.names name.now) }
+    {
+        let number = self.number(alloc, name)?;
+        Ok(name_word(number, name))
+    }
+}
