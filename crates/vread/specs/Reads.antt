@@ -4,6 +4,7 @@ use Rattle.design.specs.Netlist.{Netlist}
 use Rattle.vtext.specs.declared.fault.ReadFault.{ReadFault}
 use Rattle.vtext.specs.Modules.{ModuleList}
 use Rattle.vtext.specs.Reads.{IsFirstFault, Says}
+pub use Rattle.lexing.specs.declared.limits.TheConstants.{MAX_TEXT}
 use Rattle.vread.specs.LateFaults.{late_fault}
 use Rattle.vread.specs.Netlists.{design_of}
 

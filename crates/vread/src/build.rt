@@ -31,7 +31,7 @@ pub fn design_of(
     let Some(top) = modules.list().first() else {
         return Err(no_top());
     };
-    if let Some(kind) = top_fault(alloc, modules.names(), top)? {
+    if let Some(kind) = top_fault(modules.names(), top) {
         return Err(fault_at(text, top, kind));
     }
     let design = design_from(alloc, hasher, modules, top)?;

@@ -1,15 +1,15 @@
 //! The faults that only a whole text shows.
 
-ghost use Rattle.std.specs.Prelude.{◌≡◌, None, Some, IfOk};
+ghost use Rattle.std.specs.Prelude.{◌≡◌};
 ghost use Rattle.std.specs.List.{list_any};
 ghost use Rattle.lexing.specs.Lines.{line_of};
 ghost use Rattle.vread.specs.LateFaults.{drives_input, fault_at, is_long_named, no_top, top_fault};
 
+use crate::lengths::gate_name_length;
 use design::{MAX_GATES, MAX_NAME, MAX_NETS};
 use edits::EditFault;
 use lexing::line;
-use std::alloc::{AllocError, Global};
-use vtext::{Gate, Module, Names, ReadFault, ReadFaultKind, gate_name};
+use vtext::{Gate, Module, Names, ReadFault, ReadFaultKind};
 
 /// There is no module.
 pub fn no_top() -> ReadFault
@@ -40,42 +40,32 @@ fn line_at(text: &[u8], at: usize) -> usize
 }
 
 /// Why a module may not be a design; none where it may.
-pub fn top_fault(
-    alloc: Global,
-    names: &Names,
-    top: &Module,
-) -> Result<Option<ReadFaultKind>, AllocError>
-    ensures { IfOk result (λ fault. fault ≡ top_fault names.now top.now) }
+pub fn top_fault(names: &Names, top: &Module) -> Option<ReadFaultKind>
+    ensures { result ≡ top_fault names.now top.now }
 {
-    if are_long_named(alloc, names, top.gates())? {
-        return Ok(Some(ReadFaultKind::Edit(EditFault::BadName)));
+    if are_long_named(names, top.gates()) {
+        return Some(ReadFaultKind::Edit(EditFault::BadName));
     }
     if top.net_count() > MAX_NETS || top.gates().len() > MAX_GATES {
-        return Ok(Some(ReadFaultKind::Edit(EditFault::TooMany)));
+        return Some(ReadFaultKind::Edit(EditFault::TooMany));
     }
     if drive_inputs(top) {
-        return Ok(Some(ReadFaultKind::Edit(EditFault::DrivenInput)));
+        return Some(ReadFaultKind::Edit(EditFault::DrivenInput));
     }
-    Ok(None)
+    None
 }
 
 /// Whether one of the gates has a name over the limit.
-fn are_long_named(alloc: Global, names: &Names, gates: &[Gate]) -> Result<bool, AllocError>
-    ensures { IfOk result (λ long. long ≡ list_any (is_long_named names.now) gates.now) }
+fn are_long_named(names: &Names, gates: &[Gate]) -> bool
+    ensures { result ≡ list_any (is_long_named names.now) gates.now }
 {
-    for gate in gates {
-        if is_long_named(alloc, names, gate)? {
-            return Ok(true);
-        }
-    }
-    Ok(false)
+    gates.iter().any(|gate| is_long_named(names, gate))
 }
 
-fn is_long_named(alloc: Global, names: &Names, gate: &Gate) -> Result<bool, AllocError>
-    ensures { IfOk result (λ long. long ≡ is_long_named names.now gate.now) }
+fn is_long_named(names: &Names, gate: &Gate) -> bool
+    ensures { result ≡ is_long_named names.now gate.now }
 {
-    let name = gate_name(alloc, names, gate)?;
-    Ok(name.len() > MAX_NAME)
+    gate_name_length(names, gate) > MAX_NAME
 }
 
 /// Whether a gate drives an input.

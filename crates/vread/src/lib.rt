@@ -5,6 +5,7 @@ mod build;
 mod gates;
 mod late;
 pub mod laws;
+mod lengths;
 mod names;
 mod nets;
 mod reading;

@@ -1,4 +1,4 @@
-//! The nets of a design, from those of a module.
+//! The nets of a design, from those of the module at its top.
 
 ghost use Rattle.std.specs.Prelude.{◌≡◌, ◌+◌, ◌<◌, [], false, true, IfOk, length, map, slice_get, take, Some};
 ghost use Rattle.design.specs.declared.limits.TheConstants.{MAX_NETS};
@@ -18,15 +18,15 @@ pub fn with_nets(
     alloc: Global,
     design: Design,
     names: &Names,
-    module: &Module,
+    top: &Module,
 ) -> Result<Design, AllocError>
-    requires fit { IsFitModule names.now module.now }
+    requires fit { IsFitModule names.now top.now }
     requires bare { design.netlist.nets ≡ [] }
-    ensures { IfOk result (λ made. made.netlist ≡ record design.netlist { nets = map (net_entry names.now) module.now.nets }) }
+    ensures { IfOk result (λ made. made.netlist ≡ record design.netlist { nets = map (net_entry names.now) top.now.nets }) }
 {
     let mut made = design;
-    for place in 0..module.net_count() {
-        made = with_net_at(alloc, made, names, module, place)?;
+    for place in 0..top.net_count() {
+        made = with_net_at(alloc, made, names, top, place)?;
     }
     Ok(made)
 }
@@ -36,15 +36,15 @@ fn with_net_at(
     alloc: Global,
     design: Design,
     names: &Names,
-    module: &Module,
+    top: &Module,
     place: usize,
 ) -> Result<Design, AllocError>
-    requires fit { IsFitModule names.now module.now }
-    requires within { place < length module.now.nets }
-    requires before { design.netlist.nets ≡ map (net_entry names.now) (take place module.now.nets) }
-    ensures { IfOk result (λ made. made.netlist ≡ record design.netlist { nets = map (net_entry names.now) (take (place + 1) module.now.nets) }) }
+    requires fit { IsFitModule names.now top.now }
+    requires within { place < length top.now.nets }
+    requires before { design.netlist.nets ≡ map (net_entry names.now) (take place top.now.nets) }
+    ensures { IfOk result (λ made. made.netlist ≡ record design.netlist { nets = map (net_entry names.now) (take (place + 1) top.now.nets) }) }
 {
-    let Some((number, net)) = module.net_at(place) else {
+    let Some((number, net)) = top.net_at(place) else {
         unreachable!()
     };
     let name = name_of(alloc, names, number)?;

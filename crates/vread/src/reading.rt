@@ -1,8 +1,9 @@
 //! The design that a text spells, or the text's fault.
 
-ghost use Rattle.std.specs.Prelude.{◌≡◌, ◌⊎◌, IfErr, IfOk};
+ghost use Rattle.std.specs.Prelude.{◌≡◌, ◌<◌, ◌⊎◌, Err, IfErr, IfOk, length};
+ghost use Rattle.lexing.specs.declared.limits.TheConstants.{MAX_TEXT};
 ghost use Rattle.vread.specs.Reads.{IsReadFault, Spells};
-ghost use Rattle.vtext.specs.ReadFaults.{out_of_memory};
+ghost use Rattle.vtext.specs.ReadFaults.{out_of_memory, too_long};
 
 use crate::build::design_of;
 use design::{Design, NameHasher};
@@ -20,6 +21,8 @@ pub fn read(
 ) -> Result<Design, ReadFault>
     ensures ok { IfOk result (λ design. Spells default text.now design.netlist) }
     ensures err { IfErr result (λ fault. (fault ≡ out_of_memory) ⊎ IsReadFault default text.now fault) }
+    // A text over its limit is looked at no further.
+    ensures long { MAX_TEXT < length text.now → result ≡ Err too_long }
 {
     modules_are_sound();
     let modules = modules(alloc, hasher, text, default)?;

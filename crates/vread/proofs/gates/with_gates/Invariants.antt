@@ -3,4 +3,4 @@ use Rattle.vread.specs.Netlists.{gate_entry}
 use Rattle.vread.proofs.gates.with_gates.Given as goal
 
 abbrev pub invariant-loop-place : goal.invariant-loop-place
-invariant-loop-place l = l.made.netlist ≡ record l.fn.design.netlist { gates = map (gate_entry l.names) (take l.place l.module.gates) }
+invariant-loop-place l = l.made.netlist ≡ record l.fn.design.netlist { gates = map (gate_entry l.names) (take l.place l.top.gates) }

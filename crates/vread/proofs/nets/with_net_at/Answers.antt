@@ -4,14 +4,14 @@ use Rattle.vread.proofs.nets.with_net_at.Goals as goal
 
 pub name_of-requires : goal.name_of-requires
 name_of-requires c =
-    (number_at c.args.names.now c.args.module.now c.requires.fit c.args.place (c.in-Some.number, c.in-Some.net) (sym c.in-Some.ensures)).named
+    (number_at c.args.names.now c.args.top.now c.requires.fit c.args.place (c.in-Some.number, c.in-Some.net) (sym c.in-Some.ensures)).named
 
 pub with_net-requires-clause-absent : goal.with_net-requires-clause-absent
 with_net-requires-clause-absent c =
-    absent_at c.args.names.now c.args.module.now c.requires.fit c.args.place (c.in-Some.number, c.in-Some.net) (sym c.in-Some.ensures)
+    absent_at c.args.names.now c.args.top.now c.requires.fit c.args.place (c.in-Some.number, c.in-Some.net) (sym c.in-Some.ensures)
     c.args.design.netlist c.in_ok-name.name c.requires.before c.in_ok-name.ensures
 
 pub returns : goal.returns
 returns c =
-    added_ok c.args.names.now c.args.module.now c.requires.fit c.args.place (c.in-Some.number, c.in-Some.net) (sym c.in-Some.ensures)
+    added_ok c.args.names.now c.args.top.now c.requires.fit c.args.place (c.in-Some.number, c.in-Some.net) (sym c.in-Some.ensures)
     c.args.design.netlist c.in_ok-name.name c.with_net.result c.requires.before c.in_ok-name.ensures c.with_net.ensures
