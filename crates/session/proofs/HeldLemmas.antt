@@ -1,5 +1,5 @@
 -- What a whole conversation leaves.
-use Rattle.std.proofs.Common.{◌≡◌, ℕ, ◌+◌, List, [], ◌++◌, Bool, true, false, refl, sym, ap, subst, ◌∙◌, Option, None, Some, arith}
+use Rattle.std.proofs.Common.{◌≡◌, ℕ, ◌+◌, List, [], ◌++◌, Bool, true, false, sym, ap, subst, ◌∙◌, Option, None, Some, arith}
 use Rattle.std.specs.Io.KnownBytes.{Appends, Consumes}
 use Rattle.gatestep.specs.Devices.Incoming.{Incoming, IsAllOf}
 use Rattle.gatestep.specs.Devices.Outgoing.{Outgoing}

@@ -1,5 +1,5 @@
 -- What the lines of a session ask (own).
-use Rattle.std.specs.Prelude.{Bool, true, false, ℕ, nat_lt, if◌then◌else◌, List, [], ◌∷◌, length, Option, None, Some, option_map, option_and_then, codes, find}
+use Rattle.std.specs.Prelude.{Bool, true, false, ℕ, nat_lt, if◌then◌else◌, List, [], ◌∷◌, length, Option, None, option_map, option_and_then, codes, find}
 use Rattle.std.specs.List.{list_all}
 use Rattle.std.specs.Option.{option_map_or}
 use Rattle.session.specs.declared.commands.command.Command.{Command}

@@ -1,9 +1,9 @@
 -- How a session opens.
-use Rattle.std.specs.Prelude.{◌≡◌, ◌≤◌, ◌<◌, ℕ, List, Option}
+use Rattle.std.specs.Prelude.{◌≡◌, ◌≤◌, ◌<◌, ℕ, List, Option, length}
 use Rattle.fourstate.specs.declared.limits.TheConstants.{MAX_TIME}
 use Rattle.design.specs.Netlist.{Netlist, with_horizon}
 use Rattle.edits.specs.declared.fault.EditFault.TheVariants as edit
-use Rattle.vread.specs.Reads.{IsReadFault, Spells}
+use Rattle.vread.specs.Reads.{IsReadFault, MAX_TEXT, Spells}
 use Rattle.vtext.specs.declared.fault.ReadFault.{ReadFault}
 use Rattle.vtext.specs.declared.fault.ReadFaultKind.{ReadFaultKind}
 use Rattle.vtext.specs.declared.fault.ReadFaultKind.TheVariants as read
@@ -34,20 +34,18 @@ abbrev pub fault_by : ReadFaultKind → ReadFault → SessionFault
 fault_by (read.Edit edit.OutOfMemory) f = fault.OutOfMemory
 fault_by kind f = fault.Design f
 
--- why a text opens no session
+-- why a text opens no session: it has this fault, or a growth was refused, as may happen to a text within its limit
 abbrev pub IsTextRefused : Option ℕ → List ℕ → SessionFault → Type 0
 IsTextRefused delay text (fault.Design f) = IsReadFault delay text f
-IsTextRefused delay text fault.OutOfMemory = Unit {0}
+IsTextRefused delay text fault.OutOfMemory = length text ≤ MAX_TEXT
 IsTextRefused delay text _ = ⊥
 
--- Why a session does not open: the text first, then the horizon. A growth may be refused, or a worker lost.
+-- Why a session does not open: the text first, then the horizon. A worker is lost only where both would open it; a growth may be
+-- refused there too.
 abbrev pub Refuses : List ℕ → Options → SessionFault → Type 0
-Refuses text options (fault.Design f) = IsReadFault options.delay text f
 Refuses text options (fault.Edit f) = (f ≡ edit.TimeTooLarge) × IsHorizonOver text options
-Refuses text options fault.OutOfMemory = Unit {0}
-Refuses text options fault.WorkerLost = Unit {0}
-Refuses text options fault.Read = ⊥
-Refuses text options fault.Write = ⊥
+Refuses text options fault.WorkerLost = (first : SessionState) × Opens text options first
+Refuses text options fault = IsTextRefused options.delay text fault
 
 -- the fault comes at the opening
 abbrev pub IsOpeningFault : SessionFault → Type 0
