@@ -1,10 +1,10 @@
-//! A random design: inputs `a0`, `a1`, .., and gates `g0`, `g1`, .., where `g7` drives the net `n7`. A gate reads inputs and
-//! earlier nets.
+//! A random circuit, as the edits that build it: inputs `a0`, `a1`, .., and gates `g0`, `g1`, .., where `g7` drives the
+//! net `n7`. A gate reads inputs and earlier nets.
 
 use crate::random::Random;
 use anyhow::{Result, bail};
-use design::{Design, Gate, MAX_GATES, MAX_NETS, Name, NameHasher, Terminal, TimeUnit};
-use fourstate::{Delays, GateKind, NetKind, fits};
+use edits::{Edit, Pin, Pins, Word};
+use fourstate::{GateKind, NetKind};
 use std::alloc::Global;
 
 /// The kinds of gates, each with a number of inputs.
@@ -27,111 +27,79 @@ pub fn input_count(gates: usize) -> usize {
 }
 
 /// The name of a letter and a number.
-pub fn name_of(alloc: Global, letter: &str, number: usize) -> Result<Name> {
+pub fn name_of(alloc: Global, letter: &str, number: usize) -> Result<Word> {
     let text = format!(in alloc; "{letter}{number}")?;
-    if !Name::is_valid(text.as_str()) {
-        bail!("a name is refused");
-    }
-    Ok(Name::new(alloc, text.as_str())?)
+    Ok(Word::new(alloc, text.as_str())?)
 }
 
-/// A circuit of so many gates.
-pub fn circuit(alloc: Global, gates: usize, seed: u64) -> Result<Design> {
-    let top = name_of(alloc, "bench", gates)?;
-    let mut design = Design::empty(alloc, NameHasher::fixed(), top, TimeUnit::default());
+/// The edits that build a circuit of so many gates.
+pub fn circuit(alloc: Global, gates: usize, seed: u64) -> Result<Vec<Edit>> {
+    let mut edits = Vec::new(alloc);
     let inputs = input_count(gates);
     for number in 0..inputs {
-        design = with_input(alloc, design, number)?;
+        let name = name_of(alloc, "a", number)?;
+        edits.push(Edit::AddInput { name })?;
     }
     let mut random = Random::new(seed);
     for number in 0..gates {
-        design = with_driven_net(alloc, design, &mut random, inputs, number)?;
+        let net = added_net(alloc, number)?;
+        edits.push(net)?;
+        let gate = added_gate(alloc, &mut random, inputs, number)?;
+        edits.push(gate)?;
     }
-    Ok(design)
+    Ok(edits)
 }
 
-fn with_input(alloc: Global, design: Design, number: usize) -> Result<Design> {
-    let name = name_of(alloc, "a", number)?;
-    if design.has_net(name.as_str()) || design.net_count() >= MAX_NETS {
-        bail!("an input is refused");
-    }
-    let (design, _key) = design.add_input(name)?;
-    Ok(design)
-}
-
-// A net more, and the gate that drives it.
-fn with_driven_net(
-    alloc: Global,
-    design: Design,
-    random: &mut Random,
-    inputs: usize,
-    number: usize,
-) -> Result<Design> {
-    let gate = random_gate(alloc, random, inputs, number)?;
-    let design = with_net(alloc, design, number)?;
-    with_gate(design, gate)
-}
-
-fn with_net(alloc: Global, design: Design, number: usize) -> Result<Design> {
+fn added_net(alloc: Global, number: usize) -> Result<Edit> {
     let name = name_of(alloc, "n", number)?;
-    if design.has_net(name.as_str()) || design.net_count() >= MAX_NETS {
-        bail!("a net is refused");
-    }
-    let (design, _key) = design.add_net(name, NetKind::Wire)?;
-    Ok(design)
+    let kind = NetKind::Wire;
+    Ok(Edit::AddNet { name, kind })
 }
 
-fn with_gate(design: Design, gate: Gate) -> Result<Design> {
-    if design.has_gate(gate.name().as_str()) || design.gate_count() >= MAX_GATES {
-        bail!("a gate is refused");
-    }
-    if !design.is_drivable(gate.output().as_str()) || !design.are_readable(gate.inputs()) {
-        bail!("a net of a gate is refused");
-    }
-    let (design, _key) = design.add_gate(gate)?;
-    Ok(design)
-}
-
-fn random_gate(alloc: Global, random: &mut Random, inputs: usize, number: usize) -> Result<Gate> {
-    let (kind, count) = KINDS[random.below(KINDS.len())];
+fn added_gate(alloc: Global, random: &mut Random, inputs: usize, number: usize) -> Result<Edit> {
+    let (kind, _) = kind_of(number);
+    let (rise, fall) = (random_delay(random), random_delay(random));
     let name = name_of(alloc, "g", number)?;
     let output = name_of(alloc, "n", number)?;
-    let terminals = random_terminals(alloc, random, inputs, number, count)?;
-    let delays = random_delays(random)?;
-    if !fits(kind, terminals.len()) {
-        bail!("a number of inputs is refused");
-    }
-    Ok(Gate::new(name, kind, delays, output, terminals))
+    let inputs = random_pins(alloc, random, inputs, number)?;
+    Ok(Edit::AddGate {
+        name,
+        kind,
+        rise,
+        fall,
+        output,
+        inputs,
+    })
 }
 
-/// Delays of 1 to `MAX_DELAY`.
-pub fn random_delays(random: &mut Random) -> Result<Delays> {
-    let rise = random.below(MAX_DELAY) as u64 + 1;
-    let fall = random.below(MAX_DELAY) as u64 + 1;
-    let Some(delays) = Delays::new(rise, fall) else {
-        bail!("a delay is refused");
-    };
-    Ok(delays)
+// The kind of the gate of a number, and how many inputs it has.
+fn kind_of(number: usize) -> (GateKind, usize) {
+    KINDS[number % KINDS.len()]
 }
 
-/// Nets for the inputs of the gate of this number.
-pub fn random_terminals(
+/// A delay of 1 to `MAX_DELAY`.
+pub fn random_delay(random: &mut Random) -> u64 {
+    random.below(MAX_DELAY) as u64 + 1
+}
+
+/// What the inputs of the gate of this number may be connected to.
+pub fn random_pins(
     alloc: Global,
     random: &mut Random,
     inputs: usize,
     number: usize,
-    count: usize,
-) -> Result<Vec<Terminal>> {
-    let mut terminals = Vec::new(alloc);
+) -> Result<Pins> {
+    let (_, count) = kind_of(number);
+    let mut pins = Pins::new(alloc);
     for _ in 0..count {
         let source = random_source(alloc, random, inputs, number)?;
-        terminals.push(Terminal::Net(source))?;
+        pins.push(Pin::Net(source))?;
     }
-    Ok(terminals)
+    Ok(pins)
 }
 
 // An input, or a net of an earlier gate.
-fn random_source(alloc: Global, random: &mut Random, inputs: usize, number: usize) -> Result<Name> {
+fn random_source(alloc: Global, random: &mut Random, inputs: usize, number: usize) -> Result<Word> {
     let all = inputs.saturating_add(number);
     if all == 0 {
         bail!("there is nothing to read");

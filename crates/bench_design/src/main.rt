@@ -1,18 +1,19 @@
-//! Times of designs: for each size that the words ask for, building a random design of so many gates, cloning it and
-//! editing it. Each line of the output is `SIZE WHAT NANOSECONDS`, in processor time of the thread. Without words it
+//! Times of designs: for each size that the words ask for, building a random design of so many gates by edits, cloning it
+//! and editing it, in lists of edits and one by one. Each line of the output is `SIZE WHAT NANOSECONDS`, in processor time of the thread. Without words it
 //! writes nothing.
 #![tactic(auto)]
 
+mod built;
+mod changes;
 mod circuit;
 mod clock;
-mod edits;
 mod random;
 mod rounds;
 #[cfg(test)]
 mod tests;
 
 use anyhow::{Result, bail};
-use edits::KINDS;
+use changes::KINDS;
 use std::env;
 
 /// The seed of every circuit, so that each run builds the same ones.
@@ -26,11 +27,11 @@ fn main(rt: HostRuntime) -> Result<()> {
         let times = rounds::measured(&rt, gates, SEED)?;
         println!(rt; "{gates} build {}", times.build)?;
         println!(rt; "{gates} clone {}", times.clone)?;
-        for (kind, nanoseconds) in KINDS.iter().zip(times.edits) {
-            println!(rt; "{gates} {} {nanoseconds}", kind.name())?;
+        for (kind, nanoseconds) in KINDS.iter().zip(times.listed) {
+            println!(rt; "{gates} {}-in-a-list {nanoseconds}", kind.name())?;
         }
-        for (kind, nanoseconds) in KINDS.iter().zip(times.commits) {
-            println!(rt; "{gates} {}+clone {nanoseconds}", kind.name())?;
+        for (kind, nanoseconds) in KINDS.iter().zip(times.alone) {
+            println!(rt; "{gates} {}-alone {nanoseconds}", kind.name())?;
         }
     }
     Ok(())

@@ -1,11 +1,12 @@
 //! What is timed.
 
+use crate::built::{applied, built};
+use crate::changes::{KINDS, Kind, random_edits};
 use crate::circuit::circuit;
 use crate::clock::{now, since};
-use crate::edits::{KINDS, Kind, edited};
-use crate::random::Random;
 use anyhow::Result;
 use design::Design;
+use edits::Edit;
 use std::time::CpuClock;
 
 /// How often a design is cloned.
@@ -17,33 +18,42 @@ const EDITS: usize = 1_000;
 /// Nanoseconds of processor time for one design.
 #[derive(Drop)]
 pub struct Times {
-    /// Building it, net by net and gate by gate.
+    /// Building it by lists of edits.
     pub build: u64,
     /// One clone and its drop; the least of all rounds.
     pub clone: u64,
-    /// One edit of each of `KINDS`, of a design that nobody shares; the mean of all edits.
-    pub edits: [u64; 3],
-    /// One clone, one edit of each of `KINDS` of the clone, and the drop of the old design; the mean of all edits.
-    pub commits: [u64; 3],
+    /// One edit of each of `KINDS`, in a list of 1,000; the mean of all edits.
+    pub listed: [u64; 3],
+    /// A list of one edit of each of `KINDS`, and the drop of the design that it gives; the mean of all edits.
+    pub alone: [u64; 3],
 }
 
 /// The times of a random design of so many gates.
 pub fn measured<R: CpuClock + AllocGlobal>(rt: &R, gates: usize, seed: u64) -> Result<Times> {
+    let edits = circuit(rt.alloc(), gates, seed)?;
     let start = now(rt)?;
-    let mut design = circuit(rt.alloc(), gates, seed)?;
+    let design = built(rt.alloc(), edits.as_slice())?;
     let build = since(rt, start)?;
-    let clone = clone_time(rt, &design)?;
-    let mut edits = [0; 3];
-    let mut commits = [0; 3];
+    timed(rt, &design, build, gates)
+}
+
+fn timed<R: CpuClock + AllocGlobal>(
+    rt: &R,
+    design: &Design,
+    build: u64,
+    gates: usize,
+) -> Result<Times> {
+    let clone = clone_time(rt, design)?;
+    let mut listed = [0; 3];
+    let mut alone = [0; 3];
     for (place, kind) in KINDS.iter().enumerate() {
-        (design, edits[place]) = edit_time(rt, design, *kind, gates)?;
-        (design, commits[place]) = commit_time(rt, design, *kind, gates)?;
+        (listed[place], alone[place]) = edit_times(rt, design, *kind, gates)?;
     }
     Ok(Times {
         build,
         clone,
-        edits,
-        commits,
+        listed,
+        alone,
     })
 }
 
@@ -58,33 +68,26 @@ fn clone_time<R: CpuClock>(rt: &R, design: &Design) -> Result<u64> {
     Ok(least)
 }
 
-fn edit_time<R: CpuClock + AllocGlobal>(
+// The time of an edit of a kind, in a list and alone.
+fn edit_times<R: CpuClock + AllocGlobal>(
     rt: &R,
-    mut design: Design,
+    design: &Design,
     kind: Kind,
     gates: usize,
-) -> Result<(Design, u64)> {
-    let mut random = Random::new(2);
-    let start = now(rt)?;
-    for _ in 0..EDITS {
-        design = edited(rt.alloc(), design, &mut random, kind, gates)?;
+) -> Result<(u64, u64)> {
+    let edits = random_edits(rt.alloc(), kind, gates, EDITS)?;
+    let listed = list_time(rt, design, edits.as_slice())?;
+    let mut alone = 0u64;
+    for place in 0..edits.len() {
+        alone = alone.saturating_add(list_time(rt, design, &edits[place..place + 1])?);
     }
-    let spent = since(rt, start)?;
-    Ok((design, spent / EDITS as u64))
+    Ok((listed / EDITS as u64, alone / EDITS as u64))
 }
 
-fn commit_time<R: CpuClock + AllocGlobal>(
-    rt: &R,
-    mut design: Design,
-    kind: Kind,
-    gates: usize,
-) -> Result<(Design, u64)> {
-    let mut random = Random::new(3);
+// The time of a list of edits, and of dropping the design that it gives.
+fn list_time<R: CpuClock + AllocGlobal>(rt: &R, design: &Design, edits: &[Edit]) -> Result<u64> {
     let start = now(rt)?;
-    for _ in 0..EDITS {
-        let copy = design.try_clone()?;
-        design = edited(rt.alloc(), copy, &mut random, kind, gates)?;
-    }
-    let spent = since(rt, start)?;
-    Ok((design, spent / EDITS as u64))
+    let new = applied(rt.alloc(), design, edits)?;
+    drop(new);
+    since(rt, start)
 }

@@ -1,3 +1,4 @@
+use crate::built::built;
 use crate::circuit::circuit;
 use crate::random::Random;
 use crate::rounds::measured;
@@ -6,7 +7,8 @@ use std::test::Fail;
 #[test]
 fn a_circuit_has_its_size(rt: HostRuntime) -> Result<(), Fail> {
     for (gates, nets) in [(0usize, 4usize), (1, 5), (40, 46)] {
-        let design = circuit(rt.alloc(), gates, 1)?;
+        let edits = circuit(rt.alloc(), gates, 1)?;
+        let design = built(rt.alloc(), edits.as_slice())?;
         assert_eq!(rt; design.gate_count(), gates);
         assert_eq!(rt; design.net_count(), nets);
     }

@@ -1,0 +1,32 @@
+//! Designs made by edits.
+
+use anyhow::{Result, bail};
+use design::{Design, Name, NameHasher, TimeUnit};
+use edits::{Edit, MAX_EDITS, apply_all};
+use std::alloc::Global;
+
+/// The design that edits build from an empty one, as many at a time as a list may have.
+pub fn built(alloc: Global, edits: &[Edit]) -> Result<Design> {
+    let mut design = empty(alloc)?;
+    let mut rest = edits;
+    for _ in 0..=edits.len() / MAX_EDITS {
+        let (part, others) = rest.split_at(rest.len().min(MAX_EDITS));
+        design = applied(alloc, &design, part)?;
+        rest = others;
+    }
+    Ok(design)
+}
+
+fn empty(alloc: Global) -> Result<Design> {
+    let top = Name::new(alloc, "bench")?;
+    let hasher = NameHasher::fixed();
+    Ok(Design::empty(alloc, hasher, top, TimeUnit::default()))
+}
+
+/// The design after edits that it accepts.
+pub fn applied(alloc: Global, design: &Design, edits: &[Edit]) -> Result<Design> {
+    match apply_all(alloc, design, edits) {
+        Ok(new) => Ok(new),
+        Err(_) => bail!("an edit is refused"),
+    }
+}
