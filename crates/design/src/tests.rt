@@ -11,52 +11,43 @@ use catalog::NameHasher;
 use fourstate::{Delays, GateKind, MAX_TIME, NetKind, Value, delay, fits};
 use std::alloc::Global;
 use std::process::Abort;
-use std::test::Fail;
 
-fn name(rt: &impl Abort, alloc: Global, text: &str) -> Result<Name, Fail> {
+fn name(rt: &impl Abort, alloc: Global, text: &str) -> Name {
     assert!(rt; Name::is_valid(text), "{text}");
-    Ok(Name::new(alloc, text)?)
+    Name::new(alloc, text).expect(rt, "a name")
 }
 
-fn empty(rt: &impl Abort, alloc: Global) -> Result<Design, Fail> {
-    let top = name(rt, alloc, "top")?;
-    Ok(Design::empty(alloc, NameHasher::fixed(), top, TimeUnit::default()))
+fn empty(rt: &impl Abort, alloc: Global) -> Design {
+    let top = name(rt, alloc, "top");
+    Design::empty(alloc, NameHasher::fixed(), top, TimeUnit::default())
 }
 
-fn add_net(
-    rt: &impl Abort,
-    alloc: Global,
-    design: Design,
-    text: &str,
-) -> Result<(Design, NetKey), Fail> {
-    let name = name(rt, alloc, text)?;
+fn add_net(rt: &impl Abort, alloc: Global, design: Design, text: &str) -> (Design, NetKey) {
+    let name = name(rt, alloc, text);
     put_net(rt, design, name)
 }
 
-fn put_net(rt: &impl Abort, design: Design, name: Name) -> Result<(Design, NetKey), Fail> {
+fn put_net(rt: &impl Abort, design: Design, name: Name) -> (Design, NetKey) {
     assert!(rt; !design.has_net(name.as_str()));
     assert!(rt; design.net_count() < MAX_NETS);
-    Ok(design.add_net(name, NetKind::Tri)?)
+    design.add_net(name, NetKind::Tri).expect(rt, "a net more")
 }
 
-fn add_input(
-    rt: &impl Abort,
-    alloc: Global,
-    design: Design,
-    text: &str,
-) -> Result<(Design, NetKey), Fail> {
-    let name = name(rt, alloc, text)?;
+fn add_input(rt: &impl Abort, alloc: Global, design: Design, text: &str) -> (Design, NetKey) {
+    let name = name(rt, alloc, text);
     assert!(rt; !design.has_net(name.as_str()), "{text}");
     assert!(rt; design.net_count() < MAX_NETS);
-    Ok(design.add_input(name)?)
+    design.add_input(name).expect(rt, "an input more")
 }
 
-fn nets_read(rt: &impl Abort, alloc: Global, names: &[&str]) -> Result<Vec<Terminal>, Fail> {
+fn nets_read(rt: &impl Abort, alloc: Global, names: &[&str]) -> Vec<Terminal> {
     let mut inputs = Vec::new(alloc);
     for text in names {
-        inputs.push(Terminal::Net(name(rt, alloc, text)?))?;
+        inputs
+            .push(Terminal::Net(name(rt, alloc, text)))
+            .expect(rt, "a terminal more");
     }
-    Ok(inputs)
+    inputs
 }
 
 /// A gate with a rise of 3 and a fall of 4.
@@ -67,34 +58,28 @@ fn gate(
     kind: GateKind,
     output: &str,
     inputs: Vec<Terminal>,
-) -> Result<Gate, Fail> {
-    let name = name(rt, alloc, text)?;
-    let output = self::name(rt, alloc, output)?;
+) -> Gate {
+    let name = name(rt, alloc, text);
+    let output = self::name(rt, alloc, output);
     let delays = Delays::new(3, 4).expect(rt, "lawful delays");
     assert!(rt; fits(kind, inputs.len()), "{text}");
-    Ok(Gate::new(name, kind, delays, output, inputs))
+    Gate::new(name, kind, delays, output, inputs)
 }
 
-fn add_gate(rt: &impl Abort, design: Design, gate: Gate) -> Result<(Design, GateKey), Fail> {
+fn add_gate(rt: &impl Abort, design: Design, gate: Gate) -> (Design, GateKey) {
     assert!(rt; !design.has_gate(gate.name().as_str()));
     assert!(rt; design.gate_count() < MAX_GATES);
     assert!(rt; design.is_drivable(gate.output().as_str()));
     assert!(rt; design.are_readable(gate.inputs()));
-    Ok(design.add_gate(gate)?)
+    design.add_gate(gate).expect(rt, "a gate more")
 }
 
-fn set_point(
-    rt: &impl Abort,
-    design: Design,
-    net: NetKey,
-    t: u64,
-    value: Value,
-) -> Result<Design, Fail> {
+fn set_point(rt: &impl Abort, design: Design, net: NetKey, t: u64, value: Value) -> Design {
     assert!(rt; design.has_net_key(net));
     assert!(rt; design.net_of(net).is_input());
     assert!(rt; t <= MAX_TIME);
     assert!(rt; design.point_count() < MAX_POINTS);
-    Ok(design.set_point(net, t, value)?)
+    design.set_point(net, t, value).expect(rt, "a point more")
 }
 
 fn check_fanout(rt: &impl Abort, design: &Design, net: NetKey, gates: &[GateKey]) {
@@ -129,14 +114,14 @@ fn check_net(
 }
 
 /// A buffer g from an input a to a net y.
-fn buffer(rt: &impl Abort, alloc: Global) -> Result<Design, Fail> {
-    let design = empty(rt, alloc)?;
-    let (design, _) = add_input(rt, alloc, design, "a")?;
-    let (design, _) = add_net(rt, alloc, design, "y")?;
-    let inputs = nets_read(rt, alloc, &["a"])?;
-    let gate = gate(rt, alloc, "g", GateKind::Buf, "y", inputs)?;
-    let (design, _) = add_gate(rt, design, gate)?;
-    Ok(design)
+fn buffer(rt: &impl Abort, alloc: Global) -> Design {
+    let design = empty(rt, alloc);
+    let (design, _) = add_input(rt, alloc, design, "a");
+    let (design, _) = add_net(rt, alloc, design, "y");
+    let inputs = nets_read(rt, alloc, &["a"]);
+    let gate = gate(rt, alloc, "g", GateKind::Buf, "y", inputs);
+    let (design, _) = add_gate(rt, design, gate);
+    design
 }
 
 #[test]
@@ -161,36 +146,34 @@ fn bytes_of_names(rt: HostRuntime) {
 }
 
 #[test]
-fn longest_name(rt: HostRuntime) -> Result<(), Fail> {
+fn longest_name(rt: HostRuntime) {
     let mut long = String::new(rt.alloc());
     for _ in 0..1024 {
-        long.push('n')?;
+        long.push('n').expect(&rt, "one more");
     }
-    let kept = name(&rt, rt.alloc(), long.as_str())?;
+    let kept = name(&rt, rt.alloc(), long.as_str());
     assert_eq!(rt; kept.as_str(), long.as_str());
-    long.push('n')?;
+    long.push('n').expect(&rt, "one more");
     assert!(rt; !Name::is_valid(long.as_str()));
-    Ok(())
 }
 
 #[test]
-fn nets_by_place_and_name(rt: HostRuntime) -> Result<(), Fail> {
+fn nets_by_place_and_name(rt: HostRuntime) {
     let alloc = rt.alloc();
-    let design = empty(&rt, alloc)?;
-    let (design, a) = add_input(&rt, alloc, design, "a")?;
-    let (design, y) = add_net(&rt, alloc, design, "y")?;
+    let design = empty(&rt, alloc);
+    let (design, a) = add_input(&rt, alloc, design, "a");
+    let (design, y) = add_net(&rt, alloc, design, "y");
     check_net(&rt, &design, 0, a, "a", NetKind::Wire);
     check_net(&rt, &design, 1, y, "y", NetKind::Tri);
     assert_eq!(rt; design.net_count(), 2);
     assert_ne!(rt; a, y);
     assert_eq!(rt; design.net("g"), None);
     assert_eq!(rt; design.net_place("z"), None);
-    Ok(())
 }
 
 #[test]
-fn gates_by_place_and_name(rt: HostRuntime) -> Result<(), Fail> {
-    let design = buffer(&rt, rt.alloc())?;
+fn gates_by_place_and_name(rt: HostRuntime) {
+    let design = buffer(&rt, rt.alloc());
     assert_eq!(rt; design.gate_count(), 1);
     let g = design.gate_key_at(0);
     assert_eq!(rt; design.gate("g"), Some(g));
@@ -199,39 +182,38 @@ fn gates_by_place_and_name(rt: HostRuntime) -> Result<(), Fail> {
     assert!(rt; design.has_gate_key(g));
     assert_eq!(rt; design.gate_of(g).name().as_str(), "g");
     assert_eq!(rt; design.gate_at(0).output().as_str(), "y");
-    Ok(())
 }
 
 #[test]
-fn parts_of_a_gate(rt: HostRuntime) -> Result<(), Fail> {
+fn parts_of_a_gate(rt: HostRuntime) {
     let alloc = rt.alloc();
-    let mut inputs = nets_read(&rt, alloc, &["a"])?;
-    inputs.push(Terminal::Constant(Value::One))?;
-    let gate = gate(&rt, alloc, "g", GateKind::And, "y", inputs)?;
+    let mut inputs = nets_read(&rt, alloc, &["a"]);
+    inputs
+        .push(Terminal::Constant(Value::One))
+        .expect(&rt, "one more");
+    let gate = gate(&rt, alloc, "g", GateKind::And, "y", inputs);
     assert_eq!(rt; gate.kind(), GateKind::And);
     assert_eq!(rt; delay(&gate.delays(), Value::Zero), 4);
     assert_eq!(rt; gate.inputs().len(), 2);
     assert!(rt; matches!(&gate.inputs()[0], Terminal::Net(read) if read.as_str() == "a"));
     assert!(rt; matches!(&gate.inputs()[1], Terminal::Constant(Value::One)));
-    Ok(())
 }
 
 #[test]
-fn what_gates_may_drive_and_read(rt: HostRuntime) -> Result<(), Fail> {
-    let design = buffer(&rt, rt.alloc())?;
+fn what_gates_may_drive_and_read(rt: HostRuntime) {
+    let design = buffer(&rt, rt.alloc());
     assert!(rt; !design.is_drivable("a"));
     assert!(rt; design.is_drivable("y"));
     assert!(rt; !design.is_drivable("b"));
-    let there = nets_read(&rt, rt.alloc(), &["y", "a"])?;
+    let there = nets_read(&rt, rt.alloc(), &["y", "a"]);
     assert!(rt; design.are_readable(&there));
-    let absent = nets_read(&rt, rt.alloc(), &["y", "b"])?;
+    let absent = nets_read(&rt, rt.alloc(), &["y", "b"]);
     assert!(rt; !design.are_readable(&absent));
-    Ok(())
 }
 
 #[test]
-fn fan_out_of_a_buffer(rt: HostRuntime) -> Result<(), Fail> {
-    let design = buffer(&rt, rt.alloc())?;
+fn fan_out_of_a_buffer(rt: HostRuntime) {
+    let design = buffer(&rt, rt.alloc());
     assert_eq!(rt; design.net_count(), 2);
     assert_eq!(rt; design.gate_count(), 1);
     let g = design.gate_key_at(0);
@@ -239,34 +221,32 @@ fn fan_out_of_a_buffer(rt: HostRuntime) -> Result<(), Fail> {
     check_fanout(&rt, &design, design.net_key_at(1), &[]);
     check_drivers(&rt, &design, design.net_key_at(0), &[]);
     check_drivers(&rt, &design, design.net_key_at(1), &[g]);
-    Ok(())
 }
 
 // A gate that reads a net twice stands once in its fan-out; gates stand in the order in which they were added.
 #[test]
-fn fan_out_of_two_gates(rt: HostRuntime) -> Result<(), Fail> {
+fn fan_out_of_two_gates(rt: HostRuntime) {
     let alloc = rt.alloc();
-    let design = buffer(&rt, alloc)?;
-    let twice = nets_read(&rt, alloc, &["a", "y", "a"])?;
-    let gate = gate(&rt, alloc, "h", GateKind::Xor, "y", twice)?;
-    let (design, h) = add_gate(&rt, design, gate)?;
+    let design = buffer(&rt, alloc);
+    let twice = nets_read(&rt, alloc, &["a", "y", "a"]);
+    let gate = gate(&rt, alloc, "h", GateKind::Xor, "y", twice);
+    let (design, h) = add_gate(&rt, design, gate);
     assert_eq!(rt; design.net_count(), 2);
     assert_eq!(rt; design.gate_count(), 2);
     let g = design.gate_key_at(0);
     check_fanout(&rt, &design, design.net_key_at(0), &[g, h]);
     check_fanout(&rt, &design, design.net_key_at(1), &[h]);
     check_drivers(&rt, &design, design.net_key_at(1), &[g, h]);
-    Ok(())
 }
 
 #[test]
-fn stimulus(rt: HostRuntime) -> Result<(), Fail> {
-    let mut design = buffer(&rt, rt.alloc())?;
+fn stimulus(rt: HostRuntime) {
+    let mut design = buffer(&rt, rt.alloc());
     assert_eq!(rt; design.net_count(), 2);
     let a = design.net_key_at(0);
     check_stimulus(&rt, &design, a, 0, Value::Unknown);
     for (t, value) in [(12, Value::Zero), (0, Value::Zero), (10, Value::One)] {
-        design = set_point(&rt, design, a, t, value)?;
+        design = set_point(&rt, design, a, t, value);
     }
     for (t, value) in [
         (0, Value::Zero),
@@ -279,16 +259,15 @@ fn stimulus(rt: HostRuntime) -> Result<(), Fail> {
         check_stimulus(&rt, &design, a, t, value);
     }
     assert_eq!(rt; design.point_count(), 3);
-    Ok(())
 }
 
 #[test]
-fn replaced_points(rt: HostRuntime) -> Result<(), Fail> {
-    let mut design = buffer(&rt, rt.alloc())?;
+fn replaced_points(rt: HostRuntime) {
+    let mut design = buffer(&rt, rt.alloc());
     assert_eq!(rt; design.net_count(), 2);
     let a = design.net_key_at(0);
     for (t, value) in [(7, Value::One), (3, Value::Zero), (7, Value::HighZ)] {
-        design = set_point(&rt, design, a, t, value)?;
+        design = set_point(&rt, design, a, t, value);
     }
     assert_eq!(rt; design.point_count(), 2);
     assert!(rt; design.has_net_key(a));
@@ -300,31 +279,29 @@ fn replaced_points(rt: HostRuntime) -> Result<(), Fail> {
     assert!(rt; !design.has_point(a, 6));
     check_stimulus(&rt, &design, a, 2, Value::Unknown);
     check_stimulus(&rt, &design, a, 8, Value::HighZ);
-    Ok(())
 }
 
 #[test]
-fn clones(rt: HostRuntime) -> Result<(), Fail> {
-    let design = buffer(&rt, rt.alloc())?;
+fn clones(rt: HostRuntime) {
+    let design = buffer(&rt, rt.alloc());
     assert_eq!(rt; design.net_count(), 2);
     assert_eq!(rt; design.gate_count(), 1);
     let a = design.net_key_at(0);
     let y = design.net_key_at(1);
     let g = design.gate_key_at(0);
-    let design = set_point(&rt, design, a, 1, Value::One)?;
-    let copy = design.try_clone()?;
-    let design = set_point(&rt, design, a, 2, Value::Zero)?;
+    let design = set_point(&rt, design, a, 1, Value::One);
+    let copy = design.try_clone().expect(&rt, "a copy");
+    let design = set_point(&rt, design, a, 2, Value::Zero);
     check_net(&rt, &copy, 1, y, "y", NetKind::Tri);
     check_stimulus(&rt, &copy, a, 2, Value::One);
     check_stimulus(&rt, &design, a, 2, Value::Zero);
     check_fanout(&rt, &copy, a, &[g]);
     check_drivers(&rt, &copy, y, &[g]);
-    Ok(())
 }
 
 #[test]
-fn header(rt: HostRuntime) -> Result<(), Fail> {
-    let design = empty(&rt, rt.alloc())?;
+fn header(rt: HostRuntime) {
+    let design = empty(&rt, rt.alloc());
     assert_eq!(rt; design.top().as_str(), "top");
     assert_eq!(rt;
         design.unit(),
@@ -336,5 +313,4 @@ fn header(rt: HostRuntime) -> Result<(), Fail> {
     assert_eq!(rt; design.horizon(), 0);
     let design = design.set_horizon(30);
     assert_eq!(rt; design.horizon(), 30);
-    Ok(())
 }

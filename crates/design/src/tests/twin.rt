@@ -8,7 +8,6 @@ use crate::{Design, Gate, GateKey, Name, NetKey, Terminal};
 use fourstate::GateKind;
 use std::alloc::Global;
 use std::process::Abort;
-use std::test::Fail;
 
 const NETS: [&str; 5] = ["a", "b", "c", "d", "e"];
 
@@ -99,19 +98,19 @@ fn net_step(
     design: &Design,
     plain: &mut Plain,
     text: &'static str,
-) -> Result<Step, Fail> {
+) -> Step {
     if !plain.has_net(text) {
-        plain.nets.push(text)?;
-        return Ok(Step::AddNet(name(rt, alloc, text)?));
+        plain.nets.push(text).expect(rt, "one more");
+        return Step::AddNet(name(rt, alloc, text));
     }
     let net = design.net(text).expect(rt, "a net of this name");
     assert!(rt; design.has_net_key(net));
     assert_eq!(rt; design.is_used(net), plain.uses(text));
     if plain.uses(text) {
-        return Ok(Step::Nothing);
+        return Step::Nothing;
     }
     plain.nets.retain(|kept| *kept != text);
-    Ok(Step::RemoveNet(net))
+    Step::RemoveNet(net)
 }
 
 fn gate_step(
@@ -121,30 +120,30 @@ fn gate_step(
     plain: &mut Plain,
     wanted: PlainGate,
     removes: bool,
-) -> Result<Step, Fail> {
+) -> Step {
     let there = plain.has_gate(wanted.name);
     if there && removes {
         plain.gates.retain(|kept| kept.name != wanted.name);
         let key = design.gate(wanted.name).expect(rt, "a gate of this name");
-        return Ok(Step::RemoveGate(key));
+        return Step::RemoveGate(key);
     }
     if !plain.fits(&wanted) {
-        return Ok(Step::Nothing);
+        return Step::Nothing;
     }
-    let inputs = nets_read(rt, alloc, &wanted.inputs)?;
+    let inputs = nets_read(rt, alloc, &wanted.inputs);
     if !there {
-        plain.gates.push(wanted)?;
-        let gate = gate(rt, alloc, wanted.name, GateKind::Xor, wanted.output, inputs)?;
-        return Ok(Step::AddGate(gate));
+        plain.gates.push(wanted).expect(rt, "one more");
+        let gate = gate(rt, alloc, wanted.name, GateKind::Xor, wanted.output, inputs);
+        return Step::AddGate(gate);
     }
     plain.put(wanted);
     let key = design.gate(wanted.name).expect(rt, "a gate of this name");
-    Ok(Step::Rewire(key, name(rt, alloc, wanted.output)?, inputs))
+    Step::Rewire(key, name(rt, alloc, wanted.output), inputs)
 }
 
-fn take_step(rt: &impl Abort, design: Design, step: Step) -> Result<Design, Fail> {
+fn take_step(rt: &impl Abort, design: Design, step: Step) -> Design {
     match step {
-        Step::Nothing => Ok(design),
+        Step::Nothing => design,
         Step::AddNet(name) => with_net(rt, design, name),
         Step::RemoveNet(net) => remove_net(rt, design, net),
         Step::AddGate(gate) => with_gate(rt, design, gate),
@@ -153,14 +152,14 @@ fn take_step(rt: &impl Abort, design: Design, step: Step) -> Result<Design, Fail
     }
 }
 
-fn with_net(rt: &impl Abort, design: Design, name: Name) -> Result<Design, Fail> {
-    let (design, _) = put_net(rt, design, name)?;
-    Ok(design)
+fn with_net(rt: &impl Abort, design: Design, name: Name) -> Design {
+    let (design, _) = put_net(rt, design, name);
+    design
 }
 
-fn with_gate(rt: &impl Abort, design: Design, gate: Gate) -> Result<Design, Fail> {
-    let (design, _) = add_gate(rt, design, gate)?;
-    Ok(design)
+fn with_gate(rt: &impl Abort, design: Design, gate: Gate) -> Design {
+    let (design, _) = add_gate(rt, design, gate);
+    design
 }
 
 /// The keys of the gates that read a net, or that drive it, in order.
@@ -171,7 +170,7 @@ fn keys(
     plain: &Plain,
     net: &str,
     drive: bool,
-) -> Result<Vec<GateKey>, Fail> {
+) -> Vec<GateKey> {
     let mut keys = Vec::new(alloc);
     for gate in &plain.gates {
         let listed = if drive {
@@ -180,22 +179,23 @@ fn keys(
             gate.reads(net)
         };
         if listed {
-            keys.push(design.gate(gate.name).expect(rt, "a gate of this name"))?;
+            keys.push(design.gate(gate.name).expect(rt, "a gate of this name"))
+                .expect(rt, "one more");
         }
     }
-    Ok(keys)
+    keys
 }
 
-fn compare(rt: &impl Abort, alloc: Global, design: &Design, plain: &Plain) -> Result<(), Fail> {
+fn compare(rt: &impl Abort, alloc: Global, design: &Design, plain: &Plain) {
     assert_eq!(rt; design.net_count(), plain.nets.len());
     assert_eq!(rt; design.gate_count(), plain.gates.len());
     for (place, name) in plain.nets.iter().enumerate() {
         assert_eq!(rt; design.net_place(name), Some(place));
         let net = design.net(name).expect(rt, "a net of this name");
         assert!(rt; design.has_net_key(net));
-        let readers = keys(rt, alloc, design, plain, name, false)?;
+        let readers = keys(rt, alloc, design, plain, name, false);
         assert_eq!(rt; design.fanout(net), readers.as_slice());
-        let drivers = keys(rt, alloc, design, plain, name, true)?;
+        let drivers = keys(rt, alloc, design, plain, name, true);
         assert_eq!(rt; design.drivers(net), drivers.as_slice());
     }
     for (place, gate) in plain.gates.iter().enumerate() {
@@ -203,7 +203,6 @@ fn compare(rt: &impl Abort, alloc: Global, design: &Design, plain: &Plain) -> Re
         assert!(rt; place < design.gate_count());
         assert_eq!(rt; design.gate_at(place).output().as_str(), gate.output);
     }
-    Ok(())
 }
 
 fn next_step(
@@ -212,7 +211,7 @@ fn next_step(
     dice: &mut Dice,
     design: &Design,
     plain: &mut Plain,
-) -> Result<Step, Fail> {
+) -> Step {
     let net = NETS[dice.below(5) as usize];
     let wanted = PlainGate {
         name: GATES[dice.below(5) as usize],
@@ -233,25 +232,24 @@ fn turn(
     dice: &mut Dice,
     design: Design,
     plain: &mut Plain,
-) -> Result<Design, Fail> {
-    let before = design.try_clone()?;
-    let step = next_step(rt, alloc, dice, &before, plain)?;
+) -> Design {
+    let before = design.try_clone().expect(rt, "a copy");
+    let step = next_step(rt, alloc, dice, &before, plain);
     take_step(rt, design, step)
 }
 
 #[test]
-fn edits_by_chance(rt: HostRuntime) -> Result<(), Fail> {
+fn edits_by_chance(rt: HostRuntime) {
     let alloc = rt.alloc();
     let mut dice = Dice(7);
-    let mut design = empty(&rt, alloc)?;
+    let mut design = empty(&rt, alloc);
     let mut plain = Plain {
         nets: Vec::new(alloc),
         gates: Vec::new(alloc),
     };
     for _ in 0..400 {
-        design = turn(&rt, alloc, &mut dice, design, &mut plain)?;
-        compare(&rt, alloc, &design, &plain)?;
+        design = turn(&rt, alloc, &mut dice, design, &mut plain);
+        compare(&rt, alloc, &design, &plain);
     }
     assert!(rt; plain.gates.len() > 1);
-    Ok(())
 }
