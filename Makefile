@@ -1,16 +1,25 @@
 # The tasks of the repository; each works on a machine that has only the toolchain.
 
-.PHONY: all test demo bench fmt
+.PHONY: all test try demo mutants bench fmt
 
-all: test
+all: try
 
-# Every proof from nothing, the wrong bodies, the tests and the programs; it fails if no test ran.
+# CI: every proof from nothing, the mutants of must-fail/, the tests, the programs and the examples; it fails if no test
+# ran, and says at its end where the processor's time went.
 test:
-	@tools/gate
+	@tools/ci
 
-# Builds the proved program and runs each example with it.
+# Runs the first example at once, unproved.
+try:
+	@tools/try
+
+# Builds the proved program into bin/ and runs each example with it.
 demo:
 	@tools/demo
+
+# Tries each mutant of every crate, or of one: make mutants CRATE=design
+mutants:
+	@tools/mutants $(CRATE)
 
 # Times the proved programs over generated circuits (docs/BENCHMARKS.md).
 bench:
