@@ -16,8 +16,6 @@ mod net;
 mod points;
 mod stimulus;
 mod terminal;
-#[cfg(test)]
-mod tests;
 mod unit;
 mod wires;
 mod wiring;

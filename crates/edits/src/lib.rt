@@ -9,8 +9,6 @@ mod fault;
 pub mod laws;
 mod limits;
 mod pin;
-#[cfg(test)]
-mod tests;
 mod word;
 
 pub use apply::apply_all;

@@ -7,8 +7,6 @@ pub mod laws;
 mod limits;
 mod net;
 mod survey;
-#[cfg(test)]
-mod tests;
 mod value;
 
 pub use delays::{Delays, delay};

@@ -8,8 +8,6 @@ mod record;
 mod serial;
 mod stepper;
 mod task;
-#[cfg(test)]
-mod tests;
 
 pub use devices::{Device, Reader, Sink, Source, Writer};
 pub use driver::Driver;

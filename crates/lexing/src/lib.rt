@@ -12,8 +12,6 @@ mod lines;
 mod numbers;
 mod scan;
 mod spaces;
-#[cfg(test)]
-mod tests;
 mod token;
 mod unit;
 

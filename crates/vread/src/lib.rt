@@ -9,8 +9,6 @@ mod lengths;
 mod names;
 mod nets;
 mod reading;
-#[cfg(test)]
-mod tests;
 mod units;
 
 pub use reading::read;

@@ -21,8 +21,6 @@ mod read;
 mod steps;
 mod table;
 mod terminals;
-#[cfg(test)]
-mod tests;
 mod units;
 mod walks;
 mod word;

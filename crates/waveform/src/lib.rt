@@ -6,8 +6,6 @@ mod entries;
 mod entry;
 mod run;
 mod sample;
-#[cfg(test)]
-mod tests;
 mod timeline;
 mod trace;
 mod wave;

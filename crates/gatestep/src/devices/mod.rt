@@ -16,6 +16,3 @@ pub use reader::Reader;
 pub use sink::Sink;
 pub use source::Source;
 pub use writer::Writer;
-
-#[cfg(test)]
-mod tests;

@@ -4,7 +4,7 @@ mod changes;
 mod questions;
 mod texts;
 
-use crate::{Options, SessionFault, run};
+use session::{Options, SessionFault, run};
 use edits::EditFault;
 use gatestep::devices::faulty::{Failing, Pieces};
 use gatestep::{Device, Serial};

@@ -2,7 +2,7 @@
 
 ghost use Rattle.std.specs.Prelude.{◌≡◌, ◌<◌};
 
-use crate::{Driver, Serial, StepFault, Stepper, Task, next};
+use gatestep::{Driver, Serial, StepFault, Stepper, Task, next};
 use arrayvec::ArrayVec;
 use fourstate::Value::{One, Unknown, Zero};
 use fourstate::{Delays, GateKind, Value, fits};

@@ -4,7 +4,7 @@ use super::{
     add_gate, add_input, add_net, check_drivers, check_fanout, check_net, check_stimulus, empty,
     gate, name, nets_read, set_point,
 };
-use crate::{Design, GateKey, Name, NetKey, Terminal};
+use design::{Design, GateKey, Name, NetKey, Terminal};
 use fourstate::{Delays, GateKind, NetKind, Value, delay, fits};
 use std::alloc::Global;
 use std::process::Abort;

@@ -1,10 +1,10 @@
-//! Lists of edits by chance, and the same edits of plain vectors.
+//! Random lists of edits, and the same edits of plain vectors.
 
 ghost use Rattle.std.specs.Prelude.{◌<◌};
 
-use super::edits::{remove_gate, remove_net, rewire};
+use super::changes::{remove_gate, remove_net, rewire};
 use super::{add_gate, empty, gate, name, nets_read, put_net};
-use crate::{Design, Gate, GateKey, Name, NetKey, Terminal};
+use design::{Design, Gate, GateKey, Name, NetKey, Terminal};
 use fourstate::GateKind;
 use std::alloc::Global;
 use std::process::Abort;
@@ -225,7 +225,7 @@ fn next_step(
     }
 }
 
-// The design after a step by chance. A copy of the one before goes on beside it for a while.
+// The design after a random step. A copy of the one before goes on beside it for a while.
 fn turn(
     rt: &impl Abort,
     alloc: Global,
@@ -239,7 +239,7 @@ fn turn(
 }
 
 #[test]
-fn edits_by_chance(rt: HostRuntime) {
+fn random_edits(rt: HostRuntime) {
     let alloc = rt.alloc();
     let mut dice = Dice(7);
     let mut design = empty(&rt, alloc);

@@ -2,7 +2,7 @@
 
 ghost use Rattle.std.specs.Prelude.{◌≡◌, ◌≢◌, Some, None};
 
-use crate::{Change, Run, Trace, TraceEntry, Wave};
+use waveform::{Change, Run, Trace, TraceEntry, Wave};
 use fourstate::Value;
 use gatestep::Driver;
 use std::alloc::{AllocError, Global};

@@ -1,9 +1,9 @@
 //! Small designs, worked out by hand.
 
-mod edits;
-mod twin;
+mod changes;
+mod random;
 
-use crate::{
+use design::{
     Design, Gate, GateKey, MAX_GATES, MAX_NETS, MAX_POINTS, Magnitude, Name, NetKey, Terminal,
     TimeUnit, Unit,
 };

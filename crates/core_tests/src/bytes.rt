@@ -3,8 +3,8 @@ ghost use Rattle.std.specs.Io.{StartsWith};
 ghost use Rattle.std.specs.Io.KnownBytes.{Appends};
 ghost use Rattle.gatestep.specs.Devices.Outgoing.{Adds, byte_count};
 
-use crate::devices::faulty::{Failing, Pieces, Stuck};
-use crate::devices::{Device, Reader, Sink, Source, Writer};
+use gatestep::devices::faulty::{Failing, Pieces, Stuck};
+use gatestep::devices::{Device, Reader, Sink, Source, Writer};
 use std::alloc::{AllocError, Global};
 use std::io::Write;
 use std::test::Fail;

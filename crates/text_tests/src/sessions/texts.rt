@@ -1,7 +1,7 @@
 //! Design texts, and the waves of the designs that they spell.
 
 use super::{EMPTY, answered, opened};
-use crate::SessionFault;
+use session::SessionFault;
 use edits::EditFault;
 use vtext::{ReadFault, ReadFaultKind};
 

@@ -1,6 +1,6 @@
 //! The tables of the standard, written out by hand.
 
-use crate::{Delays, GateKind, MAX_INPUTS, NetKind, Value, delay, fits, gate_value, resolve};
+use fourstate::{Delays, GateKind, MAX_INPUTS, NetKind, Value, delay, fits, gate_value, resolve};
 use std::process::Abort;
 
 /// The order of rows and columns in each table.

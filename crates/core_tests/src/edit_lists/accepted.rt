@@ -1,8 +1,8 @@
 //! What accepted edits do.
 
-use crate::tests::lines::{carried_out, design_of, edit, edits, empty};
-use crate::tests::shown::show;
-use crate::{Edit, MAX_EDITS};
+use crate::edit_lists::lines::{carried_out, design_of, edit, edits, empty};
+use crate::edit_lists::shown::show;
+use edits::{Edit, MAX_EDITS};
 use design::Design;
 use std::alloc::Global;
 use std::process::Abort;

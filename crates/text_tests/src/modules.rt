@@ -1,6 +1,6 @@
 //! Small texts, read by hand.
 
-use crate::{
+use vtext::{
     Direction, Gate, Module, Modules, Names, Net, ReadFault, ReadFaultKind, Terminal, gate_name,
     modules,
 };

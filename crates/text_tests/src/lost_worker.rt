@@ -3,7 +3,7 @@
 ghost use Rattle.gatestep.specs.Step.{advance};
 ghost use Rattle.gatestep.specs.StepLaws.{advance_current, advance_later, advance_stays};
 
-use crate::{Options, run};
+use session::{Options, run};
 use gatestep::{Device, Driver, Record, Serial, StepFault, Stepper, Task};
 
 // Answers as `Serial` does, until `left` steps are made; from then on its worker is lost.

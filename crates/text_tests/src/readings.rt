@@ -1,6 +1,6 @@
 //! Small texts, read by hand, and texts at the limits.
 
-use crate::{ReadFault, ReadFaultKind, read};
+use vread::{ReadFault, ReadFaultKind, read};
 use design::{
     Design, Gate, MAX_GATES, MAX_NETS, Magnitude, NameHasher, Net, Terminal, TimeUnit, Unit,
 };

@@ -1,6 +1,6 @@
 //! Edits and designs of tests, written as lines.
 
-use crate::{Edit, EditFault, Pin, Pins, Word, apply_all};
+use edits::{Edit, EditFault, Pin, Pins, Word, apply_all};
 use design::{Design, Name, NameHasher, TimeUnit};
 use fourstate::{GateKind, NetKind, Value};
 use std::alloc::Global;

@@ -1,6 +1,6 @@
 //! Texts written out by hand.
 
-use crate::{
+use lexing::{
     MAX_TEXT, Magnitude, Shape, TimeUnit, Unit, constant_value, line, number_value, timescale,
     tokens,
 };

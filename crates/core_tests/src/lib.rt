@@ -1,0 +1,17 @@
+//! Tests of the crates from values to lists of edits: what they answer, worked out by hand.
+#![tactic(auto)]
+
+#[cfg(test)]
+mod bytes;
+#[cfg(test)]
+mod designs;
+#[cfg(test)]
+mod edit_lists;
+#[cfg(test)]
+mod steps;
+#[cfg(test)]
+mod tables;
+#[cfg(test)]
+mod timelines;
+#[cfg(test)]
+mod tokens;

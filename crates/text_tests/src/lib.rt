@@ -1,0 +1,11 @@
+//! Tests of design texts and of sessions: what is answered, worked out by hand.
+#![tactic(auto)]
+
+#[cfg(test)]
+mod lost_worker;
+#[cfg(test)]
+mod modules;
+#[cfg(test)]
+mod readings;
+#[cfg(test)]
+mod sessions;
