@@ -1,4 +1,5 @@
-//! Catalogs worked out by hand, and catalogs beside their plain form.
+//! Catalogs worked out by hand, and catalogs beside their plain form. Each test gives its catalogs to `drop`: one that
+//! goes at the end of a body costs its proof 10 seconds and more.
 
 use crate::plain::PlainCatalog;
 use crate::{Catalog, NameHasher, Named};
@@ -103,6 +104,7 @@ fn records_are_found_by_name_key_and_place(rt: HostRuntime) {
     assert_eq!(rt; catalog.place(99), None);
     let catalog = put(&rt, alloc, catalog, b, "b", 20);
     check_all(&rt, &catalog, &[("a", 1), ("b", 20), ("c", 3)]);
+    drop(catalog);
 }
 
 #[test]
@@ -124,6 +126,7 @@ fn a_removal_keeps_the_order_and_its_key_may_come_again(rt: HostRuntime) {
     assert_eq!(rt; catalog.key("c"), Some(c));
     let (catalog, _) = add(&rt, alloc, catalog, "b", 5);
     check_all(&rt, &catalog, &[("a", 1), ("c", 3), ("d", 4), ("b", 5)]);
+    drop(catalog);
 }
 
 #[test]
@@ -142,6 +145,10 @@ fn copies_keep_what_they_had(rt: HostRuntime) {
     check_all(&rt, &second, &[("a", 1), ("b", 2), ("c", 3)]);
     check_all(&rt, &third, &[("a", 10), ("b", 2), ("c", 3)]);
     check_all(&rt, &catalog, &[("b", 2), ("c", 3)]);
+    drop(first);
+    drop(second);
+    drop(third);
+    drop(catalog);
 }
 
 /// More names than are kept apart, so that all are gathered anew, more than once.
@@ -164,6 +171,8 @@ fn many_names_are_found_in_a_copy(rt: HostRuntime) {
         assert_eq!(rt; value_of(&catalog, name.as_str()), Some(i));
     }
     check_all(&rt, &kept, &[("first", 7)]);
+    drop(kept);
+    drop(catalog);
 }
 
 /// A record more in both.
@@ -262,8 +271,11 @@ fn random_changes_make_of_a_catalog_what_they_make_of_its_plain_form(rt: HostRun
         }
         if i % 50 == 49 {
             check_same(&rt, &old.0, &old.1);
+            drop(old);
             old = (copy(&rt, &both.0), plain_copy(&rt, &both.1));
         }
     }
     check_same(&rt, &both.0, &both.1);
+    drop(old);
+    drop(both);
 }

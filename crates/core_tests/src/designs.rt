@@ -1,10 +1,12 @@
-//! Small designs, worked out by hand.
+//! Small designs, worked out by hand. A call that a design must allow stands in a helper with the tests for it, and what
+//! is compared is read of a borrowed design. `drop` ends each test: a design that goes at the end of a body, or on a way
+//! out of it, costs its proof 10 seconds and more, and a call of `drop` none.
 
 mod changes;
 mod random;
 
 use design::{
-    Design, Gate, GateKey, MAX_GATES, MAX_NETS, MAX_POINTS, Magnitude, Name, NetKey, Terminal,
+    Design, Gate, GateKey, MAX_GATES, MAX_NETS, MAX_POINTS, Magnitude, Name, Net, NetKey, Terminal,
     TimeUnit, Unit,
 };
 use catalog::NameHasher;
@@ -82,21 +84,57 @@ fn set_point(rt: &impl Abort, design: Design, net: NetKey, t: u64, value: Value)
     design.set_point(net, t, value).expect(rt, "a point more")
 }
 
-fn check_fanout(rt: &impl Abort, design: &Design, net: NetKey, gates: &[GateKey]) {
-    assert!(rt; design.has_net_key(net));
-    assert_eq!(rt; design.fanout(net), gates);
+fn set_horizon(rt: &impl Abort, design: Design, t: u64) -> Design {
+    assert!(rt; t <= MAX_TIME);
+    design.set_horizon(t)
 }
 
-fn check_drivers(rt: &impl Abort, design: &Design, net: NetKey, gates: &[GateKey]) {
-    assert!(rt; design.has_net_key(net));
-    assert_eq!(rt; design.drivers(net), gates);
+fn copy_of(rt: &impl Abort, design: &Design) -> Design {
+    design.try_clone().expect(rt, "a copy")
 }
 
-fn check_stimulus(rt: &impl Abort, design: &Design, net: NetKey, t: u64, value: Value) {
-    assert!(rt; design.has_net_key(net));
-    assert_eq!(rt; design.net_of(net).stimulus_at(t), value, "at {t}");
+fn net_key(rt: &impl Abort, design: &Design, text: &str) -> NetKey {
+    design.net(text).expect(rt, "a net of this name")
 }
 
+fn gate_key(rt: &impl Abort, design: &Design, text: &str) -> GateKey {
+    design.gate(text).expect(rt, "a gate of this name")
+}
+
+fn check_counts(rt: &impl Abort, design: &Design, nets: usize, gates: usize, points: usize) {
+    assert_eq!(rt; design.net_count(), nets);
+    assert_eq!(rt; design.gate_count(), gates);
+    assert_eq!(rt; design.point_count(), points);
+}
+
+/// The gates that read a net and those that drive it.
+fn check_lists(
+    rt: &impl Abort,
+    design: &Design,
+    net: &str,
+    readers: &[GateKey],
+    drivers: &[GateKey],
+) {
+    let net = net_key(rt, design, net);
+    assert!(rt; design.has_net_key(net));
+    assert_eq!(rt; design.fanout(net), readers);
+    assert_eq!(rt; design.drivers(net), drivers);
+}
+
+fn check_stimulus(rt: &impl Abort, design: &Design, net: NetKey, values: &[(u64, Value)]) {
+    assert!(rt; design.has_net_key(net));
+    for (t, value) in values {
+        assert_eq!(rt; design.net_of(net).stimulus_at(*t), *value, "at {t}");
+    }
+}
+
+fn check_points(rt: &impl Abort, design: &Design, net: NetKey, points: &[(u64, Value)]) {
+    assert!(rt; design.has_net_key(net));
+    assert_eq!(rt; design.net_of(net).points(), points);
+    assert_eq!(rt; design.point_count(), points.len());
+}
+
+/// The net at a place: what it is, and the look-ups of it.
 fn check_net(
     rt: &impl Abort,
     design: &Design,
@@ -105,12 +143,56 @@ fn check_net(
     text: &str,
     kind: NetKind,
 ) {
+    check_net_at(rt, design, place, net, text);
+    assert!(rt; design.has_net_key(net));
+    assert_eq!(rt; design.net_of(net).kind(), kind);
+    assert_eq!(rt; design.net(text), Some(net));
+    assert_eq!(rt; design.net_place(text), Some(place));
+}
+
+fn check_net_at(rt: &impl Abort, design: &Design, place: usize, net: NetKey, text: &str) {
     assert!(rt; place < design.net_count());
     assert_eq!(rt; design.net_key_at(place), net);
     assert_eq!(rt; design.net_at(place).name().as_str(), text);
-    assert_eq!(rt; design.net_at(place).kind(), kind);
-    assert_eq!(rt; design.net(text), Some(net));
-    assert_eq!(rt; design.net_place(text), Some(place));
+}
+
+fn check_no_net(rt: &impl Abort, design: &Design, text: &str) {
+    assert!(rt; !design.has_net(text));
+    assert_eq!(rt; design.net(text), None);
+    assert_eq!(rt; design.net_place(text), None);
+}
+
+/// The gate at a place: what it is, and the look-ups of it.
+fn check_gate(rt: &impl Abort, design: &Design, place: usize, gate: GateKey, text: &str) {
+    check_gate_at(rt, design, place, gate, text);
+    assert!(rt; design.has_gate_key(gate));
+    assert_eq!(rt; design.gate_of(gate).output().as_str(), "y");
+    assert_eq!(rt; design.gate(text), Some(gate));
+    assert_eq!(rt; design.gate_place(text), Some(place));
+}
+
+fn check_gate_at(rt: &impl Abort, design: &Design, place: usize, gate: GateKey, text: &str) {
+    assert!(rt; place < design.gate_count());
+    assert_eq!(rt; design.gate_key_at(place), gate);
+    assert_eq!(rt; design.gate_at(place).name().as_str(), text);
+}
+
+fn check_no_gate(rt: &impl Abort, design: &Design, gate: GateKey, text: &str) {
+    assert!(rt; !design.has_gate_key(gate));
+    assert_eq!(rt; design.gate(text), None);
+    assert_eq!(rt; design.gate_place(text), None);
+}
+
+fn check_header(rt: &impl Abort, design: &Design, horizon: u64) {
+    assert_eq!(rt; design.top().as_str(), "top");
+    assert_eq!(rt;
+        design.unit(),
+        TimeUnit {
+            magnitude: Magnitude::One,
+            unit: Unit::Nanosecond
+        }
+    );
+    assert_eq!(rt; design.horizon(), horizon);
 }
 
 /// A buffer g from an input a to a net y.
@@ -118,10 +200,21 @@ fn buffer(rt: &impl Abort, alloc: Global) -> Design {
     let design = empty(rt, alloc);
     let (design, _) = add_input(rt, alloc, design, "a");
     let (design, _) = add_net(rt, alloc, design, "y");
-    let inputs = nets_read(rt, alloc, &["a"]);
-    let gate = gate(rt, alloc, "g", GateKind::Buf, "y", inputs);
-    let (design, _) = add_gate(rt, design, gate);
+    let (design, _) = add_reader(rt, alloc, design, "g", "a");
     design
+}
+
+/// A buffer more to the net y.
+fn add_reader(
+    rt: &impl Abort,
+    alloc: Global,
+    design: Design,
+    text: &str,
+    read: &str,
+) -> (Design, GateKey) {
+    let inputs = nets_read(rt, alloc, &[read]);
+    let gate = gate(rt, alloc, text, GateKind::Buf, "y", inputs);
+    add_gate(rt, design, gate)
 }
 
 #[test]
@@ -165,62 +258,62 @@ fn nets_by_place_and_name(rt: HostRuntime) {
     let (design, y) = add_net(&rt, alloc, design, "y");
     check_net(&rt, &design, 0, a, "a", NetKind::Wire);
     check_net(&rt, &design, 1, y, "y", NetKind::Tri);
-    assert_eq!(rt; design.net_count(), 2);
+    check_counts(&rt, &design, 2, 0, 0);
+    check_no_net(&rt, &design, "z");
     assert_ne!(rt; a, y);
-    assert_eq!(rt; design.net("g"), None);
-    assert_eq!(rt; design.net_place("z"), None);
+    drop(design);
 }
 
 #[test]
 fn gates_by_place_and_name(rt: HostRuntime) {
-    let design = buffer(&rt, rt.alloc());
-    assert_eq!(rt; design.gate_count(), 1);
-    let g = design.gate_key_at(0);
-    assert_eq!(rt; design.gate("g"), Some(g));
-    assert_eq!(rt; design.gate("a"), None);
-    assert_eq!(rt; design.gate_place("g"), Some(0));
-    assert!(rt; design.has_gate_key(g));
-    assert_eq!(rt; design.gate_of(g).name().as_str(), "g");
-    assert_eq!(rt; design.gate_at(0).output().as_str(), "y");
+    let alloc = rt.alloc();
+    let (design, h) = add_reader(&rt, alloc, buffer(&rt, alloc), "h", "y");
+    check_gate(&rt, &design, 0, gate_key(&rt, &design, "g"), "g");
+    check_gate(&rt, &design, 1, h, "h");
+    check_counts(&rt, &design, 2, 2, 0);
+    drop(design);
+}
+
+fn check_gate_parts(rt: &impl Abort, gate: &Gate) {
+    assert_eq!(rt; gate.kind(), GateKind::And);
+    assert_eq!(rt; delay(&gate.delays(), Value::Zero), 4);
+    assert!(rt;
+        matches!(
+        gate.inputs(),
+        [Terminal::Net(read), Terminal::Constant(Value::One)] if read.as_str() == "a"
+    )
+    );
 }
 
 #[test]
 fn parts_of_a_gate(rt: HostRuntime) {
-    let alloc = rt.alloc();
-    let mut inputs = nets_read(&rt, alloc, &["a"]);
+    let mut inputs = nets_read(&rt, rt.alloc(), &["a"]);
     inputs
         .push(Terminal::Constant(Value::One))
         .expect(&rt, "one more");
-    let gate = gate(&rt, alloc, "g", GateKind::And, "y", inputs);
-    assert_eq!(rt; gate.kind(), GateKind::And);
-    assert_eq!(rt; delay(&gate.delays(), Value::Zero), 4);
-    assert_eq!(rt; gate.inputs().len(), 2);
-    assert!(rt; matches!(&gate.inputs()[0], Terminal::Net(read) if read.as_str() == "a"));
-    assert!(rt; matches!(&gate.inputs()[1], Terminal::Constant(Value::One)));
+    let gate = gate(&rt, rt.alloc(), "g", GateKind::And, "y", inputs);
+    check_gate_parts(&rt, &gate);
+    drop(gate);
+}
+
+fn check_drivable(rt: &impl Abort, design: &Design) {
+    for (text, drivable) in [("a", false), ("y", true), ("b", false)] {
+        assert_eq!(rt; design.is_drivable(text), drivable, "{text}");
+    }
+}
+
+fn check_readable(rt: &impl Abort, alloc: Global, design: &Design, names: &[&str], readable: bool) {
+    let terminals = nets_read(rt, alloc, names);
+    assert_eq!(rt; design.are_readable(&terminals), readable);
 }
 
 #[test]
 fn what_gates_may_drive_and_read(rt: HostRuntime) {
     let design = buffer(&rt, rt.alloc());
-    assert!(rt; !design.is_drivable("a"));
-    assert!(rt; design.is_drivable("y"));
-    assert!(rt; !design.is_drivable("b"));
-    let there = nets_read(&rt, rt.alloc(), &["y", "a"]);
-    assert!(rt; design.are_readable(&there));
-    let absent = nets_read(&rt, rt.alloc(), &["y", "b"]);
-    assert!(rt; !design.are_readable(&absent));
-}
-
-#[test]
-fn fan_out_of_a_buffer(rt: HostRuntime) {
-    let design = buffer(&rt, rt.alloc());
-    assert_eq!(rt; design.net_count(), 2);
-    assert_eq!(rt; design.gate_count(), 1);
-    let g = design.gate_key_at(0);
-    check_fanout(&rt, &design, design.net_key_at(0), &[g]);
-    check_fanout(&rt, &design, design.net_key_at(1), &[]);
-    check_drivers(&rt, &design, design.net_key_at(0), &[]);
-    check_drivers(&rt, &design, design.net_key_at(1), &[g]);
+    check_drivable(&rt, &design);
+    check_readable(&rt, rt.alloc(), &design, &["y", "a"], true);
+    check_readable(&rt, rt.alloc(), &design, &["y", "b"], false);
+    drop(design);
 }
 
 // A gate that reads a net twice stands once in its fan-out; gates stand in the order in which they were added.
@@ -228,89 +321,62 @@ fn fan_out_of_a_buffer(rt: HostRuntime) {
 fn fan_out_of_two_gates(rt: HostRuntime) {
     let alloc = rt.alloc();
     let design = buffer(&rt, alloc);
+    let g = gate_key(&rt, &design, "g");
+    check_lists(&rt, &design, "a", &[g], &[]);
+    check_lists(&rt, &design, "y", &[], &[g]);
     let twice = nets_read(&rt, alloc, &["a", "y", "a"]);
     let gate = gate(&rt, alloc, "h", GateKind::Xor, "y", twice);
     let (design, h) = add_gate(&rt, design, gate);
-    assert_eq!(rt; design.net_count(), 2);
-    assert_eq!(rt; design.gate_count(), 2);
-    let g = design.gate_key_at(0);
-    check_fanout(&rt, &design, design.net_key_at(0), &[g, h]);
-    check_fanout(&rt, &design, design.net_key_at(1), &[h]);
-    check_drivers(&rt, &design, design.net_key_at(1), &[g, h]);
+    check_lists(&rt, &design, "a", &[g, h], &[]);
+    check_lists(&rt, &design, "y", &[h], &[g, h]);
+    drop(design);
 }
 
 #[test]
 fn stimulus(rt: HostRuntime) {
-    let mut design = buffer(&rt, rt.alloc());
-    assert_eq!(rt; design.net_count(), 2);
-    let a = design.net_key_at(0);
-    check_stimulus(&rt, &design, a, 0, Value::Unknown);
-    for (t, value) in [(12, Value::Zero), (0, Value::Zero), (10, Value::One)] {
-        design = set_point(&rt, design, a, t, value);
-    }
-    for (t, value) in [
+    let design = buffer(&rt, rt.alloc());
+    let a = net_key(&rt, &design, "a");
+    check_stimulus(&rt, &design, a, &[(0, Value::Unknown)]);
+    let design = set_point(&rt, design, a, 12, Value::Zero);
+    let design = set_point(&rt, design, a, 0, Value::Zero);
+    let design = set_point(&rt, design, a, 10, Value::One);
+    let values = [
         (0, Value::Zero),
         (9, Value::Zero),
         (10, Value::One),
         (11, Value::One),
         (12, Value::Zero),
         (100, Value::Zero),
-    ] {
-        check_stimulus(&rt, &design, a, t, value);
-    }
-    assert_eq!(rt; design.point_count(), 3);
+    ];
+    check_stimulus(&rt, &design, a, &values);
+    check_counts(&rt, &design, 2, 1, 3);
+    drop(design);
+}
+
+fn check_has_point(rt: &impl Abort, design: &Design, net: NetKey, t: u64, there: bool) {
+    assert!(rt; design.has_net_key(net));
+    assert_eq!(rt; design.has_point(net, t), there);
 }
 
 #[test]
 fn replaced_points(rt: HostRuntime) {
-    let mut design = buffer(&rt, rt.alloc());
-    assert_eq!(rt; design.net_count(), 2);
-    let a = design.net_key_at(0);
-    for (t, value) in [(7, Value::One), (3, Value::Zero), (7, Value::HighZ)] {
-        design = set_point(&rt, design, a, t, value);
-    }
-    assert_eq!(rt; design.point_count(), 2);
-    assert!(rt; design.has_net_key(a));
-    assert_eq!(rt;
-        design.net_of(a).points(),
-        [(3, Value::Zero), (7, Value::HighZ)].as_slice()
-    );
-    assert!(rt; design.has_point(a, 7));
-    assert!(rt; !design.has_point(a, 6));
-    check_stimulus(&rt, &design, a, 2, Value::Unknown);
-    check_stimulus(&rt, &design, a, 8, Value::HighZ);
-}
-
-#[test]
-fn clones(rt: HostRuntime) {
     let design = buffer(&rt, rt.alloc());
-    assert_eq!(rt; design.net_count(), 2);
-    assert_eq!(rt; design.gate_count(), 1);
-    let a = design.net_key_at(0);
-    let y = design.net_key_at(1);
-    let g = design.gate_key_at(0);
-    let design = set_point(&rt, design, a, 1, Value::One);
-    let copy = design.try_clone().expect(&rt, "a copy");
-    let design = set_point(&rt, design, a, 2, Value::Zero);
-    check_net(&rt, &copy, 1, y, "y", NetKind::Tri);
-    check_stimulus(&rt, &copy, a, 2, Value::One);
-    check_stimulus(&rt, &design, a, 2, Value::Zero);
-    check_fanout(&rt, &copy, a, &[g]);
-    check_drivers(&rt, &copy, y, &[g]);
+    let a = net_key(&rt, &design, "a");
+    let design = set_point(&rt, design, a, 7, Value::One);
+    let design = set_point(&rt, design, a, 3, Value::Zero);
+    let design = set_point(&rt, design, a, 7, Value::HighZ);
+    check_points(&rt, &design, a, &[(3, Value::Zero), (7, Value::HighZ)]);
+    check_has_point(&rt, &design, a, 7, true);
+    check_has_point(&rt, &design, a, 6, false);
+    check_stimulus(&rt, &design, a, &[(2, Value::Unknown), (8, Value::HighZ)]);
+    drop(design);
 }
 
 #[test]
 fn header(rt: HostRuntime) {
     let design = empty(&rt, rt.alloc());
-    assert_eq!(rt; design.top().as_str(), "top");
-    assert_eq!(rt;
-        design.unit(),
-        TimeUnit {
-            magnitude: Magnitude::One,
-            unit: Unit::Nanosecond
-        }
-    );
-    assert_eq!(rt; design.horizon(), 0);
-    let design = design.set_horizon(30);
-    assert_eq!(rt; design.horizon(), 30);
+    check_header(&rt, &design, 0);
+    let design = set_horizon(&rt, design, 30);
+    check_header(&rt, &design, 30);
+    drop(design);
 }

@@ -5,16 +5,16 @@ ghost use Rattle.std.specs.Prelude.{◌≡◌, ◌≢◌, Some, None};
 use waveform::{Change, Run, Trace, TraceEntry, Wave};
 use fourstate::Value;
 use gatestep::Driver;
-use std::alloc::{AllocError, Global};
-use std::test::Fail;
+use std::alloc::Global;
+use std::process::Abort;
 
 /// The wave `0 x / 3 0 / 13 1 / 16 0`.
-fn pulse(alloc: Global) -> Result<Wave, AllocError> {
-    let mut wave = Wave::open(alloc, Value::Unknown)?;
-    wave.push(3, Value::Zero)?;
-    wave.push(13, Value::One)?;
-    wave.push(16, Value::Zero)?;
-    Ok(wave)
+fn pulse(rt: &impl Abort, alloc: Global) -> Wave {
+    let mut wave = Wave::open(alloc, Value::Unknown).expect(rt, "room");
+    wave.push(3, Value::Zero).expect(rt, "room");
+    wave.push(13, Value::One).expect(rt, "room");
+    wave.push(16, Value::Zero).expect(rt, "room");
+    wave
 }
 
 fn change(time: u64, value: Value) -> Change {
@@ -22,8 +22,8 @@ fn change(time: u64, value: Value) -> Change {
 }
 
 #[test]
-fn waves_keep_changes_alone(rt: HostRuntime) -> Result<(), Fail> {
-    let mut wave = pulse(rt.alloc())?;
+fn waves_keep_changes_alone(rt: HostRuntime) {
+    let mut wave = pulse(&rt, rt.alloc());
     let changes = [
         change(0, Value::Unknown),
         change(3, Value::Zero),
@@ -36,12 +36,12 @@ fn waves_keep_changes_alone(rt: HostRuntime) -> Result<(), Fail> {
     assert_eq!(rt; wave.changes(), &changes[..3]);
     wave.cut(12);
     assert_eq!(rt; wave.changes(), &changes[..2]);
-    Ok(())
+    drop(wave);
 }
 
 #[test]
-fn waves_are_looked_up(rt: HostRuntime) -> Result<(), Fail> {
-    let wave = pulse(rt.alloc())?;
+fn waves_are_looked_up(rt: HostRuntime) {
+    let wave = pulse(&rt, rt.alloc());
     for (t, value) in [
         (0, Value::Unknown),
         (2, Value::Unknown),
@@ -62,26 +62,26 @@ fn waves_are_looked_up(rt: HostRuntime) -> Result<(), Fail> {
     assert_eq!(rt; wave.next_value(0, Value::Zero), Some((3, Value::Zero)));
     assert_eq!(rt; wave.next_value(3, Value::Zero), Some((16, Value::Zero)));
     assert_eq!(rt; wave.next_value(0, Value::HighZ), None);
-    Ok(())
+    drop(wave);
 }
 
 #[test]
-fn repeated_values_are_not_stored(rt: HostRuntime) -> Result<(), Fail> {
-    let mut wave = Wave::open(rt.alloc(), Value::Zero)?;
-    wave.push(4, Value::Zero)?;
-    wave.push(5, Value::One)?;
-    wave.push(9, Value::One)?;
+fn repeated_values_are_not_stored(rt: HostRuntime) {
+    let mut wave = Wave::open(rt.alloc(), Value::Zero).expect(&rt, "room");
+    wave.push(4, Value::Zero).expect(&rt, "room");
+    wave.push(5, Value::One).expect(&rt, "room");
+    wave.push(9, Value::One).expect(&rt, "room");
     let changes = [change(0, Value::Zero), change(5, Value::One)];
     assert_eq!(rt; wave.changes(), changes.as_slice());
-    Ok(())
+    drop(wave);
 }
 
 #[test]
-fn waves_are_spliced(rt: HostRuntime) -> Result<(), Fail> {
-    let unknown = Wave::open(rt.alloc(), Value::Unknown)?;
-    let mut wave = Wave::open(rt.alloc(), Value::Zero)?;
-    wave.push(5, Value::One)?;
-    wave.splice(3, 6, &unknown)?;
+fn waves_are_spliced(rt: HostRuntime) {
+    let unknown = Wave::open(rt.alloc(), Value::Unknown).expect(&rt, "room");
+    let mut wave = Wave::open(rt.alloc(), Value::Zero).expect(&rt, "room");
+    wave.push(5, Value::One).expect(&rt, "room");
+    wave.splice(3, 6, &unknown).expect(&rt, "room");
     let changes = [
         change(0, Value::Zero),
         change(3, Value::Unknown),
@@ -89,19 +89,22 @@ fn waves_are_spliced(rt: HostRuntime) -> Result<(), Fail> {
     ];
     assert_eq!(rt; wave.changes(), changes.as_slice());
 
+    drop(wave);
     // From 0 on, over changes of its own, up to a moment after which the old value is the same.
-    let mut wave = pulse(rt.alloc())?;
-    let mut other = Wave::open(rt.alloc(), Value::HighZ)?;
-    other.push(6, Value::One)?;
-    other.push(15, Value::Zero)?;
-    wave.splice(0, 13, &other)?;
+    let mut wave = pulse(&rt, rt.alloc());
+    let mut other = Wave::open(rt.alloc(), Value::HighZ).expect(&rt, "room");
+    other.push(6, Value::One).expect(&rt, "room");
+    other.push(15, Value::Zero).expect(&rt, "room");
+    wave.splice(0, 13, &other).expect(&rt, "room");
     let changes = [
         change(0, Value::HighZ),
         change(6, Value::One),
         change(16, Value::Zero),
     ];
     assert_eq!(rt; wave.changes(), changes.as_slice());
-    Ok(())
+    drop(unknown);
+    drop(wave);
+    drop(other);
 }
 
 /// The state of a driver that has this value, with nothing pending.
@@ -126,13 +129,13 @@ fn moving(value: Value, next: Value, time: u64) -> Driver
 }
 
 #[test]
-fn a_due_event_has_no_entry(rt: HostRuntime) -> Result<(), Fail> {
+fn a_due_event_has_no_entry(rt: HostRuntime) {
     let falling = moving(Value::Unknown, Value::Zero, 3);
     let low = standing(Value::Zero);
     let rising = moving(Value::Zero, Value::One, 12);
-    let mut trace = Trace::open(rt.alloc(), falling)?;
-    trace.push(3, low)?;
-    trace.push(7, rising)?;
+    let mut trace = Trace::open(rt.alloc(), falling).expect(&rt, "room");
+    trace.push(3, low).expect(&rt, "room");
+    trace.push(7, rising).expect(&rt, "room");
     assert_eq!(rt;
         trace.entries(),
         [TraceEntry::new(0, falling), TraceEntry::new(7, rising)].as_slice()
@@ -150,40 +153,43 @@ fn a_due_event_has_no_entry(rt: HostRuntime) -> Result<(), Fail> {
     assert_eq!(rt; entry.state(), rising);
     trace.cut(6);
     assert_eq!(rt; trace.last(), (0, falling));
-    Ok(())
+    drop(trace);
 }
 
 #[test]
-fn a_spliced_trace_takes_over_what_is_pending(rt: HostRuntime) -> Result<(), Fail> {
+fn a_spliced_trace_takes_over_what_is_pending(rt: HostRuntime) {
     let rising = moving(Value::Zero, Value::One, 12);
-    let mut trace = Trace::open(rt.alloc(), standing(Value::Unknown))?;
-    let other = Trace::open(rt.alloc(), rising)?;
-    trace.splice(4, 20, &other)?;
+    let mut trace = Trace::open(rt.alloc(), standing(Value::Unknown)).expect(&rt, "room");
+    let other = Trace::open(rt.alloc(), rising).expect(&rt, "room");
+    trace.splice(4, 20, &other).expect(&rt, "room");
     assert_eq!(rt; trace.at(3), standing(Value::Unknown));
     assert_eq!(rt; trace.at(4), rising);
     assert_eq!(rt; trace.at(12), standing(Value::One));
     assert_eq!(rt; trace.at(20), standing(Value::One));
     assert_eq!(rt; trace.at(21), standing(Value::Unknown));
     assert_eq!(rt; trace.entries().len(), 3);
-    Ok(())
+    drop(trace);
+    drop(other);
 }
 
 #[test]
-fn a_run_keeps_waves_and_traces(rt: HostRuntime) -> Result<(), Fail> {
+fn a_run_keeps_waves_and_traces(rt: HostRuntime) {
     let mut run = Run::new(rt.alloc(), 20);
-    run.push_wave(pulse(rt.alloc())?)?;
-    run.push_wave(Wave::open(rt.alloc(), Value::HighZ)?)?;
-    run.push_trace(Trace::open(rt.alloc(), Driver::start())?)?;
+    run.push_wave(pulse(&rt, rt.alloc())).expect(&rt, "room");
+    run.push_wave(Wave::open(rt.alloc(), Value::HighZ).expect(&rt, "room"))
+        .expect(&rt, "room");
+    run.push_trace(Trace::open(rt.alloc(), Driver::start()).expect(&rt, "room"))
+        .expect(&rt, "room");
     assert_eq!(rt; run.wave_count(), 2);
     assert_eq!(rt; run.trace_count(), 1);
     assert_eq!(rt; run.horizon(), 20);
-    assert_eq!(rt; run.wave(0).ok_or("no wave")?.at(13), Value::One);
+    assert_eq!(rt; run.wave(0).expect(&rt, "a wave").at(13), Value::One);
     assert_eq!(rt;
-        run.wave(1).ok_or("no wave")?.changes(),
+        run.wave(1).expect(&rt, "a wave").changes(),
         [change(0, Value::HighZ)].as_slice()
     );
-    assert_eq!(rt; run.trace(0).ok_or("no trace")?.at(5), Driver::start());
+    assert_eq!(rt; run.trace(0).expect(&rt, "a trace").at(5), Driver::start());
     assert!(rt; run.wave(2).is_none());
     assert!(rt; run.trace(1).is_none());
-    Ok(())
+    drop(run);
 }

@@ -1,25 +1,14 @@
 //! Edits of small designs, worked out by hand.
 
 use super::{
-    add_gate, add_input, add_net, check_drivers, check_fanout, check_net, check_stimulus, empty,
-    gate, name, nets_read, set_point,
+    add_input, add_net, add_reader, check_counts, check_gate, check_lists, check_net,
+    check_no_gate, check_no_net, check_points, check_stimulus, copy_of, empty, name, net_key,
+    nets_read, set_point,
 };
 use design::{Design, GateKey, Name, NetKey, Terminal};
 use fourstate::{Delays, GateKind, NetKind, Value, delay, fits};
 use std::alloc::Global;
 use std::process::Abort;
-
-fn add_reader(
-    rt: &impl Abort,
-    alloc: Global,
-    design: Design,
-    text: &str,
-    read: &str,
-) -> (Design, GateKey) {
-    let inputs = nets_read(rt, alloc, &[read]);
-    let gate = gate(rt, alloc, text, GateKind::Buf, "y", inputs);
-    add_gate(rt, design, gate)
-}
 
 /// Inputs a and b, a net y, and the buffers g, h and i from a to y, with their keys.
 fn three_readers(rt: &impl Abort, alloc: Global) -> (Design, [GateKey; 3]) {
@@ -31,10 +20,6 @@ fn three_readers(rt: &impl Abort, alloc: Global) -> (Design, [GateKey; 3]) {
     let (design, h) = add_reader(rt, alloc, design, "h", "a");
     let (design, i) = add_reader(rt, alloc, design, "i", "a");
     (design, [g, h, i])
-}
-
-fn net_key(rt: &impl Abort, design: &Design, text: &str) -> NetKey {
-    design.net(text).expect(rt, "a net of this name")
 }
 
 pub fn rewire(
@@ -64,39 +49,85 @@ pub fn remove_net(rt: &impl Abort, design: Design, net: NetKey) -> Design {
     design.remove_net(net).expect(rt, "a net less")
 }
 
+fn set_net_kind(rt: &impl Abort, design: Design, net: NetKey, kind: NetKind) -> Design {
+    assert!(rt; design.has_net_key(net));
+    design.set_net_kind(net, kind).expect(rt, "another kind")
+}
+
+fn remove_point(rt: &impl Abort, design: Design, net: NetKey, t: u64) -> Design {
+    assert!(rt; design.has_net_key(net));
+    assert!(rt; design.has_point(net, t));
+    design.remove_point(net, t).expect(rt, "a point less")
+}
+
+fn set_delays(rt: &impl Abort, design: Design, gate: GateKey, delays: Delays) -> Design {
+    assert!(rt; design.has_gate_key(gate));
+    design.set_delays(gate, delays).expect(rt, "other delays")
+}
+
+fn set_gate_kind(rt: &impl Abort, design: Design, gate: GateKey, kind: GateKind) -> Design {
+    assert!(rt; design.has_gate_key(gate));
+    assert!(rt; fits(kind, design.gate_of(gate).inputs().len()));
+    design.set_gate_kind(gate, kind).expect(rt, "another kind")
+}
+
+fn close_up(rt: &impl Abort, design: Design) -> Design {
+    design.close_up().expect(rt, "the same design")
+}
+
+fn check_used(rt: &impl Abort, design: &Design, net: NetKey, used: bool) {
+    assert!(rt; design.has_net_key(net));
+    assert_eq!(rt; design.is_used(net), used);
+}
+
+fn check_kind_and_fall(rt: &impl Abort, design: &Design, gate: GateKey, kind: GateKind, fall: u32) {
+    assert!(rt; design.has_gate_key(gate));
+    assert_eq!(rt; design.gate_of(gate).kind(), kind);
+    assert_eq!(rt; delay(&design.gate_of(gate).delays(), Value::Zero), fall);
+}
+
 #[test]
 fn removed_gate(rt: HostRuntime) {
     let (design, [g, h, i]) = three_readers(&rt, rt.alloc());
     let design = remove_gate(&rt, design, h);
-    assert_eq!(rt; design.gate_count(), 2);
-    assert_eq!(rt; design.gate_place("i"), Some(1));
-    assert_eq!(rt; design.gate("i"), Some(i));
-    assert_eq!(rt; design.gate("h"), None);
-    assert!(rt; !design.has_gate_key(h));
-    check_fanout(&rt, &design, net_key(&rt, &design, "a"), &[g, i]);
-    check_drivers(&rt, &design, net_key(&rt, &design, "y"), &[g, i]);
+    check_counts(&rt, &design, 3, 2, 0);
+    check_gate(&rt, &design, 1, i, "i");
+    check_no_gate(&rt, &design, h, "h");
+    check_lists(&rt, &design, "a", &[g, i], &[]);
+    check_lists(&rt, &design, "y", &[], &[g, i]);
+    drop(design);
 }
 
 // A gate at other nets stands in their lists where it stands among the gates, and not last.
 #[test]
 fn gate_moved_and_moved_back(rt: HostRuntime) {
     let alloc = rt.alloc();
-    let z = name(&rt, alloc, "z");
-    let other = nets_read(&rt, alloc, &["b"]);
-    let y = name(&rt, alloc, "y");
-    let back = nets_read(&rt, alloc, &["a"]);
     let (design, [g, h, i]) = three_readers(&rt, alloc);
     let (design, _) = add_net(&rt, alloc, design, "z");
-    let design = rewire(&rt, design, h, z, other);
-    check_fanout(&rt, &design, net_key(&rt, &design, "a"), &[g, i]);
-    check_fanout(&rt, &design, net_key(&rt, &design, "b"), &[h]);
-    check_drivers(&rt, &design, net_key(&rt, &design, "y"), &[g, i]);
-    check_drivers(&rt, &design, net_key(&rt, &design, "z"), &[h]);
-    let design = rewire(&rt, design, h, y, back);
-    check_fanout(&rt, &design, net_key(&rt, &design, "a"), &[g, h, i]);
-    check_fanout(&rt, &design, net_key(&rt, &design, "b"), &[]);
-    check_drivers(&rt, &design, net_key(&rt, &design, "y"), &[g, h, i]);
-    assert_eq!(rt; design.gate_place("h"), Some(1));
+    let design = move_gate(&rt, alloc, design, h, "z", "b");
+    check_lists(&rt, &design, "a", &[g, i], &[]);
+    check_lists(&rt, &design, "b", &[h], &[]);
+    check_lists(&rt, &design, "y", &[], &[g, i]);
+    check_lists(&rt, &design, "z", &[], &[h]);
+    let design = move_gate(&rt, alloc, design, h, "y", "a");
+    check_lists(&rt, &design, "a", &[g, h, i], &[]);
+    check_lists(&rt, &design, "b", &[], &[]);
+    check_lists(&rt, &design, "y", &[], &[g, h, i]);
+    check_gate(&rt, &design, 1, h, "h");
+    drop(design);
+}
+
+fn move_gate(
+    rt: &impl Abort,
+    alloc: Global,
+    design: Design,
+    gate: GateKey,
+    output: &str,
+    read: &str,
+) -> Design {
+    let output = name(rt, alloc, output);
+    let inputs = nets_read(rt, alloc, &[read]);
+    rewire(rt, design, gate, output, inputs)
 }
 
 #[test]
@@ -104,16 +135,16 @@ fn removed_net(rt: HostRuntime) {
     let (design, _) = three_readers(&rt, rt.alloc());
     let b = net_key(&rt, &design, "b");
     let y = net_key(&rt, &design, "y");
-    assert!(rt; design.has_net_key(y));
-    assert!(rt; design.is_used(y));
+    check_used(&rt, &design, y, true);
+    check_used(&rt, &design, b, false);
     let design = set_point(&rt, design, b, 4, Value::One);
     let design = set_point(&rt, design, b, 7, Value::Zero);
-    assert_eq!(rt; design.point_count(), 2);
+    check_counts(&rt, &design, 3, 3, 2);
     let design = remove_net(&rt, design, b);
-    assert_eq!(rt; design.point_count(), 0);
-    assert_eq!(rt; design.net_count(), 2);
-    assert!(rt; !design.has_net("b"));
+    check_counts(&rt, &design, 2, 3, 0);
+    check_no_net(&rt, &design, "b");
     check_net(&rt, &design, 1, y, "y", NetKind::Tri);
+    drop(design);
 }
 
 #[test]
@@ -121,13 +152,10 @@ fn net_of_another_kind(rt: HostRuntime) {
     let (design, _) = three_readers(&rt, rt.alloc());
     let a = net_key(&rt, &design, "a");
     let design = set_point(&rt, design, a, 4, Value::One);
-    assert!(rt; design.has_net_key(a));
-    let design = design
-        .set_net_kind(a, NetKind::Wor)
-        .expect(&rt, "another kind");
+    let design = set_net_kind(&rt, design, a, NetKind::Wor);
     check_net(&rt, &design, 0, a, "a", NetKind::Wor);
-    check_stimulus(&rt, &design, a, 4, Value::One);
-    assert_eq!(rt; design.point_count(), 1);
+    check_points(&rt, &design, a, &[(4, Value::One)]);
+    drop(design);
 }
 
 #[test]
@@ -136,67 +164,65 @@ fn removed_point(rt: HostRuntime) {
     let a = net_key(&rt, &design, "a");
     let design = set_point(&rt, design, a, 4, Value::One);
     let design = set_point(&rt, design, a, 7, Value::Zero);
-    assert!(rt; design.has_net_key(a));
-    assert!(rt; design.has_point(a, 4));
-    let design = design.remove_point(a, 4).expect(&rt, "a point less");
-    assert_eq!(rt; design.point_count(), 1);
-    check_stimulus(&rt, &design, a, 5, Value::Unknown);
-    check_stimulus(&rt, &design, a, 7, Value::Zero);
+    let design = remove_point(&rt, design, a, 4);
+    check_points(&rt, &design, a, &[(7, Value::Zero)]);
+    check_stimulus(&rt, &design, a, &[(5, Value::Unknown), (7, Value::Zero)]);
+    drop(design);
 }
 
 #[test]
 fn gate_of_other_delays_and_kind(rt: HostRuntime) {
     let (design, [g, _, _]) = three_readers(&rt, rt.alloc());
     let delays = Delays::new(5, 6).expect(&rt, "lawful delays");
-    assert!(rt; design.has_gate_key(g));
-    let design = design.set_delays(g, delays).expect(&rt, "other delays");
-    assert!(rt; design.has_gate_key(g));
-    assert_eq!(rt; delay(&design.gate_of(g).delays(), Value::Zero), 6);
-    assert_eq!(rt; design.gate_of(g).kind(), GateKind::Buf);
-    assert!(rt; fits(GateKind::Not, design.gate_of(g).inputs().len()));
-    let design = design
-        .set_gate_kind(g, GateKind::Not)
-        .expect(&rt, "another kind");
-    assert!(rt; design.has_gate_key(g));
-    assert_eq!(rt; design.gate_of(g).kind(), GateKind::Not);
-    assert_eq!(rt; delay(&design.gate_of(g).delays(), Value::Zero), 6);
+    let design = set_delays(&rt, design, g, delays);
+    check_kind_and_fall(&rt, &design, g, GateKind::Buf, 6);
+    let design = set_gate_kind(&rt, design, g, GateKind::Not);
+    check_kind_and_fall(&rt, &design, g, GateKind::Not, 6);
+    drop(design);
 }
 
 // What one copy changes, the other doesn't.
 #[test]
 fn edited_copy(rt: HostRuntime) {
-    let alloc = rt.alloc();
-    let (design, [g, h, i]) = three_readers(&rt, alloc);
+    let (design, [g, h, i]) = three_readers(&rt, rt.alloc());
     let a = net_key(&rt, &design, "a");
-    let copy = remove_gate(&rt, design.try_clone().expect(&rt, "a copy"), h);
-    let copy = set_point(&rt, copy, a, 2, Value::One);
-    let copy = copy.close_up().expect(&rt, "the same design");
-    check_fanout(&rt, &copy, a, &[g, i]);
-    check_stimulus(&rt, &copy, a, 2, Value::One);
-    check_fanout(&rt, &design, a, &[g, h, i]);
-    check_stimulus(&rt, &design, a, 2, Value::Unknown);
-    assert_eq!(rt; design.gate_place("i"), Some(2));
+    let design = set_point(&rt, design, a, 1, Value::One);
+    let copy = copy_of(&rt, &design);
+    let design = set_point(&rt, design, a, 2, Value::Zero);
+    check_points(&rt, &copy, a, &[(1, Value::One)]);
+    let copy = remove_gate(&rt, copy, h);
+    let copy = close_up(&rt, copy);
+    check_lists(&rt, &copy, "a", &[g, i], &[]);
+    check_lists(&rt, &design, "a", &[g, h, i], &[]);
+    check_points(&rt, &design, a, &[(1, Value::One), (2, Value::Zero)]);
+    check_gate(&rt, &design, 2, i, "i");
+    drop(copy);
+    drop(design);
+}
+
+fn add_numbered(rt: &impl Abort, alloc: Global, design: Design, number: u32) -> Design {
+    let mut text = String::new(alloc);
+    write!(text, "n{number}").expect(rt, "a name");
+    let (design, _) = add_input(rt, alloc, design, text.as_str());
+    design
 }
 
 // Lists stand in blocks of 256: readers of the nets about the end of a block.
 #[test]
 fn lists_of_many_nets(rt: HostRuntime) {
     let alloc = rt.alloc();
-    let mut design = empty(&rt, alloc);
-    (design, _) = add_net(&rt, alloc, design, "y");
-    for number in 0..600u32 {
-        let mut text = String::new(alloc);
-        write!(text, "n{number}").expect(&rt, "a name");
-        (design, _) = add_input(&rt, alloc, design, text.as_str());
+    let (mut design, _) = add_net(&rt, alloc, empty(&rt, alloc), "y");
+    for number in 0..600 {
+        design = add_numbered(&rt, alloc, design, number);
     }
-    for text in ["n254", "n255", "n599"] {
-        (design, _) = add_reader(&rt, alloc, design, text, text);
-    }
-    for text in ["n254", "n255", "n599"] {
-        let reader = design.gate(text).expect(&rt, "a gate of this name");
-        check_fanout(&rt, &design, net_key(&rt, &design, text), &[reader]);
-    }
-    check_fanout(&rt, &design, net_key(&rt, &design, "n0"), &[]);
-    check_fanout(&rt, &design, net_key(&rt, &design, "n256"), &[]);
-    check_fanout(&rt, &design, net_key(&rt, &design, "n598"), &[]);
+    let (design, g) = add_reader(&rt, alloc, design, "g", "n254");
+    let (design, h) = add_reader(&rt, alloc, design, "h", "n255");
+    let (design, i) = add_reader(&rt, alloc, design, "i", "n599");
+    check_lists(&rt, &design, "n0", &[], &[]);
+    check_lists(&rt, &design, "n254", &[g], &[]);
+    check_lists(&rt, &design, "n255", &[h], &[]);
+    check_lists(&rt, &design, "n256", &[], &[]);
+    check_lists(&rt, &design, "n598", &[], &[]);
+    check_lists(&rt, &design, "n599", &[i], &[]);
+    drop(design);
 }

@@ -235,6 +235,7 @@ fn turn(
 ) -> Design {
     let before = design.try_clone().expect(rt, "a copy");
     let step = next_step(rt, alloc, dice, &before, plain);
+    drop(before);
     take_step(rt, design, step)
 }
 
@@ -252,4 +253,5 @@ fn random_edits(rt: HostRuntime) {
         compare(&rt, alloc, &design, &plain);
     }
     assert!(rt; plain.gates.len() > 1);
+    drop(design);
 }

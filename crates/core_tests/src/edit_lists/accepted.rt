@@ -13,13 +13,16 @@ type Case<'a> = (&'a [&'a str], &'a str);
 /// What is shown of the design with edits, which it accepts.
 fn shown_with(rt: &impl Abort, alloc: Global, start: &Design, edits: &[Edit]) -> String {
     let design = carried_out(rt, alloc, start, edits);
-    show(rt, alloc, &design)
+    let text = show(rt, alloc, &design);
+    drop(design);
+    text
 }
 
 fn check_case(rt: &impl Abort, alloc: Global, start: &Design, lines: &[&str], want: &str) {
     let edits = edits(rt, alloc, lines);
     let text = shown_with(rt, alloc, start, &edits);
     assert_eq!(rt; text.as_str(), want);
+    drop(edits);
 }
 
 fn check_cases(rt: &impl Abort, alloc: Global, start: &Design, cases: &[Case<'_>]) {
@@ -32,6 +35,7 @@ fn check_cases(rt: &impl Abort, alloc: Global, start: &Design, cases: &[Case<'_>
 fn check_shown(rt: &impl Abort, alloc: Global, first: &[&str], cases: &[Case<'_>]) {
     let start = design_of(rt, alloc, first);
     check_cases(rt, alloc, &start, cases);
+    drop(start);
 }
 
 const BUFFER: [&str; 3] = ["input a", "net y wire", "gate g buf 3 3 y a"];
@@ -178,6 +182,8 @@ fn check_clone(rt: &impl Abort, alloc: Global, line: &str) {
     let text = format!(in alloc; "{edit:?}").expect(rt, "its text");
     let same = format!(in alloc; "{copy:?}").expect(rt, "the text of the copy");
     assert_eq!(rt; text.as_str(), same.as_str());
+    drop(edit);
+    drop(copy);
 }
 
 #[test]
@@ -205,4 +211,6 @@ fn as_many_edits_as_may_be(rt: HostRuntime) {
     assert_eq!(rt; text.as_str(), "input a wire\nhorizon 4095\n");
     let kept = show(&rt, rt.alloc(), &start);
     assert_eq!(rt; kept.as_str(), "horizon 0\n");
+    drop(start);
+    drop(list);
 }

@@ -156,7 +156,10 @@ pub fn empty(rt: &impl Abort, alloc: Global) -> Design {
 pub fn design_of(rt: &impl Abort, alloc: Global, lines: &[&str]) -> Design {
     let edits = edits(rt, alloc, lines);
     let start = empty(rt, alloc);
-    carried_out(rt, alloc, &start, &edits)
+    let design = carried_out(rt, alloc, &start, &edits);
+    drop(start);
+    drop(edits);
+    design
 }
 
 /// The design with edits, which it accepts.
@@ -177,5 +180,7 @@ pub fn refused(
     lines: &[&str],
 ) -> Option<(usize, EditFault)> {
     let edits = edits(rt, alloc, lines);
-    outcome(alloc, design, &edits)
+    let outcome = outcome(alloc, design, &edits);
+    drop(edits);
+    outcome
 }

@@ -48,6 +48,7 @@ fn check_each(rt: &impl Abort, alloc: Global, design: &Design, cases: &[Case<'_>
 fn check_edits(rt: &impl Abort, alloc: Global, cases: &[Case<'_>]) {
     let design = design_of(rt, alloc, &DESIGN);
     check_each(rt, alloc, &design, cases);
+    drop(design);
 }
 
 const EDITS_OF_NETS: [Case<'static>; 20] = [
@@ -212,6 +213,7 @@ fn check_lists(rt: &impl Abort, alloc: Global, design: &Design) {
 fn first_that_is_refused(rt: HostRuntime) {
     let design = design_of(&rt, rt.alloc(), &DESIGN);
     check_lists(&rt, rt.alloc(), &design);
+    drop(design);
 }
 
 fn add_horizons(rt: &impl Abort, list: &mut Vec<Edit>, count: u64) {
@@ -242,6 +244,7 @@ fn check_long_lists(rt: &impl Abort, alloc: Global, design: &Design) {
     for (before, line, behind, want) in LONG_LISTS {
         let list = between(rt, alloc, before, line, behind);
         assert_eq!(rt; outcome(alloc, design, &list), want);
+        drop(list);
     }
 }
 
@@ -250,6 +253,7 @@ fn check_long_lists(rt: &impl Abort, alloc: Global, design: &Design) {
 fn one_edit_too_many(rt: HostRuntime) {
     let design = design_of(&rt, rt.alloc(), &DESIGN);
     check_long_lists(&rt, rt.alloc(), &design);
+    drop(design);
 }
 
 /// As many parts of one sort as a design may have.
@@ -287,7 +291,10 @@ fn filled(rt: &impl Abort, alloc: Global, limit: &Limit<'_>) -> Design {
     for from in (0..count).step_by(MAX_EDITS) {
         let to = count.min(from.saturating_add(MAX_EDITS));
         let list = parts(rt, alloc, limit.part, from, to);
-        design = carried_out(rt, alloc, &design, &list);
+        let more = carried_out(rt, alloc, &design, &list);
+        drop(list);
+        drop(design);
+        design = more;
     }
     design
 }
@@ -298,11 +305,14 @@ fn check_last(rt: &impl Abort, alloc: Global, design: &Design, limit: &Limit<'_>
     let last = edits(rt, alloc, &[limit.last]);
     let full = carried_out(rt, alloc, design, &last);
     check_each(rt, alloc, &full, limit.without_room);
+    drop(full);
+    drop(last);
 }
 
 fn check_limit(rt: &impl Abort, alloc: Global, limit: &Limit<'_>) {
     let design = filled(rt, alloc, limit);
     check_last(rt, alloc, &design, limit);
+    drop(design);
 }
 
 const NETS: Limit<'static> = Limit {

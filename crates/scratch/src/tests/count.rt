@@ -68,7 +68,9 @@ impl Stepper for Counting {
 fn count(rt: &impl Abort, alloc: Global, plan: Plan<'_>) -> (u64, u64) {
     let mut stepper = Counting::new();
     let design = build(rt, alloc, plan);
-    let _run = simulate(alloc, &design, &mut stepper).expect(rt, "a run");
+    let run = simulate(alloc, &design, &mut stepper).expect(rt, "a run");
+    drop(run);
+    drop(design);
     (stepper.steps, stepper.tasks)
 }
 

@@ -36,11 +36,13 @@ fn check(rt: &impl Abort, alloc: Global, design: &Design, wanted: &[Named<'_>]) 
         let place = design.net_place(name).expect(rt, "a net of this name");
         check_wave(rt, run.wave(place).expect(rt, "its wave"), wave);
     }
+    drop(run);
 }
 
 fn follow(rt: &impl Abort, alloc: Global, plan: Plan<'_>, wanted: &[Named<'_>]) {
     let design = build(rt, alloc, plan);
     check(rt, alloc, &design, wanted);
+    drop(design);
 }
 
 #[test]
@@ -101,6 +103,7 @@ fn follow_buffer(
 ) {
     let design = buffer(rt, alloc, delays, points, horizon);
     check(rt, alloc, &design, &[("y", wanted)]);
+    drop(design);
 }
 
 #[test]
@@ -168,6 +171,7 @@ fn two_drivers(rt: &impl Abort, alloc: Global, kind: NetKind) -> Design {
 fn follow_two_drivers(rt: &impl Abort, alloc: Global, kind: NetKind, wanted: &[(u64, Value)]) {
     let design = two_drivers(rt, alloc, kind);
     check(rt, alloc, &design, &[("n", wanted)]);
+    drop(design);
 }
 
 #[test]

@@ -102,11 +102,14 @@ fn check_design(rt: &impl Abort, alloc: Global, design: &Design, seed: u64) {
         assert_eq!(rt; row.len(), design.net_count());
         check_row(rt, &run, row, t as u64, seed);
     }
+    drop(rows);
+    drop(run);
 }
 
 fn check_seed(rt: &impl Abort, alloc: Global, seed: u64) {
     let design = random_design(rt, alloc, seed);
     check_design(rt, alloc, &design, seed);
+    drop(design);
 }
 
 #[test]
