@@ -1,4 +1,4 @@
-//! Catalogs worked out by hand, and catalogs beside their plain form.
+//! Catalogs worked out by hand, and catalogs beside the reference implementation.
 
 use crate::plain::PlainCatalog;
 use crate::{Catalog, NameHasher, Named};

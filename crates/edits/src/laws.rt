@@ -30,7 +30,7 @@ pub fn joined_edits()
         (λ refused. batch d (first ++ rest) ≡ Err refused) }
 {}
 
-/// A refused edit is one of the list, and within the limit or just past it; its cause is no want of memory. A list
+/// A refused edit is one of the list, and within the limit or just past it; its cause is not that memory ran out. A list
 /// that is accepted is within the limit.
 #[tactic(auto, using(crate::proofs::BatchLemmas::refused_within, crate::proofs::BatchLemmas::refused_limit, crate::proofs::BatchLemmas::refused_for, crate::proofs::BatchLemmas::accepted_within))]
 pub fn limits_of_edits()
