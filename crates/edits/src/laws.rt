@@ -39,3 +39,8 @@ pub fn limits_of_edits()
     ensures fault { (d : Netlist) (edits : List edits.Edit) → IfErr (batch d edits) (λ refused. refused.1 ≢ EditFault.OutOfMemory) }
     ensures accepted { (d : Netlist) (edits : List edits.Edit) → IfOk (batch d edits) (λ _. length edits ≤ MAX_EDITS) }
 {}
+
+/// The limit of a list of edits has this number.
+pub fn limits()
+    ensures { MAX_EDITS ≡ 4096 }
+{}
