@@ -8,12 +8,12 @@ use Rattle.app.specs.declared.arguments.Args.{Args}
 use Rattle.app.specs.declared.arguments.ArgsFault.{ArgsFault}
 use Rattle.app.specs.declared.arguments.ArgsFault.TheVariants as words
 
--- a file that can't be read: want of memory is itself, and all else is a failed read
+-- a file that can't be read: out of memory is itself, and all else is a failed read
 abbrev pub unread_fault : ErrorKind → SessionFault
 unread_fault kind.OutOfMemory = OutOfMemory
 unread_fault _ = Read
 
--- words that the system can't give: want of memory is itself, and all else is a refusal
+-- words that the system can't give: out of memory is itself, and all else is a refusal
 abbrev pub no_words_fault : ErrorKind → ArgsFault
 no_words_fault kind.OutOfMemory = words.OutOfMemory
 no_words_fault _ = words.Refused

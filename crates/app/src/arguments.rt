@@ -30,7 +30,7 @@ pub enum ArgsFault {
     /// The words are not of the form, or ask for help.
     #[error("the command line was refused")]
     Refused = 1,
-    /// A growth was refused.
+    /// An allocation was refused.
     #[error("out of memory")]
     OutOfMemory = 2,
 }

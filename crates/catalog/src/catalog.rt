@@ -58,7 +58,7 @@ impl<R: Named> Catalog<R> {
         }
     }
 
-    /// A copy, which shares all with this one until one of them is changed. It fails for want of memory.
+    /// A copy, which shares all with this one until one of them is changed. It fails where memory runs out.
     pub fn try_clone(&self) -> Result<Catalog<R>, AllocError>
         ensures { IfOk result (λ copy. copy ≡ self.now) }
     {
@@ -144,7 +144,7 @@ impl<R: Named> Catalog<R> {
         }
     }
 
-    /// Adds a record, which goes last, and gives its key. It fails for want of memory.
+    /// Adds a record, which goes last, and gives its key. It fails where memory runs out.
     pub fn push(self, item: R) -> Result<(Catalog<R>, usize), AllocError>
         requires { key_named R.name self (R.name item) ≡ None }
         ensures entries { IfOk result (λ added. added.0 ≡ self ++ (added.1, item) ∷ []) }
@@ -176,7 +176,7 @@ impl<R: Named> Catalog<R> {
         ))
     }
 
-    /// Puts a record under the key of one with the same name. It fails for want of memory.
+    /// Puts a record under the key of one with the same name. It fails where memory runs out.
     pub fn replace(self, key: usize, item: R) -> Result<Catalog<R>, AllocError>
         requires there { IsSome (record_at self key) }
         requires name { IfSome (record_at self key) (λ old. R.name item ≡ R.name old) }
@@ -204,7 +204,7 @@ impl<R: Named> Catalog<R> {
         })
     }
 
-    /// Takes the record under a key away. It fails for want of memory.
+    /// Takes the record under a key away. It fails where memory runs out.
     pub fn remove(self, key: usize) -> Result<Catalog<R>, AllocError>
         requires { IsSome (record_at self key) }
         ensures { IfOk result (λ catalog. catalog ≡ without_key self key) }
@@ -232,7 +232,7 @@ impl<R: Named> Catalog<R> {
         })
     }
 
-    /// The same records, where a place is found in one step until the next removal. It fails for want of memory.
+    /// The same records, where a place is found in one step until the next removal. It fails where memory runs out.
     pub fn close_up(self) -> Result<Catalog<R>, AllocError>
         ensures { IfOk result (λ catalog. catalog ≡ self) }
     {

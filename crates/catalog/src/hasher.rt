@@ -4,14 +4,14 @@ use std::collections::hash_map::RandomState;
 use std::hash::{BuildHasher, DefaultHasher};
 use std::random::RandomSource;
 
-/// How names are hashed: SipHash with keys of chance, so that names from strangers can't be made to collide (own).
+/// How names are hashed: SipHash with random keys, so that names from strangers can't be made to collide (own).
 #[derive(Clone, Copy, Debug)]
 pub struct NameHasher {
     state: Option<RandomState>,
 }
 
 impl NameHasher {
-    /// A hasher with keys of chance, or with fixed keys where the system gives no chance.
+    /// A hasher with random keys, or with fixed keys where the system gives none.
     pub fn new(rt: &impl RandomSource) -> NameHasher {
         NameHasher {
             state: RandomState::new(rt).ok(),

@@ -1,4 +1,4 @@
-//! Records by name and by key, as one list that is walked: the plain form, whose contract is that of `Catalog`.
+//! Records by name and by key, as one list that is walked: the reference implementation, whose contract is that of `Catalog`.
 
 ghost use Rattle.std.specs.Prelude.{◌≡◌, ◌<◌, ◌∷◌, [], ◌++◌, length, map, slice_get, option_map, IfOk, IfSome, IsSome, ◌==◌};
 ghost use Rattle.std.specs.List.{position_from};
@@ -43,7 +43,7 @@ impl<R: Named> PlainCatalog<R> {
         }
     }
 
-    /// A copy, which shares the records. It fails for want of memory.
+    /// A copy, which shares the records. It fails where memory runs out.
     pub fn try_clone(&self) -> Result<PlainCatalog<R>, AllocError>
         ensures { IfOk result (λ copy. copy ≡ self.now) }
     {
@@ -109,7 +109,7 @@ impl<R: Named> PlainCatalog<R> {
         &self.entries[place].1
     }
 
-    /// Adds a record, which goes last, and gives its key. It fails for want of memory.
+    /// Adds a record, which goes last, and gives its key. It fails where memory runs out.
     pub fn push(self, item: R) -> Result<(PlainCatalog<R>, usize), AllocError>
         requires { key_named R.name self (R.name item) ≡ None }
         ensures entries { IfOk result (λ added. added.0 ≡ self ++ (added.1, item) ∷ []) }
@@ -125,7 +125,7 @@ impl<R: Named> PlainCatalog<R> {
         Ok((PlainCatalog { entries, next_key }, key))
     }
 
-    /// Puts a record under the key of one with the same name. It fails for want of memory.
+    /// Puts a record under the key of one with the same name. It fails where memory runs out.
     pub fn replace(self, key: usize, item: R) -> Result<PlainCatalog<R>, AllocError>
         requires there { IsSome (record_at self key) }
         requires name { IfSome (record_at self key) (λ old. R.name item ≡ R.name old) }
@@ -143,7 +143,7 @@ impl<R: Named> PlainCatalog<R> {
         Ok(PlainCatalog { entries, next_key })
     }
 
-    /// Takes the record under a key away. It fails for want of memory.
+    /// Takes the record under a key away. It fails where memory runs out.
     pub fn remove(self, key: usize) -> Result<PlainCatalog<R>, AllocError>
         requires { IsSome (record_at self key) }
         ensures { IfOk result (λ catalog. catalog ≡ without_key self key) }
@@ -159,7 +159,7 @@ impl<R: Named> PlainCatalog<R> {
         Ok(PlainCatalog { entries, next_key })
     }
 
-    /// The same records, where a place is found in one step until the next removal. It fails for want of memory.
+    /// The same records, where a place is found in one step until the next removal. It fails where memory runs out.
     pub fn close_up(self) -> Result<PlainCatalog<R>, AllocError>
         ensures { IfOk result (λ catalog. catalog ≡ self) }
     {

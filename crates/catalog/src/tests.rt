@@ -1,5 +1,5 @@
-//! Catalogs worked out by hand, and catalogs beside their plain form. Each test gives its catalogs to `drop`: one that
-//! goes at the end of a body costs its proof 10 seconds and more.
+//! Catalogs worked out by hand, and catalogs beside the reference implementation. Each test gives its catalogs to `drop`:
+//! one that goes at the end of a body costs its proof 10 seconds and more.
 
 use crate::plain::PlainCatalog;
 use crate::{Catalog, NameHasher, Named};

@@ -10,6 +10,7 @@ mod gate;
 mod horizon;
 mod key;
 mod key_lists;
+pub mod laws;
 mod limits;
 mod name;
 mod net;

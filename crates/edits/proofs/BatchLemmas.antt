@@ -95,7 +95,7 @@ no_memory_found (check ∷ rest) other =
     let both = both_false (is_memory check.1) (list_any (λ check. is_memory check.1) rest) other in
     no_memory_by check rest check.0 refl both.0 (no_memory_found rest both.1)
 
--- no edit is refused for want of memory
+-- no edit is refused because memory ran out
 cause_is : (d : Netlist) (e : Edit) → IfSome (cause d e) (λ fault. fault ≢ OutOfMemory)
 cause_is d e = named_by (find (λ check. check.0) (checks d e)) (no_memory_found (checks d e) (no_memory_check d e))
 

@@ -13,7 +13,7 @@ use design::Design;
 use std::alloc::Global;
 
 /// The design after the edits, one after another; or the place, from 0, and the fault of the first that is refused.
-/// The edit behind as many as a list may have is refused as one too many. Where a growth was refused the fault is
+/// The edit behind as many as a list may have is refused as one too many. Where an allocation was refused the fault is
 /// `OutOfMemory`, and the place says nothing. The design that is given stays as it is.
 pub fn apply_all(
     alloc: Global,

@@ -47,7 +47,7 @@ pub enum EditFault {
     /// The design holds as many as it may.
     #[error("too many")]
     TooMany = 13,
-    /// A growth was refused.
+    /// An allocation was refused.
     #[error("out of memory")]
     OutOfMemory = 14,
 }

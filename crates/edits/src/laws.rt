@@ -30,7 +30,7 @@ pub fn joined_edits()
         (λ refused. batch d (first ++ rest) ≡ Err refused) }
 {}
 
-/// A refused edit is one of the list, and within the limit or just past it; its cause is no want of memory. A list
+/// A refused edit is one of the list, and within the limit or just past it; its cause is not that memory ran out. A list
 /// that is accepted is within the limit.
 #[tactic(auto, using(crate::proofs::BatchLemmas::refused_within, crate::proofs::BatchLemmas::refused_limit, crate::proofs::BatchLemmas::refused_for, crate::proofs::BatchLemmas::accepted_within))]
 pub fn limits_of_edits()
@@ -38,4 +38,9 @@ pub fn limits_of_edits()
     ensures limit { (d : Netlist) (edits : List edits.Edit) → IfErr (batch d edits) (λ refused. refused.0 ≤ MAX_EDITS) }
     ensures fault { (d : Netlist) (edits : List edits.Edit) → IfErr (batch d edits) (λ refused. refused.1 ≢ EditFault.OutOfMemory) }
     ensures accepted { (d : Netlist) (edits : List edits.Edit) → IfOk (batch d edits) (λ _. length edits ≤ MAX_EDITS) }
+{}
+
+/// The limit of a list of edits has this number.
+pub fn limits()
+    ensures { MAX_EDITS ≡ 4096 }
 {}

@@ -10,6 +10,7 @@ ghost use Rattle.fourstate.specs.declared.value.Value as values;
 
 use crate::delays::{Delays, delay};
 use crate::gate::GateKind;
+use crate::limits::{MAX_DELAY, MAX_INPUTS, MAX_TIME};
 use crate::net::NetKind;
 use crate::value::Value;
 
@@ -60,4 +61,11 @@ pub fn words_read_back(gate: GateKind, net: NetKind, value: Value)
     ensures gate { gate_kind_of (gate_keyword gate) ≡ Some gate }
     ensures net { net_kind_of (net_keyword net) ≡ Some net }
     ensures value { value_of_symbol (symbol_of value) ≡ Some value }
+{}
+
+/// The limits of the profile have these numbers.
+pub fn limits()
+    ensures inputs { MAX_INPUTS ≡ 64 }
+    ensures delay { MAX_DELAY ≡ 1000000 }
+    ensures time { MAX_TIME ≡ 1000000000 }
 {}

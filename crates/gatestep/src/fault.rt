@@ -6,7 +6,7 @@ use thiserror::Error;
 /// Why a step gave no answers.
 #[derive(Clone, Copy, Debug, PartialEq, Eq, Error)]
 pub enum StepFault {
-    /// A growth was refused.
+    /// An allocation was refused.
     #[error("out of memory")]
     OutOfMemory = 1,
     /// A worker ended before its answer came.

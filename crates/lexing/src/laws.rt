@@ -8,6 +8,7 @@ ghost use Rattle.lexing.specs.declared.token.Shape as shapes;
 ghost use Rattle.lexing.specs.declared.token.Token.{Token};
 
 use crate::lexemes::first_lexeme;
+use crate::limits::MAX_TEXT;
 use crate::spaces::{White, white_space};
 use crate::token::Shape;
 
@@ -63,3 +64,8 @@ pub fn some_spelling(text: &[u8])
         }
     }
 }
+
+/// The limit of a text has this number.
+pub fn limits()
+    ensures { MAX_TEXT ≡ 4194304 }
+{}

@@ -1,4 +1,4 @@
-//! The run of a design kept as the value of each net at each moment, for tests: its contract is the definition.
+//! The reference implementation of the run, kept as the value of each net at each moment, for tests: its contract is the definition.
 
 ghost use Rattle.std.specs.Prelude.{◌≡◌, ◌++◌, ◌∷◌, [], map, suc, IfOk, OnOk};
 ghost use Rattle.scratch.specs.Plain.{values_at, moments};

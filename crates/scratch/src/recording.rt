@@ -31,7 +31,7 @@ impl Recording {
         Ok(Recording { waves, traces })
     }
 
-    /// Adds what stands at the moment `t`, in time units, later than all that stands here. After a refused growth what
+    /// Adds what stands at the moment `t`, in time units, later than all that stands here. Where an allocation was refused, what
     /// stands here is not known.
     pub fn add(&mut self, moment: &Moment, t: u64) -> Result<(), AllocError>
         requires nets { length self.old.waves.items ≡ length moment.now.values.items }

@@ -13,7 +13,7 @@ use std::alloc::Global;
 use waveform::Run;
 
 /// The run of the design by this stepper, from moment 0 to the horizon, both included: only changes are stored. A step is
-/// made only where there is a gate to evaluate. `OutOfMemory` where a growth was refused, here or in a step; `WorkerLost`
+/// made only where there is a gate to evaluate. `OutOfMemory` where an allocation was refused, here or in a step; `WorkerLost`
 /// where a step answered so.
 pub fn simulate<S: Stepper>(
     alloc: Global,

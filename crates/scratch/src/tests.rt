@@ -1,6 +1,6 @@
-//! Runs worked out by hand, and the run against the values of each moment.
+//! Runs worked out by hand, and the run beside the reference implementation.
 
 mod build;
 mod count;
+mod reference;
 mod runs;
-mod twins;

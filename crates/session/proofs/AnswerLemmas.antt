@@ -25,7 +25,7 @@ use Rattle.session.specs.Replies.{ok_line, refusal_line}
 use Rattle.session.specs.Questions.{wave_of}
 use Rattle.session.specs.State.{SessionState, Replies, after_edit, edit_reply, fault_of, is_quit}
 
--- an edit may be refused for want of memory
+-- an edit may be refused because memory ran out
 pub no_memory : (s : SessionState) (c : Command) → is_change c ≡ true → Replies s c (refusal_line (refusal.Edit OutOfMemory)) s
 no_memory s (command.Change e) is = inr (inl (record { reply_is = refl; state_is = refl }))
 no_memory s command.Skip is = cc

@@ -15,7 +15,7 @@ err_is x y e = cc
 other_kind : read.Text ≡ read.Edit edit.OutOfMemory → ⊥
 other_kind e = cc
 
--- a text over its limit gives no want of memory
+-- a text over its limit does not run out of memory
 within : {A : Type 0} (text : List ℕ) (f : ReadFault) → (MAX_TEXT < length text → ◌≡◌ {A = Result A ReadFault} (Err f) (Err too_long)) → f.kind ≡ read.Edit edit.OutOfMemory
     → (MAX_TEXT < length text) ⊎ (length text ≤ MAX_TEXT) → length text ≤ MAX_TEXT
 within text f long memory (inl over) = absurd (other_kind (sym (ap (λ (g : ReadFault). g.kind) (err_is f too_long (long over))) ∙ memory))
@@ -26,7 +26,7 @@ of_kind : (delay : Option ℕ) (text : List ℕ) (kind : ReadFaultKind) (f : Rea
 of_kind delay text (read.Edit edit.OutOfMemory) f short is = short refl
 of_kind delay text kind f short is = is
 
--- a fault of the reading is the text's, or tells of want of memory
+-- a fault of the reading is the text's, or tells that memory ran out
 pub text_refused : {A : Type 0} (delay : Option ℕ) (text : List ℕ) (f : ReadFault) → (f ≡ out_of_memory) ⊎ IsReadFault delay text f
     → (MAX_TEXT < length text → ◌≡◌ {A = Result A ReadFault} (Err f) (Err too_long)) → IsTextRefused delay text (fault_by f.kind f)
 text_refused delay text f (inl is) long =

@@ -34,13 +34,13 @@ abbrev pub fault_by : ReadFaultKind → ReadFault → SessionFault
 fault_by (read.Edit edit.OutOfMemory) f = fault.OutOfMemory
 fault_by kind f = fault.Design f
 
--- why a text opens no session: it has this fault, or a growth was refused, as may happen to a text within its limit
+-- why a text opens no session: it has this fault, or an allocation was refused, as may happen to a text within its limit
 abbrev pub IsTextRefused : Option ℕ → List ℕ → SessionFault → Type 0
 IsTextRefused delay text (fault.Design f) = IsReadFault delay text f
 IsTextRefused delay text fault.OutOfMemory = length text ≤ MAX_TEXT
 IsTextRefused delay text _ = ⊥
 
--- Why a session does not open: the text first, then the horizon. A worker is lost only where both would open it; a growth may be
+-- Why a session does not open: the text first, then the horizon. A worker is lost only where both would open it; an allocation may be
 -- refused there too.
 abbrev pub Refuses : List ℕ → Options → SessionFault → Type 0
 Refuses text options (fault.Edit f) = (f ≡ edit.TimeTooLarge) × IsHorizonOver text options

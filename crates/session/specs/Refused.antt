@@ -19,7 +19,7 @@ abbrev pub refusal_of : StepFault → Refusal
 refusal_of step.OutOfMemory = refusal.Edit OutOfMemory
 refusal_of step.WorkerLost = refusal.WorkerLost
 
--- the refusal is a stepper's: want of memory or a lost worker
+-- the refusal is a stepper's: out of memory or a lost worker
 abbrev pub IsOfStepper : Refusal → Type 0
 IsOfStepper (refusal.Edit fault) = fault ≡ OutOfMemory
 IsOfStepper refusal.WorkerLost = Unit {0}

@@ -49,7 +49,7 @@ pub record Gives (reply : List ℕ) (new : SessionState) (wanted : List ℕ) (af
   pub reply_is : reply ≡ wanted
   pub state_is : new ≡ after
 
--- From old, a session may give this reply to the command and go on to new. An edit may be refused for want of memory, or
+-- From old, a session may give this reply to the command and go on to new. An edit may be refused because memory ran out, or
 -- because the stepper lost a worker.
 abbrev pub Replies : SessionState → Command → List ℕ → SessionState → Type 0
 Replies old command.Skip reply new = Gives reply new [] old

@@ -13,7 +13,7 @@ pub enum SessionFault {
     /// The horizon is over the limit.
     #[error("{0}")]
     Edit(EditFault),
-    /// A growth was refused at the opening; nothing was read or written.
+    /// An allocation was refused at the opening; nothing was read or written.
     #[error("out of memory")]
     OutOfMemory,
     /// A worker was lost at the opening; nothing was read or written.

@@ -38,7 +38,7 @@ kind_name (Edit fault) = fault_name fault
 abbrev pub too_long : ReadFault
 too_long = record { line = 1; kind = Text }
 
--- a growth was refused
+-- an allocation was refused
 abbrev pub out_of_memory : ReadFault
 out_of_memory = record { line = 0; kind = Edit edit.OutOfMemory }
 

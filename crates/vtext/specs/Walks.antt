@@ -59,7 +59,7 @@ module _ (default : Option ℕ) (names : List (List ℕ)) where
     pub leads : Leads start (take k words) (word_at words k) before
     pub refused : MatchOption (slice_get words k) ((before.place ≢ Outside) × (why ≡ Syntax)) (λ p. judge before p.word (word_at words (k + 1)) ≡ Err why)
 
-  -- why the words were refused, if not for want of memory
+  -- why the words were refused, if not because memory ran out
   abbrev pub IsRefusal : List Placed → Refusal → Type 0
   IsRefusal words OutOfMemory = Unit {0}
   IsRefusal words (Fault k why) = IsFault words k why

@@ -41,7 +41,7 @@ pub enum ReadFaultKind {
     /// Connections that don't fit the ports.
     #[error("port count")]
     PortCount,
-    /// What is refused in an edit too, or a growth that was refused.
+    /// What is refused in an edit too, or an allocation that was refused.
     #[error("{0}")]
     Edit(EditFault),
 }
@@ -90,7 +90,7 @@ impl ReadFaultKind {
 #[derive(Clone, Copy, Debug, PartialEq, Eq, Error)]
 #[error("line {line}: {kind}")]
 pub struct ReadFault {
-    /// The line of the token's first byte, from 1; 0 where a growth was refused.
+    /// The line of the token's first byte, from 1; 0 where an allocation was refused.
     pub line: u64,
     /// What is wrong there.
     pub kind: ReadFaultKind,
@@ -107,7 +107,7 @@ impl ReadFault {
         }
     }
 
-    /// A growth was refused.
+    /// An allocation was refused.
     pub fn out_of_memory() -> ReadFault
         ensures { result ≡ out_of_memory }
     {

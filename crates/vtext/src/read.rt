@@ -49,7 +49,7 @@ pub fn modules(
 ) -> Result<Modules, ReadFault>
     // The modules are those that the text says.
     ensures list { IfOk result (Says default text.now) }
-    // A fault is the first one of the text, or a growth was refused.
+    // A fault is the first one of the text, or an allocation was refused.
     ensures fault { IfErr result (λ fault. (fault ≡ out_of_memory) ⊎ IsFirstFault default text.now fault) }
     // A text over its limit is looked at no further.
     ensures long { MAX_TEXT < length text.now → result ≡ Err too_long }

@@ -37,7 +37,7 @@ impl Run {
         }
     }
 
-    /// Adds a wave behind the others. It fails for want of memory, and then nothing has changed.
+    /// Adds a wave behind the others. It fails where memory runs out, and then nothing has changed.
     pub fn push_wave(&mut self, wave: Wave) -> Result<(), AllocError>
         ensures ok { OnOk result (self.new ≡ record self.old { waves = self.old.waves ++ wave ∷ [] }) }
         ensures err { OnErr result (self.new ≡ self.old) }
@@ -46,7 +46,7 @@ impl Run {
         Ok(())
     }
 
-    /// Adds a trace behind the others. It fails for want of memory, and then nothing has changed.
+    /// Adds a trace behind the others. It fails where memory runs out, and then nothing has changed.
     pub fn push_trace(&mut self, trace: Trace) -> Result<(), AllocError>
         ensures ok { OnOk result (self.new ≡ record self.old { traces = self.old.traces ++ trace ∷ [] }) }
         ensures err { OnErr result (self.new ≡ self.old) }

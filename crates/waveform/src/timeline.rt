@@ -32,7 +32,7 @@ impl<V: Sample> Model for Timeline<V> {
 }
 
 impl<V: Sample> Timeline<V> {
-    /// The function that begins with this value and changes by itself alone. It fails for want of memory.
+    /// The function that begins with this value and changes by itself alone. It fails where memory runs out.
     pub fn open(alloc: Global, value: V) -> Result<Timeline<V>, AllocError>
         requires { V.can_store 0 value }
         ensures { IfOk result (λ timeline. timeline ≡ (0, value) ∷ []) }
@@ -43,7 +43,7 @@ impl<V: Sample> Timeline<V> {
     }
 
     /// Gives the function this value from `t` on, in time units, a moment after all entries. Nothing is stored where it has
-    /// that value by itself. It fails for want of memory, and then nothing has changed.
+    /// that value by itself. It fails where memory runs out, and then nothing has changed.
     pub fn push(&mut self, t: u64, value: V) -> Result<(), AllocError>
         requires later { All (λ entry. entry.0 < t) self.old }
         requires can { V.can_store t value }

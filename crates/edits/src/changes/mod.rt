@@ -1,4 +1,4 @@
-//! What edits do to a design that accepts them. A refused growth drops the design.
+//! What edits do to a design that accepts them. Where an allocation is refused the design is dropped.
 
 mod each;
 mod gates;

@@ -10,7 +10,7 @@ use std::alloc::AllocError;
 
 impl<V: Sample> Timeline<V> {
     /// Takes over the function of `other` at the moments from `from` up to and with `to`, in time units. At all other
-    /// moments the value stays. It fails for want of memory, and then nothing has changed.
+    /// moments the value stays. It fails where memory runs out, and then nothing has changed.
     pub fn splice(&mut self, from: u64, to: u64, other: &Timeline<V>) -> Result<(), AllocError>
         requires order { from ≤ to }
         requires within { to < 2 ^ 64 - 1 }

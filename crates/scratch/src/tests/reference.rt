@@ -1,4 +1,4 @@
-//! The run against the values of each moment, over small designs from a table of seeds.
+//! The run beside the reference implementation, the values of each moment, over small designs from a table of seeds.
 
 ghost use Rattle.std.specs.Prelude.{◌<◌};
 
