@@ -3,8 +3,10 @@
 ghost use Rattle.std.specs.Prelude.{◌≡◌, ◌<◌, false, IsTrue, IsSome, IsSomeAnd, IfSome, IfOk, length};
 ghost use Rattle.std.specs.List.{list_all};
 ghost use Rattle.fourstate.specs.Gates.{takes_inputs};
+ghost use Rattle.catalog.specs.Catalog.{record_at, with_record};
 ghost use Rattle.design.specs.declared.limits.TheConstants.{MAX_GATES};
 ghost use Rattle.design.specs.Keys.{EditsGate, gate_by_key, with_keyed_gate, without_keyed_gate};
+ghost use Rattle.design.specs.Records.{gate_with_delays, gate_with_kind, gate_with_wiring};
 ghost use Rattle.design.specs.Netlist.{has_gate, is_drivable, is_readable, with_delays, with_gate_kind, with_wiring};
 
 use crate::design::Design;
@@ -12,6 +14,8 @@ use crate::gate::Gate;
 use crate::key::GateKey;
 use crate::name::Name;
 use crate::terminal::Terminal;
+use catalog::Catalog;
+use fourstate::laws::delays_in_range;
 use fourstate::{Delays, GateKind};
 use std::alloc::AllocError;
 
@@ -31,7 +35,9 @@ impl Design {
         let Some(gate) = gates.get(number) else {
             unreachable!();
         };
-        let wires = self.wires.add(&self.nets, &gates, gate, key)?;
+        let wires = self
+            .wires
+            .add(&self.nets, &gates, key, gate.output(), gate.inputs())?;
         let design = Design {
             gates,
             wires,
@@ -64,9 +70,8 @@ impl Design {
         requires { IsSome (gate_by_key self gate) }
         ensures { IfOk result (EditsGate self gate (λ g. with_delays self.netlist g.name delays)) }
     {
-        let new = self.gate_of(gate).clone()?.with_delays(delays);
-        new.lawful();
-        let gates = self.gates.replace(gate.number, new)?;
+        delays_in_range(&delays);
+        let gates = with_delays_at(self.gates, gate.number, delays)?;
         Ok(Design { gates, ..self })
     }
 
@@ -75,9 +80,7 @@ impl Design {
         requires { IsSomeAnd (gate_by_key self gate) (λ g. IsTrue (takes_inputs kind (length g.inputs))) }
         ensures { IfOk result (EditsGate self gate (λ g. with_gate_kind self.netlist g.name kind)) }
     {
-        let new = self.gate_of(gate).clone()?.with_kind(kind);
-        new.lawful();
-        let gates = self.gates.replace(gate.number, new)?;
+        let gates = with_kind_at(self.gates, gate.number, kind)?;
         Ok(Design { gates, ..self })
     }
 
@@ -93,20 +96,63 @@ impl Design {
         requires inputs { IsTrue (list_all (is_readable self.netlist) inputs.items) }
         ensures { IfOk result (EditsGate self gate (λ g. with_wiring self.netlist g.name output inputs.items)) }
     {
-        let number = gate.number;
-        let wires = self.wires;
-        let Some(old) = self.gates.get(number) else {
-            unreachable!();
-        };
-        let new = old.clone()?.with_wiring(output, inputs);
-        new.lawful();
-        let wires = wires.remove(&self.nets, old, gate)?;
-        let wires = wires.add(&self.nets, &self.gates, &new, gate)?;
-        let gates = self.gates.replace(number, new)?;
+        let wires = self
+            .wires
+            .rewire(&self.nets, &self.gates, gate, &output, &inputs)?;
+        let gates = with_wiring_at(self.gates, gate.number, output, inputs)?;
         Ok(Design {
             gates,
             wires,
             ..self
         })
     }
+}
+
+/// The gates with the delays of one changed.
+fn with_delays_at(
+    gates: Catalog<Gate>,
+    key: usize,
+    delays: Delays,
+) -> Result<Catalog<Gate>, AllocError>
+    requires { IsSome (record_at gates key) }
+    ensures { IfOk result (λ made. IfSome (record_at gates key) (λ g. made ≡ with_record gates key (gate_with_delays g delays))) }
+{
+    let Some(old) = gates.get(key) else {
+        unreachable!();
+    };
+    let new = old.clone()?.with_delays(delays);
+    gates.replace(key, new)
+}
+
+/// The gates with the kind of one changed.
+fn with_kind_at(
+    gates: Catalog<Gate>,
+    key: usize,
+    kind: GateKind,
+) -> Result<Catalog<Gate>, AllocError>
+    requires { IsSomeAnd (record_at gates key) (λ g. IsTrue (takes_inputs kind (length g.inputs))) }
+    ensures { IfOk result (λ made. IfSome (record_at gates key) (λ g. made ≡ with_record gates key (gate_with_kind g kind))) }
+{
+    let Some(old) = gates.get(key) else {
+        unreachable!();
+    };
+    let new = old.clone()?.with_kind(kind);
+    gates.replace(key, new)
+}
+
+/// The gates with one put at other nets.
+fn with_wiring_at(
+    gates: Catalog<Gate>,
+    key: usize,
+    output: Name,
+    inputs: Vec<Terminal>,
+) -> Result<Catalog<Gate>, AllocError>
+    requires { IsSomeAnd (record_at gates key) (λ g. IsTrue (takes_inputs g.kind (length inputs.items))) }
+    ensures { IfOk result (λ made. IfSome (record_at gates key) (λ g. made ≡ with_record gates key (gate_with_wiring g output inputs.items))) }
+{
+    let Some(old) = gates.get(key) else {
+        unreachable!();
+    };
+    let new = old.with_wiring(output, inputs)?;
+    gates.replace(key, new)
 }

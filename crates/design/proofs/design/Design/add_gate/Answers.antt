@@ -40,9 +40,11 @@ invariant_of-design c =
     let key = c.in_ok-gates.number in
     let there : record_at (a.gates ++ (key, g) ∷ []) key ≡ Some g = record_pushed a.gates key g c.in_ok-gates.ensures.fresh in
     let same : c.in-Some.gate.now ≡ g = some_inner c.in-Some.gate.now g (c.in-Some.ensures ∙ ap (λ l. record_at l key) c.in_ok-gates.ensures.entries ∙ there) in
+    let inputs : c.inputs.result.now ≡ g.inputs = c.inputs.ensures.inputs ∙ ap (λ (h : GateEntry). h.inputs) same in
+    let output : c.output.result.now ≡ g.output = c.output.ensures ∙ ap (λ (h : GateEntry). h.output) same in
     let keys = keys_of c.in_ok-gates.gates in
-    let readers : AreChanged (is_among a.nets g.inputs) (with_key_in keys key) a.wires.fanout c.in_ok-wires.wires.fanout = rw same at c.in_ok-wires.ensures.readers in
-    let drivers : AreChanged (is_named a.nets g.output) (with_key_in keys key) a.wires.drivers c.in_ok-wires.wires.drivers = rw same at c.in_ok-wires.ensures.drivers in
+    let readers : AreChanged (is_among a.nets g.inputs) (with_key_in keys key) a.wires.fanout c.in_ok-wires.wires.fanout = rw inputs at c.in_ok-wires.ensures.readers in
+    let drivers : AreChanged (is_named a.nets g.output) (with_key_in keys key) a.wires.drivers c.in_ok-wires.wires.drivers = rw output at c.in_ok-wires.ensures.drivers in
     rw c.in_ok-gates.ensures.entries
     (kept_gate_added (store_of a) a.points a.wires.fanout a.wires.drivers c.in_ok-wires.wires.fanout c.in_ok-wires.wires.drivers key g keys c.self.invariant c.lawful.ensures
     (record { output = rw (← c.self.view_is) at c.requires.output; inputs = rw (← c.self.view_is) at c.requires.inputs }) (rw (← c.self.view_is) at c.requires.absent) (rw (← c.self.view_is) at c.requires.room)
