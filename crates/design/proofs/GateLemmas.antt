@@ -105,7 +105,7 @@ listed_same q nets gates new k same = step (record_at nets k)
     step (Some n) = same n
 
 -- lists that are in order, as an addition asks
-pub listed_in_order : (q : NetEntry → ℕ × GateEntry → Bool) (nets : List (ℕ × NetEntry)) (gates : List (ℕ × GateEntry)) (keys : List ℕ) (list : List ℕ) (k : ℕ) → keys ≡ keys_of gates → Apart (λ e. e.0) gates → list ≡ listed_by q nets gates k → IsInOrder keys list
+listed_in_order : (q : NetEntry → ℕ × GateEntry → Bool) (nets : List (ℕ × NetEntry)) (gates : List (ℕ × GateEntry)) (keys : List ℕ) (list : List ℕ) (k : ℕ) → keys ≡ keys_of gates → Apart (λ e. e.0) gates → list ≡ listed_by q nets gates k → IsInOrder keys list
 listed_in_order q nets gates keys list k same apart e =
     let P : List ℕ → Type 0 = λ l. IsInOrder keys l in
     let Q : List ℕ → Type 0 = λ ks. IsInOrder ks (listed_by q nets gates k) in
@@ -268,18 +268,11 @@ left_in_order keys test key lists less was changed k = subst (IsInOrder keys) (s
     step true = without_in_order keys (list_of lists k) key (was k)
     step false = was k
 
--- the lists of a design are in order, also with a gate more that is not listed yet
+-- the lists of a design are in order
 pub kept_in_order : (s : Store) (points : ℕ) (read driven : List (List (List ℕ))) → IsKept s points read driven → (k : ℕ) → IsInOrder (keys_of s.gates) (list_of read k) × IsInOrder (keys_of s.gates) (list_of driven k)
 kept_in_order s points read driven h k =
     let keys : Apart (λ e. e.0) s.gates = keys_apart s.gates h.gate_keys in
     (listed_in_order reading s.nets s.gates (keys_of s.gates) (list_of read k) k refl keys (h.readers_listed k), listed_in_order driving s.nets s.gates (keys_of s.gates) (list_of driven k) k refl keys (h.drivers_listed k))
-
-pub added_in_order : (s : Store) (points : ℕ) (read driven : List (List (List ℕ))) (key : ℕ) (g : GateEntry) → IsKept s points read driven → record_at s.gates key ≡ None → Apart (λ e. e.0) (s.gates ++ (key, g) ∷ []) → (k : ℕ) → IsInOrder (keys_of (s.gates ++ (key, g) ∷ [])) (list_of read k) × IsInOrder (keys_of (s.gates ++ (key, g) ∷ [])) (list_of driven k)
-added_in_order s points read driven key g h free apart k =
-    let new = s.gates ++ (key, g) ∷ [] in (
-      listed_in_order (λ n e. not (e.0 == key) && reading n e) s.nets new (keys_of new) (list_of read k) k refl apart (h.readers_listed k ∙ listed_others reading s.nets s.gates new key k (λ n. others_added (reading n) s.gates key g free)),
-      listed_in_order (λ n e. not (e.0 == key) && driving n e) s.nets new (keys_of new) (list_of driven k) k refl apart (h.drivers_listed k ∙ listed_others driving s.nets s.gates new key k (λ n. others_added (driving n) s.gates key g free)),
-    )
 
 -- As contracts see it.
 
