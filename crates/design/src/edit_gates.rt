@@ -1,6 +1,6 @@
 //! Edits of the gates of a design.
 
-ghost use Rattle.std.specs.Prelude.{◌≡◌, ◌<◌, ◌++◌, ◌∷◌, [], ℕ, false, IsTrue, IsSome, IsSomeAnd, IfSome, IfOk, length};
+ghost use Rattle.std.specs.Prelude.{◌≡◌, ◌<◌, ◌++◌, ◌∷◌, [], ℕ, List, false, IsTrue, IsSome, IsSomeAnd, IfSome, IfOk, length};
 ghost use Rattle.std.specs.List.{list_all};
 ghost use Rattle.fourstate.specs.Gates.{takes_inputs};
 ghost use Rattle.catalog.specs.Catalog.{key_named, keys_of, record_at, with_record, without_key};
@@ -87,10 +87,9 @@ impl Design {
         requires inputs { IsTrue (list_all (is_readable self.netlist) inputs.items) }
         ensures { IfOk result (EditsGate self gate (λ g. with_wiring self.netlist g.name output inputs.items)) }
     {
-        let wires = self
-            .wires
-            .rewire(&self.nets, &self.gates, gate, &output, &inputs)?;
-        let gates = with_wiring_at(self.gates, gate.number, output, inputs)?;
+        let (gates, wires) = with_wiring_at(
+            self.gates, self.wires, &self.nets, gate, output, inputs,
+        )?;
         Ok(Design {
             gates,
             wires,
@@ -119,7 +118,7 @@ fn with_gate(
     let Some(gate) = gates.get(number) else {
         unreachable!();
     };
-    let wires = wires.add(nets, &gates, key, gate.output(), gate.inputs())?;
+    let wires = wires.add(nets, &gates, gate, key)?;
     Ok((gates, wires, key))
 }
 
@@ -175,19 +174,27 @@ fn with_kind_at(
     gates.replace(key, new)
 }
 
-/// The gates with one put at other nets.
+/// The gates with one put at other nets, and the lists with its key there.
 fn with_wiring_at(
     gates: Catalog<Gate>,
-    key: usize,
+    wires: Wires,
+    nets: &Catalog<Net>,
+    key: GateKey,
     output: Name,
     inputs: Vec<Terminal>,
-) -> Result<Catalog<Gate>, AllocError>
-    requires { IsSomeAnd (record_at gates key) (λ g. IsTrue (takes_inputs g.kind (length inputs.items))) }
-    ensures { IfOk result (λ made. IfSome (record_at gates key) (λ g. made ≡ with_record gates key (gate_with_wiring g output inputs.items))) }
+) -> Result<(Catalog<Gate>, Wires), AllocError>
+    requires fit { IsSomeAnd (record_at gates key) (λ g. IsTrue (takes_inputs g.kind (length inputs.items))) }
+    requires readers { (k : ℕ) → IsInOrder (keys_of gates) (list_of wires.fanout k) }
+    requires drivers { (k : ℕ) → IsInOrder (keys_of gates) (list_of wires.drivers k) }
+    ensures gates { IfOk result (λ made. IfSome (record_at gates key) (λ g. made.0 ≡ with_record gates key (gate_with_wiring g output inputs.items))) }
+    ensures readers { IfOk result (λ made. IfSome (record_at gates key) (λ g. (less : List (List (List ℕ))) × AreChanged (is_among nets.now g.inputs) (λ list. Keys.without_key list key) wires.fanout less × AreChanged (is_among nets.now inputs.items) (with_key_in (keys_of gates) key) less made.1.fanout)) }
+    ensures drivers { IfOk result (λ made. IfSome (record_at gates key) (λ g. (less : List (List (List ℕ))) × AreChanged (is_named nets.now g.output) (λ list. Keys.without_key list key) wires.drivers less × AreChanged (is_named nets.now output) (with_key_in (keys_of gates) key) less made.1.drivers)) }
 {
-    let Some(old) = gates.get(key) else {
+    let Some(old) = gates.get(key.number) else {
         unreachable!();
     };
     let new = old.with_wiring(output, inputs)?;
-    gates.replace(key, new)
+    let wires = wires.rewire(nets, &gates, old, &new, key)?;
+    let gates = gates.replace(key.number, new)?;
+    Ok((gates, wires))
 }

@@ -1,6 +1,6 @@
 //! Which gates read each net, and which drive it, kept as gates come and go.
 
-ghost use Rattle.std.specs.Prelude.{◌≡◌, ℕ, List, [], IsSome, IfOk, IfSome};
+ghost use Rattle.std.specs.Prelude.{◌≡◌, ℕ, List, [], IsSome, IfOk};
 ghost use Rattle.catalog.specs.Catalog.{keys_of, record_at};
 ghost use Rattle.design.specs.Keys.{without_key};
 ghost use Rattle.design.specs.Kept.{is_among, is_named};
@@ -9,9 +9,7 @@ ghost use Rattle.design.specs.Lists.{AreChanged, IsInOrder, list_of, with_key_in
 use crate::gate::Gate;
 use crate::key::GateKey;
 use crate::key_lists::KeyLists;
-use crate::name::Name;
 use crate::net::Net;
-use crate::terminal::Terminal;
 use crate::wiring::{add_among, add_at, remove_among, remove_at};
 use catalog::Catalog;
 use std::alloc::{AllocError, Global};
@@ -44,19 +42,18 @@ impl Wires {
         self,
         nets: &Catalog<Net>,
         gates: &Catalog<Gate>,
+        gate: &Gate,
         key: GateKey,
-        output: &Name,
-        inputs: &[Terminal],
     ) -> Result<Wires, AllocError>
         requires there { IsSome (record_at gates.now key) }
         requires readers { (k : ℕ) → IsInOrder (keys_of gates.now) (list_of self.fanout k) }
         requires drivers { (k : ℕ) → IsInOrder (keys_of gates.now) (list_of self.drivers k) }
-        ensures readers { IfOk result (λ new. AreChanged (is_among nets.now inputs.now) (with_key_in (keys_of gates.now) key) self.fanout new.fanout) }
-        ensures drivers { IfOk result (λ new. AreChanged (is_named nets.now output.now) (with_key_in (keys_of gates.now) key) self.drivers new.drivers) }
+        ensures readers { IfOk result (λ new. AreChanged (is_among nets.now gate.now.inputs) (with_key_in (keys_of gates.now) key) self.fanout new.fanout) }
+        ensures drivers { IfOk result (λ new. AreChanged (is_named nets.now gate.now.output) (with_key_in (keys_of gates.now) key) self.drivers new.drivers) }
     {
         let Wires { fanout, drivers } = self;
-        let fanout = add_among(fanout, nets, gates, inputs, key)?;
-        let drivers = add_at(drivers, nets, gates, output.as_str(), key)?;
+        let fanout = add_among(fanout, nets, gates, gate.inputs(), key)?;
+        let drivers = add_at(drivers, nets, gates, gate.output().as_str(), key)?;
         Ok(Wires { fanout, drivers })
     }
 
@@ -71,26 +68,23 @@ impl Wires {
         Ok(Wires { fanout, drivers })
     }
 
-    /// The lists with the key of a gate at other nets: those that it is to read and drive.
+    /// The lists with the key of a gate at the nets that it reads and drives, which stood at those of the gate before.
     pub fn rewire(
         self,
         nets: &Catalog<Net>,
         gates: &Catalog<Gate>,
+        old: &Gate,
+        new: &Gate,
         key: GateKey,
-        output: &Name,
-        inputs: &[Terminal],
     ) -> Result<Wires, AllocError>
         requires there { IsSome (record_at gates.now key) }
         requires readers { (k : ℕ) → IsInOrder (keys_of gates.now) (list_of self.fanout k) }
         requires drivers { (k : ℕ) → IsInOrder (keys_of gates.now) (list_of self.drivers k) }
-        ensures readers { IfOk result (λ new. IfSome (record_at gates.now key) (λ old. (less : List (List (List ℕ))) × AreChanged (is_among nets.now old.inputs) (λ list. without_key list key) self.fanout less × AreChanged (is_among nets.now inputs.now) (with_key_in (keys_of gates.now) key) less new.fanout)) }
-        ensures drivers { IfOk result (λ new. IfSome (record_at gates.now key) (λ old. (less : List (List (List ℕ))) × AreChanged (is_named nets.now old.output) (λ list. without_key list key) self.drivers less × AreChanged (is_named nets.now output.now) (with_key_in (keys_of gates.now) key) less new.drivers)) }
+        ensures readers { IfOk result (λ wires. (less : List (List (List ℕ))) × AreChanged (is_among nets.now old.now.inputs) (λ list. without_key list key) self.fanout less × AreChanged (is_among nets.now new.now.inputs) (with_key_in (keys_of gates.now) key) less wires.fanout) }
+        ensures drivers { IfOk result (λ wires. (less : List (List (List ℕ))) × AreChanged (is_named nets.now old.now.output) (λ list. without_key list key) self.drivers less × AreChanged (is_named nets.now new.now.output) (with_key_in (keys_of gates.now) key) less wires.drivers) }
     {
-        let Some(old) = gates.get(key.number) else {
-            unreachable!();
-        };
         let less = self.remove(nets, old, key)?;
-        let wires = less.add(nets, gates, key, output, inputs)?;
+        let wires = less.add(nets, gates, new, key)?;
         Ok(wires)
     }
 }

@@ -1,7 +1,6 @@
 use Rattle.std.proofs.Common.{◌≡◌, ap, ◌∙◌}
 use Rattle.catalog.specs.Catalog.{record_at}
 use Rattle.design.specs.Lists.{list_of}
-use Rattle.design.specs.Netlist.{GateEntry}
 use Rattle.design.proofs.ChangeLemmas.{record_pushed}
 use Rattle.design.proofs.LookLemmas.{none_or_some, some_inner}
 use Rattle.design.proofs.OrderLemmas.{more_in_order}
@@ -24,12 +23,10 @@ pub returns-clause-readers : goal.returns-clause-readers
 returns-clause-readers c =
     let key = c.in_ok-gates.number in
     let same : c.in-Some.gate.now ≡ c.args.gate = some_inner c.in-Some.gate.now c.args.gate (c.in-Some.ensures ∙ ap (λ l. record_at l key) c.in_ok-gates.ensures.entries ∙ record_pushed c.args.gates key c.args.gate c.in_ok-gates.ensures.fresh) in
-    let inputs : c.inputs.result.now ≡ c.args.gate.inputs = c.inputs.ensures.inputs ∙ ap (λ (g : GateEntry). g.inputs) same in
-    rw inputs at c.in_ok-wires.ensures.readers
+    rw same at c.in_ok-wires.ensures.readers
 
 pub returns-clause-drivers : goal.returns-clause-drivers
 returns-clause-drivers c =
     let key = c.in_ok-gates.number in
     let same : c.in-Some.gate.now ≡ c.args.gate = some_inner c.in-Some.gate.now c.args.gate (c.in-Some.ensures ∙ ap (λ l. record_at l key) c.in_ok-gates.ensures.entries ∙ record_pushed c.args.gates key c.args.gate c.in_ok-gates.ensures.fresh) in
-    let output : c.output.result.now ≡ c.args.gate.output = c.output.ensures ∙ ap (λ (g : GateEntry). g.output) same in
-    rw output at c.in_ok-wires.ensures.drivers
+    rw same at c.in_ok-wires.ensures.drivers

@@ -1,4 +1,4 @@
-use Rattle.std.proofs.Common.{◌≡◌, Some, IsTrue, ℕ, List, is_some, length, ap, ◌∙◌}
+use Rattle.std.proofs.Common.{◌≡◌, Some, IsTrue, ℕ, List, length, ap, ◌∙◌}
 use Rattle.fourstate.specs.Gates.{takes_inputs}
 use Rattle.catalog.specs.Catalog.{keys_of, record_at, with_record}
 use Rattle.design.specs.Keys.{without_key}
@@ -12,50 +12,43 @@ use Rattle.design.proofs.GateLemmas.{kept_gate_rewired, kept_in_order, keyed_gat
 use Rattle.design.proofs.LookLemmas.{by_key, some_of}
 use Rattle.design.proofs.design.Design.rewire.Goals as goal
 
-pub rewire-requires-clause-there : goal.rewire-requires-clause-there
-rewire-requires-clause-there c =
-    let a = c.self.inside in
-    let P = λ (g : GateEntry). IsTrue (takes_inputs g.kind (length c.args.inputs.items)) in
-    let found = some_of (record_at a.gates c.args.gate) P (rw (← c.self.view_is, by_key a.gates c.args.gate) at c.requires.fit) in
-    ap (λ o. is_some o) found.1
-
-pub rewire-requires-clause-readers : goal.rewire-requires-clause-readers
-rewire-requires-clause-readers c =
+pub with_wiring_at-requires-clause-readers : goal.with_wiring_at-requires-clause-readers
+with_wiring_at-requires-clause-readers c =
     let a = c.self.inside in
     λ k. (kept_in_order (store_of a) a.points a.wires.fanout a.wires.drivers c.self.invariant k).0
 
-pub rewire-requires-clause-drivers : goal.rewire-requires-clause-drivers
-rewire-requires-clause-drivers c =
+pub with_wiring_at-requires-clause-drivers : goal.with_wiring_at-requires-clause-drivers
+with_wiring_at-requires-clause-drivers c =
     let a = c.self.inside in
     λ k. (kept_in_order (store_of a) a.points a.wires.fanout a.wires.drivers c.self.invariant k).1
 
-pub with_wiring_at-requires : goal.with_wiring_at-requires
-with_wiring_at-requires c = rw (← c.self.view_is, ← c.gate.view_is, by_key c.self.inside.gates c.gate.inside.number) at c.requires.fit
+pub with_wiring_at-requires-clause-fit : goal.with_wiring_at-requires-clause-fit
+with_wiring_at-requires-clause-fit c = rw (← c.self.view_is, by_key c.self.inside.gates c.args.gate) at c.requires.fit
 
 pub invariant_of-result : goal.invariant_of-result
 invariant_of-result c =
     let a = c.self.inside in
-    let key = c.gate.inside.number in
+    let key = c.args.gate in
     let output = c.args.output in
     let inputs = c.args.inputs.items in
     let P = λ (g : GateEntry). IsTrue (takes_inputs g.kind (length inputs)) in
-    let found = some_of (record_at a.gates key) P (rw (← c.self.view_is, ← c.gate.view_is, by_key a.gates key) at c.requires.fit) in
+    let found = some_of (record_at a.gates key) P (rw (← c.self.view_is, by_key a.gates key) at c.requires.fit) in
     let x = found.0 in
     let there : record_at a.gates key ≡ Some x = found.1 in
-    let made : c.in_ok-gates.gates ≡ with_record a.gates key (gate_with_wiring x output inputs) = rw there at c.in_ok-gates.ensures in
+    let made : c.in_ok-gates.gates ≡ with_record a.gates key (gate_with_wiring x output inputs) = rw there at c.in_ok-gates.ensures.gates in
     let wired : IsWired (netlist_of (store_of a)) (gate_with_wiring x output inputs) = record { output = rw (← c.self.view_is) at c.requires.output; inputs = rw (← c.self.view_is) at c.requires.inputs } in
-    let readers : (less : List (List (List ℕ))) × AreChanged (is_among a.nets x.inputs) (λ list. without_key list key) a.wires.fanout less × AreChanged (is_among a.nets inputs) (with_key_in (keys_of a.gates) key) less c.in_ok-wires.wires.fanout = rw (← c.gate.view_is, there, c.deref.ensures.value) at c.in_ok-wires.ensures.readers in
-    let drivers : (less : List (List (List ℕ))) × AreChanged (is_named a.nets x.output) (λ list. without_key list key) a.wires.drivers less × AreChanged (is_named a.nets output) (with_key_in (keys_of a.gates) key) less c.in_ok-wires.wires.drivers = rw (← c.gate.view_is, there) at c.in_ok-wires.ensures.drivers in
-    rw made (kept_gate_rewired (store_of a) a.points a.wires.fanout a.wires.drivers c.in_ok-wires.wires.fanout c.in_ok-wires.wires.drivers key x output inputs c.self.invariant there found.2 wired readers drivers)
+    let readers : (less : List (List (List ℕ))) × AreChanged (is_among a.nets x.inputs) (λ list. without_key list key) a.wires.fanout less × AreChanged (is_among a.nets inputs) (with_key_in (keys_of a.gates) key) less c.in_ok-gates.wires.fanout = rw there at c.in_ok-gates.ensures.readers in
+    let drivers : (less : List (List (List ℕ))) × AreChanged (is_named a.nets x.output) (λ list. without_key list key) a.wires.drivers less × AreChanged (is_named a.nets output) (with_key_in (keys_of a.gates) key) less c.in_ok-gates.wires.drivers = rw there at c.in_ok-gates.ensures.drivers in
+    rw made (kept_gate_rewired (store_of a) a.points a.wires.fanout a.wires.drivers c.in_ok-gates.wires.fanout c.in_ok-gates.wires.drivers key x output inputs c.self.invariant there found.2 wired readers drivers)
 
 pub returns : goal.returns
 returns c =
     let a = c.self.inside in
-    let key = c.gate.inside.number in
+    let key = c.args.gate in
     let P = λ (g : GateEntry). IsTrue (takes_inputs g.kind (length c.args.inputs.items)) in
-    let found = some_of (record_at a.gates key) P (rw (← c.self.view_is, ← c.gate.view_is, by_key a.gates key) at c.requires.fit) in
+    let found = some_of (record_at a.gates key) P (rw (← c.self.view_is, by_key a.gates key) at c.requires.fit) in
     let x = found.0 in
     let there : record_at a.gates key ≡ Some x = found.1 in
-    let made : c.in_ok-gates.gates ≡ with_record a.gates key (gate_with_wiring x c.args.output c.args.inputs.items) = rw there at c.in_ok-gates.ensures in
-    rw (← c.self.view_is, ← c.gate.view_is, by_key a.gates key, there)
+    let made : c.in_ok-gates.gates ≡ with_record a.gates key (gate_with_wiring x c.args.output c.args.inputs.items) = rw there at c.in_ok-gates.ensures.gates in
+    rw (← c.self.view_is, by_key a.gates key, there)
     (ap (λ l. keyed (record (store_of a) { gates = l })) made ∙ keyed_gate_put (store_of a) a.points a.wires.fanout a.wires.drivers key x (λ (g : GateEntry). gate_with_wiring g c.args.output c.args.inputs.items) c.self.invariant there)
