@@ -155,11 +155,10 @@ fn take(nets: Catalog<Net>, key: usize) -> Result<(Catalog<Net>, Net), AllocErro
     requires { IsSome (record_at nets key) }
     ensures { IfOk result (λ taken. (record_at nets key ≡ Some taken.1) × (taken.0 ≡ with_record nets key (new_net taken.1.name taken.1.kind taken.1.is_input))) }
 {
-    let net = match nets.get(key) {
-        Some(net) => net.clone()?,
-        None => unreachable!(),
+    let Some(net) = nets.get(key) else {
+        unreachable!();
     };
-    let bare = net.bare()?;
+    let (net, bare) = net.parted()?;
     let nets = nets.replace(key, bare)?;
     Ok((nets, net))
 }
