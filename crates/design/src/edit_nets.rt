@@ -43,7 +43,6 @@ impl Design {
     {
         net.lawful();
         let (nets, number) = self.nets.push(net)?;
-        nets.lawful();
         Ok((Design { nets, ..self }, NetKey { number }))
     }
 
