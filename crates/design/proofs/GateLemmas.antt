@@ -1,5 +1,5 @@
 -- Edits of the gates keep a design whole.
-use Rattle.std.proofs.Common.{◌≡◌, ◌≢◌, ℕ, ◌<◌, Bool, true, false, not, cond, ◌==◌, ◌&&◌, List, [], ◌∷◌, ◌++◌, length, All, AllPairs, Option, Some, None, sym, refl, ap, subst, ◌∙◌, arith}
+use Rattle.std.proofs.Common.{◌≡◌, ◌≢◌, ℕ, ◌<◌, Bool, true, false, not, cond, ◌==◌, ◌&&◌, List, [], ◌∷◌, ◌++◌, length, IsTrue, All, AllPairs, Option, Some, None, sym, refl, ap, subst, ◌∙◌, arith}
 use Rattle.std.proofs.lemmas.Bool.{eqb-false}
 use Rattle.std.proofs.lemmas.List.{length-map, length_push, map_push}
 use Rattle.std.proofs.lemmas.List.Elements.{All-filter, All-push}
@@ -10,8 +10,10 @@ use Rattle.std.specs.List.{filter, list_all, list_any}
 use Rattle.std.specs.Option.{option_map_or}
 use Rattle.catalog.specs.Catalog.{keys_of, record_at, records_of, with_record, without_key}
 use Rattle.fourstate.specs.declared.gate.GateKind.{GateKind}
-use Rattle.fourstate.specs.Delays.{DelayTimes}
+use Rattle.fourstate.specs.Delays.{AreDelays, DelayTimes}
+use Rattle.fourstate.specs.Gates.{takes_inputs}
 use Rattle.design.specs.declared.limits.TheConstants.{MAX_GATES}
+use Rattle.design.specs.declared.terminal.Terminal.{Terminal}
 use Rattle.design.specs.Keys as Keys
 use Rattle.design.specs.Keys.{without_keyed_gate}
 use Rattle.design.specs.Kept.{IsKept, Store, is_among, is_named, keyed, keys_where, netlist_of}
@@ -19,7 +21,7 @@ use Rattle.design.specs.Lawful.{IsGate, IsWired, IsDesign}
 use Rattle.design.specs.Lists.{AreChanged, IsInOrder, list_of, with_key_in}
 use Rattle.design.specs.Names.{same_name}
 use Rattle.design.specs.Netlist.{GateEntry, NetEntry, Netlist, has_gate, is_at_net, is_drivable, is_readable, reads, with_gate, with_gate_changed}
-use Rattle.design.specs.Records.{gate_with_delays, gate_with_kind}
+use Rattle.design.specs.Records.{gate_with_delays, gate_with_kind, gate_with_wiring}
 use Rattle.design.proofs.ChangeLemmas.{each_with, keys_with, keys_without, record_kept, records_with, records_without}
 use Rattle.design.proofs.DesignLemmas.{apart_with, design_gates}
 use Rattle.design.proofs.EntryLemmas.{Apart, Each, absent, alone, apart_from, apart_to, each_from, each_to, each_weaker, found, keys_apart}
@@ -103,7 +105,7 @@ listed_same q nets gates new k same = step (record_at nets k)
     step (Some n) = same n
 
 -- lists that are in order, as an addition asks
-pub listed_in_order : (q : NetEntry → ℕ × GateEntry → Bool) (nets : List (ℕ × NetEntry)) (gates : List (ℕ × GateEntry)) (keys : List ℕ) (list : List ℕ) (k : ℕ) → keys ≡ keys_of gates → Apart (λ e. e.0) gates → list ≡ listed_by q nets gates k → IsInOrder keys list
+listed_in_order : (q : NetEntry → ℕ × GateEntry → Bool) (nets : List (ℕ × NetEntry)) (gates : List (ℕ × GateEntry)) (keys : List ℕ) (list : List ℕ) (k : ℕ) → keys ≡ keys_of gates → Apart (λ e. e.0) gates → list ≡ listed_by q nets gates k → IsInOrder keys list
 listed_in_order q nets gates keys list k same apart e =
     let P : List ℕ → Type 0 = λ l. IsInOrder keys l in
     let Q : List ℕ → Type 0 = λ ks. IsInOrder ks (listed_by q nets gates k) in
@@ -154,11 +156,15 @@ kept_gate_put s points read driven key x y h there named output inputs gate =
 gate_at_key : (s : Store) (points : ℕ) (read driven : List (List (List ℕ))) (key : ℕ) (x : GateEntry) → IsKept s points read driven → record_at s.gates key ≡ Some x → IsGate x
 gate_at_key s points read driven key x h there = found (λ k (g : GateEntry). IsGate g) s.gates key x (each_from IsGate (λ e. e.1) s.gates h.lawful.gates) there
 
-pub kept_gate_delays : (s : Store) (points : ℕ) (read driven : List (List (List ℕ))) (key : ℕ) (x : GateEntry) (delays : DelayTimes) → IsKept s points read driven → record_at s.gates key ≡ Some x → IsGate (gate_with_delays x delays) → IsKept (record s { gates = with_record s.gates key (gate_with_delays x delays) }) points read driven
-kept_gate_delays s points read driven key x delays h there gate = kept_gate_put s points read driven key x (gate_with_delays x delays) h there refl refl refl gate
+pub kept_gate_delays : (s : Store) (points : ℕ) (read driven : List (List (List ℕ))) (key : ℕ) (x : GateEntry) (delays : DelayTimes) → IsKept s points read driven → record_at s.gates key ≡ Some x → AreDelays delays → IsKept (record s { gates = with_record s.gates key (gate_with_delays x delays) }) points read driven
+kept_gate_delays s points read driven key x delays h there in_range =
+    let was = gate_at_key s points read driven key x h there in
+    kept_gate_put s points read driven key x (gate_with_delays x delays) h there refl refl refl (record { named = was.named; inputs_fit = was.inputs_fit; delays_in_range = in_range })
 
-pub kept_gate_kind : (s : Store) (points : ℕ) (read driven : List (List (List ℕ))) (key : ℕ) (x : GateEntry) (kind : GateKind) → IsKept s points read driven → record_at s.gates key ≡ Some x → IsGate (gate_with_kind x kind) → IsKept (record s { gates = with_record s.gates key (gate_with_kind x kind) }) points read driven
-kept_gate_kind s points read driven key x kind h there gate = kept_gate_put s points read driven key x (gate_with_kind x kind) h there refl refl refl gate
+pub kept_gate_kind : (s : Store) (points : ℕ) (read driven : List (List (List ℕ))) (key : ℕ) (x : GateEntry) (kind : GateKind) → IsKept s points read driven → record_at s.gates key ≡ Some x → IsTrue (takes_inputs kind (length x.inputs)) → IsKept (record s { gates = with_record s.gates key (gate_with_kind x kind) }) points read driven
+kept_gate_kind s points read driven key x kind h there fit =
+    let was = gate_at_key s points read driven key x h there in
+    kept_gate_put s points read driven key x (gate_with_kind x kind) h there refl refl refl (record { named = was.named; inputs_fit = fit; delays_in_range = was.delays_in_range })
 
 -- A gate added.
 
@@ -228,13 +234,16 @@ kept_gate_removed s points read driven less_read less_driven key x h there reade
 
 -- A gate at other nets.
 
-pub kept_gate_rewired : (s : Store) (points : ℕ) (read driven less_read less_driven new_read new_driven : List (List (List ℕ))) (key : ℕ) (x y : GateEntry) → IsKept s points read driven → record_at s.gates key ≡ Some x → y.name ≡ x.name → IsGate y → IsWired (netlist_of s) y →
-    AreChanged (is_among s.nets x.inputs) (λ list. Keys.without_key list key) read less_read → AreChanged (is_named s.nets x.output) (λ list. Keys.without_key list key) driven less_driven →
-    AreChanged (is_among s.nets y.inputs) (with_key_in (keys_of s.gates) key) less_read new_read → AreChanged (is_named s.nets y.output) (with_key_in (keys_of s.gates) key) less_driven new_driven →
-    IsKept (record s { gates = with_record s.gates key y }) points new_read new_driven
-kept_gate_rewired s points read driven less_read less_driven new_read new_driven key x y h there named gate wired out_readers out_drivers in_readers in_drivers =
+pub kept_gate_rewired : (s : Store) (points : ℕ) (read driven new_read new_driven : List (List (List ℕ))) (key : ℕ) (x : GateEntry) (output : List ℕ) (inputs : List Terminal) → IsKept s points read driven → record_at s.gates key ≡ Some x → IsTrue (takes_inputs x.kind (length inputs)) →
+    IsWired (netlist_of s) (gate_with_wiring x output inputs) →
+    ((less : List (List (List ℕ))) × AreChanged (is_among s.nets x.inputs) (λ list. Keys.without_key list key) read less × AreChanged (is_among s.nets inputs) (with_key_in (keys_of s.gates) key) less new_read) →
+    ((less : List (List (List ℕ))) × AreChanged (is_named s.nets x.output) (λ list. Keys.without_key list key) driven less × AreChanged (is_named s.nets output) (with_key_in (keys_of s.gates) key) less new_driven) →
+    IsKept (record s { gates = with_record s.gates key (gate_with_wiring x output inputs) }) points new_read new_driven
+kept_gate_rewired s points read driven new_read new_driven key x output inputs h there fit wired readers drivers =
+    let y = gate_with_wiring x output inputs in
     let new = with_record s.gates key y in
-    let lawful = lawful_put s key x y h.lawful (keys_apart s.gates h.gate_keys) there named gate wired in
+    let was = gate_at_key s points read driven key x h there in
+    let lawful = lawful_put s key x y h.lawful (keys_apart s.gates h.gate_keys) there refl (record { named = was.named; inputs_fit = fit; delays_in_range = was.delays_in_range }) wired in
     let keys : Apart (λ e. e.0) s.gates = keys_apart s.gates h.gate_keys in
     let names : Apart (λ e. e.1.name) s.gates = gates_apart s h.lawful in
     let distinct = distinct_put s key y h.gate_keys in
@@ -245,32 +254,25 @@ kept_gate_rewired s points read driven less_read less_driven new_read new_driven
       net_keys = h.net_keys;
       gate_keys = distinct;
       points_counted = h.points_counted;
-      readers_listed = put_in s.nets new (λ n g. reads g n.name) key y (keys_of s.gates) less_read new_read same (keys_apart new distinct) (gates_apart (record s { gates = new }) lawful) here
-          (λ k. left_out s.nets s.gates (λ n g. reads g n.name) key x read less_read keys names there h.readers_listed out_readers k ∙ others_by reading s.nets s.gates new key k (λ n. sym (others_replaced (reading n) s.gates key y))) in_readers;
-      drivers_listed = put_in s.nets new (λ n g. same_name g.output n.name) key y (keys_of s.gates) less_driven new_driven same (keys_apart new distinct) (gates_apart (record s { gates = new }) lawful) here
-          (λ k. left_out s.nets s.gates (λ n g. same_name g.output n.name) key x driven less_driven keys names there h.drivers_listed out_drivers k ∙ others_by driving s.nets s.gates new key k (λ n. sym (others_replaced (driving n) s.gates key y))) in_drivers;
+      readers_listed = put_in s.nets new (λ n g. reads g n.name) key y (keys_of s.gates) readers.0 new_read same (keys_apart new distinct) (gates_apart (record s { gates = new }) lawful) here
+          (λ k. left_out s.nets s.gates (λ n g. reads g n.name) key x read readers.0 keys names there h.readers_listed readers.1 k ∙ others_by reading s.nets s.gates new key k (λ n. sym (others_replaced (reading n) s.gates key y))) readers.2;
+      drivers_listed = put_in s.nets new (λ n g. same_name g.output n.name) key y (keys_of s.gates) drivers.0 new_driven same (keys_apart new distinct) (gates_apart (record s { gates = new }) lawful) here
+          (λ k. left_out s.nets s.gates (λ n g. same_name g.output n.name) key x driven drivers.0 keys names there h.drivers_listed drivers.1 k ∙ others_by driving s.nets s.gates new key k (λ n. sym (others_replaced (driving n) s.gates key y))) drivers.2;
     }
 
 -- lists without a key are in order, as an addition asks
-pub left_in_order : (s : Store) (points : ℕ) (read driven : List (List (List ℕ))) → IsKept s points read driven → (test : ℕ → Bool) (key : ℕ) (lists less : List (List (List ℕ))) → ((k : ℕ) → IsInOrder (keys_of s.gates) (list_of lists k)) → AreChanged test (λ list. Keys.without_key list key) lists less → (k : ℕ) → IsInOrder (keys_of s.gates) (list_of less k)
-left_in_order s points read driven h test key lists less was changed k = subst (IsInOrder (keys_of s.gates)) (sym (changed k)) (step (test k))
+pub left_in_order : (keys : List ℕ) (test : ℕ → Bool) (key : ℕ) (lists less : List (List (List ℕ))) → ((k : ℕ) → IsInOrder keys (list_of lists k)) → AreChanged test (λ list. Keys.without_key list key) lists less → (k : ℕ) → IsInOrder keys (list_of less k)
+left_in_order keys test key lists less was changed k = subst (IsInOrder keys) (sym (changed k)) (step (test k))
   where
-    step : (b : Bool) → IsInOrder (keys_of s.gates) (cond b (Keys.without_key (list_of lists k) key) (list_of lists k))
-    step true = without_in_order (keys_of s.gates) (list_of lists k) key (was k)
+    step : (b : Bool) → IsInOrder keys (cond b (Keys.without_key (list_of lists k) key) (list_of lists k))
+    step true = without_in_order keys (list_of lists k) key (was k)
     step false = was k
 
--- the lists of a design are in order, also with a gate more that is not listed yet
+-- the lists of a design are in order
 pub kept_in_order : (s : Store) (points : ℕ) (read driven : List (List (List ℕ))) → IsKept s points read driven → (k : ℕ) → IsInOrder (keys_of s.gates) (list_of read k) × IsInOrder (keys_of s.gates) (list_of driven k)
 kept_in_order s points read driven h k =
     let keys : Apart (λ e. e.0) s.gates = keys_apart s.gates h.gate_keys in
     (listed_in_order reading s.nets s.gates (keys_of s.gates) (list_of read k) k refl keys (h.readers_listed k), listed_in_order driving s.nets s.gates (keys_of s.gates) (list_of driven k) k refl keys (h.drivers_listed k))
-
-pub added_in_order : (s : Store) (points : ℕ) (read driven : List (List (List ℕ))) (key : ℕ) (g : GateEntry) → IsKept s points read driven → record_at s.gates key ≡ None → Apart (λ e. e.0) (s.gates ++ (key, g) ∷ []) → (k : ℕ) → IsInOrder (keys_of (s.gates ++ (key, g) ∷ [])) (list_of read k) × IsInOrder (keys_of (s.gates ++ (key, g) ∷ [])) (list_of driven k)
-added_in_order s points read driven key g h free apart k =
-    let new = s.gates ++ (key, g) ∷ [] in (
-      listed_in_order (λ n e. not (e.0 == key) && reading n e) s.nets new (keys_of new) (list_of read k) k refl apart (h.readers_listed k ∙ listed_others reading s.nets s.gates new key k (λ n. others_added (reading n) s.gates key g free)),
-      listed_in_order (λ n e. not (e.0 == key) && driving n e) s.nets new (keys_of new) (list_of driven k) k refl apart (h.drivers_listed k ∙ listed_others driving s.nets s.gates new key k (λ n. others_added (driving n) s.gates key g free)),
-    )
 
 -- As contracts see it.
 

@@ -1,12 +1,14 @@
 -- Lists of keys in the order of all keys: which keys they have, and where one more belongs.
-use Rattle.std.proofs.Common.{◌≡◌, ◌≢◌, ℕ, Bool, true, false, not, cond, ◌==◌, ◌&&◌, ◌||◌, List, [], ◌∷◌, sym, refl, ap, subst, ◌∙◌}
+use Rattle.std.proofs.Common.{◌≡◌, ◌≢◌, ℕ, Bool, true, false, not, cond, ◌==◌, ◌&&◌, ◌||◌, List, [], ◌∷◌, ◌++◌, None, sym, refl, ap, subst, ◌∙◌}
 use Rattle.std.proofs.lemmas.Bool.{eq-eqb, eqb-true, ne_eqb}
+use Rattle.std.proofs.lemmas.List.{append-nil, map_push}
+use Rattle.std.proofs.lemmas.List.Elements.{filter-append}
 use Rattle.std.specs.List.{filter}
-use Rattle.catalog.specs.Catalog.{keys_of}
+use Rattle.catalog.specs.Catalog.{keys_of, record_at}
 use Rattle.design.specs.Keys as Keys
 use Rattle.design.specs.Kept.{keys_where}
 use Rattle.design.specs.Lists.{IsInOrder, contains, with_key_in}
-use Rattle.design.proofs.EntryLemmas.{Apart, Each, each_both, each_here, each_weaker, filter_filter, filter_map, filter_within}
+use Rattle.design.proofs.EntryLemmas.{Apart, Each, absent, each_both, each_here, each_weaker, filter_filter, filter_map, filter_within}
 
 -- Which keys a list has.
 
@@ -67,6 +69,14 @@ with_in_order {X} es key list apart =
     let t : ℕ × X → Bool = λ e. e.0 == key || contains list e.0 in
     let plain : with_key_in (keys_of es) key list ≡ keys_where t es = filter_map (λ k. k == key || contains list k) (λ e. e.0) es in
     subst (IsInOrder (keys_of es)) (sym plain) (where_in_order t es apart)
+
+-- with a key more in the order that the list has not
+pub more_in_order : {X : Type 0} (es : List (ℕ × X)) (key : ℕ) (x : X) (list : List ℕ) → record_at es key ≡ None → IsInOrder (keys_of es) list → IsInOrder (keys_of (es ++ (key, x) ∷ [])) list
+more_in_order {X} es key x list free h =
+    let has : ℕ → Bool = contains list in
+    let none : has key ≡ false = ap (λ (l : List ℕ). contains l key) (h ∙ filter_map has (λ (e : ℕ × X). e.0) es) ∙ contains_none key (keys_where (λ e. has e.0) es) (each_where (λ k. (k == key) ≡ false) (λ e. has e.0) es (absent es key free)) in
+    let off : filter has (key ∷ []) ≡ [] = ap (λ (b : Bool). cond b (key ∷ []) []) none in
+    h ∙ sym (append-nil (filter has (keys_of es))) ∙ ap (λ l. filter has (keys_of es) ++ l) (sym off) ∙ sym (filter-append has (keys_of es) (key ∷ [])) ∙ ap (λ l. filter has l) (sym (map_push (λ (e : ℕ × X). e.0) es (key, x)))
 
 -- without a key
 pub without_in_order : (keys list : List ℕ) (key : ℕ) → IsInOrder keys list → IsInOrder keys (Keys.without_key list key)

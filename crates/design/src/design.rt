@@ -66,9 +66,9 @@ impl Design {
         ensures { IfOk result (λ design. design ≡ self.now) }
     {
         let top = self.top.clone()?;
+        let wires = self.wires.clone()?;
         let nets = self.nets.try_clone()?;
         let gates = self.gates.try_clone()?;
-        let wires = self.wires.clone()?;
         Ok(Design {
             top,
             unit: self.unit,

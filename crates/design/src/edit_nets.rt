@@ -5,7 +5,7 @@ ghost use Rattle.fourstate.specs.declared.limits.TheConstants.{MAX_TIME};
 ghost use Rattle.catalog.specs.Catalog.{record_at, with_record};
 ghost use Rattle.design.specs.declared.limits.TheConstants.{MAX_NETS, MAX_POINTS};
 ghost use Rattle.design.specs.Keys.{EditsNet, net_by_key, with_keyed_net, without_keyed_net};
-ghost use Rattle.design.specs.Records.{net_without_point};
+ghost use Rattle.design.specs.Records.{net_with_kind, net_without_point};
 ghost use Rattle.design.specs.Netlist.{has_net, has_point, is_used, net_with_point, new_net, point_total, with_net_kind, with_point, without_point};
 
 use crate::design::Design;
@@ -43,7 +43,6 @@ impl Design {
     {
         net.lawful();
         let (nets, number) = self.nets.push(net)?;
-        nets.lawful();
         Ok((Design { nets, ..self }, NetKey { number }))
     }
 
@@ -66,8 +65,7 @@ impl Design {
         requires { IsSome (net_by_key self net) }
         ensures { IfOk result (EditsNet self net (λ n. with_net_kind self.netlist n.name kind)) }
     {
-        let new = self.net_of(net).clone()?.with_kind(kind);
-        let nets = self.nets.replace(net.number, new)?;
+        let nets = with_kind_at(self.nets, net.number, kind)?;
         Ok(Design { nets, ..self })
     }
 
@@ -102,6 +100,18 @@ impl Design {
             ..self
         })
     }
+}
+
+/// The nets with the kind of one changed.
+fn with_kind_at(nets: Catalog<Net>, key: usize, kind: NetKind) -> Result<Catalog<Net>, AllocError>
+    requires { IsSome (record_at nets key) }
+    ensures { IfOk result (λ made. IfSome (record_at nets key) (λ n. made ≡ with_record nets key (net_with_kind n kind))) }
+{
+    let Some(old) = nets.get(key) else {
+        unreachable!();
+    };
+    let new = old.clone()?.with_kind(kind);
+    nets.replace(key, new)
 }
 
 /// The nets with the stimulus of an input set from the moment `t` on, until its next point.
@@ -144,11 +154,10 @@ fn take(nets: Catalog<Net>, key: usize) -> Result<(Catalog<Net>, Net), AllocErro
     requires { IsSome (record_at nets key) }
     ensures { IfOk result (λ taken. (record_at nets key ≡ Some taken.1) × (taken.0 ≡ with_record nets key (new_net taken.1.name taken.1.kind taken.1.is_input))) }
 {
-    let net = match nets.get(key) {
-        Some(net) => net.clone()?,
-        None => unreachable!(),
+    let Some(net) = nets.get(key) else {
+        unreachable!();
     };
-    let bare = net.bare()?;
+    let (net, bare) = net.parted()?;
     let nets = nets.replace(key, bare)?;
     Ok((nets, net))
 }

@@ -1,6 +1,6 @@
 //! Gates with their names, delays and connections.
 
-ghost use Rattle.std.specs.Prelude.{◌≡◌, IsTrue, length};
+ghost use Rattle.std.specs.Prelude.{◌≡◌, IfOk, IsTrue, length};
 ghost use Rattle.fourstate.specs.Gates.{takes_inputs};
 ghost use Rattle.design.specs.Lawful.{IsGate};
 ghost use Rattle.design.specs.Records.{gate_with_delays, gate_with_kind, gate_with_wiring};
@@ -111,15 +111,22 @@ impl Gate {
     }
 
     /// The gate at other nets.
-    pub(crate) fn with_wiring(self, output: Name, inputs: Vec<Terminal>) -> Gate
-        requires { IsTrue (takes_inputs self.kind (length inputs.items)) }
-        ensures { result ≡ gate_with_wiring self output inputs.items }
+    pub(crate) fn with_wiring(
+        &self,
+        output: Name,
+        inputs: Vec<Terminal>,
+    ) -> Result<Gate, AllocError>
+        requires { IsTrue (takes_inputs self.now.kind (length inputs.items)) }
+        ensures { IfOk result (λ gate. gate ≡ gate_with_wiring self.now output inputs.items) }
     {
-        Gate {
+        let name = self.name.clone()?;
+        Ok(Gate {
+            name,
+            kind: self.kind,
+            delays: self.delays,
             output,
             inputs,
-            ..self
-        }
+        })
     }
 
     /// The law of every gate; nothing runs.

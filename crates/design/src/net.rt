@@ -48,12 +48,14 @@ impl Net {
         }
     }
 
-    /// The same net with no points.
-    pub(crate) fn bare(&self) -> Result<Net, AllocError>
-        ensures { IfOk result (λ net. net ≡ new_net self.now.name self.now.kind self.now.is_input) }
+    /// The same net, and one like it with no points.
+    pub(crate) fn parted(&self) -> Result<(Net, Net), AllocError>
+        ensures net { IfOk result (λ made. made.0 ≡ self.now) }
+        ensures bare { IfOk result (λ made. made.1 ≡ new_net self.now.name self.now.kind self.now.is_input) }
     {
         let name = self.name.clone()?;
-        Ok(Net::new(name, self.kind, self.is_input))
+        let net = self.clone()?;
+        Ok((net, Net::new(name, self.kind, self.is_input)))
     }
 
     /// The net's name.

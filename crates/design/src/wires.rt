@@ -1,6 +1,6 @@
 //! Which gates read each net, and which drive it, kept as gates come and go.
 
-ghost use Rattle.std.specs.Prelude.{◌≡◌, ℕ, [], IsSome, IfOk};
+ghost use Rattle.std.specs.Prelude.{◌≡◌, ℕ, List, [], IsSome, IfOk};
 ghost use Rattle.catalog.specs.Catalog.{keys_of, record_at};
 ghost use Rattle.design.specs.Keys.{without_key};
 ghost use Rattle.design.specs.Kept.{is_among, is_named};
@@ -66,6 +66,26 @@ impl Wires {
         let fanout = remove_among(fanout, nets, gate.inputs(), key)?;
         let drivers = remove_at(drivers, nets, gate.output().as_str(), key)?;
         Ok(Wires { fanout, drivers })
+    }
+
+    /// The lists with the key of a gate at the nets that it reads and drives, which stood at those of the gate before.
+    pub fn rewire(
+        self,
+        nets: &Catalog<Net>,
+        gates: &Catalog<Gate>,
+        old: &Gate,
+        new: &Gate,
+        key: GateKey,
+    ) -> Result<Wires, AllocError>
+        requires there { IsSome (record_at gates.now key) }
+        requires readers { (k : ℕ) → IsInOrder (keys_of gates.now) (list_of self.fanout k) }
+        requires drivers { (k : ℕ) → IsInOrder (keys_of gates.now) (list_of self.drivers k) }
+        ensures readers { IfOk result (λ wires. (less : List (List (List ℕ))) × AreChanged (is_among nets.now old.now.inputs) (λ list. without_key list key) self.fanout less × AreChanged (is_among nets.now new.now.inputs) (with_key_in (keys_of gates.now) key) less wires.fanout) }
+        ensures drivers { IfOk result (λ wires. (less : List (List (List ℕ))) × AreChanged (is_named nets.now old.now.output) (λ list. without_key list key) self.drivers less × AreChanged (is_named nets.now new.now.output) (with_key_in (keys_of gates.now) key) less wires.drivers) }
+    {
+        let less = self.remove(nets, old, key)?;
+        let wires = less.add(nets, gates, new, key)?;
+        Ok(wires)
     }
 }
 
