@@ -9,8 +9,6 @@ mod circuit;
 mod clock;
 mod random;
 mod rounds;
-#[cfg(test)]
-mod tests;
 
 use anyhow::{Result, bail};
 use changes::KINDS;

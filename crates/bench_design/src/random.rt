@@ -2,24 +2,21 @@
 
 ghost use Rattle.std.specs.Prelude.{◌<◌};
 
-/// The state of splitmix64.
+use rand_core::{Rng, SeedableRng};
+use rand_xoshiro::SplitMix64;
+
+/// The numbers of one seed.
 #[derive(Drop)]
 pub struct Random {
-    state: u64,
+    generator: SplitMix64,
 }
 
 impl Random {
     /// The numbers that follow from a seed.
     pub fn new(seed: u64) -> Random {
-        Random { state: seed }
-    }
-
-    fn next(&mut self) -> u64 {
-        self.state = self.state.wrapping_add(0x9e37_79b9_7f4a_7c15);
-        let z = self.state;
-        let z = (z ^ (z >> 30)).wrapping_mul(0xbf58_476d_1ce4_e5b9);
-        let z = (z ^ (z >> 27)).wrapping_mul(0x94d0_49bb_1331_11eb);
-        z ^ (z >> 31)
+        Random {
+            generator: SplitMix64::seed_from_u64(seed),
+        }
     }
 
     /// The next number, below `n`.
@@ -27,6 +24,6 @@ impl Random {
         requires { 0 < n }
         ensures { result < n }
     {
-        (self.next() % n as u64) as usize
+        (self.generator.next_u64() % n as u64) as usize
     }
 }

@@ -4,7 +4,7 @@ use crate::built::{applied, built};
 use crate::changes::{KINDS, Kind, random_edits};
 use crate::circuit::circuit;
 use crate::clock::{now, since};
-use anyhow::Result;
+use anyhow::{Result, bail};
 use design::Design;
 use edits::Edit;
 use std::time::CpuClock;
@@ -43,6 +43,9 @@ fn timed<R: CpuClock + AllocGlobal>(
     build: u64,
     gates: usize,
 ) -> Result<Times> {
+    if design.gate_count() != gates {
+        bail!("the circuit has another number of gates");
+    }
     let clone = clone_time(rt, design)?;
     let mut listed = [0; 3];
     let mut alone = [0; 3];
