@@ -87,17 +87,26 @@ fn shown(alloc: Global, text: &[u8], default: Option<u32>) -> Result<String, All
     let mut shown = String::new(alloc);
     match modules(alloc, NameHasher::fixed(), text, default) {
         Ok(read) => {
-            for module in read.list() {
-                add_module(alloc, &mut shown, read.names(), module)?;
-            }
+            let added = add_modules(alloc, &mut shown, &read);
+            drop(read);
+            added?;
         }
-        Err(fault) => {
-            let place = format!(in alloc; "line {}: {} ", fault.line, fault.kind.code())?;
-            shown.push_str(place.as_str())?;
-            shown.push_str(fault.kind.name())?;
-        }
+        Err(fault) => add_fault(alloc, &mut shown, fault)?,
     }
     Ok(shown)
+}
+
+fn add_modules(alloc: Global, shown: &mut String, read: &Modules) -> Result<(), AllocError> {
+    for module in read.list() {
+        add_module(alloc, shown, read.names(), module)?;
+    }
+    Ok(())
+}
+
+fn add_fault(alloc: Global, shown: &mut String, fault: ReadFault) -> Result<(), AllocError> {
+    let place = format!(in alloc; "line {}: {} ", fault.line, fault.kind.code())?;
+    shown.push_str(place.as_str())?;
+    shown.push_str(fault.kind.name())
 }
 
 fn expect(rt: &impl Abort, alloc: Global, text: &str, want: &str) -> Result<(), Fail> {
@@ -282,16 +291,9 @@ fn faults_with_their_lines(rt: HostRuntime) -> Result<(), Fail> {
 fn directives(rt: HostRuntime) -> Result<(), Fail> {
     let alloc = rt.alloc();
     let text = b"`timescale 10 ps/1fs module m; endmodule `timescale 10ps / 10 ps";
-    let Ok(read) = modules(alloc, NameHasher::fixed(), text, None) else {
-        return Err(AllocError)?;
-    };
-    let unit = TimeUnit {
-        magnitude: Magnitude::Ten,
-        unit: Unit::Picosecond,
-    };
-    assert_eq!(rt; read.unit(), Some(unit));
-    assert_eq!(rt; read.list().len(), 1);
-    assert_eq!(rt; read.list()[0].start(), 21);
+    let read = modules(alloc, NameHasher::fixed(), text, None).expect(&rt, "a module");
+    check_unit(&rt, &read);
+    drop(read);
     for (text, want) in [
         (
             "`timescale 1ns/1ps\nmodule m;\n`timescale 1ns/1ps",
@@ -309,12 +311,19 @@ fn directives(rt: HostRuntime) -> Result<(), Fail> {
     Ok(())
 }
 
+fn check_unit(rt: &impl Abort, read: &Modules) {
+    let unit = TimeUnit {
+        magnitude: Magnitude::Ten,
+        unit: Unit::Picosecond,
+    };
+    assert_eq!(rt; read.unit(), Some(unit));
+    assert_eq!(rt; read.list().len(), 1);
+    assert_eq!(rt; read.list()[0].start(), 21);
+}
+
 // The fault of a text, as its line and kind.
 fn fault_of(alloc: Global, text: &[u8]) -> Option<ReadFault> {
-    match modules(alloc, NameHasher::fixed(), text, None) {
-        Ok(_) => None,
-        Err(fault) => Some(fault),
-    }
+    modules(alloc, NameHasher::fixed(), text, None).err()
 }
 
 // A module whose name has so many bytes.
@@ -349,18 +358,16 @@ fn limits_and_bytes(rt: HostRuntime) -> Result<(), Fail> {
 }
 
 #[test]
-fn texts_cut_anywhere(rt: HostRuntime) -> Result<(), Fail> {
+fn texts_cut_anywhere(rt: HostRuntime) {
     let alloc = rt.alloc();
     let lines = [1, 2, 3, 4, 5, 6];
-    for end in 0..NETLIST.len() {
-        match modules(alloc, NameHasher::fixed(), &NETLIST[..end], Some(2)) {
-            Ok(read) => assert!(rt; end == 0 && read.list().is_empty()),
-            Err(fault) => {
-                assert!(rt; lines.contains(&fault.line), "{end}");
-                let wanted = fault.kind == ReadFaultKind::Syntax;
-                assert!(rt; wanted || fault.kind == ReadFaultKind::Unsupported, "{end}");
-            }
-        }
+    let nothing = shown(alloc, b"", Some(2)).expect(&rt, "a text");
+    assert_eq!(rt; nothing.as_str(), "");
+    for end in 1..NETLIST.len() {
+        let cut = modules(alloc, NameHasher::fixed(), &NETLIST[..end], Some(2));
+        let fault = cut.err().expect(&rt, "a fault");
+        assert!(rt; lines.contains(&fault.line), "{end}");
+        let wanted = fault.kind == ReadFaultKind::Syntax;
+        assert!(rt; wanted || fault.kind == ReadFaultKind::Unsupported, "{end}");
     }
-    Ok(())
 }

@@ -67,14 +67,20 @@ fn add_design(alloc: Global, shown: &mut String, design: &Design) -> Result<(), 
 fn shown(alloc: Global, text: &str, default: Option<u32>) -> Result<String, AllocError> {
     let mut shown = String::new(alloc);
     match read(alloc, NameHasher::fixed(), text.as_bytes(), default) {
-        Ok(design) => add_design(alloc, &mut shown, &design)?,
-        Err(fault) => {
-            let place = format!(in alloc; "line {}: {} ", fault.line, fault.kind.code())?;
-            shown.push_str(place.as_str())?;
-            shown.push_str(fault.kind.name())?;
+        Ok(design) => {
+            let added = add_design(alloc, &mut shown, &design);
+            drop(design);
+            added?;
         }
+        Err(fault) => add_fault(alloc, &mut shown, fault)?,
     }
     Ok(shown)
+}
+
+fn add_fault(alloc: Global, shown: &mut String, fault: ReadFault) -> Result<(), AllocError> {
+    let place = format!(in alloc; "line {}: {} ", fault.line, fault.kind.code())?;
+    shown.push_str(place.as_str())?;
+    shown.push_str(fault.kind.name())
 }
 
 #[test]
@@ -152,7 +158,7 @@ fn faults(rt: HostRuntime) -> Result<(), Fail> {
 }
 
 #[test]
-fn units(rt: HostRuntime) -> Result<(), Fail> {
+fn units(rt: HostRuntime) {
     let alloc = rt.alloc();
     for (text, magnitude, unit) in [
         ("module m; endmodule", Magnitude::One, Unit::Nanosecond),
@@ -168,22 +174,23 @@ fn units(rt: HostRuntime) -> Result<(), Fail> {
         ),
         (NETLIST, Magnitude::Ten, Unit::Microsecond),
     ] {
-        let Ok(design) = read(alloc, NameHasher::fixed(), text.as_bytes(), Some(1)) else {
-            return Err(AllocError)?;
-        };
-        assert_eq!(rt; design.unit(), TimeUnit { magnitude, unit }, "{text}");
-        assert_eq!(rt; design.horizon(), 0);
-        assert_eq!(rt; design.point_count(), 0);
+        let design = read(alloc, NameHasher::fixed(), text.as_bytes(), Some(1)).expect(
+            &rt, "a design",
+        );
+        check_head(&rt, &design, TimeUnit { magnitude, unit });
+        drop(design);
     }
-    Ok(())
+}
+
+fn check_head(rt: &impl Abort, design: &Design, unit: TimeUnit) {
+    assert_eq!(rt; design.unit(), unit);
+    assert_eq!(rt; design.horizon(), 0);
+    assert_eq!(rt; design.point_count(), 0);
 }
 
 // The fault of a text, none where it spells a design.
 fn fault_of(alloc: Global, text: &str) -> Option<ReadFault> {
-    match read(alloc, NameHasher::fixed(), text.as_bytes(), None) {
-        Ok(_) => None,
-        Err(fault) => Some(fault),
-    }
+    read(alloc, NameHasher::fixed(), text.as_bytes(), None).err()
 }
 
 // Behind a line, a module with a gate of two outputs whose name has so many bytes, and which may drive its input.
