@@ -62,7 +62,8 @@ among k k' kinds (inr one) same other = subst (λ (x : ErrorKind). IsAmong x kin
 -- the fault of a failed parse is one of the words
 pub form_explains : (words : List Text) (e : Error) (c : Complaint) → HasKind (fault_of command_line words) e → IsFormFault (kind_of e) c → Explains words c
 form_explains words e Help kinds fault = among (kind_of e) kind.DisplayHelp (fault_of command_line words) kinds (sym fault) (λ h. let bad : kind.DisplayHelp ≡ kind.OutOfMemory = sym fault ∙ h in cc)
-form_explains words e (Form k lines) kinds fault = among (kind_of e) k (fault_of command_line words) kinds fault.0 fault.1
+form_explains words e (Form k lines) kinds fault =
+    (among (kind_of e) k (fault_of command_line words) kinds fault.0 fault.1, λ h. fault.2 (sym fault.0 ∙ h))
 form_explains words e NotText kinds fault = absurd fault
 form_explains words e NoDesign kinds fault = absurd fault
 form_explains words e (Horizon value) kinds fault = absurd fault

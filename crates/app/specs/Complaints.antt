@@ -14,7 +14,7 @@ use Rattle.app.specs.declared.complaint.StartFault.TheVariants.{OutOfMemory, Ref
 -- the fault of words whose parse failed by this kind; their text is `clap`'s
 abbrev pub IsFormFault : ErrorKind → Complaint → Type 0
 IsFormFault k Help = k ≡ kind.DisplayHelp
-IsFormFault k (Form k' lines) = (k' ≡ k) × (k ≢ kind.OutOfMemory)
+IsFormFault k (Form k' lines) = (k' ≡ k) × (k ≢ kind.OutOfMemory) × (k ≢ kind.DisplayHelp)
 IsFormFault k _ = ⊥
 
 -- the fault of words that are of the form, by what they give for DESIGN, H and D
@@ -27,7 +27,7 @@ IsValueFault design horizon delay _ = ⊥
 -- `clap` refuses the words by this kind, or it takes them and a value is missing or out of its range
 abbrev pub Explains : List Text → Complaint → Type 0
 Explains words Help = IsAmong kind.DisplayHelp (fault_of command_line words)
-Explains words (Form k lines) = IsAmong k (fault_of command_line words)
+Explains words (Form k lines) = IsAmong k (fault_of command_line words) × (k ≢ kind.DisplayHelp)
 Explains words complaint = (is_taken words ≡ true)
     × IsValueFault (value_of (codes "design") words) (value_of (codes "horizon") words) (value_of (codes "delay") words) complaint
 

@@ -69,7 +69,9 @@ fn complaint_of_form(alloc: Global, error: &clap::Error) -> Result<Complaint, Al
 }
 
 // A text of `clap` without the usage and the hint at its end.
-fn before_usage(text: &str) -> &str {
+fn before_usage(text: &str) -> &str
+    ensures { StartsWith text.now result.now }
+{
     let text = match text.rsplit_once("\n\nFor more information, ") {
         Some((before, _)) => before,
         None => text,
