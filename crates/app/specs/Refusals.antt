@@ -7,11 +7,11 @@ use Rattle.app.specs.declared.help.TheConstants.{HELP}
 
 -- which value of an option is at fault
 abbrev pub value_line : (value option : List ℕ) → List ℕ
-value_line value option = codes "error: invalid value '" ++ value ++ codes "' for '" ++ option ++ codes "': "
+value_line value option = codes "error: invalid value '" ++ value ++ codes "' for '" ++ option ++ codes "'\n"
 
--- a number of this range is wanted
+-- the numbers that are wanted
 abbrev pub range_line : (least most : ℕ) → List ℕ
-range_line least most = codes "a number from " ++ decimal least ++ codes " to " ++ decimal most ++ codes " is wanted\n\n"
+range_line least most = codes "  [possible values: " ++ decimal least ++ codes " to " ++ decimal most ++ codes ", in digits alone]\n\n"
 
 abbrev pub complaint_lines : Complaint → List ℕ
 complaint_lines Help = []

@@ -66,16 +66,16 @@ fn say_value<W: Sink>(writer: &mut Writer<'_, W>, value: &str, option: &str)
     writer.text(value.as_bytes());
     writer.text(b"' for '");
     writer.text(option.as_bytes());
-    writer.text(b"': ");
+    writer.text(b"'\n");
 }
 
-// Says that a number of this range is wanted.
+// Says which numbers are wanted.
 fn say_range<W: Sink>(writer: &mut Writer<'_, W>, least: u64, most: u64)
     ensures { Adds writer.old writer.new (range_line least most) }
 {
-    writer.text(b"a number from ");
+    writer.text(b"  [possible values: ");
     writer.number(least);
     writer.text(b" to ");
     writer.number(most);
-    writer.text(b" is wanted\n\n");
+    writer.text(b", in digits alone]\n\n");
 }

@@ -176,19 +176,19 @@ fn refused_words_are_named(rt: HostRuntime) -> Result<(), Fail> {
         ),
         (
             &["d.v", "--horizon", "abc"],
-            "error: invalid value 'abc' for '--horizon <H>': a number from 0 to 1000000000 is wanted\n\n",
+            "error: invalid value 'abc' for '--horizon <H>'\n  [possible values: 0 to 1000000000, in digits alone]\n\n",
         ),
         (
             &["d.v", "--horizon=1000000001", "--delay=0"],
-            "error: invalid value '1000000001' for '--horizon <H>': a number from 0 to 1000000000 is wanted\n\n",
+            "error: invalid value '1000000001' for '--horizon <H>'\n  [possible values: 0 to 1000000000, in digits alone]\n\n",
         ),
         (
             &["d.v", "--delay=0"],
-            "error: invalid value '0' for '--delay <D>': a number from 1 to 1000000 is wanted\n\n",
+            "error: invalid value '0' for '--delay <D>'\n  [possible values: 1 to 1000000, in digits alone]\n\n",
         ),
         (
             &["d.v", "--delay="],
-            "error: invalid value '' for '--delay <D>': a number from 1 to 1000000 is wanted\n\n",
+            "error: invalid value '' for '--delay <D>'\n  [possible values: 1 to 1000000, in digits alone]\n\n",
         ),
     ];
     for (words, lines) in table {
@@ -196,6 +196,7 @@ fn refused_words_are_named(rt: HostRuntime) -> Result<(), Fail> {
         let wanted = format!(in rt.alloc(); "{lines}{HELP}")?;
         assert_eq!(rt; text.as_slice(), wanted.as_str().as_bytes(), "{words:?}");
         assert!(rt; wanted.as_str().lines().count() <= 24);
+        assert!(rt; wanted.as_str().lines().all(|line| line.len() <= 80));
     }
     Ok(())
 }

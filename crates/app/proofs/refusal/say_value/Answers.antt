@@ -12,4 +12,4 @@ returns g c =
     adds_then start c.text.new.self c.text-2.new.self (codes "error: invalid value '") c.args.value.now c.text.ensures.adds value in
     let three = adds_then start c.text-2.new.self c.text-3.new.self _ (codes "' for '") two c.text-3.ensures.adds in
     let four = adds_then start c.text-3.new.self c.text-4.new.self _ c.args.option.now three option in
-    adds_then start c.text-4.new.self c.text-5.new.self _ (codes "': ") four c.text-5.ensures.adds
+    adds_then start c.text-4.new.self c.text-5.new.self _ (codes "'\n") four c.text-5.ensures.adds
