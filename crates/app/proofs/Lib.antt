@@ -1,3 +1,5 @@
 pub mod CommandLineLemmas
+pub mod FileLemmas
 pub mod NumberLemmas
+pub mod SayLemmas
 pub mod WordLemmas

@@ -1,7 +1,7 @@
 -- What the words ask for, from what `clap` finds in them.
 use Rattle.std.proofs.Common.{◌≡◌, ℕ, true, false, List, Option, Some, None, codes, refl}
 use Rattle.clap.specs.Words.{Text}
-use Rattle.app.specs.Arguments.{asked, delay_given, horizon_given}
+use Rattle.app.specs.Arguments.{arguments_of, asked, delay_given, horizon_given}
 use Rattle.app.specs.CommandLine.{is_taken, value_of}
 
 pub asked_all : (words : List Text) (name : List ℕ) (h : ℕ) (d : Option ℕ) → is_taken words ≡ true → value_of (codes "design") words ≡ Some name
@@ -27,3 +27,9 @@ pub no_delay : (words : List Text) (name : List ℕ) (h : ℕ) → is_taken word
     → horizon_given (value_of (codes "horizon") words) ≡ Some h → delay_given (value_of (codes "delay") words) ≡ None → asked words ≡ None
 unfolding asked
 no_delay words name h taken design horizon delay = rw (taken, design, horizon, delay) refl
+
+-- words that `clap` takes and that ask for nothing: so say their entries
+pub values_refused : (words : List Text) (design horizon delay : Option Text) → is_taken words ≡ true → asked words ≡ None → value_of (codes "design") words ≡ design
+    → value_of (codes "horizon") words ≡ horizon → value_of (codes "delay") words ≡ delay → arguments_of design (horizon_given horizon) (delay_given delay) ≡ None
+unfolding asked
+values_refused words design horizon delay taken none d h l = rw (taken, d, h, l) at none

@@ -24,7 +24,7 @@ abbrev pub arguments_of : Option Text → Option ℕ → Option (Option ℕ) →
 arguments_of (Some name) (Some h) (Some d) = Some (record { design = name; horizon = h; delay = d })
 arguments_of _ _ _ = None
 
--- what the words ask for: None where `clap` refuses them, or a number is out of its range or no number
+-- what the words ask for: None where `clap` refuses them, DESIGN is missing, or a number is out of its range or no number
 unfoldable pub asked : List Text → Option Arguments
 asked words =
     if is_taken words

@@ -1,16 +1,16 @@
--- The form of the command line, as `clap` sees it: DESIGN, which must stand, `--horizon H` and `--delay D`. The words come without the program's name.
+-- The form of the command line, as `clap` sees it: DESIGN, `--horizon H` and `--delay D`, each at most once. The words come without the program's name.
 use Rattle.std.specs.Prelude.{◌==◌, Bool, true, List, Option, Some, codes, length}
 use Rattle.clap.specs.Words.{App, Rule, Shape, Text, fault_of, first_of, matches_of, new_app, new_rule, with_rule}
 use Rattle.clap.specs.Simple.{on_top}
 
 abbrev pub design_rule : Rule
-design_rule = record (new_rule (codes "design")) { required = true }
+design_rule = record (new_rule (codes "design")) { value_names = 1 }
 
 abbrev pub horizon_rule : Rule
-horizon_rule = record (new_rule (codes "horizon")) { long = Some (codes "horizon") }
+horizon_rule = record (new_rule (codes "horizon")) { long = Some (codes "horizon"); value_names = 1 }
 
 abbrev pub delay_rule : Rule
-delay_rule = record (new_rule (codes "delay")) { long = Some (codes "delay") }
+delay_rule = record (new_rule (codes "delay")) { long = Some (codes "delay"); value_names = 1 }
 
 -- the words are those after the program's name
 abbrev pub nameless : Shape → Shape

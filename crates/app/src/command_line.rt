@@ -1,11 +1,10 @@
 //! The words after the program's name, parted by `clap`.
 
-ghost use Rattle.std.specs.Prelude.{◌≡◌, ℕ, List, IfOk, Err, true, false, map};
-ghost use Rattle.clap.specs.Words.{app_of, first_value, found_of};
+ghost use Rattle.std.specs.Prelude.{◌≡◌, ℕ, List, IfErr, IfOk, true, map};
+ghost use Rattle.clap.specs.Words.{HasKind, app_of, fault_of, first_value, found_of};
 ghost use Rattle.app.specs.CommandLine.{command_line, is_taken, value_of};
 
-use crate::arguments::ArgsFault;
-use clap::{Arg, ArgMatches, Command};
+use clap::{Arg, ArgMatches, Command, Error};
 use std::alloc::{AllocError, Global};
 use std::convert::AsStr;
 
@@ -13,9 +12,9 @@ use std::convert::AsStr;
 fn form<'a>(alloc: Global) -> Result<Command<'a>, AllocError>
     ensures { IfOk result (λ c. app_of c ≡ command_line) }
 {
-    let design = Arg::new(alloc, "design").required(true);
-    let horizon = Arg::new(alloc, "horizon").long("horizon");
-    let delay = Arg::new(alloc, "delay").long("delay");
+    let design = Arg::new(alloc, "design").value_name("DESIGN");
+    let horizon = Arg::new(alloc, "horizon").long("horizon").value_name("H");
+    let delay = Arg::new(alloc, "delay").long("delay").value_name("D");
     Command::new(alloc, "gatebench")
         .no_binary_name(true)
         .arg(design)?
@@ -23,14 +22,11 @@ fn form<'a>(alloc: Global) -> Result<Command<'a>, AllocError>
         .arg(delay)
 }
 
-/// The entries of the words.
-pub fn parse<'a, S: AsStr>(alloc: Global, words: &'a [S]) -> Result<ArgMatches<'a>, ArgsFault>
+/// The entries of the words, or the first fault that `clap` finds in them.
+pub fn parse<'a, S: AsStr>(alloc: Global, words: &'a [S]) -> Result<ArgMatches<'a>, Error>
     ensures ok { IfOk result (λ m. (is_taken (map S.text words.entry.now) ≡ true)
         × ((name : List ℕ) → first_value (found_of m) name ≡ value_of name (map S.text words.entry.now))) }
-    ensures refused { result ≡ Err ArgsFault.Refused → is_taken (map S.text words.entry.now) ≡ false }
+    ensures refused { IfErr result (HasKind (fault_of command_line (map S.text words.entry.now))) }
 {
-    match form(alloc)?.try_get_matches_from(words) {
-        Ok(matches) => Ok(matches),
-        Err(error) => Err(ArgsFault::from(error)),
-    }
+    form(alloc)?.try_get_matches_from(words)
 }

@@ -2,34 +2,42 @@
 #![tactic(auto)]
 
 mod arguments;
+mod cause;
 mod command_line;
+mod complaint;
+mod design_file;
 mod ending;
 mod help;
 mod numbers;
+mod refusal;
 mod simulation;
 mod start;
 mod status;
 #[cfg(test)]
 mod tests;
 
-use arguments::ArgsFault;
+use complaint::StartFault;
 use gatestep::Device;
 use session::SessionFault;
+use std::env;
+use std::fs::File;
 use std::process::ExitCode;
-use std::{env, fs};
 
 fn main(rt: HostRuntime) -> ExitCode {
     let mut errors = Device::new(rt.stderr());
     let status = match start::asked(rt.alloc(), env::args(&rt)) {
         Ok(args) => {
-            let file = fs::read(&rt, args.design.as_str());
+            let file = design_file::first_bytes_of(
+                rt.alloc(),
+                File::open(&rt, args.design.as_str()),
+            );
             let mut source = Device::new(rt.stdin());
             let mut sink = Device::new(rt.stdout());
             let outcome = simulation::simulate(&rt, file, &args, &mut source, &mut sink);
             ending::ending(&outcome, &mut errors)
         }
-        Err(ArgsFault::Refused) => help::help(&mut errors),
-        Err(ArgsFault::OutOfMemory) => {
+        Err(StartFault::Refused(complaint)) => refusal::refuse(&complaint, &mut errors),
+        Err(StartFault::OutOfMemory) => {
             ending::ending(&Err(SessionFault::OutOfMemory), &mut errors)
         }
     };

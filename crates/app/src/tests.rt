@@ -1,13 +1,17 @@
 use crate::arguments::{Args, ArgsFault, options};
+use crate::complaint::{Complaint, StartFault};
+use crate::design_file::first_bytes_of;
 use crate::ending::ending;
-use crate::help::{HELP, help};
+use crate::help::HELP;
+use crate::refusal::refuse;
 use crate::simulation::simulate;
 use crate::start::{asked, design_text};
 use edits::EditFault;
 use gatestep::Device;
 use gatestep::devices::faulty::Failing;
+use lexing::MAX_TEXT;
 use session::SessionFault;
-use std::alloc::AllocError;
+use std::alloc::{AllocError, Global};
 use std::io;
 use std::io::Write;
 use std::random::RandomSource;
@@ -89,26 +93,110 @@ fn words_are_refused(rt: HostRuntime) {
     }
 }
 
+// What the program is asked for where it is started with these words.
+fn started(alloc: Global, words: &[&str]) -> Result<Args, StartFault> {
+    let mut all = Vec::new(alloc);
+    all.push(String::from_str(alloc, "gatebench")?)
+        .map_err(AllocError::from)?;
+    for word in words {
+        all.push(String::from_str(alloc, word)?)
+            .map_err(AllocError::from)?;
+    }
+    asked(alloc, Ok(all.into_iter()))
+}
+
 #[test]
 fn the_first_word_is_the_name_of_the_program(rt: HostRuntime) -> Result<(), Fail> {
-    let mut words = Vec::new(rt.alloc());
-    for word in ["gatebench", "d.v", "--horizon", "5"] {
-        words.push(String::from_str(rt.alloc(), word)?)?;
-    }
-    let args = asked(rt.alloc(), Ok(words.into_iter()))?;
+    let args = started(rt.alloc(), &["d.v", "--horizon", "5"]).expect(&rt, "refused");
     assert_eq!(rt; args.design.as_str().as_bytes(), b"d.v".as_slice());
     assert_eq!(rt; args.horizon, 5);
     let none = Vec::new(rt.alloc());
-    assert_eq!(rt;
-        asked(rt.alloc(), Ok(none.into_iter())).err(),
-        Some(ArgsFault::Refused)
+    assert!(rt;
+        matches!(
+            asked(rt.alloc(), Ok(none.into_iter())),
+            Err(StartFault::Refused(Complaint::NoDesign))
+        )
     );
-    for (kind, fault) in [
-        (io::ErrorKind::OutOfMemory, ArgsFault::OutOfMemory),
-        (io::ErrorKind::InvalidData, ArgsFault::Refused),
-    ] {
-        let words = Err(io::Error::from(kind));
-        assert_eq!(rt; asked(rt.alloc(), words).err(), Some(fault));
+    let words = Err(io::Error::from(io::ErrorKind::OutOfMemory));
+    assert!(rt; matches!(asked(rt.alloc(), words), Err(StartFault::OutOfMemory)));
+    let words = Err(io::Error::from(io::ErrorKind::InvalidData));
+    assert!(rt;
+        matches!(
+            asked(rt.alloc(), words),
+            Err(StartFault::Refused(Complaint::NotText))
+        )
+    );
+    Ok(())
+}
+
+// What is said to these words, where they are refused.
+fn said(alloc: Global, words: &[&str]) -> Option<Vec<u8>> {
+    match started(alloc, words) {
+        Err(StartFault::Refused(complaint)) => {
+            let mut sink = Device::new(Vec::new(alloc));
+            let _status = refuse(&complaint, &mut sink);
+            Some(sink.inner)
+        }
+        _ => None,
+    }
+}
+
+#[test]
+fn refused_words_are_named(rt: HostRuntime) -> Result<(), Fail> {
+    let table: [(&[&str], &str); 13] = [
+        (&["--help"], ""),
+        (&["d.v", "-h"], ""),
+        (
+            &[],
+            "error: the following required arguments were not provided:\n  <DESIGN>\n\n",
+        ),
+        (
+            &["--horizon=5"],
+            "error: the following required arguments were not provided:\n  <DESIGN>\n\n",
+        ),
+        (
+            &["d.v", "--foo"],
+            "error: unexpected argument '--foo' found\n\n  tip: to pass '--foo' as a value, use '-- --foo'\n\n",
+        ),
+        (
+            &["d.v", "e.v"],
+            "error: unexpected argument 'e.v' found\n\n",
+        ),
+        (
+            &["d.v", "--horiz=5"],
+            "error: unexpected argument '--horiz' found\n\n  tip: a similar argument exists: '--horizon'\n\n",
+        ),
+        (
+            &["d.v", "--horizon"],
+            "error: a value is required for '--horizon <H>' but none was supplied\n\n",
+        ),
+        (
+            &["d.v", "--delay=1", "--delay=1"],
+            "error: the argument '--delay <D>' cannot be used multiple times\n\n",
+        ),
+        (
+            &["d.v", "--horizon", "abc"],
+            "error: invalid value 'abc' for '--horizon <H>'\n  [possible values: 0 to 1000000000, in digits alone]\n\n",
+        ),
+        (
+            &["d.v", "--horizon=1000000001", "--delay=0"],
+            "error: invalid value '1000000001' for '--horizon <H>'\n  [possible values: 0 to 1000000000, in digits alone]\n\n",
+        ),
+        (
+            &["d.v", "--delay=0"],
+            "error: invalid value '0' for '--delay <D>'\n  [possible values: 1 to 1000000, in digits alone]\n\n",
+        ),
+        (
+            &["d.v", "--delay="],
+            "error: invalid value '' for '--delay <D>'\n  [possible values: 1 to 1000000, in digits alone]\n\n",
+        ),
+    ];
+    for (words, lines) in table {
+        let text = said(rt.alloc(), words).ok_or("taken")?;
+        let wanted = format!(in rt.alloc(); "{lines}{HELP}")?;
+        assert_eq!(rt; text.as_slice(), wanted.as_str().as_bytes(), "{words:?}");
+        assert!(rt; wanted.as_str().lines().count() <= 24);
+        assert!(rt; wanted.as_str().lines().all(|line| line.len() <= 80));
     }
     Ok(())
 }
@@ -162,6 +250,41 @@ fn a_file_that_can_not_be_read_is_told(rt: HostRuntime) {
 }
 
 #[test]
+fn a_file_is_read_as_far_as_the_limit(rt: HostRuntime) -> Result<(), Fail> {
+    let text = first_bytes_of(rt.alloc(), Ok(b"module m; endmodule".as_slice()))?;
+    assert_eq!(rt; text.as_slice(), b"module m; endmodule".as_slice());
+    let blanks = vec![in rt.alloc(); b' '; MAX_TEXT + 2]?;
+    let text = first_bytes_of(rt.alloc(), Ok(blanks.as_slice()))?;
+    assert_eq!(rt; text.len(), MAX_TEXT + 1);
+    let text = first_bytes_of(rt.alloc(), Ok(io::repeat(0)))?;
+    assert_eq!(rt; text.len(), MAX_TEXT + 1);
+    let (outcome, replies) = simulated(&rt, Ok(text));
+    let long = ReadFault {
+        line: 1,
+        kind: ReadFaultKind::Text,
+    };
+    assert_eq!(rt; outcome, Err(SessionFault::Design(long)));
+    assert!(rt; replies.is_empty());
+    Ok(())
+}
+
+#[test]
+fn a_file_that_fails_has_no_text(rt: HostRuntime) {
+    let cut = Failing::new(b"module m; endmodule".as_slice(), 9);
+    let text = first_bytes_of(rt.alloc(), Ok(cut));
+    assert_eq!(rt;
+        text.err().map(|error| error.kind()),
+        Some(io::ErrorKind::Other)
+    );
+    let missing: io::Result<io::Repeat> = Err(io::Error::from(io::ErrorKind::NotFound));
+    let text = first_bytes_of(rt.alloc(), missing);
+    assert_eq!(rt;
+        text.err().map(|error| error.kind()),
+        Some(io::ErrorKind::NotFound)
+    );
+}
+
+#[test]
 fn the_text_is_that_of_the_file(rt: HostRuntime) -> Result<(), Fail> {
     let file = Vec::from_slice(rt.alloc(), [0, 255, 10].as_slice())?;
     let text = design_text(Ok(file))?;
@@ -211,11 +334,20 @@ fn a_failed_write_is_passed_over(rt: HostRuntime) {
 }
 
 #[test]
-fn help_teaches_and_refuses(rt: HostRuntime) {
+fn words_that_are_no_text_are_refused(rt: HostRuntime) -> Result<(), Fail> {
     let mut sink = Device::new(Vec::new(rt.alloc()));
-    assert_eq!(rt; help(&mut sink), 2);
-    assert_eq!(rt; sink.inner.as_slice(), HELP.as_bytes());
+    assert_eq!(rt; refuse(&Complaint::NotText, &mut sink), 2);
+    let lines = "error: invalid UTF-8 was detected in one or more arguments\n\n";
+    let wanted = format!(in rt.alloc(); "{lines}{HELP}")?;
+    assert_eq!(rt; sink.inner.as_slice(), wanted.as_str().as_bytes());
+    Ok(())
+}
+
+#[test]
+fn help_fits_a_screen(rt: HostRuntime) {
     assert!(rt; HELP.contains("Usage: gatebench DESIGN [--horizon H] [--delay D]\n"));
-    assert!(rt; HELP.contains("    module m(input a, output y);\n"));
-    assert!(rt; HELP.contains("    gate h buf 1 1 z y\n"));
+    assert!(rt; HELP.contains("    module m(input a, output y); not #(2,3) g(y, a); endmodule\n"));
+    assert!(rt; HELP.contains("docs/GUIDE.md"));
+    assert!(rt; HELP.lines().count() <= 20);
+    assert!(rt; HELP.lines().all(|line| line.len() <= 80));
 }

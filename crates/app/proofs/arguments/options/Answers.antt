@@ -1,6 +1,7 @@
 use Rattle.std.proofs.Common.{rules, ◌≡◌, ◌∙◌, ℕ, List, Option, Some, None, Bor, ap, codes, map, option_map, sym}
 use Rattle.app.specs.Arguments.{delay_given, horizon_given}
 use Rattle.app.specs.CommandLine.{value_of}
+use Rattle.app.proofs.CommandLineLemmas.{not_taken}
 use Rattle.app.proofs.WordLemmas.{asked_all, no_delay, no_design, no_horizon, not_asked}
 use Rattle.app.proofs.arguments.options.Goals as goal
 
@@ -8,8 +9,9 @@ abbrev bytes_of : Option (Bor (List ℕ)) → Option (List ℕ)
 bytes_of = option_map (λ s. s.now)
 
 pub returns-in_err-matches-clause-refused : goal.returns-in_err-matches-clause-refused
-returns-in_err-matches-clause-refused g c = λ e. let h = c.from_residual.ensures in
-    not_asked (map g.S.AsStr.text c.args.words.now) (c.in_err-matches.ensures.refused (search rules))
+returns-in_err-matches-clause-refused g c = λ e.
+    let words = map g.S.AsStr.text c.args.words.now in
+    not_asked words (not_taken words _ c.in_err-matches.ensures.refused (search rules))
 
 pub returns-in_default-clause-refused : goal.returns-in_default-clause-refused
 returns-in_default-clause-refused g c = λ e.

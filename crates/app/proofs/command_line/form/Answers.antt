@@ -8,9 +8,9 @@ use Rattle.app.proofs.command_line.form.Goals as goal
 pub returns : goal.returns
 unfolding command_line
 returns c =
-    let design_is : rule_of c.required-design.result ≡ design_rule = search rules in
-    let horizon_is : rule_of c.long-horizon.result ≡ horizon_rule = search rules in
-    let delay_is : rule_of c.long-delay.result ≡ delay_rule = search rules in
+    let design_is : rule_of c.value_name-design.result ≡ design_rule = search rules in
+    let horizon_is : rule_of c.value_name-horizon.result ≡ horizon_rule = search rules in
+    let delay_is : rule_of c.value_name-delay.result ≡ delay_rule = search rules in
     let start_is : app_of c.no_binary_name.result ≡ on_top nameless (new_app (codes "gatebench")) =
     ap app_of_fields c.no_binary_name.ensures ∙ ap (on_top nameless) c.new-4.ensures.app in
     IfOk-weaker c.arg-3.result _ _

@@ -1,12 +1,9 @@
-use Rattle.std.proofs.Common.{◌≡◌, ◌∙◌, map, sym}
-use Rattle.app.specs.declared.arguments.ArgsFault.TheVariants.{Refused}
-use Rattle.app.proofs.CommandLineLemmas.{found, not_taken}
+use Rattle.std.proofs.Common.{map}
+use Rattle.app.proofs.CommandLineLemmas.{fails_by, found_by}
 use Rattle.app.proofs.command_line.parse.Goals as goal
 
-pub returns-in-Ok-clause-ok : goal.returns-in-Ok-clause-ok
-returns-in-Ok-clause-ok g c = found _ (map g.S.AsStr.text c.args.words.now) _ c.in_ok-form.ensures c.in-Ok.ensures.kinds c.in-Ok.ensures.matches
+pub returns-clause-ok : goal.returns-clause-ok
+returns-clause-ok g c = found_by _ (map g.S.AsStr.text c.args.words.now) _ c.in_ok-form.ensures c.try_get_matches_from.ensures.kinds c.try_get_matches_from.ensures.matches
 
-pub returns-in-Err-clause-refused : goal.returns-in-Err-clause-refused
-returns-in-Err-clause-refused g c = λ e.
-    let refused : c.from.result ≡ Refused = cc in
-    not_taken _ (map g.S.AsStr.text c.args.words.now) c.in-Err.error c.in_ok-form.ensures c.in-Err.ensures.kinds (sym c.from.ensures ∙ refused)
+pub returns-clause-refused : goal.returns-clause-refused
+returns-clause-refused g c = fails_by _ (map g.S.AsStr.text c.args.words.now) _ c.in_ok-form.ensures c.try_get_matches_from.ensures.kinds

@@ -1,0 +1,41 @@
+//! What is wrong with the words after the program's name.
+
+use clap::error::ErrorKind;
+use std::alloc::AllocError;
+
+/// What is wrong with the words, and which of them is at fault.
+#[derive(Debug, Drop)]
+pub enum Complaint {
+    /// Nothing is wrong: they ask for help.
+    Help,
+    /// One of them is no text.
+    NotText,
+    /// They are not of the form. The lines are `clap`'s: they name the word at fault and what was wanted.
+    Form(ErrorKind, String),
+    /// DESIGN is missing.
+    NoDesign,
+    /// The value of `--horizon`, which is no number of its range.
+    Horizon(String),
+    /// The value of `--delay`, which is no number of its range.
+    Delay(String),
+}
+
+/// Why the program does not start.
+#[derive(Debug, Drop)]
+pub enum StartFault {
+    /// The words are refused, or ask for help.
+    Refused(Complaint),
+    /// A growth was refused.
+    OutOfMemory,
+}
+
+impl From<AllocError> for StartFault {
+    ghost use Rattle.std.specs.Prelude.{◌≡◌};
+    ghost use Rattle.app.specs.declared.complaint.StartFault.TheVariants.{OutOfMemory};
+
+    ghost from_gives = { λ _ fault. fault ≡ OutOfMemory };
+
+    fn from(_error: AllocError) -> StartFault {
+        StartFault::OutOfMemory
+    }
+}
