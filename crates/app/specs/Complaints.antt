@@ -31,7 +31,7 @@ Explains words (Form k lines) = IsAmong k (fault_of command_line words) × (k �
 Explains words complaint = (is_taken words ≡ true)
     × IsValueFault (value_of (codes "design") words) (value_of (codes "horizon") words) (value_of (codes "delay") words) complaint
 
--- why the program does not start with the words: they ask for nothing, by this fault of theirs, or a growth was refused
+-- why the program does not start with the words: they ask for nothing, by this fault of theirs, or an allocation was refused
 abbrev pub StopsBy : List Text → StartFault → Type 0
 StopsBy words (Refused complaint) = (asked words ≡ None) × Explains words complaint
 StopsBy words OutOfMemory = Unit {0}

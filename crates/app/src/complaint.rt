@@ -25,7 +25,7 @@ pub enum Complaint {
 pub enum StartFault {
     /// The words are refused, or ask for help.
     Refused(Complaint),
-    /// A growth was refused.
+    /// An allocation was refused.
     OutOfMemory,
 }
 
