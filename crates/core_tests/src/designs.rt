@@ -5,11 +5,11 @@
 mod changes;
 mod random;
 
+use catalog::NameHasher;
 use design::{
     Design, Gate, GateKey, MAX_GATES, MAX_NETS, MAX_POINTS, Magnitude, Name, Net, NetKey, Terminal,
     TimeUnit, Unit,
 };
-use catalog::NameHasher;
 use fourstate::{Delays, GateKind, MAX_TIME, NetKind, Value, delay, fits};
 use std::alloc::Global;
 use std::process::Abort;

@@ -2,10 +2,10 @@
 
 ghost use Rattle.std.specs.Prelude.{◌≡◌, ◌<◌};
 
-use gatestep::{Driver, Serial, StepFault, Stepper, Task, next};
 use arrayvec::ArrayVec;
 use fourstate::Value::{One, Unknown, Zero};
 use fourstate::{Delays, GateKind, Value, fits};
+use gatestep::{Driver, Serial, StepFault, Stepper, Task, next};
 use std::alloc::Global;
 use std::process::Abort;
 use std::test::Fail;

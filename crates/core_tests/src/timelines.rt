@@ -2,11 +2,11 @@
 
 ghost use Rattle.std.specs.Prelude.{◌≡◌, ◌≢◌, Some, None};
 
-use waveform::{Change, Run, Trace, TraceEntry, Wave};
 use fourstate::Value;
 use gatestep::Driver;
 use std::alloc::Global;
 use std::process::Abort;
+use waveform::{Change, Run, Trace, TraceEntry, Wave};
 
 /// The wave `0 x / 3 0 / 13 1 / 16 0`.
 fn pulse(rt: &impl Abort, alloc: Global) -> Wave {

@@ -3,8 +3,8 @@
 ghost use Rattle.gatestep.specs.Step.{advance};
 ghost use Rattle.gatestep.specs.StepLaws.{advance_current, advance_later, advance_stays};
 
-use session::{Options, run};
 use gatestep::{Device, Driver, Record, Serial, StepFault, Stepper, Task};
+use session::{Options, run};
 
 // Answers as `Serial` does, until `left` steps are made; from then on its worker is lost.
 #[derive(Drop)]

@@ -1,9 +1,5 @@
 //! Small texts, read by hand.
 
-use vtext::{
-    Direction, Gate, Module, Modules, Names, Net, ReadFault, ReadFaultKind, Terminal, gate_name,
-    modules,
-};
 use design::NameHasher;
 use edits::EditFault;
 use fourstate::{NetKind, Value};
@@ -11,6 +7,10 @@ use lexing::{MAX_TEXT, Magnitude, TimeUnit, Unit};
 use std::alloc::{AllocError, Global};
 use std::process::Abort;
 use std::test::Fail;
+use vtext::{
+    Direction, Gate, Module, Modules, Names, Net, ReadFault, ReadFaultKind, Terminal, gate_name,
+    modules,
+};
 
 const BUFFER: &[u8] = b"module m(a,y); input a; output y; buf #(3,3) g(y,a); endmodule";
 

@@ -1,6 +1,5 @@
 //! Small texts, read by hand, and texts at the limits.
 
-use vread::{ReadFault, ReadFaultKind, read};
 use design::{
     Design, Gate, MAX_GATES, MAX_NETS, Magnitude, NameHasher, Net, Terminal, TimeUnit, Unit,
 };
@@ -9,6 +8,7 @@ use fourstate::{Value, delay};
 use std::alloc::{AllocError, Global};
 use std::process::Abort;
 use std::test::Fail;
+use vread::{ReadFault, ReadFaultKind, read};
 
 const NETLIST: &str = "`timescale 10 us / 1 ns
 module m (y, a, b, w);

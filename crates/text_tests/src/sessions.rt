@@ -4,10 +4,10 @@ mod changes;
 mod questions;
 mod texts;
 
-use session::{Options, SessionFault, run};
 use edits::EditFault;
 use gatestep::devices::faulty::{Failing, Pieces};
 use gatestep::{Device, Serial};
+use session::{Options, SessionFault, run};
 use std::alloc::{AllocError, Global};
 use std::random::RandomSource;
 use std::sync::Wait;

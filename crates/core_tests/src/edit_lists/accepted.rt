@@ -2,8 +2,8 @@
 
 use crate::edit_lists::lines::{carried_out, design_of, edit, edits, empty};
 use crate::edit_lists::shown::show;
-use edits::{Edit, MAX_EDITS};
 use design::Design;
+use edits::{Edit, MAX_EDITS};
 use std::alloc::Global;
 use std::process::Abort;
 

@@ -1,7 +1,7 @@
 //! Edits and designs of tests, written as lines.
 
-use edits::{Edit, EditFault, Pin, Pins, Word, apply_all};
 use design::{Design, Name, NameHasher, TimeUnit};
+use edits::{Edit, EditFault, Pin, Pins, Word, apply_all};
 use fourstate::{GateKind, NetKind, Value};
 use std::alloc::Global;
 use std::process::Abort;

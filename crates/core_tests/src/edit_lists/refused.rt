@@ -1,13 +1,13 @@
 //! Why edits are refused: each cause, and beside it an edit that is accepted.
 
+use crate::edit_lists::lines::{carried_out, design_of, edit, edits, outcome, refused};
+use crate::edit_lists::shown::show;
+use design::{Design, MAX_GATES, MAX_NETS, MAX_POINTS};
 use edits::EditFault::{
     BadName, DelayTooLarge, DrivenInput, DuplicateName, NetInUse, NoSuchPoint, NotInput,
     TimeTooLarge, TooMany, UnknownGate, UnknownNet, WrongArity, ZeroDelay,
 };
-use crate::edit_lists::lines::{carried_out, design_of, edit, edits, outcome, refused};
-use crate::edit_lists::shown::show;
 use edits::{Edit, EditFault, MAX_EDITS};
-use design::{Design, MAX_GATES, MAX_NETS, MAX_POINTS};
 use std::alloc::Global;
 use std::process::Abort;
 

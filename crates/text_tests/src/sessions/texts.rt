@@ -1,8 +1,8 @@
 //! Design texts, and the waves of the designs that they spell.
 
 use super::{EMPTY, answered, opened};
-use session::SessionFault;
 use edits::EditFault;
+use session::SessionFault;
 use vtext::{ReadFault, ReadFaultKind};
 
 // A text, the delay of gates without one, lines, and the replies to them, up to the horizon 40.
