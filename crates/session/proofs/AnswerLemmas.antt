@@ -54,7 +54,7 @@ refused old new e (refusal.Edit fault) same (inl is) =
     inl (record { reply_is = ap (edit_reply old) (sym is); state_is = same ∙ ap (after_edit old e) (sym is) })
 refused old new e (refusal.Edit fault) same (inr is) =
     inr (inl (record { reply_is = ap (λ f. refusal_line (refusal.Edit f)) is; state_is = same }))
-refused old new e refusal.WorkerLost same may = inr (inr (record { reply_is = refl; state_is = same }))
+refused old new e refusal.WorkerLost same may = inr (inr (may, record { reply_is = refl; state_is = same }))
 refused old new e refusal.BadCommand same may = absurd may
 refused old new e refusal.LongLine same may = absurd may
 
@@ -108,8 +108,8 @@ pub from_stepper : (fault : StepFault) → IsOfStepper (refusal_of fault)
 from_stepper step.OutOfMemory = refl
 from_stepper step.WorkerLost = tt
 
-pub stepper_may_refuse : (s : SessionState) (e : Edit) (r : Refusal) → IsOfStepper r → MayRefuse s e r
-stepper_may_refuse s e (refusal.Edit fault) is = inr is
-stepper_may_refuse s e refusal.WorkerLost is = tt
-stepper_may_refuse s e refusal.BadCommand is = absurd is
-stepper_may_refuse s e refusal.LongLine is = absurd is
+pub stepper_may_refuse : (s : SessionState) (e : Edit) (r : Refusal) → fault_of s e ≡ None → IsOfStepper r → MayRefuse s e r
+stepper_may_refuse s e (refusal.Edit fault) taken is = inr is
+stepper_may_refuse s e refusal.WorkerLost taken is = taken
+stepper_may_refuse s e refusal.BadCommand taken is = absurd is
+stepper_may_refuse s e refusal.LongLine taken is = absurd is

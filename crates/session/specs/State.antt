@@ -50,12 +50,13 @@ pub record Gives (reply : List ℕ) (new : SessionState) (wanted : List ℕ) (af
   pub state_is : new ≡ after
 
 -- From old, a session may give this reply to the command and go on to new. An edit may be refused because memory ran out, or
--- because the stepper lost a worker.
+-- because the stepper lost a worker, where the design takes the edit.
 abbrev pub Replies : SessionState → Command → List ℕ → SessionState → Type 0
 Replies old command.Skip reply new = Gives reply new [] old
 Replies old (command.Change e) reply new =
     Gives reply new (edit_reply old (fault_of old e)) (after_edit old e (fault_of old e))
-    ⊎ (Gives reply new (refusal_line (refusal.Edit OutOfMemory)) old ⊎ Gives reply new (refusal_line refusal.WorkerLost) old)
+    ⊎ (Gives reply new (refusal_line (refusal.Edit OutOfMemory)) old
+    ⊎ ((fault_of old e ≡ None) × Gives reply new (refusal_line refusal.WorkerLost) old))
 Replies old (command.Ask question) reply new = Gives reply new (question_reply old question) old
 Replies old command.Quit reply new = Gives reply new (ok_line old.version) old
 Replies old command.Unreadable reply new = Gives reply new (refusal_line refusal.BadCommand) old

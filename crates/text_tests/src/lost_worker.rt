@@ -4,7 +4,10 @@ ghost use Rattle.gatestep.specs.Step.{advance};
 ghost use Rattle.gatestep.specs.StepLaws.{advance_current, advance_later, advance_stays};
 
 use gatestep::{Device, Driver, Record, Serial, StepFault, Stepper, Task};
-use session::{Options, run};
+use session::{Options, SessionFault, run};
+use std::alloc::Global;
+use std::random::RandomSource;
+use std::sync::Wait;
 
 // Answers as `Serial` does, until `left` steps are made; from then on its worker is lost.
 #[derive(Drop)]
@@ -41,11 +44,16 @@ impl Stepper for Losing {
     ghost answer_stays = { advance_stays };
 }
 
-#[test]
-fn a_lost_worker_changes_nothing(rt: HostRuntime) {
-    let input = b"input a\nnet y wire\ngate g not 1 1 y a\nstim a 0 0\nwave y\nquit\n".as_slice();
+// How a session ends whose worker is lost behind so many steps, what it has not read, and its replies.
+fn ended<'a>(
+    rt: &(impl Wait + RandomSource),
+    alloc: Global,
+    design: &[u8],
+    left: u32,
+    input: &'a [u8],
+) -> (Result<(), SessionFault>, &'a [u8], Vec<u8>) {
     let mut source = Device::new(input);
-    let mut sink = Device::new(Vec::new(rt.alloc()));
+    let mut sink = Device::new(Vec::new(alloc));
     let options = Options {
         horizon: 0,
         delay: None,
@@ -53,19 +61,42 @@ fn a_lost_worker_changes_nothing(rt: HostRuntime) {
     let stepper = Losing {
         serial: Serial::new(),
         history: Record::new(),
-        left: 1,
+        left,
     };
+    let result = run(rt, alloc, design, &options, &mut source, &mut sink, stepper);
+    (result, source.inner, sink.inner)
+}
+
+#[test]
+fn a_lost_worker_changes_nothing(rt: HostRuntime) {
+    let input = b"input a\nnet y wire\ngate g not 1 1 y a\nstim a 0 0\nwave y\nquit\n".as_slice();
     let design = b"module m; endmodule".as_slice();
-    let result = run(
-        &rt,
-        rt.alloc(),
-        design,
-        &options,
-        &mut source,
-        &mut sink,
-        stepper,
-    );
+    let (result, _, replies) = ended(&rt, rt.alloc(), design, 1, input);
     assert_eq!(rt; result, Ok(()));
     let want = b"ok 1\nok 2\nok 3\nno 15 WorkerLost\n0 x\nok 3\nok 3\n".as_slice();
-    assert_eq!(rt; sink.inner.as_slice(), want);
+    assert_eq!(rt; replies.as_slice(), want);
+    drop(replies);
+}
+
+const GATE: &[u8] = b"module m(input a, output y); not #1 g(y, a); endmodule";
+
+#[test]
+fn a_worker_lost_at_the_opening_opens_nothing(rt: HostRuntime) {
+    let input = b"wave y\n".as_slice();
+    let (result, unread, replies) = ended(&rt, rt.alloc(), GATE, 0, input);
+    assert_eq!(rt; result, Err(SessionFault::WorkerLost));
+    assert_eq!(rt; unread, input);
+    assert!(rt; replies.is_empty());
+    drop(replies);
+}
+
+#[test]
+fn an_opening_of_one_moment_takes_one_step(rt: HostRuntime) {
+    let (result, _, replies) = ended(&rt, rt.alloc(), GATE, 1, b"wave y\nstim a 0 0\n");
+    assert_eq!(rt; result, Ok(()));
+    assert_eq!(rt;
+        replies.as_slice(),
+        b"0 x\nok 0\nno 15 WorkerLost\n".as_slice()
+    );
+    drop(replies);
 }
