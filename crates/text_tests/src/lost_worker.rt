@@ -3,7 +3,8 @@
 ghost use Rattle.gatestep.specs.Step.{advance};
 ghost use Rattle.gatestep.specs.StepLaws.{advance_current, advance_later, advance_stays};
 
-use gatestep::{Device, Driver, Record, Serial, StepFault, Stepper, Task};
+use devices::Device;
+use gatestep::{Driver, Record, Serial, StepFault, Stepper, Task};
 use session::{Options, SessionFault, run};
 use std::alloc::Global;
 use std::random::RandomSource;
