@@ -1,6 +1,6 @@
 -- One text after another.
 use Rattle.std.proofs.Common.{◌∙◌, ◌++◌, ℕ, List, ap, append_assoc}
-use Rattle.gatestep.specs.Devices.Outgoing.{Adds, Outgoing}
+use Rattle.devices.specs.Outgoing.{Adds, Outgoing}
 
 pub adds_then : (old mid new : Outgoing) (a b : List ℕ) → Adds old mid a → Adds mid new b → Adds old new (a ++ b)
 adds_then old mid new a b p q =

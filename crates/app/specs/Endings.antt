@@ -2,7 +2,7 @@
 use Rattle.std.specs.Prelude.{◌≡◌, ℕ, ◌++◌, Bool, false, List, [], Option, Result, Ok, Err, codes, decimal}
 use Rattle.std.specs.Io.{StartsWith}
 use Rattle.std.specs.Io.KnownBytes.{Appends}
-use Rattle.gatestep.specs.Devices.Traffic.{failures_after}
+use Rattle.devices.specs.Traffic.{failures_after}
 use Rattle.edits.specs.EditFaults.{fault_code, fault_name}
 use Rattle.edits.specs.declared.fault.EditFault.{EditFault}
 use Rattle.vtext.specs.ReadFaults.{kind_code, kind_name}

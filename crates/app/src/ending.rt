@@ -1,12 +1,12 @@
 //! The last words on standard error, and the status.
 
 ghost use Rattle.std.specs.Prelude.{◌≡◌};
-ghost use Rattle.gatestep.specs.Devices.Outgoing.{Adds};
+ghost use Rattle.devices.specs.Outgoing.{Adds};
 ghost use Rattle.app.specs.Endings.{Says, design_line, edit_line, ending_status, ending_text, fault_line, fault_status};
 
 use crate::status::{BROKEN_OFF, DESIGN_REFUSED, ENDED, WORDS_REFUSED};
+use devices::{Sink, Writer};
 use edits::EditFault;
-use gatestep::{Sink, Writer};
 use session::SessionFault;
 use vtext::ReadFault;
 

@@ -17,7 +17,7 @@ mod status;
 mod tests;
 
 use complaint::StartFault;
-use gatestep::Device;
+use devices::Device;
 use session::SessionFault;
 use std::env;
 use std::fs::File;

@@ -1,15 +1,15 @@
 //! What is said where the words are refused, or ask for help.
 
 ghost use Rattle.std.specs.Prelude.{◌≡◌};
-ghost use Rattle.gatestep.specs.Devices.Outgoing.{Adds};
+ghost use Rattle.devices.specs.Outgoing.{Adds};
 ghost use Rattle.app.specs.Endings.{Says};
 ghost use Rattle.app.specs.Refusals.{complaint_lines, range_line, refusal_text, value_line};
 
 use crate::complaint::Complaint;
 use crate::help::HELP;
 use crate::status::WORDS_REFUSED;
+use devices::{Sink, Writer};
 use fourstate::{MAX_DELAY, MAX_TIME};
-use gatestep::{Sink, Writer};
 
 /// Writes to `sink` what is wrong with the words, and then how to use the program, and answers the status. A write that
 /// fails is passed over (own).

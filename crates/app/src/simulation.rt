@@ -8,7 +8,8 @@ ghost use Rattle.app.specs.Start.{options_of, unread_fault};
 
 use crate::arguments::Args;
 use crate::start::design_text;
-use gatestep::{Serial, Sink, Source};
+use devices::{Sink, Source};
+use gatestep::Serial;
 use session::{Options, SessionFault};
 use std::io;
 use std::random::RandomSource;

@@ -1,10 +1,10 @@
 ghost use Rattle.std.specs.Prelude.{◌≡◌, ◌+◌, List, ℕ, ◌++◌, OnOk, IfErr, decimal, codes};
 ghost use Rattle.std.specs.Io.{StartsWith};
 ghost use Rattle.std.specs.Io.KnownBytes.{Appends};
-ghost use Rattle.gatestep.specs.Devices.Outgoing.{Adds, byte_count};
+ghost use Rattle.devices.specs.Outgoing.{Adds, byte_count};
 
-use gatestep::devices::faulty::{Failing, Pieces, Stuck};
-use gatestep::devices::{Device, Reader, Sink, Source, Writer};
+use devices::faulty::{Failing, Pieces, Stuck};
+use devices::{Device, Reader, Sink, Source, Writer};
 use std::alloc::{AllocError, Global};
 use std::io::Write;
 use std::test::Fail;

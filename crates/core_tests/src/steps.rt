@@ -180,3 +180,30 @@ fn step_three<S: Stepper>(rt: &impl Abort, alloc: Global, stepper: &mut S) -> Re
 fn serial_answers_in_order(rt: HostRuntime) -> Result<(), Fail> {
     step_three(&rt, rt.alloc(), &mut Serial::new())
 }
+
+#[test]
+fn a_task_is_read_and_copied(rt: HostRuntime) -> Result<(), Fail> {
+    let waiting = Driver {
+        cur: Zero,
+        pend: Some((One, 9)),
+    };
+    let task = task(&rt, GateKind::Nand, (3, 4), waiting, &[One, Unknown]);
+    task.lawful();
+    let copy = task.clone()?;
+    for it in [&task, &copy] {
+        assert_eq!(rt; it.kind(), GateKind::Nand);
+        assert_eq!(rt; Some(it.delays()), Delays::new(3, 4));
+        assert_eq!(rt; it.state(), waiting);
+        assert_eq!(rt; it.inputs(), [One, Unknown].as_slice());
+    }
+    Ok(())
+}
+
+// No moment is too late for it.
+#[test]
+fn a_step_without_a_task_gives_nothing(rt: HostRuntime) {
+    let mut answers = Vec::new(rt.alloc());
+    let result = Serial::new().step(&[], 2_000_000_000, &mut answers);
+    assert_eq!(rt; result, Ok(()));
+    assert_eq!(rt; answers.len(), 0);
+}

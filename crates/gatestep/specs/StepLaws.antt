@@ -1,19 +1,32 @@
 -- The rule of events meets the laws of a stepper's answer.
-use Rattle.std.specs.Prelude.{◌≡◌, ◌<◌, ℕ, Bool, true, false, Option, Some, None, refl}
+use Rattle.std.specs.Prelude.{◌≡◌, ◌<◌, ◌+◌, ℕ, Bool, true, false, Option, Some, None, refl}
 use Rattle.std.specs.Option.{ForSome}
 use Rattle.std.proofs.Common.{arith}
 use Rattle.std.proofs.lemmas.Grind.{common_steps}
+use Rattle.fourstate.specs.declared.limits.TheConstants.{MAX_DELAY}
 use Rattle.fourstate.specs.declared.value.Value.{Value}
+use Rattle.fourstate.specs.declared.value.Value.TheVariants.{Zero, One, Unknown, HighZ}
 use Rattle.fourstate.specs.Values.{same_value}
 use Rattle.fourstate.specs.Delays.{DelayTimes, AreDelays, IsDelay, delay_to}
 use Rattle.fourstate.specs.Gates.{gate_of}
-use Rattle.fourstate.proofs.Tables.{same_self, delay_in_range}
 use Rattle.gatestep.specs.Step.{State, Evaluation, is_pending, due_of, due, rescheduled, advance}
-use Rattle.gatestep.specs.Tasks.{IsTask, NothingDue, again}
+use Rattle.gatestep.specs.Tasks.{IsTask, NothingDue, PendingBefore, again}
+
+same_self : (v : Value) → same_value v v ≡ true
+same_self Zero = refl
+same_self One = refl
+same_self Unknown = refl
+same_self HighZ = refl
+
+delay_in_range : (delays : DelayTimes) → AreDelays delays → (v : Value) → IsDelay (delay_to delays v)
+delay_in_range delays are Zero = are.fall
+delay_in_range delays are One = are.rise
+delay_in_range delays are Unknown = omega arith
+delay_in_range delays are HighZ = omega arith
 
 -- what an evaluation leaves current is what is current once a due event has become so
-pub advance_current : (e : Evaluation) (t : ℕ) → IsTask e → (advance e t).current ≡ (due e.state t).current
-advance_current e t task = refl
+pub advance_current : (e : Evaluation) (t : ℕ) → (advance e t).current ≡ (due e.state t).current
+advance_current e t = refl
 
 due_later : (c : Value) (pending : Option (Value × ℕ)) (t : ℕ) → NothingDue t (due_of c pending t)
 due_later c None t = λ x h. grind (arith, common_steps)
@@ -33,6 +46,24 @@ advance_later e t task =
     let v : Value = gate_of e.kind e.inputs in
     rescheduled_later e.delays task.delays_in_range s v t (due_later e.state.current e.state.pending t) (is_pending v s.pending) (same_value v s.current) refl refl
 
+due_near : (c : Value) (pending : Option (Value × ℕ)) (t u : ℕ) → ForSome pending (λ event. event.1 < u) → PendingBefore u (due_of c pending t)
+due_near c None t u near = λ x h. grind (arith, common_steps)
+due_near c (Some event) t u near = λ x h. grind (arith, common_steps)
+
+rescheduled_near : (delays : DelayTimes) → AreDelays delays → (s : State) (v : Value) (t : ℕ) → PendingBefore (t + MAX_DELAY) s →
+    (kept same : Bool) → is_pending v s.pending ≡ kept → same_value v s.current ≡ same → ForSome (rescheduled delays s v t) (λ event. event.1 < t + 1 + MAX_DELAY)
+rescheduled_near delays are s v t near true same k e = λ x h. let before = near x (grind (arith, common_steps)) in omega arith
+rescheduled_near delays are s v t near false true k e = λ x h. grind (arith, common_steps)
+rescheduled_near delays are s v t near false false k e =
+    let most : IsDelay (delay_to delays v) = delay_in_range delays are v in λ x h. grind (arith, common_steps)
+
+-- what an evaluation leaves pending is for a moment within the greatest delay
+pub advance_near : (e : Evaluation) (t : ℕ) → IsTask e → PendingBefore (t + MAX_DELAY) e.state → PendingBefore (t + 1 + MAX_DELAY) (advance e t)
+advance_near e t task near =
+    let s : State = due e.state t in
+    let v : Value = gate_of e.kind e.inputs in
+    rescheduled_near e.delays task.delays_in_range s v t (due_near e.state.current e.state.pending t (t + MAX_DELAY) near) (is_pending v s.pending) (same_value v s.current) refl refl
+
 -- a state in which nothing is due at u or before is as it stands at u
 pub not_due : (s : State) (pending : Option (Value × ℕ)) (u : ℕ) → pending ≡ s.pending → NothingDue u s → due_of s.current pending u ≡ s
 not_due s None u same later = grind (arith, common_steps)
@@ -45,8 +76,8 @@ rescheduled_again delays s v t u false true k e = grind (arith, common_steps)
 rescheduled_again delays s v t u false false k e = grind (arith, common_steps, same_self v)
 
 -- an answer that is asked again with the same inputs, while nothing in it is due, stays
-pub advance_stays : (e : Evaluation) (t u : ℕ) → IsTask e → t < u → NothingDue u (advance e t) → advance (again e (advance e t)) u ≡ advance e t
-advance_stays e t u task before later =
+pub advance_stays : (e : Evaluation) (t u : ℕ) → t < u → NothingDue u (advance e t) → advance (again e (advance e t)) u ≡ advance e t
+advance_stays e t u before later =
     let s : State = due e.state t in
     let v : Value = gate_of e.kind e.inputs in
     let still : due (advance e t) u ≡ advance e t = not_due (advance e t) (advance e t).pending u refl later in

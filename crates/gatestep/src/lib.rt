@@ -1,7 +1,6 @@
-//! One gate at one moment, and who evaluates it; the devices that bytes come from and go to.
+//! One gate at one moment, and who evaluates it.
 #![tactic(auto)]
 
-pub mod devices;
 mod driver;
 mod fault;
 mod record;
@@ -9,7 +8,6 @@ mod serial;
 mod stepper;
 mod task;
 
-pub use devices::{Device, Reader, Sink, Source, Writer};
 pub use driver::Driver;
 pub use fault::StepFault;
 pub use record::Record;

@@ -1,8 +1,12 @@
 //! A stepper that evaluates on the caller's thread.
 
-ghost use Rattle.std.specs.Prelude.{[], ◌≡◌};
+ghost use Rattle.std.specs.Prelude.{[], ◌≡◌, ◌≢◌, ◌<◌, ◌≤◌, ◌+◌, ◌++◌, length, map, All, OnOk, OnErr, if◌then◌else◌};
+ghost use Rattle.fourstate.specs.declared.limits.TheConstants.{MAX_TIME};
+ghost use Rattle.gatestep.specs.Faults.{is_lost};
+ghost use Rattle.gatestep.specs.Record.{at_moment};
 ghost use Rattle.gatestep.specs.Step.{advance};
-ghost use Rattle.gatestep.specs.StepLaws.{advance_current, advance_later, advance_stays};
+ghost use Rattle.gatestep.specs.StepLaws.{advance_current, advance_later, advance_near, advance_stays};
+ghost use Rattle.gatestep.specs.Tasks.{IsReady, PendingFrom};
 
 use crate::driver::Driver;
 use crate::fault::StepFault;
@@ -35,7 +39,18 @@ impl Stepper for Serial {
 
     ghost losses = { λ s. s.history.losses };
 
-    fn step(&mut self, tasks: &[Task], t: u64, out: &mut Vec<Driver>) -> Result<(), StepFault> {
+    /// It never loses a worker; `OutOfMemory` where `out` can't grow.
+    fn step(&mut self, tasks: &[Task], t: u64, out: &mut Vec<Driver>) -> Result<(), StepFault>
+        requires empty { out.old.items ≡ [] }
+        requires ready { All (IsReady t) tasks.now }
+        requires within { 0 < length tasks.now → t ≤ MAX_TIME }
+        ensures answers { OnOk result (out.new.items ≡ map (λ task. advance task t) tasks.now) }
+        ensures later { OnOk result (All (PendingFrom (t + 1)) out.new.items) }
+        ensures none { OnErr result (out.new.items ≡ []) }
+        ensures recorded { ⟦<Serial as Stepper>⟧.asked self.new ≡ ⟦<Serial as Stepper>⟧.asked self.old ++ at_moment t tasks.now }
+        ensures lost { ⟦<Serial as Stepper>⟧.losses self.new ≡ ⟦<Serial as Stepper>⟧.losses self.old + (if is_lost result then 1 else 0) }
+        ensures never { result ≢ Err StepFault.WorkerLost }
+    {
         self.history.add(tasks, t, false);
         for task in tasks {
             if out.push(next(task, t)).is_err() {
@@ -49,6 +64,8 @@ impl Stepper for Serial {
     ghost answer_current = { advance_current };
 
     ghost answer_pending = { advance_later };
+
+    ghost answer_near = { advance_near };
 
     ghost answer_stays = { advance_stays };
 }

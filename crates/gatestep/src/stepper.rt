@@ -1,6 +1,6 @@
 //! Who evaluates gates.
 
-ghost use Rattle.std.specs.Prelude.{◌≡◌, ℕ, ◌+◌, ◌<◌, ◌≤◌, List, [], ◌++◌, map, All, OnOk, OnErr, if◌then◌else◌};
+ghost use Rattle.std.specs.Prelude.{◌≡◌, ℕ, ◌+◌, ◌<◌, ◌≤◌, List, [], ◌++◌, length, map, All, OnOk, OnErr, if◌then◌else◌};
 ghost use Rattle.fourstate.specs.declared.limits.TheConstants.{MAX_DELAY, MAX_TIME};
 ghost use Rattle.gatestep.specs.Faults.{is_lost};
 ghost use Rattle.gatestep.specs.Record.{at_moment};
@@ -23,25 +23,27 @@ pub trait Stepper {
     ghost losses: { Self → ℕ };
 
     /// Evaluates each task at the moment `t`, in time units, and puts the answers into `out` in the order of the tasks;
-    /// on an error `out` is empty. All tasks count as asked, on an error too. An event that an answer adds lies at most the
-    /// greatest delay after `t`.
+    /// on an error `out` is empty. All tasks count as asked, on an error too.
     fn step(&mut self, tasks: &[Task], t: u64, out: &mut Vec<Driver>) -> Result<(), StepFault>
         requires empty { out.old.items ≡ [] }
         requires ready { All (IsReady t) tasks.now }
-        requires within { t ≤ MAX_TIME }
+        requires within { 0 < length tasks.now → t ≤ MAX_TIME }
         ensures answers { OnOk result (out.new.items ≡ map (λ task. answer task t) tasks.now) }
         ensures later { OnOk result (All (PendingFrom (t + 1)) out.new.items) }
-        ensures near { OnOk result (All (λ task. PendingBefore (t + MAX_DELAY) task.state) tasks.now → All (PendingBefore (t + 1 + MAX_DELAY)) out.new.items) }
         ensures none { OnErr result (out.new.items ≡ []) }
         ensures recorded { asked self.new ≡ asked self.old ++ at_moment t tasks.now }
         ensures lost { losses self.new ≡ losses self.old + (if is_lost result then 1 else 0) };
 
     /// An answer's current value is that of the task's state once a due event has become current.
-    ghost answer_current: { (e : Evaluation) (t : ℕ) → IsTask e → (answer e t).current ≡ (due e.state t).current };
+    ghost answer_current: { (e : Evaluation) (t : ℕ) → (answer e t).current ≡ (due e.state t).current };
 
     /// A pending event of an answer lies after the moment.
     ghost answer_pending: { (e : Evaluation) (t : ℕ) → IsTask e → NothingDue t (answer e t) };
 
+    /// A pending event of an answer lies at most the greatest delay after the moment, where the one of the task's state lay
+    /// no later than the greatest delay after the moment before.
+    ghost answer_near: { (e : Evaluation) (t : ℕ) → IsTask e → PendingBefore (t + MAX_DELAY) e.state → PendingBefore (t + 1 + MAX_DELAY) (answer e t) };
+
     /// An answer that is asked again later with the same inputs, while nothing in it is due, stays.
-    ghost answer_stays: { (e : Evaluation) (t u : ℕ) → IsTask e → t < u → NothingDue u (answer e t) → answer (again e (answer e t)) u ≡ answer e t };
+    ghost answer_stays: { (e : Evaluation) (t u : ℕ) → t < u → NothingDue u (answer e t) → answer (again e (answer e t)) u ≡ answer e t };
 }

@@ -9,6 +9,7 @@ ghost use Rattle.gatestep.specs.Tasks.{IsTask, IsReady, PendingBefore, PendingFr
 use crate::driver::Driver;
 use arrayvec::ArrayVec;
 use fourstate::{Delays, GateKind, MAX_INPUTS, Value, delay, gate_value, laws};
+use std::alloc::AllocError;
 use std::marker::Model;
 
 /// What is asked of one gate at one moment: its kind and delays, its state before the moment, and its inputs at the
@@ -51,6 +52,67 @@ impl Task {
             delays,
             state,
             inputs,
+        }
+    }
+
+    /// The gate's kind.
+    #[inline(always)]
+    pub fn kind(&self) -> GateKind
+        ensures { result ≡ self.now.kind }
+    {
+        self.kind
+    }
+
+    /// The gate's delays.
+    #[inline(always)]
+    pub fn delays(&self) -> Delays
+        ensures { result ≡ self.now.delays }
+    {
+        self.delays
+    }
+
+    /// The state of the gate's driver before the moment.
+    #[inline(always)]
+    pub fn state(&self) -> Driver
+        ensures { result ≡ self.now.state }
+    {
+        self.state
+    }
+
+    /// The values of the gate's inputs at the moment.
+    #[inline(always)]
+    pub fn inputs(&self) -> &[Value]
+        ensures { result.now ≡ self.now.inputs }
+    {
+        self.inputs.as_slice()
+    }
+
+    /// What every task keeps. It does nothing.
+    pub fn lawful(&self)
+        ensures { IsTask self.now }
+    {
+        let _inputs = &self.inputs;
+    }
+}
+
+/// It takes no memory, so a copy is never refused.
+impl Clone for Task {
+    ghost use Rattle.std.specs.Prelude.{◌≡◌, ⊤};
+
+    ghost is_clone = { λ old new. new ≡ old };
+
+    ghost is_infallible = { λ _. ⊤ };
+
+    fn clone(&self) -> Result<Task, AllocError> {
+        let mut inputs = ArrayVec::new();
+        match inputs.try_extend_from_slice(self.inputs.as_slice()) {
+            Ok(()) => Ok(Task {
+                kind: self.kind,
+                delays: self.delays,
+                state: self.state,
+                inputs,
+            }),
+            Err(_) => unreachable!(),
         }
     }
 }

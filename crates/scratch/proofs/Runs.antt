@@ -1,19 +1,17 @@
 -- The run, moment after moment.
-use Rattle.std.proofs.Common.{◌≡◌, ◌<◌, ◌∙◌, ap, refl, ℕ, suc, ◌+◌, List, [], ◌∷◌, map, All, add-one, arith}
+use Rattle.std.proofs.Common.{◌≡◌, ◌<◌, ◌∙◌, ap, refl, Bool, ℕ, zero, suc, ◌+◌, List, [], ◌∷◌, map, All, add-one, arith}
 use Rattle.std.proofs.lemmas.List.{length-map}
-use Rattle.std.proofs.lemmas.List.Elements.{All-cons, All-nil, All-head, All-tail}
+use Rattle.std.proofs.lemmas.List.Elements.{All-cons, All-nil, All-head, All-map, All-tail, All-weaker}
 use Rattle.fourstate.specs.declared.limits.TheConstants.{MAX_DELAY}
 use Rattle.fourstate.specs.Values.{same_value}
 use Rattle.gatestep.specs.Step.{State, Evaluation, due}
 use Rattle.gatestep.specs.StepLaws.{not_due}
-use Rattle.gatestep.specs.Tasks.{IsTask, NothingDue, PendingBefore, PendingFrom}
+use Rattle.gatestep.specs.Tasks.{IsTask, NothingDue, PendingBefore}
 use Rattle.design.specs.Lawful.{IsGate}
 use Rattle.design.specs.Netlist.{GateEntry, Netlist}
 use Rattle.waveform.specs.Changes.{wave_changes_below, trace_below}
 use Rattle.waveform.specs.Entries.{CanStore, same_state, standing}
-use Rattle.waveform.specs.SampleLaws.{state_drifts, value_drifts}
-use Rattle.waveform.specs.Timelines.{pushed}
-use Rattle.waveform.proofs.Functions.{changes_early, pushed_is}
+use Rattle.waveform.specs.Timelines.{IsAlwaysSettled, changes_below, pushed}
 use Rattle.scratch.specs.Recordings.{pushed_each}
 use Rattle.scratch.specs.Run.{evaluation_at, state_after, state_before, value}
 use Rattle.scratch.proofs.Drivers.{map_alike}
@@ -28,20 +26,24 @@ pub all_map : {A B : Type 0} (P : B → Type 0) (f : A → B) → ((x : A) → P
 all_map P f holds [] = All-nil P
 all_map P f holds (x ∷ xs) = All-cons P (f x) (map f xs) (holds x) (all_map P f holds xs)
 
--- what is pending in a state can be stored
-pub storable : (t : ℕ) (states : List State) → All (PendingFrom (t + 1)) states → All (PendingBefore (t + 1 + MAX_DELAY)) states → All (CanStore t) states
-storable t states later near = λ k d within event is. (grind (arith, later k d within event is), grind (arith, near k d within event is))
+-- the changes of a function grow by its next value, which is pushed (`waveform::laws::push_to_changes`)
+abbrev pub Grows : {A : Type 0} → (A → A → Bool) → (A → ℕ → A) → Type 0
+Grows {A = A} same drift = (f : ℕ → A) → IsAlwaysSettled drift f → (t : ℕ) → pushed same drift (changes_below same drift f t) t (f t) ≡ changes_below same drift f (suc t)
+
+-- the changes of a function below a moment lie before it (`waveform::laws::changes_lie_before`)
+abbrev pub LieBefore : {A : Type 0} → (A → A → Bool) → (A → ℕ → A) → Type 0
+LieBefore {A = A} same drift = (f : ℕ → A) (n : ℕ) → All (λ e. e.0 < n) (changes_below same drift f n)
 
 module _ (answer : Evaluation → ℕ → State) (d : Netlist) where
   -- the waves with the values at t
-  pub waves_more : (t : ℕ) →
+  pub waves_more : Grows same_value standing → (t : ℕ) →
       pushed_each same_value standing (map (λ n. wave_changes_below (value answer d n) t) d.nets) (map (λ n. value answer d n t) d.nets) t
       ≡ map (λ n. wave_changes_below (value answer d n) (t + 1)) d.nets
-  waves_more t =
+  waves_more grows t =
       rw add-one
       (map_zip (λ n. wave_changes_below (value answer d n) t) (λ n. value answer d n t) (λ xs v. pushed same_value standing xs t v) d.nets
       ∙ map_alike (λ n. pushed same_value standing (wave_changes_below (value answer d n) t) t (value answer d n t)) (λ n. wave_changes_below (value answer d n) (suc t))
-      (λ n. pushed_is value_drifts (value answer d n) (λ u. refl) t) d.nets)
+      (λ n. grows (value answer d n) (λ u. refl) t) d.nets)
 
   module _ (pending : (e : Evaluation) (t : ℕ) → IsTask e → NothingDue t (answer e t)) where
     is_task : (g : GateEntry) → IsGate g → (t : ℕ) → IsTask (evaluation_at d (state_before answer d t) g t)
@@ -58,17 +60,36 @@ module _ (answer : Evaluation → ℕ → State) (d : Netlist) where
         (pending (evaluation_at d (state_before answer d t) g t) t (is_task g is t))
 
     -- the traces with the states after t
-    pub traces_more : All IsGate d.gates → (t : ℕ) →
+    pub traces_more : Grows same_state due → All IsGate d.gates → (t : ℕ) →
         pushed_each same_state due (map (λ g. trace_below (state_after answer d g) t) d.gates) (map (state_before answer d (t + 1)) d.gates) t
         ≡ map (λ g. trace_below (state_after answer d g) (t + 1)) d.gates
-    traces_more are t =
+    traces_more grows are t =
         rw add-one
         (map_zip (λ g. trace_below (state_after answer d g) t) (state_before answer d (suc t)) (λ xs s. pushed same_state due xs t s) d.gates
         ∙ map_where IsGate (λ g. pushed same_state due (trace_below (state_after answer d g) t) t (state_before answer d (suc t) g)) (λ g. trace_below (state_after answer d g) (suc t))
-        (λ g is. pushed_is state_drifts (state_after answer d g) (settled g is) t) d.gates are)
+        (λ g is. grows (state_after answer d g) (settled g is) t) d.gates are)
 
-  pub waves_early : (t : ℕ) → All (All (λ e. e.0 < t)) (map (λ n. wave_changes_below (value answer d n) t) d.nets)
-  waves_early t = all_map (All (λ e. e.0 < t)) (λ n. wave_changes_below (value answer d n) t) (λ n. changes_early value_drifts (value answer d n) t) d.nets
+    module _ (near : (e : Evaluation) (t : ℕ) → IsTask e → PendingBefore (t + MAX_DELAY) e.state → PendingBefore (t + 1 + MAX_DELAY) (answer e t)) where
+      -- what is pending before a moment lies at most the greatest delay after the one before
+      near_before : (g : GateEntry) → IsGate g → (t : ℕ) → PendingBefore (t + MAX_DELAY) (state_before answer d t g)
+      near_before g is zero = λ event none. absurd (cc)
+      near_before g is (suc t) = λ event some.
+          let before = near (evaluation_at d (state_before answer d t) g t) t (is_task g is t) (near_before g is t) event some in omega arith
 
-  pub traces_early : (t : ℕ) → All (All (λ e. e.0 < t)) (map (λ g. trace_below (state_after answer d g) t) d.gates)
-  traces_early t = all_map (All (λ e. e.0 < t)) (λ g. trace_below (state_after answer d g) t) (λ g. changes_early state_drifts (state_after answer d g) t) d.gates
+      can_store : (g : GateEntry) → IsGate g → (t : ℕ) → CanStore t (state_after answer d g t)
+      can_store g is t = λ event some.
+          let before = near_before g is (suc t) event some in
+          (pending (evaluation_at d (state_before answer d t) g t) t (is_task g is t) event some, omega arith)
+
+      -- the states after t can be stored at t
+      pub storable : All IsGate d.gates → (t : ℕ) (states : List State) → states ≡ map (state_before answer d (t + 1)) d.gates → All (CanStore t) states
+      storable are t states those =
+          rw (those, add-one)
+          (All-map (CanStore t) (state_before answer d (suc t)) d.gates
+          (All-weaker IsGate (λ g. CanStore t (state_before answer d (suc t) g)) (λ g is. can_store g is t) d.gates are))
+
+  pub waves_early : LieBefore same_value standing → (t : ℕ) → All (All (λ e. e.0 < t)) (map (λ n. wave_changes_below (value answer d n) t) d.nets)
+  waves_early early t = all_map (All (λ e. e.0 < t)) (λ n. wave_changes_below (value answer d n) t) (λ n. early (value answer d n) t) d.nets
+
+  pub traces_early : LieBefore same_state due → (t : ℕ) → All (All (λ e. e.0 < t)) (map (λ g. trace_below (state_after answer d g) t) d.gates)
+  traces_early early t = all_map (All (λ e. e.0 < t)) (λ g. trace_below (state_after answer d g) t) (λ g. early (state_after answer d g) t) d.gates

@@ -1,10 +1,10 @@
 //! One moment of a run: due events become current, then nets are resolved, then gates are evaluated.
 
 ghost use Rattle.std.specs.Prelude.{◌≡◌, ◌≤◌, ◌+◌, map, length, slice_get, unwrap_or, All, OnOk, IfOk, if◌then◌else◌};
-ghost use Rattle.fourstate.specs.declared.limits.TheConstants.{MAX_DELAY, MAX_TIME};
+ghost use Rattle.fourstate.specs.declared.limits.TheConstants.{MAX_TIME};
 ghost use Rattle.gatestep.specs.Faults.{is_lost};
 ghost use Rattle.gatestep.specs.Step.{initial};
-ghost use Rattle.gatestep.specs.Tasks.{IsReady, PendingBefore, PendingFrom};
+ghost use Rattle.gatestep.specs.Tasks.{IsReady, PendingFrom};
 ghost use Rattle.scratch.specs.Kept.{IsWiring, currents_of, evaluation_from, evaluations_from, input_value, net_from, values_at, values_from};
 ghost use Rattle.scratch.specs.Run.{state_before, value};
 
@@ -60,12 +60,10 @@ impl Moment {
         requires wired { IsWiring design.now.netlist wiring.now }
         requires states { self.old.states.items ≡ map (state_before S.answer design.now.netlist t) design.now.netlist.gates }
         requires ready { All (PendingFrom t) self.old.states.items }
-        requires near { All (PendingBefore (t + MAX_DELAY)) self.old.states.items }
         requires within { t ≤ MAX_TIME }
         ensures values { OnOk result (self.new.values.items ≡ map (λ n. value S.answer design.now.netlist n t) design.now.netlist.nets) }
         ensures states { OnOk result (self.new.states.items ≡ map (state_before S.answer design.now.netlist (t + 1)) design.now.netlist.gates) }
         ensures ready { OnOk result (All (PendingFrom (t + 1)) self.new.states.items) }
-        ensures near { OnOk result (All (PendingBefore (t + 1 + MAX_DELAY)) self.new.states.items) }
         ensures lost { S.losses stepper.new ≡ S.losses stepper.old + (if is_lost result then 1 else 0) }
     {
         find_currents(self.states.as_slice(), t, &mut self.currents)?;
@@ -89,12 +87,10 @@ impl Moment {
     /// Evaluates the tasks, and takes their answers for the states.
     fn step<S: Stepper>(&mut self, stepper: &mut S, t: u64) -> Result<(), StepFault>
         requires ready { All (IsReady t) self.old.tasks.items }
-        requires near { All (λ task. PendingBefore (t + MAX_DELAY) task.state) self.old.tasks.items }
         requires within { t ≤ MAX_TIME }
         ensures states { OnOk result (self.new.states.items ≡ map (λ task. S.answer task t) self.old.tasks.items) }
         ensures values { self.new.values.items ≡ self.old.values.items }
         ensures later { OnOk result (All (PendingFrom (t + 1)) self.new.states.items) }
-        ensures near { OnOk result (All (PendingBefore (t + 1 + MAX_DELAY)) self.new.states.items) }
         ensures lost { S.losses stepper.new ≡ S.losses stepper.old + (if is_lost result then 1 else 0) }
     {
         self.answers.clear();

@@ -8,9 +8,10 @@ use crate::moment::Moment;
 use crate::recording::Recording;
 use crate::wiring::wire;
 use design::Design;
-use gatestep::{StepFault, Stepper};
+use fourstate::Value;
+use gatestep::{Driver, StepFault, Stepper};
 use std::alloc::Global;
-use waveform::Run;
+use waveform::{Run, laws};
 
 /// The run of the design by this stepper, from moment 0 to the horizon, both included: only changes are stored. A step is
 /// made only where there is a gate to evaluate. `OutOfMemory` where an allocation was refused, here or in a step; `WorkerLost`
@@ -24,6 +25,11 @@ pub fn simulate<S: Stepper>(
     ensures lost { S.losses stepper.new ≡ S.losses stepper.old + (if loses_a_worker result then 1 else 0) }
 {
     design.lawful();
+    // What is recorded at each moment are the changes so far.
+    laws::push_to_changes::<Value>();
+    laws::push_to_changes::<Driver>();
+    laws::changes_lie_before::<Value>();
+    laws::changes_lie_before::<Driver>();
     let horizon = design.horizon();
     let wiring = wire(alloc, design)?;
     let mut moment = Moment::before(alloc, design)?;

@@ -3,8 +3,8 @@ use Rattle.std.proofs.Common.{◌≡◌, ℕ, ◌<◌, ◌≤◌, List, [], ◌+
 use Rattle.std.specs.Prelude.{IfErr, OnOk, is_err}
 use Rattle.std.specs.Io.{StartsWith}
 use Rattle.std.proofs.lemmas.List.{length-append, length-take, length-take-le, take-append-le}
-use Rattle.gatestep.specs.Devices.Incoming.{Incoming, IsAllOf, Reads}
-use Rattle.gatestep.specs.Devices.Outgoing.{Outgoing, MovesOn, byte_count}
+use Rattle.devices.specs.Incoming.{Incoming, IsAllOf, Reads}
+use Rattle.devices.specs.Outgoing.{Outgoing, MovesOn, byte_count}
 use Rattle.session.specs.declared.talk.feed.Turn.{Turn}
 use Rattle.session.specs.declared.talk.feed.Turn.TheVariants as turn
 use Rattle.session.specs.Lines.{lines, whole_lines}

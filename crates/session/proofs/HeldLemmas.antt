@@ -1,9 +1,9 @@
 -- What a whole conversation leaves.
 use Rattle.std.proofs.Common.{◌≡◌, ℕ, ◌+◌, List, [], ◌++◌, Bool, true, false, sym, ap, subst, ◌∙◌, Option, None, Some, arith}
 use Rattle.std.specs.Io.KnownBytes.{Appends, Consumes}
-use Rattle.gatestep.specs.Devices.Incoming.{Incoming, IsAllOf}
-use Rattle.gatestep.specs.Devices.Outgoing.{Outgoing}
-use Rattle.gatestep.specs.Devices.Traffic.{failures_after}
+use Rattle.devices.specs.Incoming.{Incoming, IsAllOf}
+use Rattle.devices.specs.Outgoing.{Outgoing}
+use Rattle.devices.specs.Traffic.{failures_after}
 use Rattle.session.specs.declared.talk.exchange.End.{End}
 use Rattle.session.specs.declared.talk.exchange.End.TheVariants as end
 use Rattle.session.specs.Held.{Held}

@@ -11,7 +11,7 @@ use Rattle.session.specs.Lines.{whole_lines, unfinished, last_line, lines, witho
 use Rattle.session.specs.Replies.{ok_line, refusal_line}
 use Rattle.session.specs.State.{SessionState, Answers, Replies, Transcript, after_edit, edit_reply, ends, fault_of, is_quit, question_reply}
 use Rattle.session.specs.Talk.{Answered, Going, HasQuit, SameSink}
-use Rattle.gatestep.specs.Devices.Outgoing.{Outgoing, Adds}
+use Rattle.devices.specs.Outgoing.{Outgoing, Adds}
 use Rattle.session.proofs.LineLemmas.{cut_byte, cut_feed, lines_after, take_front}
 
 -- a short line and a byte more

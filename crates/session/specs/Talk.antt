@@ -1,8 +1,8 @@
 -- How a session stands in the middle of its input.
 use Rattle.std.specs.Prelude.{◌≡◌, Bool, ℕ, true, false, List, ◌++◌, take, Option, Some}
 use Rattle.std.specs.Io.{StartsWith}
-use Rattle.gatestep.specs.Devices.Incoming.{Incoming, IsAllOf}
-use Rattle.gatestep.specs.Devices.Outgoing.{Outgoing, Adds}
+use Rattle.devices.specs.Incoming.{Incoming, IsAllOf}
+use Rattle.devices.specs.Outgoing.{Outgoing, Adds}
 use Rattle.session.specs.declared.commands.command.Command.{Command}
 use Rattle.session.specs.declared.talk.feed.Turn.{Turn}
 use Rattle.session.specs.declared.talk.feed.Turn.TheVariants as turn

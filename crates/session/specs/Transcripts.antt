@@ -2,7 +2,7 @@
 use Rattle.std.specs.Prelude.{ℕ, List, Option}
 use Rattle.std.specs.Io.{StartsWith}
 use Rattle.std.specs.Io.KnownBytes.{Appends, Consumes}
-use Rattle.gatestep.specs.Devices.Incoming.{IsAllOf}
+use Rattle.devices.specs.Incoming.{IsAllOf}
 use Rattle.session.specs.Lines.{lines, whole_lines}
 use Rattle.session.specs.State.{SessionState, Transcript}
 

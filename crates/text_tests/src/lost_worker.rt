@@ -1,9 +1,10 @@
 //! A session whose stepper loses its worker.
 
 ghost use Rattle.gatestep.specs.Step.{advance};
-ghost use Rattle.gatestep.specs.StepLaws.{advance_current, advance_later, advance_stays};
+ghost use Rattle.gatestep.specs.StepLaws.{advance_current, advance_later, advance_near, advance_stays};
 
-use gatestep::{Device, Driver, Record, Serial, StepFault, Stepper, Task};
+use devices::Device;
+use gatestep::{Driver, Record, Serial, StepFault, Stepper, Task};
 use session::{Options, SessionFault, run};
 use std::alloc::Global;
 use std::random::RandomSource;
@@ -40,6 +41,8 @@ impl Stepper for Losing {
     ghost answer_current = { advance_current };
 
     ghost answer_pending = { advance_later };
+
+    ghost answer_near = { advance_near };
 
     ghost answer_stays = { advance_stays };
 }

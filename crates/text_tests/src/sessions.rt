@@ -4,9 +4,10 @@ mod changes;
 mod questions;
 mod texts;
 
+use devices::Device;
+use devices::faulty::{Failing, Pieces};
 use edits::EditFault;
-use gatestep::devices::faulty::{Failing, Pieces};
-use gatestep::{Device, Serial};
+use gatestep::Serial;
 use session::{Options, SessionFault, run};
 use std::alloc::{AllocError, Global};
 use std::random::RandomSource;

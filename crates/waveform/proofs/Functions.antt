@@ -27,6 +27,18 @@ module _ {A : Type 0} {same : A → A → Bool} {drift : A → ℕ → A} (drift
       ∙ map-append (λ t. (t, f t)) (filter (is_change same drift f) (moments n)) (filter (is_change same drift f) (n ∷ []))
       ∙ ap (λ ys. changes_below same drift f n ++ ys) (one_moment n (is_change same drift f n))
 
+  -- where no moment from t on changes, the changes stay
+  pub same_changes : (t u : ℕ) → t ≤ u → ((k : ℕ) → t ≤ k → k < u → is_change same drift f k ≡ false) → changes_below same drift f u ≡ changes_below same drift f t
+  same_changes t zero le still = let here : 0 ≡ t = omega arith in ap (changes_below same drift f) here
+  same_changes t (suc u) le still =
+      ⊎_elim
+      (λ before.
+      let here : t ≤ u = omega arith in
+      one_more u ∙ ap (λ b. changes_below same drift f u ++ change_at u b) (still u here (omega arith)) ∙ append-nil (changes_below same drift f u)
+      ∙ same_changes t u here (λ k from below. still k from (omega arith)))
+      (λ after. let here : suc u ≡ t = omega arith in ap (changes_below same drift f) here)
+      (cases_lt t (suc u))
+
   change_all : (P : ℕ × A → Type 0) (n : ℕ) (b : Bool) → P (n, f n) → All P (change_at n b)
   change_all P n true one = All-cons P (n, f n) [] one (All-nil P)
   change_all P n false one = All-nil P

@@ -6,4 +6,3 @@ pub mod Pushes
 pub mod Splices
 pub mod Turns
 pub mod Unique
-pub mod WavesAndTraces

@@ -4,11 +4,24 @@ use Rattle.std.proofs.Common.{arith}
 use Rattle.std.proofs.lemmas.Bool.{eqb-true, eq-eqb, and_parts, and_from}
 use Rattle.std.proofs.lemmas.Grind.{common_steps}
 use Rattle.fourstate.specs.declared.value.Value.{Value}
+use Rattle.fourstate.specs.declared.value.Value.TheVariants.{Zero, One, Unknown, HighZ}
 use Rattle.fourstate.specs.Values.{same_value}
-use Rattle.fourstate.proofs.Tables.{is_same, same_self}
 use Rattle.gatestep.specs.Step.{State, due, due_of}
-use Rattle.waveform.specs.Drifts.{Drifts}
-use Rattle.waveform.specs.Entries.{standing, same_pending, same_state, CanStore}
+use Rattle.waveform.specs.Entries.{same_pending, same_state, CanStore}
+
+-- `same_value` decides equality
+pub is_same : (v w : Value) → same_value v w ≡ true → v ≡ w
+is_same Zero Zero e = refl
+is_same One One e = refl
+is_same Unknown Unknown e = refl
+is_same HighZ HighZ e = refl
+is_same _ _ e = cc
+
+pub same_self : (v : Value) → same_value v v ≡ true
+same_self Zero = refl
+same_self One = refl
+same_self Unknown = refl
+same_self HighZ = refl
 
 same_events : (v w : Value) (t u : ℕ) → (same_value v w && t == u) ≡ true →
     ◌≡◌ {A = Option (Value × ℕ)} (Some (v, t)) (Some (w, u))
@@ -65,9 +78,3 @@ due_can_store c (Some event) t u le can = λ x h. grind (arith, common_steps)
 -- what can be stored at t can be stored later too, drifted to that moment
 pub stored_later : (t u : ℕ) (a : State) → t ≤ u → CanStore t a → CanStore u (due a u)
 stored_later t u a le can = due_can_store a.current a.pending t u le can
-
-pub value_drifts : Drifts same_value standing
-value_drifts = record { same_is_equal = is_same; equal_is_same = same_self; drift_twice = λ a s u le. refl }
-
-pub state_drifts : Drifts same_state due
-state_drifts = record { same_is_equal = is_same_state; equal_is_same = same_state_self; drift_twice = due_twice }

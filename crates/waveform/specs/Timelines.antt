@@ -14,6 +14,10 @@ abbrev pub is_change : {A : Type 0} → (A → A → Bool) → (A → ℕ → A)
 is_change same drift f zero = true
 is_change same drift f (suc t) = not (same (f (suc t)) (drift (f t) (suc t)))
 
+-- at each moment the function's value is as it stands there: nothing in it is still to move
+abbrev pub IsAlwaysSettled : {A : Type 0} → (A → ℕ → A) → (ℕ → A) → Type 0
+IsAlwaysSettled drift f = (t : ℕ) → drift (f t) t ≡ f t
+
 -- its changes at the moments below n, in order of time
 abbrev pub changes_below : {A : Type 0} → (A → A → Bool) → (A → ℕ → A) → (ℕ → A) → ℕ → List (ℕ × A)
 changes_below same drift f n = map (λ t. (t, f t)) (filter (is_change same drift f) (moments n))

@@ -4,6 +4,7 @@
 mod change;
 mod entries;
 mod entry;
+pub mod laws;
 mod run;
 mod sample;
 mod timeline;

@@ -11,6 +11,8 @@ use crate::timeline::Timeline;
 use gatestep::Driver;
 
 /// The state of a gate's driver after each moment, kept as the entries at which it is not what it falls to by itself.
+/// So `next_after`, `last_before` and `next_value` find no entry where an event merely falls due; `at` gives the state after
+/// each moment all the same.
 pub type Trace = Timeline<Driver>;
 
 /// A state's pending event becomes current at its time. A state can be stored at a moment where that time lies after it,

@@ -3,8 +3,8 @@
 ghost use Rattle.std.specs.Prelude.{◌≡◌, ⊤, refl};
 ghost use Rattle.fourstate.specs.Values.{same_value};
 ghost use Rattle.fourstate.specs.declared.value.Value.TheVariants.{Unknown};
-ghost use Rattle.fourstate.proofs.Tables.{is_same, same_self};
 ghost use Rattle.waveform.specs.Entries.{standing};
+ghost use Rattle.waveform.specs.SampleLaws.{is_same, same_self};
 
 use crate::change::Change;
 use crate::sample::Sample;

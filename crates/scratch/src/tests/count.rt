@@ -1,7 +1,7 @@
 //! How much a run asks of its stepper.
 
 ghost use Rattle.gatestep.specs.Step.{advance};
-ghost use Rattle.gatestep.specs.StepLaws.{advance_current, advance_later, advance_stays};
+ghost use Rattle.gatestep.specs.StepLaws.{advance_current, advance_later, advance_near, advance_stays};
 
 use super::build::{Plan, build};
 use crate::simulate;
@@ -60,6 +60,8 @@ impl Stepper for Counting {
     ghost answer_current = { advance_current };
 
     ghost answer_pending = { advance_later };
+
+    ghost answer_near = { advance_near };
 
     ghost answer_stays = { advance_stays };
 }

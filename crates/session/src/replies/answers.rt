@@ -1,14 +1,14 @@
 //! The lines that answer questions.
 
 ghost use Rattle.std.specs.Prelude.{◌≡◌};
-ghost use Rattle.gatestep.specs.Devices.Outgoing.{Adds};
+ghost use Rattle.devices.specs.Outgoing.{Adds};
 ghost use Rattle.session.specs.Questions.{told};
 ghost use Rattle.session.specs.Replies.{change_or_none, value_line};
 
 use crate::commands::Look;
 use crate::replies::lines::{change_reply, wave};
+use devices::{Sink, Writer};
 use fourstate::Value;
-use gatestep::{Sink, Writer};
 use waveform::Wave;
 
 /// The lines that answer what is asked about a wave. Its changes are found by halving; only a search for a value walks

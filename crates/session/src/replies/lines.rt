@@ -1,12 +1,12 @@
 //! The lines of replies.
 
 ghost use Rattle.std.specs.Prelude.{◌≡◌, map};
-ghost use Rattle.gatestep.specs.Devices.Outgoing.{Adds};
+ghost use Rattle.devices.specs.Outgoing.{Adds};
 ghost use Rattle.session.specs.Replies.{change_line, ok_line, refusal_line, wave_lines};
 
 use crate::replies::refusal::Refusal;
+use devices::{Sink, Writer};
 use fourstate::Value;
-use gatestep::{Sink, Writer};
 use waveform::Change;
 
 /// The reply to a command that was carried out: the version after it.

@@ -6,7 +6,8 @@ ghost use Rattle.session.specs.Talk.{Ends, SameSink, SameSource, read_failures};
 
 use crate::talk::exchange::{End, exchange};
 use crate::talk::feed::Session;
-use gatestep::{Reader, Sink, Source, Stepper, Writer};
+use devices::{Reader, Sink, Source, Writer};
+use gatestep::Stepper;
 use std::sync::Wait;
 
 /// How many bytes are asked of the source at once.

@@ -5,7 +5,8 @@ ghost use Rattle.session.specs.State.{SessionState};
 ghost use Rattle.session.specs.Talk.{Ends, Going, IsSent, SameSink, SameSource, read_failures};
 
 use crate::talk::feed::{Session, Turn};
-use gatestep::{Reader, Sink, Source, Stepper, Writer};
+use devices::{Reader, Sink, Source, Writer};
+use gatestep::Stepper;
 
 /// How a session ended.
 #[derive(Clone, Copy, Debug, PartialEq, Eq)]

@@ -7,7 +7,8 @@ ghost use Rattle.session.specs.Talk.{Going, HasQuit, SameSink, Stands, is_finish
 
 use crate::machine::Machine;
 use crate::talk::line::Line;
-use gatestep::{Sink, Stepper, Writer};
+use devices::{Sink, Writer};
+use gatestep::Stepper;
 
 /// How a session goes on.
 #[derive(Clone, Copy, Debug, PartialEq, Eq)]

@@ -7,10 +7,13 @@ use super::Timeline;
 use crate::entries::{count_until, entry_at, first_to, latest_entry, value_at};
 use crate::sample::Sample;
 
+/// Look-ups by time. Those that find an entry find none where a value merely moves by itself: in a trace, none where an
+/// event falls due.
 impl<V: Sample> Timeline<V> {
-    /// The value at `t`, in time units.
+    /// The value at `t`, in time units. It can be stored there.
     pub fn at(&self, t: u64) -> V
-        ensures { result ≡ value_by V.drift V.start self.now t }
+        ensures value { result ≡ value_by V.drift V.start self.now t }
+        ensures can { V.can_store t result }
     {
         value_at::<V>(self.entries.as_slice(), t)
     }

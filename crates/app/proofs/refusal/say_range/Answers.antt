@@ -1,5 +1,5 @@
 use Rattle.std.proofs.Common.{◌++◌, codes, decimal}
-use Rattle.gatestep.specs.Devices.Outgoing.{Adds}
+use Rattle.devices.specs.Outgoing.{Adds}
 use Rattle.app.proofs.SayLemmas.{adds_then}
 use Rattle.app.proofs.refusal.say_range.Goals as goal
 

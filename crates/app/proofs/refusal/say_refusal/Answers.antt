@@ -1,4 +1,4 @@
-use Rattle.gatestep.specs.Devices.Outgoing.{Adds}
+use Rattle.devices.specs.Outgoing.{Adds}
 use Rattle.app.specs.Refusals.{refusal_text}
 use Rattle.app.specs.declared.help.TheConstants.{HELP}
 use Rattle.app.proofs.SayLemmas.{adds_then}

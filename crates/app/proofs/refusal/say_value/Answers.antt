@@ -1,5 +1,5 @@
 use Rattle.std.proofs.Common.{◌++◌, codes}
-use Rattle.gatestep.specs.Devices.Outgoing.{Adds}
+use Rattle.devices.specs.Outgoing.{Adds}
 use Rattle.app.proofs.SayLemmas.{adds_then}
 use Rattle.app.proofs.refusal.say_value.Goals as goal
 

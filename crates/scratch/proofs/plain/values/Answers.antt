@@ -1,9 +1,8 @@
-use Rattle.std.proofs.Common.{◌≡◌, ◌+◌, refl, suc, add-one, arith}
+use Rattle.std.proofs.Common.{◌≡◌, refl, suc, add-one, arith}
 use Rattle.std.proofs.lemmas.Grind.{common_steps}
 use Rattle.std.proofs.lemmas.List.{map-append}
-use Rattle.fourstate.specs.declared.limits.TheConstants.{MAX_DELAY}
 use Rattle.gatestep.specs.Step.{initial}
-use Rattle.gatestep.specs.Tasks.{PendingBefore, PendingFrom}
+use Rattle.gatestep.specs.Tasks.{PendingFrom}
 use Rattle.scratch.proofs.Runs.{all_map}
 use Rattle.scratch.proofs.plain.values.Goals as goal
 
@@ -13,7 +12,6 @@ loop-t-init g c =
     record {
       states = c.in_ok-moment.ensures.states;
       ready = rw c.in_ok-moment.ensures.states (all_map (PendingFrom 0) (λ _. initial) (λ gate event none. absurd (cc)) gates);
-      near = rw c.in_ok-moment.ensures.states (all_map (PendingBefore (0 + MAX_DELAY)) (λ _. initial) (λ gate event none. absurd (cc)) gates);
       rows = rw c.new-rows.ensures.items refl;
     }
 
@@ -22,7 +20,6 @@ loop-t-preserved g c =
     record {
       states = c.in_ok-pass.ensures.states;
       ready = c.in_ok-pass.ensures.ready;
-      near = c.in_ok-pass.ensures.near;
       rows = rw (add-one, c.in_ok-push_row.ensures, c.loop-t.invariant.rows, map-append, c.as_slice.ensures.value, c.in_ok-pass.ensures.values) refl;
     }
 

@@ -1,6 +1,5 @@
-use Rattle.std.proofs.Common.{◌≡◌, ◌+◌, map, All}
-use Rattle.fourstate.specs.declared.limits.TheConstants.{MAX_DELAY}
-use Rattle.gatestep.specs.Tasks.{PendingBefore, PendingFrom}
+use Rattle.std.proofs.Common.{◌≡◌, map, All}
+use Rattle.gatestep.specs.Tasks.{PendingFrom}
 use Rattle.scratch.specs.Plain.{values_at, moments}
 use Rattle.scratch.specs.Run.{state_before}
 use Rattle.scratch.proofs.plain.values.Given as goal
@@ -13,6 +12,5 @@ invariant-loop-t g l =
     record {
       states : l.moment.states.items ≡ map (state_before answer d l.t) d.gates;
       ready : All (PendingFrom l.t) l.moment.states.items;
-      near : All (PendingBefore (l.t + MAX_DELAY)) l.moment.states.items;
       rows : map (λ row. row.items) l.rows.items ≡ map (values_at answer d) (moments l.t);
     }

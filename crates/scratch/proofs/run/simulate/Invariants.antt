@@ -1,6 +1,5 @@
-use Rattle.std.proofs.Common.{◌≡◌, ◌+◌, map, All}
-use Rattle.fourstate.specs.declared.limits.TheConstants.{MAX_DELAY}
-use Rattle.gatestep.specs.Tasks.{PendingBefore, PendingFrom}
+use Rattle.std.proofs.Common.{◌≡◌, map, All}
+use Rattle.gatestep.specs.Tasks.{PendingFrom}
 use Rattle.waveform.specs.Changes.{wave_changes_below, trace_below}
 use Rattle.scratch.specs.Run.{state_after, state_before, value}
 use Rattle.scratch.proofs.run.simulate.Given as goal
@@ -13,7 +12,6 @@ invariant-loop-t g l =
     record {
       states : l.moment.states.items ≡ map (state_before answer d l.t) d.gates;
       ready : All (PendingFrom l.t) l.moment.states.items;
-      near : All (PendingBefore (l.t + MAX_DELAY)) l.moment.states.items;
       waves : l.recording.waves.items ≡ map (λ n. wave_changes_below (value answer d n) l.t) d.nets;
       traces : l.recording.traces.items ≡ map (λ g. trace_below (state_after answer d g) l.t) d.gates;
       losses : g.S.Stepper.losses l.stepper ≡ g.S.Stepper.losses l.fn.stepper;

@@ -1,7 +1,6 @@
 use Rattle.std.proofs.Common.{◌≡◌, ◌+◌, map, take, All}
-use Rattle.fourstate.specs.declared.limits.TheConstants.{MAX_DELAY}
 use Rattle.gatestep.specs.Step.{advance}
-use Rattle.gatestep.specs.Tasks.{PendingBefore, PendingFrom}
+use Rattle.gatestep.specs.Tasks.{PendingFrom}
 use Rattle.gatestep.proofs.serial.SerialStepper.step.Given as goal
 
 -- the answers so far, and when what they leave pending is due
@@ -10,5 +9,4 @@ invariant-loop-task l =
     record {
       answers : l.out.items ≡ map (λ task. advance task l.t) (take l.task-index l.tasks);
       later : All (PendingFrom (l.t + 1)) l.out.items;
-      near : All (λ task. PendingBefore (l.t + MAX_DELAY) task.state) l.tasks → All (PendingBefore (l.t + 1 + MAX_DELAY)) l.out.items;
     }

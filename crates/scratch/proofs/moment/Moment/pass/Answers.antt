@@ -1,6 +1,5 @@
-use Rattle.std.proofs.Common.{◌≡◌, ◌+◌, ◌∙◌, ap, map, Result, Ok, Err, OnOk, add-one}
-use Rattle.fourstate.specs.declared.limits.TheConstants.{MAX_DELAY}
-use Rattle.gatestep.specs.Tasks.{PendingBefore, PendingFrom}
+use Rattle.std.proofs.Common.{◌≡◌, ◌∙◌, ap, map, Result, Ok, Err, OnOk, add-one}
+use Rattle.gatestep.specs.Tasks.{PendingFrom}
 use Rattle.scratch.specs.Run.{evaluation_at, net_at, state_before}
 use Rattle.scratch.proofs.Moments.{evaluations_are, map_twice, task_states, values_are}
 use Rattle.scratch.proofs.moment.Moment.pass.Goals as goal
@@ -19,11 +18,6 @@ pub step-requires-clause-ready : goal.step-requires-clause-ready
 step-requires-clause-ready g c =
     rw (c.in_ok-find_tasks.ensures, c.as_slice-4.ensures.value)
     (task_states (PendingFrom c.args.t) c.as_slice-3.result.now c.args.wiring.now.cells.items c.args.self.now.states.items c.requires.ready)
-
-pub step-requires-clause-near : goal.step-requires-clause-near
-step-requires-clause-near g c =
-    rw (c.in_ok-find_tasks.ensures, c.as_slice-4.ensures.value)
-    (task_states (PendingBefore (c.args.t + MAX_DELAY)) c.as_slice-3.result.now c.args.wiring.now.cells.items c.args.self.now.states.items c.requires.near)
 
 pub returns-clause-values : goal.returns-clause-values
 returns-clause-values g c =

@@ -1,5 +1,5 @@
 use Rattle.std.proofs.Common.{take}
-use Rattle.gatestep.specs.Devices.Outgoing.{Adds}
+use Rattle.devices.specs.Outgoing.{Adds}
 use Rattle.session.specs.Replies.{wave_lines}
 use Rattle.session.proofs.replies.lines.wave.Given as goal
 

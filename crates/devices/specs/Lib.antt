@@ -1,0 +1,4 @@
+pub mod Failures
+pub mod Incoming
+pub mod Outgoing
+pub mod Traffic
