@@ -5,7 +5,8 @@ use Rattle.std.proofs.Common.{arith}
 use Rattle.std.proofs.lemmas.Grind.{common_steps}
 use Rattle.fourstate.specs.declared.value.Value.{Value}
 use Rattle.fourstate.specs.Values.{same_value}
-use Rattle.fourstate.specs.Delays.{DelayTimes, AreDelays, IsDelay, delay_to}
+use Rattle.fourstate.specs.Delays.{AreDelays, IsDelay, delay_to}
+use Rattle.fourstate.specs.declared.delay_times.DelayTimes.{DelayTimes}
 use Rattle.fourstate.specs.Gates.{gate_of}
 use Rattle.fourstate.proofs.Tables.{same_self, delay_in_range}
 use Rattle.gatestep.specs.Step.{State, Evaluation, is_pending, due_of, due, rescheduled, advance}

@@ -10,6 +10,7 @@ use crate::module::Module;
 use crate::names::Names;
 use crate::place::Place;
 use crate::word::{Placed, Word};
+use fourstate::DelayTimes;
 use indexmap::{IndexMap, IndexSet};
 use std::alloc::{AllocError, Global};
 use std::mem;
@@ -62,8 +63,8 @@ impl Draft {
             Word::NetWord(kind) => self.kind = Some(kind),
             Word::GateWord(kind) => {
                 self.gate = kind;
-                self.rise = default.unwrap_or(0);
-                self.fall = self.rise;
+                let delay = u64::from(default.unwrap_or(0));
+                self.delays = DelayTimes::new(delay, delay);
             }
             Word::Endmodule => self.finish(alloc)?,
             _ => {}
@@ -75,8 +76,8 @@ impl Draft {
         ensures { view self.new ≡ at_delay (view self.old) word }
     {
         if let Word::Number(time) = word {
-            self.rise = time;
-            self.fall = time;
+            let delay = u64::from(time);
+            self.delays = DelayTimes::new(delay, delay);
         }
     }
 
@@ -84,7 +85,7 @@ impl Draft {
         ensures { view self.new ≡ at_fall_delay (view self.old) word }
     {
         if let Word::Number(time) = word {
-            self.fall = time;
+            self.delays.fall = u64::from(time);
         }
     }
 
