@@ -1,4 +1,4 @@
--- What holds of a reading at each place of a walk over good words: what is read is sound so far.
+-- What holds of a reading in each state of a walk over good words: what is read is sound so far.
 use Rattle.std.proofs.Common.{◌≡◌, ◌≢◌, ℕ, Bool, false, List, [], ◌∷◌, ◌++◌, Option, Some, None, All, AllPairs, cond, ltb, ◌==◌, ◌≤◌, true, sym, ap, ◌∙◌, refl, arith}
 use Rattle.std.proofs.lemmas.Bool.Decides.{nat_tests}
 use Rattle.std.proofs.lemmas.List.Elements.{All-append, All-nil, All-push}
@@ -9,8 +9,8 @@ use Rattle.vtext.specs.declared.cause.Cause.TheVariants.{ZeroDelay, DelayTooLarg
 use Rattle.vtext.specs.declared.gate.Terminal.{Terminal}
 use Rattle.vtext.specs.declared.gate.Terminal.TheVariants as terminal
 use Rattle.vtext.specs.declared.net.Net.{Net}
-use Rattle.vtext.specs.declared.place.Place.{Place}
-use Rattle.vtext.specs.declared.place.Place.TheVariants.{Outside, ModuleName, RiseEnd, FallDelay, FallEnd, GateStart, InstanceStart, InstanceOpen, TerminalStart, TerminalEnd, InstanceEnd}
+use Rattle.vtext.specs.declared.parser_state.ParserState.{ParserState}
+use Rattle.vtext.specs.declared.parser_state.ParserState.TheVariants.{Outside, ModuleName, RiseEnd, FallDelay, FallEnd, GateStart, InstanceStart, InstanceOpen, TerminalStart, TerminalEnd, InstanceEnd}
 use Rattle.vtext.specs.declared.word.Word.{Word}
 use Rattle.vtext.specs.Causes.{completed_cause, default_fault, delay_fault, gate_cause, is_hash, when}
 use Rattle.vtext.specs.Instances.{completed, gates_of, inputs_of, instance_name, outputs_of}
@@ -52,8 +52,8 @@ module _ (names : List (List ℕ)) where
   abbrev pub IsAmong : Reading → Type 0
   IsAmong r = IsSoFar r × IsGoodNumber names r.name × All (IsConnected r.nets) r.terminals × IsTimed r × IsGoodName names r.instance
 
-  -- at a place, before this word; behind the word of a gate the delays are good where none follows
-  abbrev pub Kept : Place → Option Word → Reading → Type 0
+  -- in a state, before this word; behind the word of a gate the delays are good where none follows
+  abbrev pub Kept : ParserState → Option Word → Reading → Type 0
   Kept Outside next r = IsSoFar r × (r.terminals ≡ [])
   Kept ModuleName next r = IsSoFar r × (r.terminals ≡ [])
   Kept GateStart next r = IsWithin r × (is_hash next ≡ false → IsTimed r)
@@ -65,12 +65,12 @@ module _ (names : List (List ℕ)) where
   Kept InstanceOpen next r = IsWithin r × IsTimed r × IsGoodName names r.instance
   Kept TerminalStart next r = IsAmong r
   Kept TerminalEnd next r = IsAmong r
-  Kept place next r = IsWithin r
+  Kept state next r = IsWithin r
 
   -- where a word leads, if anywhere
-  abbrev pub KeptAt : Option Place → Option Word → Reading → Type 0
+  abbrev pub KeptAt : Option ParserState → Option Word → Reading → Type 0
   KeptAt None next r = Unit {0}
-  KeptAt (Some place) next r = Kept place next r
+  KeptAt (Some state) next r = Kept state next r
 
   -- Nets.
 

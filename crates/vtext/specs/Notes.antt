@@ -1,12 +1,12 @@
--- What a word says, by the point of the grammar at which it stands.
+-- What a word says, by the state of the parser in which it is read.
 use Rattle.std.specs.Prelude.{true, false, ℕ, List, [], ◌∷◌, ◌++◌, Option, Some, None, unwrap_or}
 use Rattle.fourstate.specs.Delays.{delay_times}
 use Rattle.vtext.specs.declared.gate.Terminal.TheVariants.{Net, Constant}
 use Rattle.vtext.specs.declared.word.Word.{Word}
 use Rattle.vtext.specs.declared.word.Word.TheVariants.{Module, Endmodule, PortWord, NetWord, GateWord, Name, Number, Literal, Open, Close, Timescale}
 use Rattle.vtext.specs.declared.word.Placed.{Placed}
-use Rattle.vtext.specs.declared.place.Place.{Place}
-use Rattle.vtext.specs.declared.place.Place.TheVariants.{Outside, ModuleName, Header, OlderName, InlineStart, InlineName, InlineMore, Items, PortStart, PortName, NetName, GateStart, Delay, RiseDelay, FallDelay, InstanceStart, TerminalStart, TerminalEnd}
+use Rattle.vtext.specs.declared.parser_state.ParserState.{ParserState}
+use Rattle.vtext.specs.declared.parser_state.ParserState.TheVariants.{Outside, ModuleName, Header, OlderName, InlineStart, InlineName, InlineMore, Items, PortStart, PortName, NetName, GateStart, Delay, RiseDelay, FallDelay, InstanceStart, TerminalStart, TerminalEnd}
 use Rattle.vtext.specs.GateNames.{with_taken}
 use Rattle.vtext.specs.Instances.{completed}
 use Rattle.vtext.specs.Nets.{blank, directed, listed, net_of, ported, with_net, with_use}
@@ -128,7 +128,7 @@ at_terminal_end names r Close = completed names r
 at_terminal_end names r word = r
 
 -- what has been read after one more word
-abbrev pub noted : Option ℕ → List (List ℕ) → Reading → Place → Placed → Reading
+abbrev pub noted : Option ℕ → List (List ℕ) → Reading → ParserState → Placed → Reading
 noted default names r Outside next = at_outside r next.start next.word
 noted default names r ModuleName next = at_module_name r next.word
 noted default names r Header next = at_header r next.word
@@ -147,4 +147,4 @@ noted default names r FallDelay next = at_fall_delay r next.word
 noted default names r InstanceStart next = at_instance_start r next.word
 noted default names r TerminalStart next = at_terminal_start r next.word
 noted default names r TerminalEnd next = at_terminal_end names r next.word
-noted default names r place next = r
+noted default names r state next = r
