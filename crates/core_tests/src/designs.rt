@@ -6,11 +6,10 @@ mod changes;
 mod random;
 
 use catalog::NameHasher;
-use design::{
-    Design, Gate, GateKey, MAX_GATES, MAX_NETS, MAX_POINTS, Magnitude, Name, Net, NetKey, Terminal,
-    TimeUnit, Unit,
+use design::{Design, Gate, GateKey, MAX_GATES, MAX_NETS, MAX_POINTS, Name, Net, NetKey, Terminal};
+use fourstate::{
+    Delays, GateKind, MAX_TIME, Magnitude, NetKind, TimeUnit, Unit, Value, delay, fits,
 };
-use fourstate::{Delays, GateKind, MAX_TIME, NetKind, Value, delay, fits};
 use std::alloc::Global;
 use std::process::Abort;
 

@@ -1,10 +1,7 @@
 //! Texts written out by hand.
 
-use fourstate::Value;
-use lexing::{
-    MAX_TEXT, Magnitude, Shape, TimeUnit, Unit, constant_value, line, number_value, timescale,
-    tokens,
-};
+use fourstate::{Magnitude, TimeUnit, Unit, Value};
+use lexing::{MAX_TEXT, Shape, constant_value, line, number_value, timescale, tokens};
 use std::alloc::Global;
 use std::process::Abort;
 use std::test::Fail;

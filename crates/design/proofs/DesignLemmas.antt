@@ -4,7 +4,7 @@ use Rattle.std.proofs.lemmas.List.Elements.{All-nil, All-weaker}
 use Rattle.fourstate.specs.declared.limits.TheConstants.{MAX_TIME}
 use Rattle.catalog.specs.Catalog.{with_record}
 use Rattle.design.specs.declared.limits.TheConstants.{MAX_GATES, MAX_NETS, MAX_POINTS}
-use Rattle.design.specs.declared.unit.TimeUnit.{TimeUnit}
+use Rattle.fourstate.specs.declared.unit.TimeUnit.{TimeUnit}
 use Rattle.design.specs.Kept.{IsKept, Store, netlist_of}
 use Rattle.design.specs.Lawful.{IsNet, IsGate, IsWired, IsDesign}
 use Rattle.design.specs.Names.{is_name, same_name}

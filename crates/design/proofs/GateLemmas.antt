@@ -10,7 +10,8 @@ use Rattle.std.specs.List.{filter, list_all, list_any}
 use Rattle.std.specs.Option.{option_map_or}
 use Rattle.catalog.specs.Catalog.{keys_of, record_at, records_of, with_record, without_key}
 use Rattle.fourstate.specs.declared.gate.GateKind.{GateKind}
-use Rattle.fourstate.specs.Delays.{AreDelays, DelayTimes}
+use Rattle.fourstate.specs.Delays.{AreDelays}
+use Rattle.fourstate.specs.declared.delay_times.DelayTimes.{DelayTimes}
 use Rattle.fourstate.specs.Gates.{takes_inputs}
 use Rattle.design.specs.declared.limits.TheConstants.{MAX_GATES}
 use Rattle.design.specs.declared.terminal.Terminal.{Terminal}

@@ -5,7 +5,7 @@ use Rattle.std.specs.List.{filter, list_any}
 use Rattle.std.specs.Option.{option_map_or}
 use Rattle.catalog.specs.Catalog.{keys_of, place_of, record_at, records_of}
 use Rattle.design.specs.declared.terminal.Terminal.{Terminal}
-use Rattle.design.specs.declared.unit.TimeUnit.{TimeUnit}
+use Rattle.fourstate.specs.declared.unit.TimeUnit.{TimeUnit}
 use Rattle.design.specs.Keys.{Keyed}
 use Rattle.design.specs.Lawful.{IsDesign}
 use Rattle.design.specs.Lists.{list_of}

@@ -8,10 +8,10 @@ use Rattle.fourstate.specs.declared.value.Value.{Value}
 use Rattle.fourstate.specs.declared.value.Value.TheVariants.{Unknown}
 use Rattle.fourstate.specs.declared.gate.GateKind.{GateKind}
 use Rattle.fourstate.specs.declared.net.NetKind.{NetKind}
-use Rattle.fourstate.specs.Delays.{DelayTimes}
+use Rattle.fourstate.specs.declared.delay_times.DelayTimes.{DelayTimes}
 use Rattle.design.specs.declared.terminal.Terminal.{Terminal}
 use Rattle.design.specs.declared.terminal.Terminal.TheVariants.{Net, Constant}
-use Rattle.design.specs.declared.unit.TimeUnit.{TimeUnit}
+use Rattle.fourstate.specs.declared.unit.TimeUnit.{TimeUnit}
 use Rattle.design.specs.Names.{same_name}
 
 -- a net: its stimulus points, in order of time, each with the value that the net has from then on

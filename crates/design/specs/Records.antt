@@ -3,7 +3,7 @@ use Rattle.std.specs.Prelude.{ℕ, ◌==◌, not, List}
 use Rattle.std.specs.List.{filter}
 use Rattle.fourstate.specs.declared.gate.GateKind.{GateKind}
 use Rattle.fourstate.specs.declared.net.NetKind.{NetKind}
-use Rattle.fourstate.specs.Delays.{DelayTimes}
+use Rattle.fourstate.specs.declared.delay_times.DelayTimes.{DelayTimes}
 use Rattle.design.specs.declared.terminal.Terminal.{Terminal}
 use Rattle.design.specs.Netlist.{NetEntry, GateEntry}
 

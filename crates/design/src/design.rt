@@ -10,9 +10,9 @@ use crate::gate::Gate;
 use crate::key::{GateKey, NetKey};
 use crate::name::Name;
 use crate::net::Net;
-use crate::unit::TimeUnit;
 use crate::wires::Wires;
 use catalog::{Catalog, NameHasher};
+use fourstate::TimeUnit;
 use std::alloc::{AllocError, Global};
 use std::marker::Model;
 

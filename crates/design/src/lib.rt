@@ -17,7 +17,6 @@ mod net;
 mod points;
 mod stimulus;
 mod terminal;
-mod unit;
 mod wires;
 mod wiring;
 
@@ -29,4 +28,3 @@ pub use limits::{MAX_GATES, MAX_NAME, MAX_NETS, MAX_POINTS};
 pub use name::Name;
 pub use net::Net;
 pub use terminal::Terminal;
-pub use unit::{Magnitude, TimeUnit, Unit};

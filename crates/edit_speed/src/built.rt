@@ -1,8 +1,9 @@
 //! Designs made by edits.
 
 use anyhow::{Result, bail};
-use design::{Design, Name, NameHasher, TimeUnit};
+use design::{Design, Name, NameHasher};
 use edits::{Edit, MAX_EDITS, apply_all};
+use fourstate::TimeUnit;
 use std::alloc::Global;
 
 /// The design that edits build from an empty one, as many at a time as a list may have.

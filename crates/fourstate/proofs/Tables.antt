@@ -3,7 +3,8 @@ use Rattle.std.specs.Bool.{Decides}
 use Rattle.std.specs.Cmp.{IsEquivalence, decided, both_ways}
 use Rattle.std.proofs.Common.{◌≡◌, ◌≤◌, true, List, [], ◌∷◌, Some, map, refl, arith}
 use Rattle.std.proofs.lemmas.Map.Views.{list_any-from_Contains, Contains-from_any}
-use Rattle.fourstate.specs.Delays.{DelayTimes, AreDelays, IsDelay, delay_to}
+use Rattle.fourstate.specs.Delays.{AreDelays, IsDelay, delay_to}
+use Rattle.fourstate.specs.declared.delay_times.DelayTimes.{DelayTimes}
 use Rattle.fourstate.specs.Gates.{gate_of}
 use Rattle.fourstate.specs.Keywords.{gate_keyword, gate_kind_of, net_keyword, net_kind_of}
 use Rattle.fourstate.specs.Nets.{net_of}

@@ -1,13 +1,13 @@
 -- How long a gate takes (IEEE 1364-2005, 7.14).
 use Rattle.std.specs.Prelude.{ℕ, ◌≤◌, min}
+use Rattle.fourstate.specs.declared.delay_times.DelayTimes.{DelayTimes}
 use Rattle.fourstate.specs.declared.limits.TheConstants.{MAX_DELAY}
 use Rattle.fourstate.specs.declared.value.Value.{Value}
 use Rattle.fourstate.specs.declared.value.Value.TheVariants.{Zero, One}
 
--- a gate's delays, in time units
-pub record DelayTimes : Type 0 where
-  pub rise : ℕ
-  pub fall : ℕ
+-- a gate's delays, in time units, where two are given: a rise and a fall
+abbrev pub delay_times : ℕ → ℕ → DelayTimes
+delay_times rise fall = record { rise = rise; fall = fall }
 
 -- the delay to a new value: rise to 1, fall to 0, the lesser of the two to x and to z
 abbrev pub delay_to : DelayTimes → Value → ℕ

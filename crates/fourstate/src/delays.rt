@@ -1,8 +1,9 @@
 //! Gate delays (IEEE 1364-2005, 7.14).
 
 ghost use Rattle.std.specs.Prelude.{◌≡◌, ◌↔◌, IsSome, IfSome};
-ghost use Rattle.fourstate.specs.Delays.{delay_to, IsDelay};
+ghost use Rattle.fourstate.specs.Delays.{AreDelays, IsDelay, delay_times, delay_to};
 
+use crate::delay_times::DelayTimes;
 use crate::limits::MAX_DELAY;
 use crate::value::Value;
 use std::marker::Model;
@@ -15,13 +16,14 @@ pub struct Delays {
 }
 
 impl Model for Delays {
-    ghost use Rattle.fourstate.specs.Delays.{DelayTimes, AreDelays};
+    ghost use Rattle.fourstate.specs.Delays.{AreDelays, delay_times};
+    ghost use Rattle.fourstate.specs.declared.delay_times.DelayTimes.{DelayTimes};
 
     ghost Value = { DelayTimes };
 
-    ghost view = { λ a. record { rise = a.rise; fall = a.fall } };
+    ghost view = { λ a. delay_times a.rise a.fall };
 
-    ghost invariant = { λ a. AreDelays (record { rise = a.rise; fall = a.fall }) };
+    ghost invariant = { λ a. AreDelays (delay_times a.rise a.fall) };
 
     ghost inverse = { λ d. record { rise = d.rise; fall = d.fall } };
 }
@@ -30,8 +32,17 @@ impl Delays {
     /// The delays to 1 and to 0; none exactly where one is 0 or over the limit.
     pub fn new(rise: u64, fall: u64) -> Option<Delays>
         ensures variant { IsSome result ↔ (IsDelay rise × IsDelay fall) }
-        ensures value { IfSome result (λ delays. delays ≡ record { rise = rise; fall = fall }) }
+        ensures value { IfSome result (λ delays. delays ≡ delay_times rise fall) }
     {
+        Delays::from_times(DelayTimes::new(rise, fall))
+    }
+
+    /// The delays of these times; none exactly where one is 0 or over the limit.
+    pub fn from_times(times: DelayTimes) -> Option<Delays>
+        ensures variant { IsSome result ↔ AreDelays times }
+        ensures value { IfSome result (λ delays. delays ≡ times) }
+    {
+        let DelayTimes { rise, fall } = times;
         if 1 <= rise && rise <= MAX_DELAY && 1 <= fall && fall <= MAX_DELAY {
             Some(Delays {
                 rise: rise as u32,

@@ -43,13 +43,12 @@ pub fn inverting_three_state_gates(data: Value, control: Value)
     ensures active_zero { gate_of GateKind.Notif0 («data» ∷ control ∷ []) ≡ gate_of GateKind.Bufif0 (inverse «data» ∷ control ∷ []) }
 {}
 
-/// The delay to each value is within the limits, and to x and to z it is the least.
+/// The delay to each value is within the limits, and to x it is the least.
 #[tactic(auto, using(crate::proofs::Tables::delay_in_range, crate::proofs::Tables::least_delay))]
 pub fn delays_in_range(delays: &Delays)
     ensures each { AreDelays delays.now }
     ensures to_each { (to : values.Value) → IsDelay (delay_to delays.now to) }
     ensures to_unknown { (to : values.Value) → delay_to delays.now Value.Unknown ≤ delay_to delays.now to }
-    ensures to_high_z { (to : values.Value) → delay_to delays.now Value.HighZ ≤ delay_to delays.now to }
 {
     let _rise = delay(delays, Value::One);
     let _fall = delay(delays, Value::Zero);

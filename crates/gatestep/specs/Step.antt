@@ -5,7 +5,8 @@ use Rattle.fourstate.specs.declared.value.Value.{Value}
 use Rattle.fourstate.specs.declared.value.Value.TheVariants.{Unknown}
 use Rattle.fourstate.specs.declared.gate.GateKind.{GateKind}
 use Rattle.fourstate.specs.Values.{same_value}
-use Rattle.fourstate.specs.Delays.{DelayTimes, delay_to}
+use Rattle.fourstate.specs.Delays.{delay_to}
+use Rattle.fourstate.specs.declared.delay_times.DelayTimes.{DelayTimes}
 use Rattle.fourstate.specs.Gates.{gate_of}
 
 -- the value that a gate drives, and the event that it has pending: a value and the moment at which it becomes current

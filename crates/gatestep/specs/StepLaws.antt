@@ -7,7 +7,8 @@ use Rattle.fourstate.specs.declared.limits.TheConstants.{MAX_DELAY}
 use Rattle.fourstate.specs.declared.value.Value.{Value}
 use Rattle.fourstate.specs.declared.value.Value.TheVariants.{Zero, One, Unknown, HighZ}
 use Rattle.fourstate.specs.Values.{same_value}
-use Rattle.fourstate.specs.Delays.{DelayTimes, AreDelays, IsDelay, delay_to}
+use Rattle.fourstate.specs.Delays.{AreDelays, IsDelay, delay_to}
+use Rattle.fourstate.specs.declared.delay_times.DelayTimes.{DelayTimes}
 use Rattle.fourstate.specs.Gates.{gate_of}
 use Rattle.gatestep.specs.Step.{State, Evaluation, is_pending, due_of, due, rescheduled, advance}
 use Rattle.gatestep.specs.Tasks.{IsTask, NothingDue, PendingBefore, again}

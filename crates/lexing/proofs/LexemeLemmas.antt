@@ -14,7 +14,7 @@ use Rattle.lexing.specs.Constants.{begins_constant}
 use Rattle.std.specs.Option.{option_map}
 use Rattle.lexing.specs.Directives.{Reading, directive, is_whole, timescale_of}
 use Rattle.lexing.specs.Lexemes.{is_name, is_escaped, is_number, is_constant, is_single, is_directive, spells, IsLongest, IsNoToken}
-use Rattle.lexing.specs.declared.unit.TimeUnit.{TimeUnit}
+use Rattle.fourstate.specs.declared.unit.TimeUnit.{TimeUnit}
 use Rattle.lexing.specs.declared.token.Shape.{Shape}
 use Rattle.lexing.specs.declared.token.Shape.TheVariants as shape
 

@@ -11,7 +11,7 @@ use Rattle.lexing.specs.Classes.{is_letter, is_digit, is_number_byte, is_printed
 use Rattle.lexing.specs.Constants.{begins_constant}
 use Rattle.lexing.specs.Directives.{directive, is_whole, Reading}
 use Rattle.lexing.specs.Lexemes.{is_name, is_escaped, is_number, is_constant, is_single, is_directive, spells, IsLongest}
-use Rattle.lexing.specs.declared.unit.TimeUnit.{TimeUnit}
+use Rattle.fourstate.specs.declared.unit.TimeUnit.{TimeUnit}
 use Rattle.lexing.specs.declared.token.Shape.{Shape}
 use Rattle.lexing.specs.declared.token.Shape.TheVariants as shape
 

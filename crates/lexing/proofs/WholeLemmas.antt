@@ -10,9 +10,9 @@ use Rattle.lexing.specs.Classes.{is_space}
 use Rattle.lexing.specs.Directives.{Reading, begins_with, then_read, magnitude, unit, literal, precision, literals, directive}
 use Rattle.lexing.specs.Spaces.{white_space, opening_of, behind_white}
 use Rattle.lexing.specs.declared.spaces.White.TheVariants as piece
-use Rattle.lexing.specs.declared.unit.Magnitude.{Magnitude}
-use Rattle.lexing.specs.declared.unit.TimeUnit.{TimeUnit}
-use Rattle.lexing.specs.declared.unit.Unit as times
+use Rattle.fourstate.specs.declared.unit.Magnitude.{Magnitude}
+use Rattle.fourstate.specs.declared.unit.TimeUnit.{TimeUnit}
+use Rattle.fourstate.specs.declared.unit.Unit as times
 
 -- a byte that begins no white space, whatever follows
 

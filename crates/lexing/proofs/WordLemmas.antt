@@ -4,9 +4,9 @@ use Rattle.std.proofs.lemmas.List.{take-append-drop}
 use Rattle.std.proofs.lemmas.Slice.Eq.{bytes_eq-Decides}
 use Rattle.lexing.specs.Classes.{is_space}
 use Rattle.lexing.specs.Directives.{Reading, begins_with, word_of, magnitude, unit, magnitudes, units}
-use Rattle.lexing.specs.declared.unit.Magnitude.{Magnitude}
-use Rattle.lexing.specs.declared.unit.Magnitude.TheVariants.{One, Ten, Hundred}
-use Rattle.lexing.specs.declared.unit.Unit as times
+use Rattle.fourstate.specs.declared.unit.Magnitude.{Magnitude}
+use Rattle.fourstate.specs.declared.unit.Magnitude.TheVariants.{One, Ten, Hundred}
+use Rattle.fourstate.specs.declared.unit.Unit as times
 
 abbrev pub value_or : {A : Type 0} → A → Reading A → A
 value_or d None = d

@@ -3,11 +3,11 @@ use Rattle.std.specs.Prelude.{ℕ, Bool, false, ◌==◌, ◌&&◌, if◌then◌
 use Rattle.std.specs.Option.{option_map}
 use Rattle.std.specs.List.{starts_with}
 use Rattle.lexing.specs.Spaces.{behind_white}
-use Rattle.lexing.specs.declared.unit.Magnitude.{Magnitude}
-use Rattle.lexing.specs.declared.unit.Magnitude.TheVariants.{One, Ten, Hundred}
-use Rattle.lexing.specs.declared.unit.TimeUnit.{TimeUnit}
-use Rattle.lexing.specs.declared.unit.Unit.TheVariants.{Second, Millisecond, Microsecond, Nanosecond, Picosecond, Femtosecond}
-use Rattle.lexing.specs.declared.unit.Unit.{Unit}
+use Rattle.fourstate.specs.declared.unit.Magnitude.{Magnitude}
+use Rattle.fourstate.specs.declared.unit.Magnitude.TheVariants.{One, Ten, Hundred}
+use Rattle.fourstate.specs.declared.unit.TimeUnit.{TimeUnit}
+use Rattle.fourstate.specs.declared.unit.Unit.TheVariants.{Second, Millisecond, Microsecond, Nanosecond, Picosecond, Femtosecond}
+use Rattle.fourstate.specs.declared.unit.Unit.{Unit}
 
 -- whether the bytes begin with these
 abbrev pub begins_with : List ℕ → List ℕ → Bool

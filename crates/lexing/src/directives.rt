@@ -5,7 +5,7 @@ ghost use Rattle.std.specs.Option.{option_map};
 ghost use Rattle.lexing.specs.Directives.{magnitude, unit, literal, precision, literals, directive, timescale_of};
 
 use crate::spaces::behind_white;
-use crate::unit::{Magnitude, TimeUnit, Unit};
+use fourstate::{Magnitude, TimeUnit, Unit};
 
 /// `1`, `10` or `100` in front, and the bytes behind it.
 #[tactic(auto, using(std::proofs::lemmas::List::take_rest), unfolding(crate::specs::Directives::magnitude))]

@@ -13,7 +13,6 @@ mod numbers;
 mod scan;
 mod spaces;
 mod token;
-mod unit;
 
 pub use constants::constant_value;
 pub use directives::timescale;
@@ -22,4 +21,3 @@ pub use lines::line;
 pub use numbers::number_value;
 pub use scan::tokens;
 pub use token::{Shape, Token};
-pub use unit::{Magnitude, TimeUnit, Unit};

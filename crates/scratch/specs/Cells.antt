@@ -1,6 +1,6 @@
 -- A gate as it is evaluated, without its name.
 use Rattle.std.specs.Prelude.{List}
-use Rattle.fourstate.specs.Delays.{DelayTimes}
+use Rattle.fourstate.specs.declared.delay_times.DelayTimes.{DelayTimes}
 use Rattle.fourstate.specs.declared.gate.GateKind.{GateKind}
 use Rattle.scratch.specs.declared.wiring.Input.{Input}
 

@@ -2,8 +2,8 @@
 
 use design::NameHasher;
 use edits::EditFault;
-use fourstate::{NetKind, Value};
-use lexing::{MAX_TEXT, Magnitude, TimeUnit, Unit};
+use fourstate::{DelayTimes, Magnitude, NetKind, TimeUnit, Unit, Value};
+use lexing::MAX_TEXT;
 use std::alloc::{AllocError, Global};
 use std::process::Abort;
 use std::test::Fail;
@@ -50,7 +50,8 @@ fn add_gate(
     let name = gate_name(alloc, names, gate)?;
     add_name(shown, name.as_slice())?;
     let kind = gate.kind().keyword();
-    let delays = format!(in alloc; "={kind} #({},{}) ", gate.rise(), gate.fall())?;
+    let DelayTimes { rise, fall } = gate.delays();
+    let delays = format!(in alloc; "={kind} #({rise},{fall}) ")?;
     shown.push_str(delays.as_str())?;
     add_name(shown, names.text(gate.output()))?;
     for input in gate.inputs() {

@@ -1,10 +1,8 @@
 //! Small texts, read by hand, and texts at the limits.
 
-use design::{
-    Design, Gate, MAX_GATES, MAX_NETS, Magnitude, NameHasher, Net, Terminal, TimeUnit, Unit,
-};
+use design::{Design, Gate, MAX_GATES, MAX_NETS, NameHasher, Net, Terminal};
 use edits::EditFault;
-use fourstate::{Value, delay};
+use fourstate::{Magnitude, TimeUnit, Unit, Value, delay};
 use std::alloc::{AllocError, Global};
 use std::process::Abort;
 use std::test::Fail;

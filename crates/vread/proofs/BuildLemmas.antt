@@ -4,7 +4,7 @@ use Rattle.std.specs.Prelude.{IfOk, Result, Ok, Err, if◌then◌else◌}
 use Rattle.std.specs.List.{list_any}
 use Rattle.std.proofs.lemmas.Bool.Decides.{nat_tests}
 use Rattle.design.specs.declared.limits.TheConstants.{MAX_GATES, MAX_NETS}
-use Rattle.design.specs.declared.unit.TimeUnit.{TimeUnit}
+use Rattle.fourstate.specs.declared.unit.TimeUnit.{TimeUnit}
 use Rattle.design.specs.Keys.{Keyed}
 use Rattle.design.specs.Netlist.{Netlist, empty_netlist}
 use Rattle.vtext.specs.declared.fault.ReadFaultKind.{ReadFaultKind}

@@ -1,18 +1,11 @@
 -- The design that a module spells: its nets and its gates in order, with their names (IEEE 1364-2005, 12.1).
-use Rattle.std.specs.Prelude.{ℕ, List, map, Option, None, Some, option_map}
+use Rattle.std.specs.Prelude.{ℕ, List, map, Option, option_map, unwrap_or}
 use Rattle.design.specs.Netlist as netlist
 use Rattle.design.specs.declared.terminal.Terminal.{Terminal as Connection}
 use Rattle.design.specs.declared.terminal.Terminal.TheVariants as to
-use Rattle.design.specs.declared.unit.Magnitude.{Magnitude as Multiple}
-use Rattle.design.specs.declared.unit.Magnitude.TheVariants as multiple
-use Rattle.design.specs.declared.unit.TimeUnit.{TimeUnit as DesignUnit}
-use Rattle.design.specs.declared.unit.Unit.{Unit as DesignScale}
-use Rattle.design.specs.declared.unit.Unit.TheVariants as design_scale
-use Rattle.lexing.specs.declared.unit.Magnitude.{Magnitude}
-use Rattle.lexing.specs.declared.unit.Magnitude.TheVariants as magnitude
-use Rattle.lexing.specs.declared.unit.TimeUnit.{TimeUnit}
-use Rattle.lexing.specs.declared.unit.Unit.{Unit as TimeScale}
-use Rattle.lexing.specs.declared.unit.Unit.TheVariants as scale
+use Rattle.fourstate.specs.declared.unit.Magnitude.TheVariants.{One}
+use Rattle.fourstate.specs.declared.unit.TimeUnit.{TimeUnit}
+use Rattle.fourstate.specs.declared.unit.Unit.TheVariants.{Nanosecond}
 use Rattle.vtext.specs.declared.gate.Terminal.{Terminal}
 use Rattle.vtext.specs.declared.gate.Terminal.TheVariants.{Net, Constant}
 use Rattle.vtext.specs.declared.net.Net as nets
@@ -22,25 +15,9 @@ use Rattle.vtext.specs.Names.{name_at}
 use Rattle.vtext.specs.Nets.{is_input, net_kind}
 use Rattle.vread.specs.Tops.{top_of}
 
--- Time units.
-
-abbrev pub magnitude_of : Magnitude → Multiple
-magnitude_of magnitude.One = multiple.One
-magnitude_of magnitude.Ten = multiple.Ten
-magnitude_of magnitude.Hundred = multiple.Hundred
-
-abbrev pub scale_of : TimeScale → DesignScale
-scale_of scale.Second = design_scale.Second
-scale_of scale.Millisecond = design_scale.Millisecond
-scale_of scale.Microsecond = design_scale.Microsecond
-scale_of scale.Nanosecond = design_scale.Nanosecond
-scale_of scale.Picosecond = design_scale.Picosecond
-scale_of scale.Femtosecond = design_scale.Femtosecond
-
 -- the unit of a design: that of the text's directives, 1 ns without one
-abbrev pub unit_of : Option TimeUnit → DesignUnit
-unit_of None = record { magnitude = multiple.One; unit = design_scale.Nanosecond }
-unit_of (Some unit) = record { magnitude = magnitude_of unit.magnitude; unit = scale_of unit.unit }
+abbrev pub unit_of : Option TimeUnit → TimeUnit
+unit_of unit = unwrap_or unit (record { magnitude = One; unit = Nanosecond })
 
 -- Nets and gates, by their names.
 
@@ -58,7 +35,7 @@ abbrev pub gate_entry : List (List ℕ) → GateEntry → netlist.GateEntry
 gate_entry names gate = record {
   name = gate_bytes names gate;
   kind = gate.kind;
-  delays = record { rise = gate.rise; fall = gate.fall };
+  delays = gate.delays;
   output = name_at names gate.output;
   inputs = map (connection_of names) gate.inputs;
 }

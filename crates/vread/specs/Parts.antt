@@ -26,7 +26,7 @@ IsNamedInput names (Constant value) = Unit {0}
 pub record IsFitGate (names : List (List ℕ)) (gate : GateEntry) : Type 0 where
   pub named : IsTrue (is_name (gate_bytes names gate))
   pub fits : IsTrue (takes_inputs gate.kind (length gate.inputs))
-  pub delays : AreDelays (record { rise = gate.rise; fall = gate.fall })
+  pub delays : AreDelays gate.delays
   pub output : IsNamed names gate.output
   pub inputs : All (IsNamedInput names) gate.inputs
 

@@ -2,7 +2,7 @@
 
 ghost use Rattle.std.specs.Prelude.{◌≡◌, ◌⊎◌, None, Some, All, IfErr, IfOk};
 ghost use Rattle.vread.specs.LateFaults.{late_fault};
-ghost use Rattle.vread.specs.Netlists.{design_of, netlist_of};
+ghost use Rattle.vread.specs.Netlists.{design_of, netlist_of, unit_of};
 ghost use Rattle.vread.specs.Parts.{IsFitModule};
 ghost use Rattle.vtext.specs.ReadFaults.{out_of_memory};
 ghost use Rattle.vtext.specs.Sound.{IsSoundModule};
@@ -11,8 +11,8 @@ use crate::gates::with_gates;
 use crate::late::{fault_at, no_top, top_fault};
 use crate::names::name_of;
 use crate::nets::with_nets;
-use crate::units::unit_of;
 use design::{Design, NameHasher};
+use fourstate::TimeUnit;
 use std::alloc::{AllocError, Global};
 use vtext::{Module, Modules, ReadFault};
 
@@ -53,4 +53,11 @@ fn design_from(
     let design = Design::empty(alloc, hasher, name, unit_of(modules.unit()));
     let design = with_nets(alloc, design, names, top)?;
     with_gates(alloc, design, names, top)
+}
+
+/// The unit of a design: that of its text's directives, 1 ns without one (own).
+fn unit_of(unit: Option<TimeUnit>) -> TimeUnit
+    ensures { result ≡ unit_of unit }
+{
+    unit.unwrap_or_default()
 }

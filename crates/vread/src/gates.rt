@@ -76,10 +76,10 @@ fn name_of_gate(alloc: Global, names: &Names, gate: &vtext::Gate) -> Result<Name
 }
 
 fn delays_of(gate: &vtext::Gate) -> Delays
-    requires { AreDelays (record { rise = gate.now.rise; fall = gate.now.fall }) }
-    ensures { result ≡ record { rise = gate.now.rise; fall = gate.now.fall } }
+    requires { AreDelays gate.now.delays }
+    ensures { result ≡ gate.now.delays }
 {
-    match Delays::new(u64::from(gate.rise()), u64::from(gate.fall())) {
+    match Delays::from_times(gate.delays()) {
         Some(delays) => delays,
         None => unreachable!(),
     }

@@ -9,7 +9,6 @@ mod lengths;
 mod names;
 mod nets;
 mod reading;
-mod units;
 
 pub use reading::read;
 pub use vtext::{ReadFault, ReadFaultKind};

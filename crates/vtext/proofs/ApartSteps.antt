@@ -3,8 +3,8 @@ use Rattle.std.proofs.Common.{◌≡◌, ℕ, suc, ◌++◌, AllPairs, List, [],
 use Rattle.std.proofs.lemmas.List.Elements.{All-nil, All-push}
 use Rattle.vtext.specs.declared.gate.Terminal.{Terminal}
 use Rattle.vtext.specs.declared.gate.Terminal.TheVariants.{Net, Constant}
-use Rattle.vtext.specs.declared.place.Place.{Place}
-use Rattle.vtext.specs.declared.place.Place.TheVariants.{Outside, ModuleName, Header, OlderName, InlineStart, InlineName, InlineMore, Items, PortStart, PortName, NetName, GateStart, Delay, RiseDelay, FallDelay, InstanceStart, TerminalStart, TerminalEnd}
+use Rattle.vtext.specs.declared.parser_state.ParserState.{ParserState}
+use Rattle.vtext.specs.declared.parser_state.ParserState.TheVariants.{Outside, ModuleName, Header, OlderName, InlineStart, InlineName, InlineMore, Items, PortStart, PortName, NetName, GateStart, Delay, RiseDelay, FallDelay, InstanceStart, TerminalStart, TerminalEnd}
 use Rattle.vtext.specs.declared.word.Word.{Word}
 use Rattle.vtext.specs.declared.word.Word.TheVariants.{Module, Endmodule, PortWord, NetWord, GateWord, Name, Number, Literal, Open, Close, Timescale}
 use Rattle.vtext.specs.declared.word.Placed.{Placed}
@@ -120,7 +120,7 @@ module _ (names : List (List ℕ)) (room : ℕ) where
   terminal_end r Close h started none = completed_holds names r room h started none
   terminal_end r w h started none = less r h
 
-  pub still_holds : (default : Option ℕ) (r : Reading) (at : Place) (p : Placed) (after : Option Word) → Holds names (suc room) r → IsPending names at r
+  pub still_holds : (default : Option ℕ) (r : Reading) (at : ParserState) (p : Placed) (after : Option Word) → Holds names (suc room) r → IsPending names at r
       → cause default names r at p.word after ≡ None → Holds names room (noted default names r at p)
   still_holds default r Outside p after h pending none = outside r p.start p.word (less r h)
   still_holds default r ModuleName p after h pending none = module_name r p.word (less r h)

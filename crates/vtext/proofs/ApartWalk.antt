@@ -2,8 +2,8 @@
 use Rattle.std.proofs.Common.{◌≡◌, ◌≢◌, ℕ, ◌+◌, ◌^◌, ◌<◌, All, AllPairs, List, [], ◌∷◌, Option, Some, None, Ok, length, refl, sym, subst, add-one, arith}
 use Rattle.std.proofs.lemmas.List.Elements.{All-head, All-nil, All-tail}
 use Rattle.vtext.specs.declared.cause.Cause.{Cause}
-use Rattle.vtext.specs.declared.place.Place.{Place}
-use Rattle.vtext.specs.declared.place.Place.TheVariants.{Outside}
+use Rattle.vtext.specs.declared.parser_state.ParserState.{ParserState}
+use Rattle.vtext.specs.declared.parser_state.ParserState.TheVariants.{Outside}
 use Rattle.vtext.specs.declared.word.Word.{Word}
 use Rattle.vtext.specs.declared.word.Placed.{Placed}
 use Rattle.vtext.specs.GateNames.{gate_bytes}
@@ -19,7 +19,7 @@ use Rattle.vtext.proofs.InstanceLemmas.{Differ}
 use Rattle.vtext.proofs.PendingLemmas.{IsPending, IsPendingAt, still_pending}
 
 -- an admitted word leads on, and has no cause
-let_through : (at to : Place) (w : Word) (next : Option Place) (why : Option Cause) → judged at w next why ≡ Ok to → (next ≡ Some to) × (why ≡ None)
+let_through : (at to : ParserState) (w : Word) (next : Option ParserState) (why : Option Cause) → judged at w next why ≡ Ok to → (next ≡ Some to) × (why ≡ None)
 let_through at to w None why e = absurd cc
 let_through at to w (Some next) (Some refused) e = absurd cc
 let_through at to w (Some next) None e = (cc, refl)
@@ -27,19 +27,19 @@ let_through at to w (Some next) None e = (cc, refl)
 -- where a walk stands with so many words left
 record Stands (names : List (List ℕ)) (room : ℕ) (walk : Walk) : Type 0 where
   pub holds : Holds names room walk.so_far
-  pub pending : IsPending names walk.place walk.so_far
+  pub pending : IsPending names walk.state walk.so_far
 
 module _ (default : Option ℕ) (names : List (List ℕ)) where
   one_word : (from to : Walk) (p : Placed) (after : Option Word) (room : ℕ) → IsGoodWord names p.word → Stands names (room + 1) from → Turns default names from p after to → Stands names room to
   one_word from to p after room good s turns =
-      let through = let_through from.place to.place p.word _ _ turns.admitted in
-      let next : Reading = noted default names from.so_far from.place p in
+      let through = let_through from.state to.state p.word _ _ turns.admitted in
+      let next : Reading = noted default names from.so_far from.state p in
       let h = rw add-one at s.holds in
-      let pending : IsPending names to.place next =
-      subst (λ (o : Option Place). IsPendingAt names o next) through.0 (still_pending names default from.so_far room from.place p after h s.pending good through.1) in
+      let pending : IsPending names to.state next =
+      subst (λ (o : Option ParserState). IsPendingAt names o next) through.0 (still_pending names default from.so_far room from.state p after h s.pending good through.1) in
       record {
-        holds = subst (Holds names room) (sym turns.so_far) (still_holds names room default from.so_far from.place p after h s.pending through.1);
-        pending = subst (IsPending names to.place) (sym turns.so_far) pending;
+        holds = subst (Holds names room) (sym turns.so_far) (still_holds names room default from.so_far from.state p after h s.pending through.1);
+        pending = subst (IsPending names to.state) (sym turns.so_far) pending;
       }
 
   walked : (words : List Placed) (from to : Walk) (after : Option Word) → AreGoodWords names words → Stands names (length words) from → Leads default names from words after to → Stands names 0 to
@@ -64,7 +64,7 @@ begun names room small = record {
 
 -- the length has a bound since a number of more than 64 digits is written by its last 64
 pub gates_differ : (default : Option ℕ) (names : List (List ℕ)) (words : List Placed) (last : Reading) → length words < 2 ^ 64 → AreGoodWords names words
-    → Leads default names start words None (record { place = Outside; so_far = last })
+    → Leads default names start words None (record { state = Outside; so_far = last })
     → All (λ (m : ModuleEntry). AllPairs (λ g h. gate_bytes names g ≢ gate_bytes names h) m.gates) last.modules
 gates_differ default names words last small good leads =
-    (walked default names words start (record { place = Outside; so_far = last }) None good (begun names (length words) small) leads).holds.done
+    (walked default names words start (record { state = Outside; so_far = last }) None good (begun names (length words) small) leads).holds.done

@@ -1,7 +1,7 @@
 -- A word adds one unnamed instance at most.
 use Rattle.std.proofs.Common.{◌≡◌, ℕ, ◌+◌, ◌≤◌, List, Option, Some, None, ap, arith}
-use Rattle.vtext.specs.declared.place.Place.{Place}
-use Rattle.vtext.specs.declared.place.Place.TheVariants.{Outside, ModuleName, Header, OlderName, InlineStart, InlineName, InlineMore, Items, PortStart, PortName, NetName, GateStart, Delay, RiseDelay, FallDelay, InstanceStart, TerminalStart, TerminalEnd}
+use Rattle.vtext.specs.declared.parser_state.ParserState.{ParserState}
+use Rattle.vtext.specs.declared.parser_state.ParserState.TheVariants.{Outside, ModuleName, Header, OlderName, InlineStart, InlineName, InlineMore, Items, PortStart, PortName, NetName, GateStart, Delay, RiseDelay, FallDelay, InstanceStart, TerminalStart, TerminalEnd}
 use Rattle.vtext.specs.declared.word.Word.{Word}
 use Rattle.vtext.specs.declared.word.Word.TheVariants.{Module, Endmodule, PortWord, NetWord, GateWord, Name, Number, Literal, Open, Close, Timescale}
 use Rattle.vtext.specs.declared.word.Placed.{Placed}
@@ -90,7 +90,7 @@ terminal_end : (names : List (List ℕ)) (r : Reading) (w : Word) → (at_termin
 terminal_end names r Close = more r.instance r.unnamed
 terminal_end names r w = same r.unnamed
 
-pub count_grows : (default : Option ℕ) (names : List (List ℕ)) (r : Reading) (at : Place) (p : Placed) → (noted default names r at p).unnamed ≤ r.unnamed + 1
+pub count_grows : (default : Option ℕ) (names : List (List ℕ)) (r : Reading) (at : ParserState) (p : Placed) → (noted default names r at p).unnamed ≤ r.unnamed + 1
 count_grows default names r Outside p = outside r p.start p.word
 count_grows default names r ModuleName p = module_name r p.word
 count_grows default names r Header p = header r p.word
@@ -112,7 +112,7 @@ count_grows default names r TerminalEnd p = terminal_end names r p.word
 count_grows default names r at p = same r.unnamed
 
 -- the same in a walk
-pub counted_more : (default : Option ℕ) (names : List (List ℕ)) (now next : Reading) (at : Place) (p : Placed) (i : ℕ) → next ≡ noted default names now at p → now.unnamed ≤ i → next.unnamed ≤ i + 1
+pub counted_more : (default : Option ℕ) (names : List (List ℕ)) (now next : Reading) (at : ParserState) (p : Placed) (i : ℕ) → next ≡ noted default names now at p → now.unnamed ≤ i → next.unnamed ≤ i + 1
 counted_more default names now next at p i e counted =
     let grown : next.unnamed ≡ (noted default names now at p).unnamed = ap (λ (r : Reading). r.unnamed) e in
     let least = count_grows default names now at p in

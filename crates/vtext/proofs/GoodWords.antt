@@ -12,7 +12,7 @@ use Rattle.lexing.specs.Texts.{Spells, bytes_of, name_bytes}
 use Rattle.lexing.specs.declared.token.Shape.{Shape}
 use Rattle.lexing.specs.declared.token.Shape.TheVariants as shape
 use Rattle.lexing.specs.declared.token.Token.{Token}
-use Rattle.lexing.specs.declared.unit.TimeUnit.{TimeUnit}
+use Rattle.fourstate.specs.declared.unit.TimeUnit.{TimeUnit}
 use Rattle.design.specs.Names.{is_name, is_name_byte, same_name}
 use Rattle.vtext.specs.declared.word.Direction.TheVariants.{Input, Output}
 use Rattle.vtext.specs.declared.word.Word.{Word}

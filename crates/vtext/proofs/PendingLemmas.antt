@@ -3,8 +3,8 @@ use Rattle.std.proofs.Common.{◌≡◌, ℕ, suc, Bool, true, false, List, Opti
 use Rattle.std.specs.Option.{option_map_or}
 use Rattle.vtext.specs.declared.cause.Cause.{Cause}
 use Rattle.vtext.specs.declared.gate.InstanceName.TheVariants.{Written}
-use Rattle.vtext.specs.declared.place.Place.{Place}
-use Rattle.vtext.specs.declared.place.Place.TheVariants.{Outside, ModuleName, ModuleHead, Header, OlderNext, OlderName, InlineStart, InlineName, InlineNext, InlineMore, HeaderEnd, Items, PortStart, PortName, PortNext, NetName, NetNext, GateStart, Delay, RiseDelay, RiseEnd, FallDelay, FallEnd, InstanceStart, InstanceOpen, TerminalStart, TerminalEnd, InstanceEnd}
+use Rattle.vtext.specs.declared.parser_state.ParserState.{ParserState}
+use Rattle.vtext.specs.declared.parser_state.ParserState.TheVariants.{Outside, ModuleName, ModuleHead, Header, OlderNext, OlderName, InlineStart, InlineName, InlineNext, InlineMore, HeaderEnd, Items, PortStart, PortName, PortNext, NetName, NetNext, GateStart, Delay, RiseDelay, RiseEnd, FallDelay, FallEnd, InstanceStart, InstanceOpen, TerminalStart, TerminalEnd, InstanceEnd}
 use Rattle.vtext.specs.declared.word.Word.{Word}
 use Rattle.vtext.specs.declared.word.Word.TheVariants.{Module, Endmodule, PortWord, NetWord, GateWord, Name, Misnamed, Number, Literal, Open, Close, Comma, Semicolon, Hash, Timescale}
 use Rattle.vtext.specs.declared.word.Placed.{Placed}
@@ -19,14 +19,14 @@ use Rattle.vtext.proofs.CompletedLemmas.{Holds, IsNamed, IsStarted}
 use Rattle.vtext.proofs.FreshLemmas.{fresh}
 use Rattle.vtext.proofs.TakenLemmas.{taken_itself}
 
-abbrev pub IsPending : List (List ℕ) → Place → Reading → Type 0
+abbrev pub IsPending : List (List ℕ) → ParserState → Reading → Type 0
 IsPending names InstanceOpen r = IsStarted names r.instance r.gates r.taken
 IsPending names TerminalStart r = IsStarted names r.instance r.gates r.taken
 IsPending names TerminalEnd r = IsStarted names r.instance r.gates r.taken
 IsPending names at r = Unit {0}
 
 -- the same where a word leads on
-abbrev pub IsPendingAt : List (List ℕ) → Option Place → Reading → Type 0
+abbrev pub IsPendingAt : List (List ℕ) → Option ParserState → Reading → Type 0
 IsPendingAt names None r = Unit {0}
 IsPendingAt names (Some at) r = IsPending names at r
 
@@ -77,16 +77,16 @@ module _ (names : List (List ℕ)) where
 
   -- No other word leads into an instance.
 
-  by_a_name : (to : Place) (r : Reading) (w : Word) → IsPending names to r → IsPendingAt names (by_name to w) r
+  by_a_name : (to : ParserState) (r : Reading) (w : Word) → IsPending names to r → IsPendingAt names (by_name to w) r
   by_a_name to r (Name n) there = there
   by_a_name to r Misnamed there = there
   by_a_name to r w there = tt
 
-  by_a_number : (to : Place) (r : Reading) (w : Word) → IsPending names to r → IsPendingAt names (by_number to w) r
+  by_a_number : (to : ParserState) (r : Reading) (w : Word) → IsPending names to r → IsPendingAt names (by_number to w) r
   by_a_number to r (Number n) there = there
   by_a_number to r w there = tt
 
-  by_more : (to : Place) (r : Reading) (w : Word) → IsPending names to r → IsPendingAt names (from_next to w) r
+  by_more : (to : ParserState) (r : Reading) (w : Word) → IsPending names to r → IsPendingAt names (from_next to w) r
   by_more to r Comma there = there
   by_more to r Semicolon there = tt
   by_more to r w there = tt
@@ -161,7 +161,7 @@ module _ (names : List (List ℕ)) where
   fall_end r Close = tt
   fall_end r w = tt
 
-  pub still_pending : (default : Option ℕ) (r : Reading) (room : ℕ) (at : Place) (p : Placed) (after : Option Word) → Holds names (suc room) r → IsPending names at r
+  pub still_pending : (default : Option ℕ) (r : Reading) (room : ℕ) (at : ParserState) (p : Placed) (after : Option Word) → Holds names (suc room) r → IsPending names at r
       → IsGoodWord names p.word → cause default names r at p.word after ≡ None → IsPendingAt names (step at p.word) (noted default names r at p)
   still_pending default r room Outside p after h pending good none = outside (noted default names r Outside p) p.word
   still_pending default r room ModuleName p after h pending good none = by_a_name ModuleHead (noted default names r ModuleName p) p.word tt

@@ -3,10 +3,10 @@ use Rattle.std.proofs.Common.{◌≡◌, ℕ, List, Option, None, inl, inr, refl
 use Rattle.lexing.specs.Lines.{line_of}
 use Rattle.lexing.specs.Texts.{Spells}
 use Rattle.lexing.specs.declared.token.Token.{Token}
-use Rattle.lexing.specs.declared.unit.TimeUnit.{TimeUnit}
+use Rattle.fourstate.specs.declared.unit.TimeUnit.{TimeUnit}
 use Rattle.vtext.specs.declared.fault.ReadFault.{ReadFault}
 use Rattle.vtext.specs.declared.fault.ReadFaultKind.{ReadFaultKind}
-use Rattle.vtext.specs.declared.place.Place.TheVariants.{Outside}
+use Rattle.vtext.specs.declared.parser_state.ParserState.TheVariants.{Outside}
 use Rattle.vtext.specs.Modules.{ModuleEntry, ModuleList}
 use Rattle.vtext.specs.ReadFaults.{kind_of}
 use Rattle.vtext.specs.Readings.{Reading}
@@ -28,9 +28,9 @@ module _ (default : Option ℕ) (text : List ℕ) (one : (a b : List Token) → 
   pub one_list : (a b : ModuleList) → Says default text a → Says default text b → a ≡ b
   one_list a b s t =
       let e : s.tokens ≡ t.tokens = one s.tokens t.tokens s.spelled t.spelled in
-      let P : List Token → Type 0 = λ tokens. Leads default (names_of text tokens) start (words_of text tokens) None (record { place = Outside; so_far = t.last }) in
+      let P : List Token → Type 0 = λ tokens. Leads default (names_of text tokens) start (words_of text tokens) None (record { state = Outside; so_far = t.last }) in
       let last : s.last ≡ t.last = ap (λ (w : Walk). w.so_far)
-      (one_walk default (names_of text s.tokens) (words_of text s.tokens) start None (record { place = Outside; so_far = s.last }) (record { place = Outside; so_far = t.last }) s.leads (subst P (sym e) t.leads)) in
+      (one_walk default (names_of text s.tokens) (words_of text s.tokens) start None (record { state = Outside; so_far = s.last }) (record { state = Outside; so_far = t.last }) s.leads (subst P (sym e) t.leads)) in
       same_list a b (s.names ∙ ap (names_of text) e ∙ sym t.names) (s.unit ∙ ap (λ (r : Reading). r.unit) last ∙ sym t.unit) (s.modules ∙ ap (λ (r : Reading). r.modules) last ∙ sym t.modules)
 
   refused_once : (f g : ReadFault) → IsRefusedAt default text f → IsRefusedAt default text g → f ≡ g
@@ -53,4 +53,4 @@ module _ (default : Option ℕ) (text : List ℕ) (one : (a b : List Token) → 
   never_both a f s (inr t) =
       let e : s.tokens ≡ t.tokens = one s.tokens t.tokens s.spelled t.spelled in
       let P : List Token → Type 0 = λ tokens. IsFault default (names_of text tokens) (words_of text tokens) t.place t.why in
-      no_fault default (names_of text s.tokens) (words_of text s.tokens) (record { place = Outside; so_far = s.last }) t.place t.why refl s.leads (subst P (sym e) t.first)
+      no_fault default (names_of text s.tokens) (words_of text s.tokens) (record { state = Outside; so_far = s.last }) t.place t.why refl s.leads (subst P (sym e) t.first)

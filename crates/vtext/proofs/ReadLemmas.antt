@@ -6,7 +6,7 @@ use Rattle.lexing.specs.declared.limits.TheConstants.{MAX_TEXT}
 use Rattle.lexing.specs.declared.token.Token.{Token}
 use Rattle.vtext.specs.declared.cause.Cause.{Cause}
 use Rattle.vtext.specs.declared.fault.ReadFault.{ReadFault}
-use Rattle.vtext.specs.declared.place.Place.TheVariants.{Outside}
+use Rattle.vtext.specs.declared.parser_state.ParserState.TheVariants.{Outside}
 use Rattle.vtext.specs.declared.word.Placed.{Placed}
 use Rattle.vtext.specs.Modules.{ModuleList}
 use Rattle.vtext.specs.ReadFaults.{kind_of}
@@ -18,11 +18,11 @@ use Rattle.vtext.specs.Words.{names_of, words_of}
 -- `read` and `said` are what the code holds of the tokens and the words
 pub says : (default : Option ℕ) (text : List ℕ) (tokens read : List Token) (names : List (List ℕ)) (words said : List Placed) (last : Reading) (list : ModuleList)
     → length text ≤ MAX_TEXT → Spells text 0 tokens → read ≡ tokens → names ≡ names_of text read → words ≡ words_of text read → said ≡ words
-    → Leads default names start said None (record { place = Outside; so_far = last })
+    → Leads default names start said None (record { state = Outside; so_far = last })
     → list ≡ record { names = names; unit = last.unit; modules = last.modules }
     → Says default text list
 says default text tokens read names words said last list short spelled r n w s leads e =
-    let P : List (List ℕ) → List Placed → Type 0 = λ ns ws. Leads default ns start ws None (record { place = Outside; so_far = last }) in
+    let P : List (List ℕ) → List Placed → Type 0 = λ ns ws. Leads default ns start ws None (record { state = Outside; so_far = last }) in
     let table : names ≡ names_of text tokens = n ∙ ap (names_of text) r in
     let all : said ≡ words_of text tokens = s ∙ w ∙ ap (words_of text) r in
     record {

@@ -69,7 +69,7 @@ all_driven nets (t ∷ ts) free all =
 record IsReady (names : List (List ℕ)) (nets : List (ℕ × Net)) (r : Reading) (i : InstanceName) (inputs : List Terminal) : Type 0 where
   called : IsGoodInstance names i
   fits : IsTrue (takes_inputs r.gate (length inputs))
-  delays : AreDelays (record { rise = r.rise; fall = r.fall })
+  delays : AreDelays r.delays
   connected : All (IsConnected nets) inputs
 
 module _ (names : List (List ℕ)) (nets : List (ℕ × Net)) (r : Reading) (i : InstanceName) (inputs : List Terminal) (ready : IsReady names nets r i inputs) where
@@ -116,7 +116,7 @@ good_instance names None unnamed good = tt
 good_instance names (Some n) unnamed good = good
 
 pub completed_sound : (names : List (List ℕ)) (r : Reading) → completed_cause names r ≡ None → IsGoodName names r.instance
-    → AreDelays (record { rise = r.rise; fall = r.fall }) → All (IsConnected r.nets) r.terminals
+    → AreDelays r.delays → All (IsConnected r.nets) r.terminals
     → All (IsSoundGate names r.nets) (gates_of r (instance_name r) (inputs_of r.gate r.terminals) (outputs_of r.gate r.terminals))
 completed_sound names r free good delays all =
     let outputs = outputs_of r.gate r.terminals in

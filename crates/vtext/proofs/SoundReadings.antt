@@ -1,16 +1,16 @@
--- What holds of a reading at each place of a walk over good words: what is read is sound so far.
+-- What holds of a reading in each state of a walk over good words: what is read is sound so far.
 use Rattle.std.proofs.Common.{◌≡◌, ◌≢◌, ℕ, Bool, false, List, [], ◌∷◌, ◌++◌, Option, Some, None, All, AllPairs, cond, ltb, ◌==◌, ◌≤◌, true, sym, ap, ◌∙◌, refl, arith}
 use Rattle.std.proofs.lemmas.Bool.Decides.{nat_tests}
 use Rattle.std.proofs.lemmas.List.Elements.{All-append, All-nil, All-push}
 use Rattle.std.specs.Option.{unwrap_or}
-use Rattle.fourstate.specs.Delays.{AreDelays, IsDelay}
+use Rattle.fourstate.specs.Delays.{AreDelays, IsDelay, delay_times}
 use Rattle.fourstate.specs.declared.limits.TheConstants.{MAX_DELAY}
 use Rattle.vtext.specs.declared.cause.Cause.TheVariants.{ZeroDelay, DelayTooLarge}
 use Rattle.vtext.specs.declared.gate.Terminal.{Terminal}
 use Rattle.vtext.specs.declared.gate.Terminal.TheVariants as terminal
 use Rattle.vtext.specs.declared.net.Net.{Net}
-use Rattle.vtext.specs.declared.place.Place.{Place}
-use Rattle.vtext.specs.declared.place.Place.TheVariants.{Outside, ModuleName, RiseEnd, FallDelay, FallEnd, GateStart, InstanceStart, InstanceOpen, TerminalStart, TerminalEnd, InstanceEnd}
+use Rattle.vtext.specs.declared.parser_state.ParserState.{ParserState}
+use Rattle.vtext.specs.declared.parser_state.ParserState.TheVariants.{Outside, ModuleName, RiseEnd, FallDelay, FallEnd, GateStart, InstanceStart, InstanceOpen, TerminalStart, TerminalEnd, InstanceEnd}
 use Rattle.vtext.specs.declared.word.Word.{Word}
 use Rattle.vtext.specs.Causes.{completed_cause, default_fault, delay_fault, gate_cause, is_hash, when}
 use Rattle.vtext.specs.Instances.{completed, gates_of, inputs_of, instance_name, outputs_of}
@@ -38,7 +38,7 @@ pub record AreSound (names : List (List ℕ)) (modules : List ModuleEntry) (nets
 
 -- the delays of the gate item are within their limits
 abbrev pub IsTimed : Reading → Type 0
-IsTimed r = AreDelays (record { rise = r.rise; fall = r.fall })
+IsTimed r = AreDelays r.delays
 
 module _ (names : List (List ℕ)) where
   abbrev pub IsSoFar : Reading → Type 0
@@ -52,8 +52,8 @@ module _ (names : List (List ℕ)) where
   abbrev pub IsAmong : Reading → Type 0
   IsAmong r = IsSoFar r × IsGoodNumber names r.name × All (IsConnected r.nets) r.terminals × IsTimed r × IsGoodName names r.instance
 
-  -- at a place, before this word; behind the word of a gate the delays are good where none follows
-  abbrev pub Kept : Place → Option Word → Reading → Type 0
+  -- in a state, before this word; behind the word of a gate the delays are good where none follows
+  abbrev pub Kept : ParserState → Option Word → Reading → Type 0
   Kept Outside next r = IsSoFar r × (r.terminals ≡ [])
   Kept ModuleName next r = IsSoFar r × (r.terminals ≡ [])
   Kept GateStart next r = IsWithin r × (is_hash next ≡ false → IsTimed r)
@@ -65,12 +65,12 @@ module _ (names : List (List ℕ)) where
   Kept InstanceOpen next r = IsWithin r × IsTimed r × IsGoodName names r.instance
   Kept TerminalStart next r = IsAmong r
   Kept TerminalEnd next r = IsAmong r
-  Kept place next r = IsWithin r
+  Kept state next r = IsWithin r
 
   -- where a word leads, if anywhere
-  abbrev pub KeptAt : Option Place → Option Word → Reading → Type 0
+  abbrev pub KeptAt : Option ParserState → Option Word → Reading → Type 0
   KeptAt None next r = Unit {0}
-  KeptAt (Some place) next r = Kept place next r
+  KeptAt (Some state) next r = Kept state next r
 
   -- Nets.
 
@@ -145,12 +145,12 @@ within_limits n false false z l h =
 pub good_delay : (n : ℕ) → delay_fault n ≡ None → IsDelay n
 good_delay n h = within_limits n (n == 0) (ltb MAX_DELAY n) refl refl h
 
-pub good_default : (default : Option ℕ) → default_fault default ≡ None → AreDelays (record { rise = unwrap_or default 0; fall = unwrap_or default 0 })
+pub good_default : (default : Option ℕ) → default_fault default ≡ None → AreDelays (delay_times (unwrap_or default 0) (unwrap_or default 0))
 good_default None h = absurd cc
 good_default (Some n) h = record { rise = good_delay n h; fall = good_delay n h }
 
 -- the default delay is good, where no delay follows the word of a gate
 pub default_timed : (default : Option ℕ) (next : Option Word) → gate_cause default next ≡ None → is_hash next ≡ false
-    → AreDelays (record { rise = unwrap_or default 0; fall = unwrap_or default 0 })
+    → AreDelays (delay_times (unwrap_or default 0) (unwrap_or default 0))
 default_timed default next free plain =
     good_default default (sym (ap (λ (hash : Bool). cond hash None (default_fault default)) plain) ∙ free)

@@ -1,12 +1,12 @@
--- Each good word keeps what is read sound, at each place of the grammar.
+-- Each good word keeps what is read sound, in each state of the parser.
 use Rattle.std.proofs.Common.{◌≡◌, ℕ, List, Option, Some, None, refl}
 use Rattle.std.proofs.lemmas.List.Elements.{All-push}
 use Rattle.std.specs.Option.{unwrap_or}
 use Rattle.vtext.specs.declared.gate.Terminal.TheVariants.{Constant}
 use Rattle.vtext.specs.declared.net.Net.{Net}
-use Rattle.vtext.specs.declared.place.Place.{Place}
-use Rattle.vtext.specs.declared.place.Place.TheVariants as place
-use Rattle.vtext.specs.declared.place.Place.TheVariants.{Outside, ModuleName, ModuleHead, OlderNext, OlderName, InlineStart, InlineName, InlineNext, InlineMore, HeaderEnd, Items, PortStart, PortName, PortNext, NetName, NetNext, GateStart, RiseDelay, RiseEnd, FallDelay, FallEnd, InstanceStart, InstanceOpen, TerminalStart, TerminalEnd, InstanceEnd}
+use Rattle.vtext.specs.declared.parser_state.ParserState.{ParserState}
+use Rattle.vtext.specs.declared.parser_state.ParserState.TheVariants as state
+use Rattle.vtext.specs.declared.parser_state.ParserState.TheVariants.{Outside, ModuleName, ModuleHead, OlderNext, OlderName, InlineStart, InlineName, InlineNext, InlineMore, HeaderEnd, Items, PortStart, PortName, PortNext, NetName, NetNext, GateStart, RiseDelay, RiseEnd, FallDelay, FallEnd, InstanceStart, InstanceOpen, TerminalStart, TerminalEnd, InstanceEnd}
 use Rattle.vtext.specs.declared.word.Word.{Word}
 use Rattle.vtext.specs.declared.word.Word.TheVariants.{Module, Endmodule, PortWord, NetWord, GateWord, Name, Misnamed, Number, Literal, Open, Close, Comma, Semicolon, Hash, Timescale}
 use Rattle.vtext.specs.Causes.{cause, delay_cause, instance_cause, item_cause, name_cause, terminal_end_cause}
@@ -190,13 +190,13 @@ module _ (default : Option ℕ) (names : List (List ℕ)) (r : Reading) (next : 
   instance_end Semicolon h = h.0
   instance_end w h = tt
 
-  -- A word at any place.
-  pub step_kept : (at : Place) (start : ℕ) (w : Word) → cause default names r at w next ≡ None → IsGoodWord names w → Kept names at (Some w) r
+  -- A word in any state.
+  pub step_kept : (at : ParserState) (start : ℕ) (w : Word) → cause default names r at w next ≡ None → IsGoodWord names w → Kept names at (Some w) r
       → KeptAt names (step at w) next (noted default names r at (record { word = w; start = start }))
   step_kept Outside start w free good h = outside start w h
   step_kept ModuleName start w free good h = module_name w free good h
   step_kept ModuleHead start w free good h = module_head w h
-  step_kept place.Header start w free good h = header w good h
+  step_kept state.Header start w free good h = header w good h
   step_kept OlderNext start w free good h = older_next w h
   step_kept OlderName start w free good h = older_name w good h
   step_kept InlineStart start w free good h = inline_start w good h
@@ -211,7 +211,7 @@ module _ (default : Option ℕ) (names : List (List ℕ)) (r : Reading) (next : 
   step_kept NetName start w free good h = net_name w good h
   step_kept NetNext start w free good h = net_next w h
   step_kept GateStart start w free good h = gate_start w free good h
-  step_kept place.Delay start w free good h = delay w free h
+  step_kept state.Delay start w free good h = delay w free h
   step_kept RiseDelay start w free good h = rise_delay w free h
   step_kept RiseEnd start w free good h = rise_end w h
   step_kept FallDelay start w free good h = fall_delay w free h

@@ -1,12 +1,12 @@
--- What is read is written by the grammar: the words behind each place of a walk that leads to its end are the rest of some tree.
+-- What is read is written by the grammar: the words behind each state of a walk that leads to its end are the rest of some tree.
 use Rattle.std.proofs.Common.{◌≡◌, ◌⊎◌, inl, inr, ℕ, List, [], ◌∷◌, Option, Some, None, Ok, map, refl, sym, ap, subst}
 use Rattle.fourstate.specs.declared.net.NetKind.{NetKind}
 use Rattle.vtext.specs.declared.cause.Cause.{Cause}
 use Rattle.vtext.specs.declared.gate.Terminal.{Terminal}
 use Rattle.vtext.specs.declared.gate.Terminal.TheVariants.{Net, Constant}
-use Rattle.vtext.specs.declared.place.Place.{Place}
-use Rattle.vtext.specs.declared.place.Place.TheVariants as place
-use Rattle.vtext.specs.declared.place.Place.TheVariants.{Outside, ModuleName, ModuleHead, OlderNext, OlderName, InlineStart, InlineName, InlineNext, InlineMore, HeaderEnd, Items, PortStart, PortName, PortNext, NetName, NetNext, GateStart, RiseDelay, RiseEnd, FallDelay, FallEnd, InstanceStart, InstanceOpen, TerminalStart, TerminalEnd, InstanceEnd}
+use Rattle.vtext.specs.declared.parser_state.ParserState.{ParserState}
+use Rattle.vtext.specs.declared.parser_state.ParserState.TheVariants as state
+use Rattle.vtext.specs.declared.parser_state.ParserState.TheVariants.{Outside, ModuleName, ModuleHead, OlderNext, OlderName, InlineStart, InlineName, InlineNext, InlineMore, HeaderEnd, Items, PortStart, PortName, PortNext, NetName, NetNext, GateStart, RiseDelay, RiseEnd, FallDelay, FallEnd, InstanceStart, InstanceOpen, TerminalStart, TerminalEnd, InstanceEnd}
 use Rattle.vtext.specs.declared.word.Word.{Word}
 use Rattle.vtext.specs.declared.word.Word.TheVariants.{Module, Endmodule, PortWord, NetWord, GateWord, Name, Misnamed, Number, Literal, Open, Close, Comma, Semicolon, Hash, Timescale}
 use Rattle.vtext.specs.declared.word.Placed.{Placed}
@@ -35,12 +35,12 @@ headed tail = Close ∷ Semicolon ∷ body tail
 abbrev ended : Tail → List Word
 ended tail = Semicolon ∷ body tail
 
--- the words are the rest behind a place
-abbrev Rest : Place → List Word → Type 0
+-- the words are the rest behind a state
+abbrev Rest : ParserState → List Word → Type 0
 Rest Outside words = (parts : List Part) × (words ≡ parts_then parts [])
 Rest ModuleName words = (n : ℕ) × ((header : Header) × ((tail : Tail) × (words ≡ Name n ∷ header_then header (body tail))))
 Rest ModuleHead words = (header : Header) × ((tail : Tail) × (words ≡ header_then header (body tail)))
-Rest place.Header words = (header : Header) × ((tail : Tail) × (Open ∷ words ≡ header_then header (body tail)))
+Rest state.Header words = (header : Header) × ((tail : Tail) × (Open ∷ words ≡ header_then header (body tail)))
 Rest OlderNext words = (names : List ℕ) × ((tail : Tail) × (words ≡ names_then names (headed tail)))
 Rest OlderName words = (n : ℕ) × ((names : List ℕ) × ((tail : Tail) × (words ≡ Name n ∷ names_then names (headed tail))))
 Rest InlineStart words = (kind : Option NetKind) × ((n : ℕ) × ((ports : List Port) × ((tail : Tail) × (words ≡ kind_then kind (Name n ∷ ports_then ports (headed tail))))))
@@ -55,7 +55,7 @@ Rest PortNext words = (names : List ℕ) × ((tail : Tail) × (words ≡ names_t
 Rest NetName words = (n : ℕ) × ((names : List ℕ) × ((tail : Tail) × (words ≡ Name n ∷ names_then names (ended tail))))
 Rest NetNext words = (names : List ℕ) × ((tail : Tail) × (words ≡ names_then names (ended tail)))
 Rest GateStart words = (delay : Delay) × ((i : Instance) × ((more : List Instance) × ((tail : Tail) × (words ≡ delay_then delay (instance_then i (instances_then more (ended tail)))))))
-Rest place.Delay words = (delay : Delay) × ((i : Instance) × ((more : List Instance) × ((tail : Tail) × (Hash ∷ words ≡ delay_then delay (instance_then i (instances_then more (ended tail)))))))
+Rest state.Delay words = (delay : Delay) × ((i : Instance) × ((more : List Instance) × ((tail : Tail) × (Hash ∷ words ≡ delay_then delay (instance_then i (instances_then more (ended tail)))))))
 Rest RiseDelay words = (delay : Delay) × ((i : Instance) × ((more : List Instance) × ((tail : Tail) × (Hash ∷ Open ∷ words ≡ delay_then delay (instance_then i (instances_then more (ended tail)))))))
 Rest RiseEnd words = (i : Instance) × ((more : List Instance) × ((tail : Tail) × ((words ≡ Close ∷ instance_then i (instances_then more (ended tail))) ⊎ ((f : ℕ) × (words ≡ Comma ∷ Number f ∷ Close ∷ instance_then i (instances_then more (ended tail)))))))
 Rest FallDelay words = (f : ℕ) × ((i : Instance) × ((more : List Instance) × ((tail : Tail) × (words ≡ Number f ∷ Close ∷ instance_then i (instances_then more (ended tail))))))
@@ -66,7 +66,7 @@ Rest TerminalStart words = (first : Terminal) × ((others : List Terminal) × ((
 Rest TerminalEnd words = (others : List Terminal) × ((more : List Instance) × ((tail : Tail) × (words ≡ terminals_then others (instances_then more (ended tail)))))
 Rest InstanceEnd words = (more : List Instance) × ((tail : Tail) × (words ≡ instances_then more (ended tail)))
 
-abbrev RestOf : Option Place → List Word → Type 0
+abbrev RestOf : Option ParserState → List Word → Type 0
 RestOf None words = ⊥
 RestOf (Some at) words = Rest at words
 
@@ -77,8 +77,8 @@ IsGood word = Unit {0}
 behind : (w : Word) {a b : List Word} → a ≡ b → w ∷ a ≡ w ∷ b
 behind w e = ap (λ (words : List Word). w ∷ words) e
 
--- a word in front of the rest behind the place where it leads
-back : (at : Place) (w : Word) (words : List Word) → IsGood w → RestOf (step at w) words → Rest at (w ∷ words)
+-- a word in front of the rest behind the state to which it leads
+back : (at : ParserState) (w : Word) (words : List Word) → IsGood w → RestOf (step at w) words → Rest at (w ∷ words)
 back Outside (Timescale unit) words good (parts, e) = (directive unit ∷ parts, behind (Timescale unit) e)
 back Outside Module words good (n, (header, (tail, e))) = (module_part n header tail.items ∷ tail.parts, behind Module e)
 back Outside w words good rest = absurd rest
@@ -88,12 +88,12 @@ back ModuleName w words good rest = absurd rest
 back ModuleHead Open words good rest = rest
 back ModuleHead Semicolon words good (tail, e) = (no_ports, (tail, behind Semicolon e))
 back ModuleHead w words good rest = absurd rest
-back place.Header (Name n) words good (names, (tail, e)) = (older_ports n names, (tail, behind Open (behind (Name n) e)))
-back place.Header Misnamed words good rest = absurd good
-back place.Header (PortWord direction) words good (kind, (n, (ports, (tail, e)))) =
+back state.Header (Name n) words good (names, (tail, e)) = (older_ports n names, (tail, behind Open (behind (Name n) e)))
+back state.Header Misnamed words good rest = absurd good
+back state.Header (PortWord direction) words good (kind, (n, (ports, (tail, e)))) =
     (inline_ports (record { direction = direction; kind = kind; name = n }) ports, (tail, behind Open (behind (PortWord direction) e)))
-back place.Header Close words good (tail, e) = (empty_ports, (tail, behind Open (behind Close e)))
-back place.Header w words good rest = absurd rest
+back state.Header Close words good (tail, e) = (empty_ports, (tail, behind Open (behind Close e)))
+back state.Header w words good rest = absurd rest
 back OlderNext Comma words good (n, (names, (tail, e))) = (n ∷ names, (tail, behind Comma e))
 back OlderNext Close words good (tail, e) = ([], (tail, behind Close e))
 back OlderNext w words good rest = absurd rest
@@ -146,9 +146,9 @@ back GateStart (Name n) words good (first, (others, (more, (tail, e)))) =
 back GateStart Misnamed words good rest = absurd good
 back GateStart Open words good (first, (others, (more, (tail, e)))) = (no_delay, (record { name = None; first = first; more = others }, (more, (tail, behind Open e))))
 back GateStart w words good rest = absurd rest
-back place.Delay (Number d) words good (i, (more, (tail, e))) = (one_delay d, (i, (more, (tail, behind Hash (behind (Number d) e)))))
-back place.Delay Open words good rest = rest
-back place.Delay w words good rest = absurd rest
+back state.Delay (Number d) words good (i, (more, (tail, e))) = (one_delay d, (i, (more, (tail, behind Hash (behind (Number d) e)))))
+back state.Delay Open words good rest = rest
+back state.Delay w words good rest = absurd rest
 back RiseDelay (Number d) words good (i, (more, (tail, inl e))) = (enclosed_delay d, (i, (more, (tail, behind Hash (behind Open (behind (Number d) e))))))
 back RiseDelay (Number d) words good (i, (more, (tail, inr (f, e)))) = (two_delays d f, (i, (more, (tail, behind Hash (behind Open (behind (Number d) e))))))
 back RiseDelay w words good rest = absurd rest
@@ -178,34 +178,34 @@ back InstanceEnd w words good rest = absurd rest
 
 -- A word that is admitted leads somewhere, and is no bad name.
 
-leads_on : (at to : Place) (w : Word) (o : Option Place) (found : Option Cause) → judged at w o found ≡ Ok to → o ≡ Some to
+leads_on : (at to : ParserState) (w : Word) (o : Option ParserState) (found : Option Cause) → judged at w o found ≡ Ok to → o ≡ Some to
 leads_on at to w None found e = absurd cc
 leads_on at to w (Some next) (Some why) e = absurd cc
 leads_on at to w (Some next) None e = cc
 
 module _ (default : Option ℕ) (table : List (List ℕ)) where
-  no_bad_name : (at to : Place) (r : Reading) (after : Option Word) → judged at Misnamed (step at Misnamed) (cause default table r at Misnamed after) ≡ Ok to → ⊥
+  no_bad_name : (at to : ParserState) (r : Reading) (after : Option Word) → judged at Misnamed (step at Misnamed) (cause default table r at Misnamed after) ≡ Ok to → ⊥
   no_bad_name Outside to r after e = cc
   no_bad_name at to r after e = cc
 
-  good_word : (at to : Place) (r : Reading) (w : Word) (after : Option Word) → judged at w (step at w) (cause default table r at w after) ≡ Ok to → IsGood w
+  good_word : (at to : ParserState) (r : Reading) (w : Word) (after : Option Word) → judged at w (step at w) (cause default table r at w after) ≡ Ok to → IsGood w
   good_word at to r Misnamed after e = no_bad_name at to r after e
   good_word at to r w after e = tt
 
-  rest_of : (words : List Placed) (at : Place) (r last : Reading) → Leads default table (record { place = at; so_far = r }) words None (record { place = Outside; so_far = last })
+  rest_of : (words : List Placed) (at : ParserState) (r last : Reading) → Leads default table (record { state = at; so_far = r }) words None (record { state = Outside; so_far = last })
       → Rest at (map (λ (p : Placed). p.word) words)
   rest_of [] at r last e =
-      let P : Place → Type 0 = λ here. Rest here [] in
-      subst P (sym (ap (λ (w : Walk). w.place) e)) ([], refl)
+      let P : ParserState → Type 0 = λ here. Rest here [] in
+      subst P (sym (ap (λ (w : Walk). w.state) e)) ([], refl)
   rest_of (p ∷ words) at r last leads =
       let next : Walk = leads.0 in
-      let P : Option Place → Type 0 = λ o. RestOf o (map (λ (q : Placed). q.word) words) in
+      let P : Option ParserState → Type 0 = λ o. RestOf o (map (λ (q : Placed). q.word) words) in
       let found : Option Cause = cause default table r at p.word (first_word words None) in
-      let goes : step at p.word ≡ Some next.place = leads_on at next.place p.word (step at p.word) found leads.1.admitted in
-      back at p.word (map (λ (q : Placed). q.word) words) (good_word at next.place r p.word (first_word words None) leads.1.admitted)
-      (subst P (sym goes) (rest_of words next.place next.so_far last leads.2))
+      let goes : step at p.word ≡ Some next.state = leads_on at next.state p.word (step at p.word) found leads.1.admitted in
+      back at p.word (map (λ (q : Placed). q.word) words) (good_word at next.state r p.word (first_word words None) leads.1.admitted)
+      (subst P (sym goes) (rest_of words next.state next.so_far last leads.2))
 
 -- what is read to its end is written by some parts
-pub written : (default : Option ℕ) (table : List (List ℕ)) (words : List Placed) (last : Reading) → Leads default table (record { place = Outside; so_far = unread }) words None (record { place = Outside; so_far = last })
+pub written : (default : Option ℕ) (table : List (List ℕ)) (words : List Placed) (last : Reading) → Leads default table (record { state = Outside; so_far = unread }) words None (record { state = Outside; so_far = last })
     → (parts : List Part) × (map (λ (p : Placed). p.word) words ≡ parts_then parts [])
 written default table words last leads = rest_of default table words Outside unread last leads

@@ -11,7 +11,7 @@ use Rattle.lexing.specs.Texts.{name_bytes}
 use Rattle.lexing.specs.declared.token.Shape.{Shape}
 use Rattle.lexing.specs.declared.token.Shape.TheVariants as shape
 use Rattle.lexing.specs.declared.token.Token.{Token}
-use Rattle.lexing.specs.declared.unit.TimeUnit.{TimeUnit}
+use Rattle.fourstate.specs.declared.unit.TimeUnit.{TimeUnit}
 use Rattle.vtext.specs.declared.word.Placed.{Placed}
 use Rattle.vtext.specs.declared.word.Word.{Word}
 use Rattle.vtext.specs.Keywords.{meanings_of, name_word, plain_word}

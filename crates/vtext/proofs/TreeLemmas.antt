@@ -1,9 +1,9 @@
 -- Words that a production writes are read as what it says.
 use Rattle.std.proofs.Common.{◌≡◌, Bool, true, false, cond, ℕ, List, [], ◌∷◌, Option, Some, None, Ok, map, fold, refl, sym, ap, subst, ◌∙◌}
 use Rattle.vtext.specs.declared.cause.Cause.{Cause}
-use Rattle.vtext.specs.declared.place.Place.{Place}
-use Rattle.vtext.specs.declared.place.Place.TheVariants.{Outside, ModuleName, ModuleHead, OlderNext, OlderName, InlineStart, InlineName, InlineNext, InlineMore, HeaderEnd, Items, PortStart, PortName, PortNext, NetName, NetNext, GateStart, RiseDelay, RiseEnd, FallDelay, FallEnd, InstanceStart, InstanceOpen, TerminalStart, TerminalEnd, InstanceEnd}
-use Rattle.vtext.specs.declared.place.Place.TheVariants as place
+use Rattle.vtext.specs.declared.parser_state.ParserState.{ParserState}
+use Rattle.vtext.specs.declared.parser_state.ParserState.TheVariants.{Outside, ModuleName, ModuleHead, OlderNext, OlderName, InlineStart, InlineName, InlineNext, InlineMore, HeaderEnd, Items, PortStart, PortName, PortNext, NetName, NetNext, GateStart, RiseDelay, RiseEnd, FallDelay, FallEnd, InstanceStart, InstanceOpen, TerminalStart, TerminalEnd, InstanceEnd}
+use Rattle.vtext.specs.declared.parser_state.ParserState.TheVariants as state
 use Rattle.vtext.specs.declared.cause.Cause.TheVariants.{Syntax}
 use Rattle.vtext.specs.declared.gate.Terminal.{Terminal}
 use Rattle.vtext.specs.declared.gate.Terminal.TheVariants.{Net, Constant}
@@ -37,10 +37,10 @@ first_words (p ∷ ps) after = refl
 
 -- Below a walk goes over these words and on to `end`.
 module _ (default : Option ℕ) (table : List (List ℕ)) (after : Option Word) (end : Walk) where
-  abbrev pub Reads : Place → Reading → List Word → Type 0
-  Reads at r words = (ps : List Placed) → map (λ (p : Placed). p.word) ps ≡ words → Leads default table (record { place = at; so_far = r }) ps after end
+  abbrev pub Reads : ParserState → Reading → List Word → Type 0
+  Reads at r words = (ps : List Placed) → map (λ (p : Placed). p.word) ps ≡ words → Leads default table (record { state = at; so_far = r }) ps after end
 
-  read_word : (at to : Place) (r next : Reading) (w : Word) (words : List Word)
+  read_word : (at to : ParserState) (r next : Reading) (w : Word) (words : List Word)
       → judged at w (step at w) (cause default table r at w (first_of words after)) ≡ Ok to
       → ((start : ℕ) → noted default table r at (record { word = w; start = start }) ≡ next)
       → Reads to next words → Reads at r (w ∷ words)
@@ -51,14 +51,14 @@ module _ (default : Option ℕ) (table : List (List ℕ)) (after : Option Word) 
       let P : Word → Option Word → Type 0 = λ x y. judged at x (step at x) (cause default table r at x y) ≡ Ok to in
       let first : first_of words after ≡ first_word ps after = ap (λ (ws : List Word). first_of ws after) (sym tail) ∙ sym (first_words ps after) in
       let Q : Word → Type 0 = λ x. next ≡ noted default table r at (record { word = x; start = p.start }) in (
-        record { place = to; so_far = next },
+        record { state = to; so_far = next },
         record { admitted = subst (P p.word) first (subst (λ (x : Word). P x (first_of words after)) (sym word) admitted); so_far = subst Q (sym word) (sym (notes p.start)) },
         rest ps tail,
       )
 
   -- an admitted word with a cause that is excluded
-  free : (at to : Place) (w : Word) (found : Option Cause) → step at w ≡ Some to → found ≡ None → judged at w (step at w) found ≡ Ok to
-  free at to w found s n = ap (λ (o : Option Place). judged at w o found) s ∙ ap (judged at w (Some to)) n
+  free : (at to : ParserState) (w : Word) (found : Option Cause) → step at w ≡ Some to → found ≡ None → judged at w (step at w) found ≡ Ok to
+  free at to w found s n = ap (λ (o : Option ParserState). judged at w o found) s ∙ ap (judged at w (Some to)) n
 
   -- kind NAME { , NAME } ;
 
@@ -179,16 +179,16 @@ module _ (default : Option ℕ) (table : List (List ℕ)) (after : Option Word) 
       let now : Reading = after_gate default r kind (one_delay d) in
       let words : List Word = instance_then i (instances_then instances (Semicolon ∷ rest)) in
       read_word Items GateStart r first (GateWord kind) (Hash ∷ Number d ∷ words) refl (λ start. refl)
-      (read_word GateStart place.Delay first first Hash (Number d ∷ words) refl (λ start. refl)
-      (read_word place.Delay InstanceStart first now (Number d) words (free place.Delay InstanceStart (Number d) (delay_fault d) refl admitted.0) (λ start. refl)
+      (read_word GateStart state.Delay first first Hash (Number d ∷ words) refl (λ start. refl)
+      (read_word state.Delay InstanceStart first now (Number d) words (free state.Delay InstanceStart (Number d) (delay_fault d) refl admitted.0) (λ start. refl)
       (instance_read now i.name i.first i.more (instances_then instances (Semicolon ∷ rest)) admitted.1.0 (more_instances (after_instance table now i) instances rest admitted.1.1 goes))))
   gate_item_read r kind (enclosed_delay d) i instances rest admitted goes =
       let first : Reading = after_gate default r kind no_delay in
       let now : Reading = after_gate default r kind (enclosed_delay d) in
       let words : List Word = instance_then i (instances_then instances (Semicolon ∷ rest)) in
       read_word Items GateStart r first (GateWord kind) (Hash ∷ Open ∷ Number d ∷ Close ∷ words) refl (λ start. refl)
-      (read_word GateStart place.Delay first first Hash (Open ∷ Number d ∷ Close ∷ words) refl (λ start. refl)
-      (read_word place.Delay RiseDelay first first Open (Number d ∷ Close ∷ words) refl (λ start. refl)
+      (read_word GateStart state.Delay first first Hash (Open ∷ Number d ∷ Close ∷ words) refl (λ start. refl)
+      (read_word state.Delay RiseDelay first first Open (Number d ∷ Close ∷ words) refl (λ start. refl)
       (read_word RiseDelay RiseEnd first now (Number d) (Close ∷ words) (free RiseDelay RiseEnd (Number d) (delay_fault d) refl admitted.0) (λ start. refl)
       (read_word RiseEnd InstanceStart now now Close words refl (λ start. refl)
       (instance_read now i.name i.first i.more (instances_then instances (Semicolon ∷ rest)) admitted.1.0 (more_instances (after_instance table now i) instances rest admitted.1.1 goes))))))
@@ -198,8 +198,8 @@ module _ (default : Option ℕ) (table : List (List ℕ)) (after : Option Word) 
       let now : Reading = after_gate default r kind (two_delays rise fall) in
       let words : List Word = instance_then i (instances_then instances (Semicolon ∷ rest)) in
       read_word Items GateStart r first (GateWord kind) (Hash ∷ Open ∷ Number rise ∷ Comma ∷ Number fall ∷ Close ∷ words) refl (λ start. refl)
-      (read_word GateStart place.Delay first first Hash (Open ∷ Number rise ∷ Comma ∷ Number fall ∷ Close ∷ words) refl (λ start. refl)
-      (read_word place.Delay RiseDelay first first Open (Number rise ∷ Comma ∷ Number fall ∷ Close ∷ words) refl (λ start. refl)
+      (read_word GateStart state.Delay first first Hash (Open ∷ Number rise ∷ Comma ∷ Number fall ∷ Close ∷ words) refl (λ start. refl)
+      (read_word state.Delay RiseDelay first first Open (Number rise ∷ Comma ∷ Number fall ∷ Close ∷ words) refl (λ start. refl)
       (read_word RiseDelay RiseEnd first half (Number rise) (Comma ∷ Number fall ∷ Close ∷ words) (free RiseDelay RiseEnd (Number rise) (delay_fault rise) refl admitted.0.0) (λ start. refl)
       (read_word RiseEnd FallDelay half half Comma (Number fall ∷ Close ∷ words) refl (λ start. refl)
       (read_word FallDelay FallEnd half now (Number fall) (Close ∷ words) (free FallDelay FallEnd (Number fall) (delay_fault fall) refl admitted.0.1) (λ start. refl)
@@ -230,15 +230,15 @@ module _ (default : Option ℕ) (table : List (List ℕ)) (after : Option Word) 
       (more_listed (list_port r n) names rest admitted.1 goes))
 
   first_decl_read : (r : Reading) (direction : Direction) (kind : Option NetKind) (n : ℕ) (words : List Word) → header_cause r (Name n) ≡ None
-      → Reads InlineNext (declare_port (record r { inline = true; direction = direction; kind = kind }) n) words → Reads place.Header r (PortWord direction ∷ kind_then kind (Name n ∷ words))
+      → Reads InlineNext (declare_port (record r { inline = true; direction = direction; kind = kind }) n) words → Reads state.Header r (PortWord direction ∷ kind_then kind (Name n ∷ words))
   first_decl_read r direction None n words admitted goes =
       let now : Reading = record r { inline = true; direction = direction; kind = None } in
-      read_word place.Header InlineStart r now (PortWord direction) (Name n ∷ words) refl (λ start. refl)
+      read_word state.Header InlineStart r now (PortWord direction) (Name n ∷ words) refl (λ start. refl)
       (read_word InlineStart InlineNext now (declare_port now n) (Name n) words (free InlineStart InlineNext (Name n) (header_cause now (Name n)) refl admitted) (λ start. refl) goes)
   first_decl_read r direction (Some kind) n words admitted goes =
       let now : Reading = record r { inline = true; direction = direction; kind = None } in
       let then : Reading = record r { inline = true; direction = direction; kind = Some kind } in
-      read_word place.Header InlineStart r now (PortWord direction) (NetWord kind ∷ Name n ∷ words) refl (λ start. refl)
+      read_word state.Header InlineStart r now (PortWord direction) (NetWord kind ∷ Name n ∷ words) refl (λ start. refl)
       (read_word InlineStart InlineName now then (NetWord kind) (Name n ∷ words) refl (λ start. refl)
       (read_word InlineName InlineNext then (declare_port then n) (Name n) words (free InlineName InlineNext (Name n) (header_cause then (Name n)) refl admitted) (λ start. refl) goes))
 
@@ -271,27 +271,27 @@ module _ (default : Option ℕ) (table : List (List ℕ)) (after : Option Word) 
   header_read : (r : Reading) (header : Header) (rest : List Word) → IsHeaderAdmitted r header → Reads Items (after_header r header) rest → Reads ModuleHead r (header_then header rest)
   header_read r no_ports rest admitted goes = read_word ModuleHead Items r r Semicolon rest refl (λ start. refl) goes
   header_read r empty_ports rest admitted goes =
-      read_word ModuleHead place.Header r r Open (Close ∷ Semicolon ∷ rest) refl (λ start. refl)
-      (read_word place.Header HeaderEnd r r Close (Semicolon ∷ rest) refl (λ start. refl) (read_word HeaderEnd Items r r Semicolon rest refl (λ start. refl) goes))
+      read_word ModuleHead state.Header r r Open (Close ∷ Semicolon ∷ rest) refl (λ start. refl)
+      (read_word state.Header HeaderEnd r r Close (Semicolon ∷ rest) refl (λ start. refl) (read_word HeaderEnd Items r r Semicolon rest refl (λ start. refl) goes))
   header_read r (older_ports n names) rest admitted goes =
-      read_word ModuleHead place.Header r r Open (Name n ∷ names_then names (Close ∷ Semicolon ∷ rest)) refl (λ start. refl)
-      (read_word place.Header OlderNext r (list_port r n) (Name n) (names_then names (Close ∷ Semicolon ∷ rest)) (free place.Header OlderNext (Name n) (header_cause r (Name n)) refl admitted.0) (λ start. refl)
+      read_word ModuleHead state.Header r r Open (Name n ∷ names_then names (Close ∷ Semicolon ∷ rest)) refl (λ start. refl)
+      (read_word state.Header OlderNext r (list_port r n) (Name n) (names_then names (Close ∷ Semicolon ∷ rest)) (free state.Header OlderNext (Name n) (header_cause r (Name n)) refl admitted.0) (λ start. refl)
       (more_listed (list_port r n) names rest admitted.1 goes))
   header_read r (inline_ports decl ports) rest admitted goes =
-      read_word ModuleHead place.Header r r Open (decl_then decl (ports_then ports (Close ∷ Semicolon ∷ rest))) refl (λ start. refl)
+      read_word ModuleHead state.Header r r Open (decl_then decl (ports_then ports (Close ∷ Semicolon ∷ rest))) refl (λ start. refl)
       (first_decl_read r decl.direction decl.kind decl.name (ports_then ports (Close ∷ Semicolon ∷ rest)) admitted.0
       (more_declared (after_decl (record r { inline = true }) decl) ports rest admitted.1 goes))
 
   -- Modules.
 
-  read_end : (r : Reading) → record { place = Outside; so_far = r } ≡ end → Reads Outside r []
+  read_end : (r : Reading) → record { state = Outside; so_far = r } ≡ end → Reads Outside r []
   read_end r e [] same = e
   read_end r e (p ∷ ps) same = absurd cc
 
   body_read : (now : Reading) (name : ℕ) (header : Header) (items : List Item)
       → IsHeaderAdmitted (record now { name = name }) header → AreItemsAdmitted default table (after_header (record now { name = name }) header) items
       → list_any (λ net. is_undirected net.1) (after_items default table (after_header (record now { name = name }) header) items).nets ≡ false
-      → record { place = Outside; so_far = finished (after_items default table (after_header (record now { name = name }) header) items) } ≡ end
+      → record { state = Outside; so_far = finished (after_items default table (after_header (record now { name = name }) header) items) } ≡ end
       → Reads ModuleName now (Name name ∷ header_then header (items_then items (Endmodule ∷ [])))
   body_read now name header items h i d e =
       let named : Reading = record now { name = name } in
@@ -307,15 +307,15 @@ module _ (default : Option ℕ) (table : List (List ℕ)) (after : Option Word) 
 pub module_read : (default : Option ℕ) (table : List (List ℕ)) (p : Placed) (ps : List Placed) (name : ℕ) (header : Header) (items : List Item)
     → map (λ (q : Placed). q.word) (p ∷ ps) ≡ module_then name header items []
     → IsModuleAdmitted default table p.start name header items
-    → Leads default table start (p ∷ ps) None (record { place = Outside; so_far = after_module default table p.start name header items })
+    → Leads default table start (p ∷ ps) None (record { state = Outside; so_far = after_module default table p.start name header items })
 module_read default table p ps name header items e admitted =
     let now : Reading = record unread { start = p.start } in
     let word : p.word ≡ Module = cc in
     let tail : map (λ (q : Placed). q.word) ps ≡ Name name ∷ header_then header (items_then items (Endmodule ∷ [])) = cc in
     let first : Word → Type 0 = λ w. judged Outside w (step Outside w) (cause default table unread Outside w (first_word ps None)) ≡ Ok ModuleName in
     let noting : Word → Type 0 = λ w. now ≡ noted default table unread Outside (record { word = w; start = p.start }) in (
-      record { place = ModuleName; so_far = now },
+      record { state = ModuleName; so_far = now },
       record { admitted = subst first (sym word) refl; so_far = subst noting (sym word) refl },
-      body_read default table None (record { place = Outside; so_far = after_module default table p.start name header items }) now name header items
+      body_read default table None (record { state = Outside; so_far = after_module default table p.start name header items }) now name header items
           admitted.header_admitted admitted.items_admitted admitted.directed refl ps tail,
     )

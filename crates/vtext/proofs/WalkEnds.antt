@@ -8,8 +8,8 @@ use Rattle.lexing.specs.declared.token.Token.{Token}
 use Rattle.vtext.specs.declared.cause.Cause.{Cause}
 use Rattle.vtext.specs.declared.cause.Cause.TheVariants.{Syntax}
 use Rattle.vtext.specs.declared.fault.ReadFault.{ReadFault}
-use Rattle.vtext.specs.declared.place.Place.{Place}
-use Rattle.vtext.specs.declared.place.Place.TheVariants.{Outside}
+use Rattle.vtext.specs.declared.parser_state.ParserState.{ParserState}
+use Rattle.vtext.specs.declared.parser_state.ParserState.TheVariants.{Outside}
 use Rattle.vtext.specs.declared.word.Word.TheVariants.{Module}
 use Rattle.vtext.specs.declared.word.Placed.{Placed}
 use Rattle.vtext.specs.Modules.{ModuleList}
@@ -21,7 +21,7 @@ use Rattle.vtext.specs.Walks.{IsFault, Leads, Walk, judge, start, word_at}
 use Rattle.vtext.specs.Words.{names_of, words_of}
 use Rattle.vtext.proofs.WalkLemmas.{ended, refused_at, refused_end, turned}
 
-outside_or_not : (at : Place) → (at ≡ Outside) ⊎ (at ≢ Outside)
+outside_or_not : (at : ParserState) → (at ≡ Outside) ⊎ (at ≢ Outside)
 outside_or_not Outside = inl refl
 outside_or_not at = inr (λ e. cc)
 
@@ -31,23 +31,23 @@ ok_or_err (Err b) = inr (b, refl)
 
 module _ (default : Option ℕ) (names : List (List ℕ)) (words : List Placed) where
   abbrev IsDecided : Type 0
-  IsDecided = ((last : Reading) × Leads default names start words None (record { place = Outside; so_far = last })) ⊎ ((k : ℕ) × ((why : Cause) × IsFault default names words k why))
+  IsDecided = ((last : Reading) × Leads default names start words None (record { state = Outside; so_far = last })) ⊎ ((k : ℕ) × ((why : Cause) × IsFault default names words k why))
 
-  decided_at_end : (k : ℕ) (now : Walk) → k ≡ length words → Leads default names start (take k words) (word_at words k) now → (now.place ≡ Outside) ⊎ (now.place ≢ Outside) → IsDecided
+  decided_at_end : (k : ℕ) (now : Walk) → k ≡ length words → Leads default names start (take k words) (word_at words k) now → (now.state ≡ Outside) ⊎ (now.state ≢ Outside) → IsDecided
   decided_at_end k now e leads (inl outside) =
-      let P : Place → Type 0 = λ at. Leads default names start words None (record { place = at; so_far = now.so_far }) in
+      let P : ParserState → Type 0 = λ at. Leads default names start words None (record { state = at; so_far = now.so_far }) in
       inl (now.so_far, subst P outside (ended default names words k now (omega arith) leads))
   decided_at_end k now e leads (inr inside) = inr (k, (Syntax, refused_end default names words k now e leads inside))
 
   decided_from : (n k : ℕ) (now : Walk) → n + k ≡ length words → Leads default names start (take k words) (word_at words k) now → IsDecided
-  decided_from zero k now e leads = decided_at_end k now (omega arith) leads (outside_or_not now.place)
+  decided_from zero k now e leads = decided_at_end k now (omega arith) leads (outside_or_not now.state)
   decided_from (suc n) k now e leads =
       let d : Placed = record { word = Module; start = 0 } in
       let p : Placed = get_or words k d in
       let within : k < length words = omega arith in
       elim (ok_or_err (judge default names now p.word (word_at words (k + 1)))) [
         | inl ok ↦
-            let next : Walk = record { place = ok.0; so_far = noted default names now.so_far now.place p } in
+            let next : Walk = record { state = ok.0; so_far = noted default names now.so_far now.state p } in
             decided_from n (k + 1) next (omega arith) (turned default names words k d (word_at words (k + 1)) now next within leads refl ok.1 refl)
         | inr refused ↦ inr (k, (refused.0, refused_at default names words k d (word_at words (k + 1)) now refused.0 within leads refl refused.1))
       ]

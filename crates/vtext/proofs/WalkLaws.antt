@@ -7,8 +7,8 @@ use Rattle.std.specs.List.{slice_get}
 use Rattle.std.specs.Option.{MatchOption, option_map}
 use Rattle.vtext.specs.declared.cause.Cause.{Cause}
 use Rattle.vtext.specs.declared.cause.Cause.TheVariants.{Syntax}
-use Rattle.vtext.specs.declared.place.Place.{Place}
-use Rattle.vtext.specs.declared.place.Place.TheVariants.{Outside}
+use Rattle.vtext.specs.declared.parser_state.ParserState.{ParserState}
+use Rattle.vtext.specs.declared.parser_state.ParserState.TheVariants.{Outside}
 use Rattle.vtext.specs.declared.word.Word.{Word}
 use Rattle.vtext.specs.declared.word.Placed.{Placed}
 use Rattle.vtext.specs.Readings.{Reading}
@@ -23,13 +23,13 @@ err_same r a b p q = cc
 never_both : {A B : Type 0} (r : Result A B) (a : A) (b : B) → r ≡ Ok a → r ≡ Err b → ⊥
 never_both r a b p q = cc
 
-same_walk : (a b : Walk) → a.place ≡ b.place → a.so_far ≡ b.so_far → a ≡ b
-same_walk a b p s = ap (λ (place : Place). record a { place = place }) p ∙ ap (λ (so_far : Reading). record b { so_far = so_far }) s
+same_walk : (a b : Walk) → a.state ≡ b.state → a.so_far ≡ b.so_far → a ≡ b
+same_walk a b p s = ap (λ (state : ParserState). record a { state = state }) p ∙ ap (λ (so_far : Reading). record b { so_far = so_far }) s
 
 one_turn : (default : Option ℕ) (names : List (List ℕ)) (from : Walk) (p : Placed) (after : Option Word) (a b : Walk)
     → Turns default names from p after a → Turns default names from p after b → a ≡ b
 one_turn default names from p after a b s t =
-    same_walk a b (ok_same (judge default names from p.word after) a.place b.place s.admitted t.admitted) (s.so_far ∙ sym t.so_far)
+    same_walk a b (ok_same (judge default names from p.word after) a.state b.state s.admitted t.admitted) (s.so_far ∙ sym t.so_far)
 
 pub one_walk : (default : Option ℕ) (names : List (List ℕ)) (words : List Placed) (from : Walk) (after : Option Word) (a b : Walk)
     → Leads default names from words after a → Leads default names from words after b → a ≡ b
@@ -67,16 +67,16 @@ no_fault_before default names words to k j why less within leads fault =
     let there = passed default names words start to k j less within leads in
     let p = there.2.0 in
     let same : fault.before ≡ there.0 = one_walk default names (take k words) start (word_at words k) fault.before there.0 fault.leads there.1 in
-    let P : Option Placed → Type 0 = λ q. MatchOption q ((fault.before.place ≢ Outside) × (why ≡ Syntax)) (λ r. judge default names fault.before r.word (word_at words (k + 1)) ≡ Err why) in
+    let P : Option Placed → Type 0 = λ q. MatchOption q ((fault.before.state ≢ Outside) × (why ≡ Syntax)) (λ r. judge default names fault.before r.word (word_at words (k + 1)) ≡ Err why) in
     let refused : judge default names fault.before p.word (word_at words (k + 1)) ≡ Err why = subst P there.2.1 fault.refused in
     let Q : Walk → ℕ → Type 0 = λ walk next. judge default names walk p.word (word_at words next) ≡ Err why in
     let here : judge default names there.0 p.word (word_at words (suc k)) ≡ Err why = subst (λ (next : ℕ). Q there.0 next) (add-one k) (subst (λ (walk : Walk). Q walk (k + 1)) same refused) in
-    never_both (judge default names there.0 p.word (word_at words (suc k))) there.2.2.0.place why there.2.2.1.admitted here
+    never_both (judge default names there.0 p.word (word_at words (suc k))) there.2.2.0.state why there.2.2.1.admitted here
 
 -- what refuses a word has one cause
 one_cause : (default : Option ℕ) (names : List (List ℕ)) (word : Option Placed) (after : Option Word) (a b : Walk) (why because : Cause) → a ≡ b
-    → MatchOption word ((a.place ≢ Outside) × (why ≡ Syntax)) (λ p. judge default names a p.word after ≡ Err why)
-    → MatchOption word ((b.place ≢ Outside) × (because ≡ Syntax)) (λ p. judge default names b p.word after ≡ Err because)
+    → MatchOption word ((a.state ≢ Outside) × (why ≡ Syntax)) (λ p. judge default names a p.word after ≡ Err why)
+    → MatchOption word ((b.state ≢ Outside) × (because ≡ Syntax)) (λ p. judge default names b p.word after ≡ Err because)
     → why ≡ because
 one_cause default names None after a b why because same s t = s.1 ∙ sym t.1
 one_cause default names (Some p) after a b why because same s t =
@@ -108,13 +108,13 @@ at_end default names words to k past leads =
     subst (λ (these : List Placed). P these (slice_get words k)) (sym (take_all k words past)) (subst (P words) (sym (slice_get_past words k past)) leads)
 
 -- a list that is read to its end has no fault
-pub no_fault : (default : Option ℕ) (names : List (List ℕ)) (words : List Placed) (to : Walk) (k : ℕ) (why : Cause) → to.place ≡ Outside
+pub no_fault : (default : Option ℕ) (names : List (List ℕ)) (words : List Placed) (to : Walk) (k : ℕ) (why : Cause) → to.state ≡ Outside
     → Leads default names start words None to → IsFault default names words k why → ⊥
 no_fault default names words to k why outside leads fault =
     elim (cases_lt k (length words)) [
       | inl less ↦ no_fault_before default names words to k (length words) why less (omega arith) (at_end default names words to (length words) (omega arith) leads) fault
       | inr past ↦
           let same : fault.before ≡ to = one_walk default names (take k words) start (word_at words k) fault.before to fault.leads (at_end default names words to k past leads) in
-          let P : Option Placed → Type 0 = λ q. MatchOption q ((fault.before.place ≢ Outside) × (why ≡ Syntax)) (λ r. judge default names fault.before r.word (word_at words (k + 1)) ≡ Err why) in
-          (subst P (slice_get_past words k past) fault.refused).0 (ap (λ (walk : Walk). walk.place) same ∙ outside)
+          let P : Option Placed → Type 0 = λ q. MatchOption q ((fault.before.state ≢ Outside) × (why ≡ Syntax)) (λ r. judge default names fault.before r.word (word_at words (k + 1)) ≡ Err why) in
+          (subst P (slice_get_past words k past) fault.refused).0 (ap (λ (walk : Walk). walk.state) same ∙ outside)
     ]

@@ -6,7 +6,7 @@ use Rattle.std.specs.List.{slice_get}
 use Rattle.std.specs.Option.{MatchOption, option_map}
 use Rattle.vtext.specs.declared.cause.Cause.{Cause}
 use Rattle.vtext.specs.declared.cause.Cause.TheVariants.{Syntax}
-use Rattle.vtext.specs.declared.place.Place.TheVariants.{Outside}
+use Rattle.vtext.specs.declared.parser_state.ParserState.TheVariants.{Outside}
 use Rattle.vtext.specs.declared.word.Word.{Word}
 use Rattle.vtext.specs.declared.word.Placed.{Placed}
 use Rattle.vtext.specs.Notes.{noted}
@@ -30,8 +30,8 @@ leads_more default names from middle to (q ∷ words) p after leads turns =
 pub turned : (default : Option ℕ) (names : List (List ℕ)) (words : List Placed) (i : ℕ) (d : Placed) (after : Option Word) (before to : Walk) → i < length words
     → Leads default names start (take i words) (word_at words i) before
     → after ≡ word_at words (i + 1)
-    → judge default names before (get_or words i d).word after ≡ Ok to.place
-    → to.so_far ≡ noted default names before.so_far before.place (get_or words i d)
+    → judge default names before (get_or words i d).word after ≡ Ok to.state
+    → to.so_far ≡ noted default names before.so_far before.state (get_or words i d)
     → Leads default names start (take (i + 1) words) (word_at words (i + 1)) to
 turned default names words i d after before to within leads next admitted so_far =
     let P : Option Placed → Type 0 = λ p. Leads default names start (take i words) (option_map (λ (p : Placed). p.word) p) before in
@@ -55,14 +55,14 @@ pub refused_at : (default : Option ℕ) (names : List (List ℕ)) (words : List 
     → IsFault default names words i why
 refused_at default names words i d after before why within leads next refused =
     let Q : Option Word → Type 0 = λ word. judge default names before (get_or words i d).word word ≡ Err why in
-    let P : Option Placed → Type 0 = λ p. MatchOption p ((before.place ≢ Outside) × (why ≡ Syntax)) (λ q. judge default names before q.word (word_at words (i + 1)) ≡ Err why) in
+    let P : Option Placed → Type 0 = λ p. MatchOption p ((before.state ≢ Outside) × (why ≡ Syntax)) (λ q. judge default names before q.word (word_at words (i + 1)) ≡ Err why) in
     record { within = omega arith; before = before; leads = leads; refused = subst P (sym (slice_get-get_or words i d within)) (subst Q next refused) }
 
 -- the list ends within a module
 pub refused_end : (default : Option ℕ) (names : List (List ℕ)) (words : List Placed) (i : ℕ) (before : Walk) → i ≡ length words
     → Leads default names start (take i words) (word_at words i) before
-    → before.place ≢ Outside
+    → before.state ≢ Outside
     → IsFault default names words i Syntax
 refused_end default names words i before at leads inside =
-    let P : Option Placed → Type 0 = λ p. MatchOption p ((before.place ≢ Outside) × (Syntax ≡ Syntax)) (λ q. judge default names before q.word (word_at words (i + 1)) ≡ Err Syntax) in
+    let P : Option Placed → Type 0 = λ p. MatchOption p ((before.state ≢ Outside) × (Syntax ≡ Syntax)) (λ q. judge default names before q.word (word_at words (i + 1)) ≡ Err Syntax) in
     record { within = omega arith; before = before; leads = leads; refused = subst P (sym (slice_get_past words i (omega arith))) (inside, refl) }

@@ -1,4 +1,4 @@
--- Why what has been read refuses a word that the grammar admits, by the point of the grammar at which it stands. Of several causes
+-- Why what has been read refuses a word that the grammar admits, by the state of the parser in which it is read. Of several causes
 -- at one word the first one here counts: Syntax, BadName, ZeroDelay, DelayTooLarge, DuplicateName, and at the end of a gate
 -- instance WrongArity, PortKind, DuplicateName (own).
 use Rattle.std.specs.Prelude.{Bool, true, false, ℕ, ◌==◌, ◌&&◌, ◌||◌, not, nat_lt, if◌then◌else◌, List, Option, Some, None, is_some, length}
@@ -11,8 +11,8 @@ use Rattle.vtext.specs.declared.cause.Cause.TheVariants.{Unsupported, Syntax, Ba
 use Rattle.vtext.specs.declared.net.Net.{Net}
 use Rattle.vtext.specs.declared.word.Word.{Word}
 use Rattle.vtext.specs.declared.word.Word.TheVariants.{Module, Endmodule, PortWord, GateWord, Name, Misnamed, Number, Close, Hash}
-use Rattle.vtext.specs.declared.place.Place.{Place}
-use Rattle.vtext.specs.declared.place.Place.TheVariants.{Outside, ModuleName, Header, OlderName, InlineStart, InlineName, InlineMore, Items, PortStart, PortName, NetName, GateStart, Delay, RiseDelay, FallDelay, InstanceStart, TerminalStart, TerminalEnd}
+use Rattle.vtext.specs.declared.parser_state.ParserState.{ParserState}
+use Rattle.vtext.specs.declared.parser_state.ParserState.TheVariants.{Outside, ModuleName, Header, OlderName, InlineStart, InlineName, InlineMore, Items, PortStart, PortName, NetName, GateStart, Delay, RiseDelay, FallDelay, InstanceStart, TerminalStart, TerminalEnd}
 use Rattle.vtext.specs.GateNames.{is_taken}
 use Rattle.vtext.specs.Instances.{instance_name, is_arity_wrong, is_constant_driven, is_made_taken, outputs_of}
 use Rattle.vtext.specs.Nets.{is_undirected, net_of}
@@ -103,7 +103,7 @@ terminal_end_cause names r Close = completed_cause names r
 terminal_end_cause names r word = None
 
 -- why a word is refused that the grammar admits; the word after it is looked at where a delay may follow
-abbrev pub cause : Option ℕ → List (List ℕ) → Reading → Place → Word → Option Word → Option Cause
+abbrev pub cause : Option ℕ → List (List ℕ) → Reading → ParserState → Word → Option Word → Option Cause
 cause default names r Outside word next = outside_cause r word
 cause default names r ModuleName word next = name_cause word
 cause default names r Header word next = header_cause r word
@@ -122,4 +122,4 @@ cause default names r FallDelay word next = delay_cause word
 cause default names r InstanceStart word next = instance_cause r word
 cause default names r TerminalStart word next = name_cause word
 cause default names r TerminalEnd word next = terminal_end_cause names r word
-cause default names r place word next = None
+cause default names r state word next = None

@@ -77,7 +77,7 @@ with_made_taken names taken instance outputs =
 -- the gate of one output
 abbrev pub gate_of : Reading → InstanceName → Option ℕ → List Terminal → Terminal → GateEntry
 gate_of r instance part inputs output =
-    record { kind = r.gate; rise = r.rise; fall = r.fall; instance = instance; part = part; output = net_number output; inputs = inputs }
+    record { kind = r.gate; delays = r.delays; instance = instance; part = part; output = net_number output; inputs = inputs }
 
 -- the gates of several outputs, numbered from here on
 abbrev pub part_gates : Reading → InstanceName → List Terminal → ℕ → List Terminal → List GateEntry

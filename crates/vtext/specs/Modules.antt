@@ -1,7 +1,8 @@
 -- Modules: what a text says of nets and gates, names being numbers of a table (IEEE 1364-2005, 7.1, 12.1).
 use Rattle.std.specs.Prelude.{ℕ, List, Option}
+use Rattle.fourstate.specs.declared.delay_times.DelayTimes.{DelayTimes}
 use Rattle.fourstate.specs.declared.gate.GateKind.{GateKind}
-use Rattle.lexing.specs.declared.unit.TimeUnit.{TimeUnit}
+use Rattle.fourstate.specs.declared.unit.TimeUnit.{TimeUnit}
 use Rattle.vtext.specs.declared.gate.Terminal.{Terminal}
 use Rattle.vtext.specs.declared.gate.InstanceName.{InstanceName}
 use Rattle.vtext.specs.declared.net.Net.{Net}
@@ -9,8 +10,7 @@ use Rattle.vtext.specs.declared.net.Net.{Net}
 -- a gate: the instance that it is of, and the number of its output in it, from 1, where the instance has several
 pub record GateEntry : Type 0 where
   pub kind : GateKind
-  pub rise : ℕ
-  pub fall : ℕ
+  pub delays : DelayTimes
   pub instance : InstanceName
   pub part : Option ℕ
   pub output : ℕ

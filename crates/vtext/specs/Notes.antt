@@ -1,11 +1,12 @@
--- What a word says, by the point of the grammar at which it stands.
+-- What a word says, by the state of the parser in which it is read.
 use Rattle.std.specs.Prelude.{true, false, ℕ, List, [], ◌∷◌, ◌++◌, Option, Some, None, unwrap_or}
+use Rattle.fourstate.specs.Delays.{delay_times}
 use Rattle.vtext.specs.declared.gate.Terminal.TheVariants.{Net, Constant}
 use Rattle.vtext.specs.declared.word.Word.{Word}
 use Rattle.vtext.specs.declared.word.Word.TheVariants.{Module, Endmodule, PortWord, NetWord, GateWord, Name, Number, Literal, Open, Close, Timescale}
 use Rattle.vtext.specs.declared.word.Placed.{Placed}
-use Rattle.vtext.specs.declared.place.Place.{Place}
-use Rattle.vtext.specs.declared.place.Place.TheVariants.{Outside, ModuleName, Header, OlderName, InlineStart, InlineName, InlineMore, Items, PortStart, PortName, NetName, GateStart, Delay, RiseDelay, FallDelay, InstanceStart, TerminalStart, TerminalEnd}
+use Rattle.vtext.specs.declared.parser_state.ParserState.{ParserState}
+use Rattle.vtext.specs.declared.parser_state.ParserState.TheVariants.{Outside, ModuleName, Header, OlderName, InlineStart, InlineName, InlineMore, Items, PortStart, PortName, NetName, GateStart, Delay, RiseDelay, FallDelay, InstanceStart, TerminalStart, TerminalEnd}
 use Rattle.vtext.specs.GateNames.{with_taken}
 use Rattle.vtext.specs.Instances.{completed}
 use Rattle.vtext.specs.Nets.{blank, directed, listed, net_of, ported, with_net, with_use}
@@ -84,7 +85,7 @@ finished r = record r {
 abbrev pub at_items : Option ℕ → Reading → Word → Reading
 at_items default r (PortWord direction) = record r { direction = direction; kind = None }
 at_items default r (NetWord kind) = record r { kind = Some kind }
-at_items default r (GateWord kind) = record r { gate = kind; rise = unwrap_or default 0; fall = unwrap_or default 0 }
+at_items default r (GateWord kind) = record r { gate = kind; delays = delay_times (unwrap_or default 0) (unwrap_or default 0) }
 at_items default r Endmodule = finished r
 at_items default r word = r
 
@@ -105,11 +106,11 @@ at_net_name r word = r
 
 -- the first number of a delay, and the second one too where none follows
 abbrev pub at_delay : Reading → Word → Reading
-at_delay r (Number n) = record r { rise = n; fall = n }
+at_delay r (Number n) = record r { delays = delay_times n n }
 at_delay r word = r
 
 abbrev pub at_fall_delay : Reading → Word → Reading
-at_fall_delay r (Number n) = record r { fall = n }
+at_fall_delay r (Number n) = record r { delays = record r.delays { fall = n } }
 at_fall_delay r word = r
 
 abbrev pub at_instance_start : Reading → Word → Reading
@@ -127,7 +128,7 @@ at_terminal_end names r Close = completed names r
 at_terminal_end names r word = r
 
 -- what has been read after one more word
-abbrev pub noted : Option ℕ → List (List ℕ) → Reading → Place → Placed → Reading
+abbrev pub noted : Option ℕ → List (List ℕ) → Reading → ParserState → Placed → Reading
 noted default names r Outside next = at_outside r next.start next.word
 noted default names r ModuleName next = at_module_name r next.word
 noted default names r Header next = at_header r next.word
@@ -146,4 +147,4 @@ noted default names r FallDelay next = at_fall_delay r next.word
 noted default names r InstanceStart next = at_instance_start r next.word
 noted default names r TerminalStart next = at_terminal_start r next.word
 noted default names r TerminalEnd next = at_terminal_end names r next.word
-noted default names r place next = r
+noted default names r state next = r

@@ -1,10 +1,12 @@
 -- What has been read of a text, word by word: the finished modules, the module that is being read, and what the item that is
 -- being read has said so far.
 use Rattle.std.specs.Prelude.{Bool, false, ℕ, List, [], Option, None}
+use Rattle.fourstate.specs.Delays.{delay_times}
+use Rattle.fourstate.specs.declared.delay_times.DelayTimes.{DelayTimes}
 use Rattle.fourstate.specs.declared.gate.GateKind.{GateKind}
 use Rattle.fourstate.specs.declared.gate.GateKind.TheVariants.{And}
 use Rattle.fourstate.specs.declared.net.NetKind.{NetKind}
-use Rattle.lexing.specs.declared.unit.TimeUnit.{TimeUnit}
+use Rattle.fourstate.specs.declared.unit.TimeUnit.{TimeUnit}
 use Rattle.vtext.specs.declared.word.Direction.{Direction}
 use Rattle.vtext.specs.declared.word.Direction.TheVariants.{Input}
 use Rattle.vtext.specs.declared.draft.Draft.{Draft}
@@ -30,8 +32,7 @@ pub record Reading : Type 0 where
   pub kind : Option NetKind
   -- of a gate item: kind and delays
   pub gate : GateKind
-  pub rise : ℕ
-  pub fall : ℕ
+  pub delays : DelayTimes
   -- of a gate instance: its name, if it has one, and the terminals so far
   pub instance : Option ℕ
   pub terminals : List Terminal
@@ -51,8 +52,7 @@ unread = record {
   direction = Input;
   kind = None;
   gate = And;
-  rise = 0;
-  fall = 0;
+  delays = delay_times 0 0;
   instance = None;
   terminals = [];
 }
@@ -72,8 +72,7 @@ view d = record {
   direction = d.direction;
   kind = d.kind;
   gate = d.gate;
-  rise = d.rise;
-  fall = d.fall;
+  delays = d.delays;
   instance = d.instance;
   terminals = d.terminals.items;
 }

@@ -7,7 +7,7 @@ use Rattle.lexing.specs.declared.limits.TheConstants.{MAX_TEXT}
 use Rattle.lexing.specs.declared.token.Token.{Token}
 use Rattle.vtext.specs.declared.cause.Cause.{Cause}
 use Rattle.vtext.specs.declared.fault.ReadFault.{ReadFault}
-use Rattle.vtext.specs.declared.place.Place.TheVariants.{Outside}
+use Rattle.vtext.specs.declared.parser_state.ParserState.TheVariants.{Outside}
 use Rattle.vtext.specs.Modules.{ModuleList}
 use Rattle.vtext.specs.ReadFaults.{kind_of, too_long}
 use Rattle.vtext.specs.Readings.{Reading}
@@ -22,7 +22,7 @@ pub record Says (default : Option ℕ) (text : List ℕ) (list : ModuleList) : T
   pub spelled : Spells text 0 tokens
   pub names : list.names ≡ names_of text tokens
   pub last : Reading
-  pub leads : Leads default (names_of text tokens) start (words_of text tokens) None (record { place = Outside; so_far = last })
+  pub leads : Leads default (names_of text tokens) start (words_of text tokens) None (record { state = Outside; so_far = last })
   pub unit : list.unit ≡ last.unit
   pub modules : list.modules ≡ last.modules
 

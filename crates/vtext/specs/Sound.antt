@@ -44,7 +44,7 @@ IsConnected nets (Constant value) = Unit {0}
 pub record IsSoundGate (names : List (List ℕ)) (nets : List (ℕ × nets.Net)) (g : GateEntry) : Type 0 where
   pub spelled : IsSpelling (gate_bytes names g)
   pub fits : IsTrue (takes_inputs g.kind (length g.inputs))
-  pub delays : AreDelays (record { rise = g.rise; fall = g.fall })
+  pub delays : AreDelays g.delays
   pub output : IsSome (net_of nets g.output)
   pub inputs : All (IsConnected nets) g.inputs
 

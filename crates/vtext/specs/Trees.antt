@@ -2,9 +2,11 @@
 -- (IEEE 1364-2005, 7.1, 12.1, 12.3). Names are numbers of the table.
 use Rattle.std.specs.Prelude.{◌≡◌, true, false, ℕ, List, [], ◌∷◌, ◌++◌, Option, Some, None, fold, unwrap_or}
 use Rattle.std.specs.List.{list_any}
+use Rattle.fourstate.specs.Delays.{delay_times}
+use Rattle.fourstate.specs.declared.delay_times.DelayTimes.{DelayTimes}
 use Rattle.fourstate.specs.declared.gate.GateKind.{GateKind}
 use Rattle.fourstate.specs.declared.net.NetKind.{NetKind}
-use Rattle.lexing.specs.declared.unit.TimeUnit.{TimeUnit}
+use Rattle.fourstate.specs.declared.unit.TimeUnit.{TimeUnit}
 use Rattle.vtext.specs.declared.gate.Terminal.{Terminal}
 use Rattle.vtext.specs.declared.gate.Terminal.TheVariants.{Net, Constant}
 use Rattle.vtext.specs.declared.word.Direction.{Direction}
@@ -131,18 +133,12 @@ after_header r empty_ports = r
 after_header r (older_ports n names) = fold list_port r (n ∷ names)
 after_header r (inline_ports decl ports) = fold after_port (after_decl (record r { inline = true }) decl) ports
 
--- rise and fall
-abbrev pub rise_of : Option ℕ → Delay → ℕ
-rise_of default no_delay = unwrap_or default 0
-rise_of default (one_delay d) = d
-rise_of default (enclosed_delay d) = d
-rise_of default (two_delays r f) = r
-
-abbrev pub fall_of : Option ℕ → Delay → ℕ
-fall_of default no_delay = unwrap_or default 0
-fall_of default (one_delay d) = d
-fall_of default (enclosed_delay d) = d
-fall_of default (two_delays r f) = f
+-- one number is both delays, of two the first is the rise
+abbrev pub times_of : Option ℕ → Delay → DelayTimes
+times_of default no_delay = delay_times (unwrap_or default 0) (unwrap_or default 0)
+times_of default (one_delay d) = delay_times d d
+times_of default (enclosed_delay d) = delay_times d d
+times_of default (two_delays r f) = delay_times r f
 
 abbrev pub after_terminal : Reading → Terminal → Reading
 after_terminal r (Net n) = use_net r n
@@ -159,7 +155,7 @@ abbrev pub after_instance : List (List ℕ) → Reading → Instance → Reading
 after_instance table r instance = completed table (after_terminals r instance)
 
 abbrev pub after_gate : Option ℕ → Reading → GateKind → Delay → Reading
-after_gate default r kind delay = record r { gate = kind; rise = rise_of default delay; fall = fall_of default delay }
+after_gate default r kind delay = record r { gate = kind; delays = times_of default delay }
 
 abbrev pub after_item : Option ℕ → List (List ℕ) → Reading → Item → Reading
 after_item default table r (port_item direction kind n names) = fold direct_port (record r { direction = direction; kind = kind }) (n ∷ names)

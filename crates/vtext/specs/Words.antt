@@ -9,11 +9,11 @@ use Rattle.lexing.specs.Texts.{bytes_of, name_bytes}
 use Rattle.lexing.specs.declared.token.Shape.{Shape}
 use Rattle.lexing.specs.declared.token.Shape.TheVariants as shape
 use Rattle.lexing.specs.declared.token.Token.{Token}
-use Rattle.lexing.specs.declared.unit.Magnitude.{Magnitude}
-use Rattle.lexing.specs.declared.unit.Magnitude.TheVariants as magnitude
-use Rattle.lexing.specs.declared.unit.Unit.{Unit as TimeScale}
-use Rattle.lexing.specs.declared.unit.Unit.TheVariants as unit
-use Rattle.lexing.specs.declared.unit.TimeUnit.{TimeUnit}
+use Rattle.fourstate.specs.declared.unit.Magnitude.{Magnitude}
+use Rattle.fourstate.specs.declared.unit.Magnitude.TheVariants as magnitude
+use Rattle.fourstate.specs.declared.unit.Unit.{Unit as TimeScale}
+use Rattle.fourstate.specs.declared.unit.Unit.TheVariants as unit
+use Rattle.fourstate.specs.declared.unit.TimeUnit.{TimeUnit}
 use Rattle.vtext.specs.declared.word.Word.{Word}
 use Rattle.vtext.specs.declared.word.Word.TheVariants.{Number, Literal, Timescale, Refused, Broken, Stray}
 use Rattle.vtext.specs.declared.word.Placed.{Placed}

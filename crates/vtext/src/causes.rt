@@ -10,7 +10,7 @@ use crate::cause::Cause;
 use crate::draft::Draft;
 use crate::names::Names;
 use crate::net::Net;
-use crate::place::Place;
+use crate::parser_state::ParserState;
 use crate::terminals::{is_arity_wrong, is_constant_driven, split};
 use crate::word::Word;
 use fourstate::{MAX_DELAY, NetKind};
@@ -202,38 +202,38 @@ impl Draft {
         }
     }
 
-    /// Why a word is refused that the grammar admits at its place; `next` is the word after it.
+    /// Why a word is refused that the grammar admits in this state; `next` is the word after it.
     pub fn cause(
         &self,
         alloc: Global,
         default: Option<u32>,
         names: &Names,
-        place: Place,
+        state: ParserState,
         word: Word,
         next: Option<Word>,
     ) -> Result<Option<Cause>, AllocError>
         requires { (view self.now).unnamed < 2 ^ 64 - 1 }
-        ensures { IfOk result (λ found. found ≡ cause default names.now (view self.now) place word next) }
+        ensures { IfOk result (λ found. found ≡ cause default names.now (view self.now) state word next) }
     {
-        match place {
-            Place::Outside => Ok(self.outside_cause(word)),
-            Place::ModuleName => Ok(name_cause(word)),
-            Place::Header => Ok(self.header_cause(word)),
-            Place::OlderName => Ok(self.header_cause(word)),
-            Place::InlineStart => Ok(self.header_cause(word)),
-            Place::InlineName => Ok(self.header_cause(word)),
-            Place::InlineMore => Ok(self.header_cause(word)),
-            Place::Items => Ok(self.item_cause(default, word, next)),
-            Place::PortStart => Ok(self.port_cause(word)),
-            Place::PortName => Ok(self.port_cause(word)),
-            Place::NetName => Ok(self.net_cause(word)),
-            Place::GateStart => Ok(self.instance_cause(word)),
-            Place::Delay => Ok(delay_cause(word)),
-            Place::RiseDelay => Ok(delay_cause(word)),
-            Place::FallDelay => Ok(delay_cause(word)),
-            Place::InstanceStart => Ok(self.instance_cause(word)),
-            Place::TerminalStart => Ok(name_cause(word)),
-            Place::TerminalEnd => self.terminal_end_cause(alloc, names, word),
+        match state {
+            ParserState::Outside => Ok(self.outside_cause(word)),
+            ParserState::ModuleName => Ok(name_cause(word)),
+            ParserState::Header => Ok(self.header_cause(word)),
+            ParserState::OlderName => Ok(self.header_cause(word)),
+            ParserState::InlineStart => Ok(self.header_cause(word)),
+            ParserState::InlineName => Ok(self.header_cause(word)),
+            ParserState::InlineMore => Ok(self.header_cause(word)),
+            ParserState::Items => Ok(self.item_cause(default, word, next)),
+            ParserState::PortStart => Ok(self.port_cause(word)),
+            ParserState::PortName => Ok(self.port_cause(word)),
+            ParserState::NetName => Ok(self.net_cause(word)),
+            ParserState::GateStart => Ok(self.instance_cause(word)),
+            ParserState::Delay => Ok(delay_cause(word)),
+            ParserState::RiseDelay => Ok(delay_cause(word)),
+            ParserState::FallDelay => Ok(delay_cause(word)),
+            ParserState::InstanceStart => Ok(self.instance_cause(word)),
+            ParserState::TerminalStart => Ok(name_cause(word)),
+            ParserState::TerminalEnd => self.terminal_end_cause(alloc, names, word),
             _ => Ok(None),
         }
     }

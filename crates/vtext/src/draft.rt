@@ -9,9 +9,8 @@ use crate::gate::{Gate, Terminal};
 use crate::module::Module;
 use crate::net::Net;
 use crate::word::Direction;
-use fourstate::{GateKind, NetKind};
+use fourstate::{DelayTimes, GateKind, NetKind, TimeUnit};
 use indexmap::{IndexMap, IndexSet};
-use lexing::TimeUnit;
 use std::alloc::{AllocError, Global};
 
 /// What has been read of a text so far: the finished modules, the module that is being read, and what the item that is
@@ -38,8 +37,7 @@ pub struct Draft {
     pub kind: Option<NetKind>,
     /// The kind of the gate item that is being read.
     pub gate: GateKind,
-    pub rise: u32,
-    pub fall: u32,
+    pub delays: DelayTimes,
     /// The name of the gate instance that is being read.
     pub instance: Option<u32>,
     pub terminals: Vec<Terminal>,
@@ -63,8 +61,7 @@ impl Draft {
             direction: Direction::Input,
             kind: None,
             gate: GateKind::And,
-            rise: 0,
-            fall: 0,
+            delays: DelayTimes::new(0, 0),
             instance: None,
             terminals: Vec::new(alloc),
         }

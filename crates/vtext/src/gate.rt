@@ -2,7 +2,7 @@
 
 ghost use Rattle.std.specs.Prelude.{◌≡◌};
 
-use fourstate::{GateKind, Value};
+use fourstate::{DelayTimes, GateKind, Value};
 use std::marker::Model;
 
 /// What a terminal of a gate is connected to.
@@ -27,8 +27,7 @@ pub enum InstanceName {
 #[derive(Debug, Drop)]
 pub struct Gate {
     kind: GateKind,
-    rise: u32,
-    fall: u32,
+    delays: DelayTimes,
     instance: InstanceName,
     part: Option<usize>,
     output: u32,
@@ -40,26 +39,24 @@ impl Model for Gate {
 
     ghost Value = { GateEntry };
 
-    ghost view = { λ a. record { kind = a.kind; rise = a.rise; fall = a.fall; instance = a.instance; part = a.part; output = a.output; inputs = a.inputs.items } };
+    ghost view = { λ a. record { kind = a.kind; delays = a.delays; instance = a.instance; part = a.part; output = a.output; inputs = a.inputs.items } };
 }
 
 impl Gate {
     /// A gate of an instance, and of its output of this number, from 1, where the instance has several.
     pub fn new(
         kind: GateKind,
-        rise: u32,
-        fall: u32,
+        delays: DelayTimes,
         instance: InstanceName,
         part: Option<usize>,
         output: u32,
         inputs: Vec<Terminal>,
     ) -> Gate
-        ensures { result ≡ record { kind = kind; rise = rise; fall = fall; instance = instance; part = part; output = output; inputs = inputs.items } }
+        ensures { result ≡ record { kind = kind; delays = delays; instance = instance; part = part; output = output; inputs = inputs.items } }
     {
         Gate {
             kind,
-            rise,
-            fall,
+            delays,
             instance,
             part,
             output,
@@ -74,18 +71,11 @@ impl Gate {
         self.kind
     }
 
-    /// Its delay to 1, in time units, 1 to 1,000,000.
-    pub fn rise(&self) -> u32
-        ensures { result ≡ self.now.rise }
+    /// Its delays, in time units, each 1 to 1,000,000.
+    pub fn delays(&self) -> DelayTimes
+        ensures { result ≡ self.now.delays }
     {
-        self.rise
-    }
-
-    /// Its delay to 0, in time units, 1 to 1,000,000.
-    pub fn fall(&self) -> u32
-        ensures { result ≡ self.now.fall }
-    {
-        self.fall
+        self.delays
     }
 
     /// What its instance is called.

@@ -106,15 +106,7 @@ impl Draft {
         ensures { OnOk result (view self.new ≡ record (view self.old) { gates = (view self.old).gates ++ gate_of (view self.old) instance part inputs.now output ∷ [] }) }
     {
         let inputs = Vec::from_slice(alloc, inputs)?;
-        let gate = Gate::new(
-            self.gate,
-            self.rise,
-            self.fall,
-            instance,
-            part,
-            output.net(),
-            inputs,
-        );
+        let gate = Gate::new(self.gate, self.delays, instance, part, output.net(), inputs);
         self.gates.push(gate)?;
         Ok(())
     }

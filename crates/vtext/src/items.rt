@@ -8,8 +8,9 @@ use crate::draft::Draft;
 use crate::gate::Terminal;
 use crate::module::Module;
 use crate::names::Names;
-use crate::place::Place;
+use crate::parser_state::ParserState;
 use crate::word::{Placed, Word};
+use fourstate::DelayTimes;
 use indexmap::{IndexMap, IndexSet};
 use std::alloc::{AllocError, Global};
 use std::mem;
@@ -62,8 +63,8 @@ impl Draft {
             Word::NetWord(kind) => self.kind = Some(kind),
             Word::GateWord(kind) => {
                 self.gate = kind;
-                self.rise = default.unwrap_or(0);
-                self.fall = self.rise;
+                let delay = u64::from(default.unwrap_or(0));
+                self.delays = DelayTimes::new(delay, delay);
             }
             Word::Endmodule => self.finish(alloc)?,
             _ => {}
@@ -75,8 +76,8 @@ impl Draft {
         ensures { view self.new ≡ at_delay (view self.old) word }
     {
         if let Word::Number(time) = word {
-            self.rise = time;
-            self.fall = time;
+            let delay = u64::from(time);
+            self.delays = DelayTimes::new(delay, delay);
         }
     }
 
@@ -84,7 +85,7 @@ impl Draft {
         ensures { view self.new ≡ at_fall_delay (view self.old) word }
     {
         if let Word::Number(time) = word {
-            self.fall = time;
+            self.delays.fall = u64::from(time);
         }
     }
 
@@ -128,37 +129,37 @@ impl Draft {
         }
     }
 
-    /// Notes what one more word says at its place.
+    /// Notes what one more word says in a state of the parser.
     pub fn note(
         &mut self,
         alloc: Global,
         default: Option<u32>,
         names: &Names,
-        place: Place,
+        state: ParserState,
         next: Placed,
     ) -> Result<(), AllocError>
         requires { (view self.old).unnamed < 2 ^ 64 - 1 }
-        ensures { OnOk result (view self.new ≡ noted default names.now (view self.old) place next) }
+        ensures { OnOk result (view self.new ≡ noted default names.now (view self.old) state next) }
     {
-        match place {
-            Place::Outside => self.at_outside(next.start, next.word),
-            Place::ModuleName => self.at_module_name(next.word),
-            Place::Header => self.at_header(next.word)?,
-            Place::OlderName => self.at_older_name(next.word)?,
-            Place::InlineStart => self.at_inline_start(next.word)?,
-            Place::InlineName => self.at_inline_name(next.word)?,
-            Place::InlineMore => self.at_inline_more(next.word)?,
-            Place::Items => self.at_items(alloc, default, next.word)?,
-            Place::PortStart => self.at_port_start(next.word)?,
-            Place::PortName => self.at_port_name(next.word)?,
-            Place::NetName => self.at_net_name(next.word)?,
-            Place::GateStart => self.at_instance_start(next.word)?,
-            Place::Delay => self.at_delay(next.word),
-            Place::RiseDelay => self.at_delay(next.word),
-            Place::FallDelay => self.at_fall_delay(next.word),
-            Place::InstanceStart => self.at_instance_start(next.word)?,
-            Place::TerminalStart => self.at_terminal_start(next.word)?,
-            Place::TerminalEnd => self.at_terminal_end(alloc, names, next.word)?,
+        match state {
+            ParserState::Outside => self.at_outside(next.start, next.word),
+            ParserState::ModuleName => self.at_module_name(next.word),
+            ParserState::Header => self.at_header(next.word)?,
+            ParserState::OlderName => self.at_older_name(next.word)?,
+            ParserState::InlineStart => self.at_inline_start(next.word)?,
+            ParserState::InlineName => self.at_inline_name(next.word)?,
+            ParserState::InlineMore => self.at_inline_more(next.word)?,
+            ParserState::Items => self.at_items(alloc, default, next.word)?,
+            ParserState::PortStart => self.at_port_start(next.word)?,
+            ParserState::PortName => self.at_port_name(next.word)?,
+            ParserState::NetName => self.at_net_name(next.word)?,
+            ParserState::GateStart => self.at_instance_start(next.word)?,
+            ParserState::Delay => self.at_delay(next.word),
+            ParserState::RiseDelay => self.at_delay(next.word),
+            ParserState::FallDelay => self.at_fall_delay(next.word),
+            ParserState::InstanceStart => self.at_instance_start(next.word)?,
+            ParserState::TerminalStart => self.at_terminal_start(next.word)?,
+            ParserState::TerminalEnd => self.at_terminal_end(alloc, names, next.word)?,
             _ => {}
         }
         Ok(())

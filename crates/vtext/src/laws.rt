@@ -13,13 +13,13 @@ ghost use Rattle.vtext.specs.Trees.{Header, IsModuleAdmitted, Item, Part, after_
 ghost use Rattle.vtext.specs.Walks.{IsFault, Leads, Walk, start};
 ghost use Rattle.vtext.specs.declared.cause.Cause as causes;
 ghost use Rattle.vtext.specs.declared.fault.ReadFault as faults;
-ghost use Rattle.vtext.specs.declared.place.Place.TheVariants.{Outside};
+ghost use Rattle.vtext.specs.declared.parser_state.ParserState.TheVariants.{Outside};
 ghost use Rattle.vtext.specs.declared.word.Placed as placed;
 ghost use Rattle.vtext.specs.declared.word.Word as words;
 
 use lexing::laws::{one_spelling, some_spelling};
 
-/// Words lead from where a walk stands to one place, with one reading.
+/// Words lead from where a walk stands to one state, with one reading.
 #[tactic(auto, using(crate::proofs::WalkLaws::one_walk))]
 pub fn one_walk()
     ensures { (default : Option ℕ) (names : List (List ℕ)) (said : List placed.Placed) (from : Walk) (after : Option words.Word) (a b : Walk) →
@@ -34,7 +34,7 @@ pub fn one_fault()
 
 /// Words that are read to their end have no fault.
 pub fn no_fault()
-    ensures { (default : Option ℕ) (names : List (List ℕ)) (said : List placed.Placed) (to : Walk) (k : ℕ) (why : causes.Cause) → to.place ≡ Outside →
+    ensures { (default : Option ℕ) (names : List (List ℕ)) (said : List placed.Placed) (to : Walk) (k : ℕ) (why : causes.Cause) → to.state ≡ Outside →
         Leads default names start said None to → ¬ (IsFault default names said k why) }
 {}
 
@@ -43,7 +43,7 @@ pub fn module_is_read()
     ensures { (default : Option ℕ) (names : List (List ℕ)) (first : placed.Placed) (more : List placed.Placed) (name : ℕ) (header : Header) (items : List Item) →
         map (λ (next : placed.Placed). next.word) (first ∷ more) ≡ module_then name header items [] →
         IsModuleAdmitted default names first.start name header items →
-        Leads default names start (first ∷ more) None (record { place = Outside; so_far = after_module default names first.start name header items }) }
+        Leads default names start (first ∷ more) None (record { state = Outside; so_far = after_module default names first.start name header items }) }
 {}
 
 /// A text says one list of modules, or has one first fault, and not both.
@@ -58,7 +58,7 @@ pub fn one_reading(text: &[u8])
 /// What is read to its end is written by the grammar: by directives and modules in some order.
 pub fn reading_is_written()
     ensures { (default : Option ℕ) (names : List (List ℕ)) (said : List placed.Placed) (last : Reading) →
-        Leads default names start said None (record { place = Outside; so_far = last }) →
+        Leads default names start said None (record { state = Outside; so_far = last }) →
         (parts : List Part) × (map (λ (next : placed.Placed). next.word) said ≡ parts_then parts []) }
 {}
 

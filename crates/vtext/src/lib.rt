@@ -16,7 +16,7 @@ mod module_list;
 mod names;
 mod net;
 mod nets;
-mod place;
+mod parser_state;
 mod read;
 mod steps;
 mod table;

@@ -6,7 +6,7 @@ ghost use Rattle.vtext.specs.Readings.{view};
 use crate::draft::Draft;
 use crate::module::Module;
 use crate::names::Names;
-use lexing::TimeUnit;
+use fourstate::TimeUnit;
 use std::marker::Model;
 
 /// The modules of a text in order, with the table of its names.

@@ -5,7 +5,8 @@ ghost use Rattle.lexing.specs.Texts.{IsInside};
 ghost use Rattle.vtext.specs.Words.{directive_word, first_unit, is_timescale, magnitude_power, power_of, same_unit, unit_at, unit_power};
 
 use crate::word::Word;
-use lexing::{Magnitude, Shape, TimeUnit, Token, Unit, timescale};
+use fourstate::{Magnitude, TimeUnit, Unit};
+use lexing::{Shape, Token, timescale};
 
 fn magnitude_power(magnitude: Magnitude) -> u8
     ensures value { result ≡ magnitude_power magnitude }

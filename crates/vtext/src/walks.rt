@@ -1,14 +1,14 @@
 //! The first pass over the words of a text.
 
 ghost use Rattle.std.specs.Prelude.{◌≡◌, ◌<◌, ◌-◌, ◌^◌, None, IfErr, IfOk};
-ghost use Rattle.vtext.specs.declared.place.Place.TheVariants.{Outside};
+ghost use Rattle.vtext.specs.declared.parser_state.ParserState.TheVariants.{Outside};
 ghost use Rattle.vtext.specs.Readings.{view};
 ghost use Rattle.vtext.specs.Walks.{IsRefusal, Leads, judge, start, word_at};
 
 use crate::cause::Cause;
 use crate::draft::Draft;
 use crate::names::Names;
-use crate::place::Place;
+use crate::parser_state::ParserState;
 use crate::steps::{misfit, step};
 use crate::word::{Placed, Word};
 use std::alloc::{AllocError, Global};
@@ -48,17 +48,17 @@ fn judge(
     default: Option<u32>,
     names: &Names,
     draft: &Draft,
-    place: Place,
+    state: ParserState,
     word: Word,
     after: Option<Word>,
-) -> Result<Result<Place, Cause>, AllocError>
+) -> Result<Result<ParserState, Cause>, AllocError>
     requires { (view draft.now).unnamed < 2 ^ 64 - 1 }
-    ensures { IfOk result (λ found. found ≡ judge default names.now (record { place = place; so_far = view draft.now }) word after) }
+    ensures { IfOk result (λ found. found ≡ judge default names.now (record { state = state; so_far = view draft.now }) word after) }
 {
-    let Some(to) = step(place, word) else {
-        return Ok(Err(misfit(place, word)));
+    let Some(to) = step(state, word) else {
+        return Ok(Err(misfit(state, word)));
     };
-    match draft.cause(alloc, default, names, place, word, after)? {
+    match draft.cause(alloc, default, names, state, word, after)? {
         Some(cause) => Ok(Err(cause)),
         None => Ok(Ok(to)),
     }
@@ -71,24 +71,24 @@ pub fn walk(
     names: &Names,
     words: &[Placed],
 ) -> Result<Draft, Refusal>
-    ensures text { IfOk result (λ draft. Leads default names.now start words.now None (record { place = Outside; so_far = view draft })) }
+    ensures text { IfOk result (λ draft. Leads default names.now start words.now None (record { state = Outside; so_far = view draft })) }
     ensures fault { IfErr result (IsRefusal default names.now words.now) }
 {
     let mut draft = Draft::new(alloc);
-    let mut place = Place::Outside;
+    let mut state = ParserState::Outside;
     for i in 0..words.len() {
         let next = words[i];
         let after = word_at(words, i + 1);
-        match judge(alloc, default, names, &draft, place, next.word, after)? {
+        match judge(alloc, default, names, &draft, state, next.word, after)? {
             Ok(to) => {
-                draft.note(alloc, default, names, place, next)?;
-                place = to;
+                draft.note(alloc, default, names, state, next)?;
+                state = to;
             }
             Err(cause) => return Err(Refusal::Fault(i, cause)),
         }
     }
-    match place {
-        Place::Outside => Ok(draft),
+    match state {
+        ParserState::Outside => Ok(draft),
         _ => Err(Refusal::Fault(words.len(), Cause::Syntax)),
     }
 }

@@ -1,7 +1,6 @@
 //! What a token says to the grammar.
 
-use fourstate::{GateKind, NetKind, Value};
-use lexing::TimeUnit;
+use fourstate::{GateKind, NetKind, TimeUnit, Value};
 
 /// The direction of a port (IEEE 1364-2005, 12.3.3). There is no `inout`.
 #[derive(Clone, Copy, Debug, PartialEq, Eq)]

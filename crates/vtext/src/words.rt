@@ -11,7 +11,8 @@ use crate::table::Table;
 use crate::units::{directive_word, first_unit, unit_at};
 use crate::word::{Placed, Word};
 use design::NameHasher;
-use lexing::{Shape, TimeUnit, Token, constant_value, number_value};
+use fourstate::TimeUnit;
+use lexing::{Shape, Token, constant_value, number_value};
 use std::alloc::{AllocError, Global};
 
 impl Table {

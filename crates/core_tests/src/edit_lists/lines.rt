@@ -1,8 +1,8 @@
 //! Edits and designs of tests, written as lines.
 
-use design::{Design, Name, NameHasher, TimeUnit};
+use design::{Design, Name, NameHasher};
 use edits::{Edit, EditFault, Pin, Pins, Word, apply_all};
-use fourstate::{GateKind, NetKind, Value};
+use fourstate::{GateKind, NetKind, TimeUnit, Value};
 use std::alloc::Global;
 use std::process::Abort;
 

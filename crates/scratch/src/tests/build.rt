@@ -1,7 +1,7 @@
 //! Designs by calls, for tests.
 
-use design::{Design, Gate, MAX_GATES, MAX_NETS, MAX_POINTS, Name, NameHasher, Terminal, TimeUnit};
-use fourstate::{Delays, GateKind, MAX_TIME, NetKind, Value, fits};
+use design::{Design, Gate, MAX_GATES, MAX_NETS, MAX_POINTS, Name, NameHasher, Terminal};
+use fourstate::{Delays, GateKind, MAX_TIME, NetKind, TimeUnit, Value, fits};
 use std::alloc::Global;
 use std::process::Abort;
 

@@ -21,7 +21,7 @@ pub enum Unit {
     Femtosecond,
 }
 
-/// How long one unit of a design's times is: 1, 10 or 100 of a unit, 1 ns by default.
+/// How long one unit of times is, as a directive `` `timescale `` writes it: 1, 10 or 100 of a unit, 1 ns by default.
 #[derive(Clone, Copy, Debug, Default, PartialEq, Eq, Hash)]
 pub struct TimeUnit {
     pub magnitude: Magnitude,

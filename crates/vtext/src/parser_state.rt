@@ -1,8 +1,9 @@
-//! The points of the grammar.
+//! The states of the parser.
 
-/// A point within a line of the grammar: what has been read of it, and so what may come next. Nothing in the grammar nests.
+/// A point within a line of the grammar: what has been read of it, and so what may come next. Nothing in the grammar
+/// nests, so there is no stack.
 #[derive(Clone, Copy, Debug, PartialEq, Eq)]
-pub enum Place {
+pub enum ParserState {
     /// Outside modules.
     Outside,
     /// Behind `module`.
