@@ -1,12 +1,32 @@
 //! Waves, traces and runs, with their entries worked out by hand.
 
-ghost use Rattle.std.specs.Prelude.{◌≡◌, ◌≢◌, Some, None};
+ghost use Rattle.std.specs.Prelude.{◌≡◌, ◌≢◌, ◌<◌, ℕ, Some, None};
+ghost use Rattle.fourstate.specs.declared.value.Value as values;
+ghost use Rattle.gatestep.specs.Step.{State, due};
+ghost use Rattle.waveform.specs.Changes.{trace_below, wave_changes_below};
+ghost use Rattle.waveform.specs.Timelines.{IsAlwaysSettled};
 
 use fourstate::Value;
 use gatestep::Driver;
 use std::alloc::Global;
 use std::process::Abort;
-use waveform::{Change, Run, Trace, TraceEntry, Wave};
+use waveform::{Change, Run, Trace, TraceEntry, Wave, laws};
+
+/// The value at a moment, which is that of the function whose changes the wave keeps.
+fn value_at(wave: &Wave, t: u64) -> Value
+    ensures { (f : ℕ → values.Value) (n : ℕ) → wave.now ≡ wave_changes_below f n → t < n → result ≡ f t }
+{
+    laws::value_of_changes::<Value>();
+    wave.at(t)
+}
+
+/// The state after a moment, which is that of the function whose entries the trace keeps.
+fn state_at(trace: &Trace, t: u64) -> Driver
+    ensures { (f : ℕ → State) (n : ℕ) → IsAlwaysSettled due f → trace.now ≡ trace_below f n → t < n → result ≡ f t }
+{
+    laws::value_of_changes::<Driver>();
+    trace.at(t)
+}
 
 /// The wave `0 x / 3 0 / 13 1 / 16 0`.
 fn pulse(rt: &impl Abort, alloc: Global) -> Wave {
@@ -51,7 +71,7 @@ fn waves_are_looked_up(rt: HostRuntime) {
         (15, Value::One),
         (1000, Value::Zero),
     ] {
-        assert_eq!(rt; wave.at(t), value, "at {t}");
+        assert_eq!(rt; value_at(&wave, t), value, "at {t}");
     }
     assert_eq!(rt; wave.next_after(3), Some((13, Value::One)));
     assert_eq!(rt; wave.next_after(2), Some((3, Value::Zero)));
@@ -140,7 +160,7 @@ fn a_due_event_has_no_entry(rt: HostRuntime) {
         trace.entries(),
         [TraceEntry::new(0, falling), TraceEntry::new(7, rising)].as_slice()
     );
-    assert_eq!(rt; trace.at(2), falling);
+    assert_eq!(rt; state_at(&trace, 2), falling);
     assert_eq!(rt; trace.at(3), low);
     assert_eq!(rt; trace.at(6), low);
     assert_eq!(rt; trace.at(11), rising);
