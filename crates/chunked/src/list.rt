@@ -12,7 +12,7 @@ use std::sync::Arc;
 
 /// A list in chunks. A copy shares the chunks, and costs one pointer for each. The first write to a chunk that is shared
 /// copies that chunk alone; a write to one that nobody else has copies nothing. Contracts see the list.
-#[derive(Drop)]
+#[derive(Debug, Drop)]
 pub struct Chunked<T: Drop> {
     chunks: Vec<Chunk<T>>,
     len: usize,

@@ -8,7 +8,7 @@ use std::marker::Model;
 use std::sync::Arc;
 
 /// A value behind a pointer that clones share. Contracts see the value.
-#[derive(Drop)]
+#[derive(Debug, Drop)]
 pub struct Shared<T: Drop> {
     pointer: Arc<T>,
 }
