@@ -1,6 +1,5 @@
 pub mod CellLemmas
 pub mod ChangeLemmas
-pub mod ChunkLemmas
 pub mod EntryLemmas
 pub mod GatherLemmas
 pub mod ListLemmas

@@ -8,7 +8,6 @@ use Rattle.std.specs.Arc.{arc_value}
 use Rattle.std.specs.List.{position_from, remove, slice_set}
 use Rattle.std.specs.declared.sync.Arc.{Arc}
 use Rattle.catalog.specs.Catalog.{keys_of, named, record_at, with_record, without_key}
-use Rattle.catalog.specs.Columns.{cells_in, shown_cell}
 use Rattle.catalog.specs.Shared.{AreKept, shown}
 use Rattle.catalog.proofs.ListLemmas.{position_find, position_within}
 use Rattle.catalog.proofs.EntryLemmas.{below_push, distinct_push, distinct_with, distinct_without, record_at_above, keys_with, remove_is_without, set_is_with}
@@ -64,12 +63,3 @@ module _ {R : Type 0} where
           let low : get_or (keys_of entries) k d.0 < next = old.below k d.0 (omega (arith, length-map entries (λ (x : ℕ × R). x.0))) in
           omega arith));
     }
-
-module _ {R : Type 0} where
-  -- a chunk and its copy
-  pub cells_same : (S : Option (Arc (Vec (Option (ℕ × Arc R Global)) Global) Global) → Option (Arc (Vec (Option (ℕ × Arc R Global)) Global) Global) → Type 0) → ((y : Arc (Vec (Option (ℕ × Arc R Global)) Global) Global) → S None (Some y) → ⊥) → ((x : Arc (Vec (Option (ℕ × Arc R Global)) Global) Global) → S (Some x) None → ⊥) →
-      ((x y : Arc (Vec (Option (ℕ × Arc R Global)) Global) Global) → S (Some x) (Some y) → arc_value y ≡ arc_value x) → (p q : Option (Arc (Vec (Option (ℕ × Arc R Global)) Global) Global)) → S p q → cells_in q ≡ cells_in p
-  cells_same S more less same None None h = refl
-  cells_same S more less same None (Some y) h = absurd (more y h)
-  cells_same S more less same (Some x) None h = absurd (less x h)
-  cells_same S more less same (Some x) (Some y) h = ap (λ v. map shown_cell v.items) (same x y h)
