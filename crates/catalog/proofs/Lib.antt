@@ -2,8 +2,8 @@ pub mod CellLemmas
 pub mod ChangeLemmas
 pub mod EntryLemmas
 pub mod GatherLemmas
+pub mod KeptLemmas
 pub mod ListLemmas
 pub mod NameLemmas
 pub mod NumberLemmas
-pub mod SharedLemmas
 pub mod TableLemmas

@@ -2,6 +2,6 @@ pub mod Catalog
 pub mod Columns
 pub mod Found
 pub mod Hashers
-pub mod Shared
+pub mod Kept
 pub mod Slots
 pub mod Table
