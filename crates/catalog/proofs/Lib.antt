@@ -1,10 +1,9 @@
 pub mod CellLemmas
 pub mod ChangeLemmas
-pub mod ChunkLemmas
 pub mod EntryLemmas
 pub mod GatherLemmas
+pub mod KeptLemmas
 pub mod ListLemmas
 pub mod NameLemmas
 pub mod NumberLemmas
-pub mod SharedLemmas
 pub mod TableLemmas

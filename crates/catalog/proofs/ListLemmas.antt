@@ -1,23 +1,8 @@
--- Lists: the first element that passes, and lists that are seen through a function.
+-- Lists: the first element that passes.
 use Rattle.std.proofs.Common.{◌≡◌, ℕ, zero, suc, ◌+◌, ◌<◌, Bool, true, false, cond, List, [], ◌∷◌, length, map, get_or, Option, Some, None, option_map, slice_get, AllPairs, sym, refl, ap, subst, ◌∙◌, arith}
 use Rattle.std.proofs.lemmas.List.{get_or-map}
 use Rattle.std.proofs.lemmas.Option.{slice_get-get_or}
 use Rattle.std.specs.List.{AllZip, find, position_from}
-
--- What is seen through a function.
-
-pub position_from-map : {X Y : Type 0} (f : X → Y) (t : Y → Bool) (k : ℕ) (xs : List X) → position_from t k (map f xs) ≡ position_from (λ x. t (f x)) k xs
-position_from-map f t k [] = refl
-position_from-map f t k (x ∷ xs) = ap (λ o. cond (t (f x)) (Some k) o) (position_from-map f t (k + 1) xs)
-
-pub map_all_zip : {X Y : Type 0} (f : X → Y) (C : X → X → Type 0) → ((x y : X) → C x y → f y ≡ f x) → (xs ys : List X) → AllZip C xs ys → map f ys ≡ map f xs
-map_all_zip f C same [] [] h = refl
-map_all_zip f C same [] (y ∷ ys) h = absurd h
-map_all_zip f C same (x ∷ xs) [] h = absurd h
-map_all_zip f C same (x ∷ xs) (y ∷ ys) h =
-    let rest = map_all_zip f C same xs ys h.1 in
-    let first : f y ≡ f x = same x y h.0 in
-    λ i. first i ∷ rest i
 
 -- The first element that passes.
 
@@ -88,22 +73,9 @@ find_at {X} t (y ∷ xs) x h = step (t y) (λ e. find_at t xs x e) h
 pub AllPairs-tail : {X : Type 0} (R : X → X → Type 0) (x : X) (xs : List X) → AllPairs R (x ∷ xs) → AllPairs R xs
 AllPairs-tail R x xs h = λ i j d below within. h (suc i) (suc j) d (omega arith) (omega arith)
 
--- The first element that passes, seen through a function.
-
-pub shown_found : {X Y : Type 0} (f : X → Y) (t : Y → Bool) (xs : List X) (i : ℕ) (x : X) → position_from (λ z. t (f z)) 0 xs ≡ Some i → x ≡ get_or xs i x → find t (map f xs) ≡ Some (f x)
-shown_found f t xs i x h read =
-    let there = position_find t i (map f xs) (f x) (position_from-map f t 0 xs ∙ h) in
-    there.0 ∙ ap Some (get_or-map f xs i x (f x) (position_within (λ z. t (f z)) i xs h) ∙ ap f (sym read))
-
-pub shown_none : {X Y : Type 0} (f : X → Y) (t : Y → Bool) (xs : List X) → position_from (λ z. t (f z)) 0 xs ≡ None → find t (map f xs) ≡ None
-shown_none f t xs h = position_none t 0 (map f xs) (position_from-map f t 0 xs ∙ h)
-
--- copies of cells, each a gap or a copy
-pub cell_same : {X Y : Type 0} (f : X → Y) (C : Option X → Option X → Type 0) → ((y : X) → C None (Some y) → ⊥) → ((x : X) → C (Some x) None → ⊥) → ((x y : X) → C (Some x) (Some y) → f y ≡ f x) → (p q : Option X) → C p q → option_map f q ≡ option_map f p
-cell_same f C more less same None None h = refl
-cell_same f C more less same None (Some y) h = absurd (more y h)
-cell_same f C more less same (Some x) None h = absurd (less x h)
-cell_same f C more less same (Some x) (Some y) h = ap Some (same x y h)
+-- the first element that passes, as it was read
+pub find_read : {X : Type 0} (t : X → Bool) (xs : List X) (i : ℕ) (x : X) → position_from t 0 xs ≡ Some i → x ≡ get_or xs i x → find t xs ≡ Some x
+find_read t xs i x h read = (position_find t i xs x h).0 ∙ ap Some (sym read)
 
 pub slice_get_there : {X : Type 0} (xs : List X) (i : ℕ) → i < length xs → slice_get xs i ≡ None → ⊥
 slice_get_there [] i within h = absurd (omega arith)

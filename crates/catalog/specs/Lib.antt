@@ -1,7 +1,7 @@
 pub mod Catalog
-pub mod Chunks
 pub mod Columns
 pub mod Found
 pub mod Hashers
-pub mod Shared
+pub mod Kept
+pub mod Slots
 pub mod Table

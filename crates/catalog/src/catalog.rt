@@ -8,16 +8,17 @@ use crate::gather::ready_names;
 use crate::hasher::NameHasher;
 use crate::named::Named;
 use crate::names::Names;
-use crate::order::Order;
+use crate::order::{Order, item_at, key_at};
 use crate::places::{close_up, index_of, place_at};
-use crate::slots::{self, Slots, slot};
+use crate::slots::Slots;
+use chunked::{Chunked, Shared};
 use std::alloc::{AllocError, Global};
 use std::fmt;
 use std::marker::Model;
 
 /// Records, each under a key of its own and with a name that no other has, in the order in which they were added (own).
-/// Contracts see the list of the records with their keys. A copy shares all that is as large as the catalog; what is then
-/// changed is copied first, but for the records. A look-up takes one step and no memory, but a place is counted as long as
+/// Contracts see the list of the records with their keys. A copy shares all that is as large as the catalog; of what is then
+/// changed a chunk is copied first, or the names that were added last, and no record. A look-up takes one step and no memory, but a place is counted as long as
 /// removals have left gaps, which `close_up` closes. The key of a record that was removed may come to be that of another.
 #[derive(Drop)]
 pub struct Catalog<R: Named> {
@@ -34,7 +35,8 @@ impl<R: Named> Model for Catalog<R> {
 
     ghost Value = { List (ℕ × R) };
 
-    ghost use Rattle.catalog.specs.Columns.{entries_in, slot_at};
+    ghost use Rattle.catalog.specs.Columns.{entries_in};
+    ghost use Rattle.catalog.specs.Slots.{slot_at};
     ghost use Rattle.catalog.specs.Found.{found};
     ghost use Rattle.catalog.specs.Table.{IsTable};
 
@@ -52,8 +54,8 @@ impl<R: Named> Catalog<R> {
             alloc,
             hasher,
             names: Names::empty(),
-            slots: None,
-            order: Order::new(alloc),
+            slots: Slots::new(alloc),
+            order: Chunked::new(alloc),
             len: 0,
         }
     }
@@ -63,15 +65,13 @@ impl<R: Named> Catalog<R> {
         ensures { IfOk result (λ copy. copy ≡ self.now) }
     {
         let names = self.names.try_clone()?;
-        let slots = slots::try_clone(&self.slots)?;
+        let slots = self.slots.try_clone()?;
         let order = self.order.try_clone()?;
         Ok(Catalog {
-            alloc: self.alloc,
-            hasher: self.hasher,
             names,
             slots,
             order,
-            len: self.len,
+            ..*self
         })
     }
 
@@ -100,8 +100,8 @@ impl<R: Named> Catalog<R> {
     pub fn get(&self, key: usize) -> Option<&R>
         ensures { option_copied result ≡ record_at self.now key }
     {
-        match slot(&self.slots, key) {
-            Some(index) => self.order.item_in(index),
+        match self.slots.get(key) {
+            Some(index) => item_at(&self.order, index),
             None => None,
         }
     }
@@ -112,7 +112,7 @@ impl<R: Named> Catalog<R> {
         ensures within { IfSome result (λ place. place < length self.now) }
         ensures there { IfSome result (λ place. slice_get (records_of self.now) place ≡ record_at self.now key) }
     {
-        match slot(&self.slots, key) {
+        match self.slots.get(key) {
             Some(index) => Some(place_at(&self.order, self.len, index)),
             None => None,
         }
@@ -126,7 +126,7 @@ impl<R: Named> Catalog<R> {
         ensures there { record_at self.now result ≡ slice_get (records_of self.now) place }
     {
         let index = index_of(&self.order, self.len, place);
-        match self.order.key_in(index) {
+        match key_at(&self.order, index) {
             Some(key) => key,
             None => unreachable!(),
         }
@@ -138,7 +138,7 @@ impl<R: Named> Catalog<R> {
         ensures { slice_get (records_of self.now) place ≡ Some result.now }
     {
         let index = index_of(&self.order, self.len, place);
-        match self.order.item_in(index) {
+        match item_at(&self.order, index) {
             Some(item) => item,
             None => unreachable!(),
         }
@@ -150,27 +150,20 @@ impl<R: Named> Catalog<R> {
         ensures entries { IfOk result (λ added. added.0 ≡ self ++ (added.1, item) ∷ []) }
         ensures fresh { IfOk result (λ added. record_at self added.1 ≡ None) }
     {
-        let Catalog {
-            alloc,
-            hasher,
-            names,
-            slots,
-            order,
-            len,
-        } = self;
-        let more = len.checked_add(1).ok_or(AllocError)?;
-        let names = ready_names(alloc, hasher, names, &order, len)?;
-        let (slots, key) = slots::insert(alloc, slots, order.len())?;
-        let names = names.with(alloc, hasher, item.name(), key)?;
-        let order = order.push(alloc, key, item)?;
+        let more = self.len.checked_add(1).ok_or(AllocError)?;
+        let names = ready_names(self.alloc, self.hasher, self.names, &self.order, self.len)?;
+        let mut slots = self.slots;
+        let mut order = self.order;
+        let key = slots.insert(order.len())?;
+        let names = names.with(self.alloc, self.hasher, item.name(), key)?;
+        order.push(Some((key, Shared::new(self.alloc, item)?)))?;
         Ok((
             Catalog {
-                alloc,
-                hasher,
                 names,
                 slots,
                 order,
                 len: more,
+                ..self
             },
             key,
         ))
@@ -182,26 +175,13 @@ impl<R: Named> Catalog<R> {
         requires name { IfSome (record_at self key) (λ old. R.name item ≡ R.name old) }
         ensures { IfOk result (λ catalog. catalog ≡ with_record self key item) }
     {
-        let Catalog {
-            alloc,
-            hasher,
-            names,
-            slots,
-            order,
-            len,
-        } = self;
-        let order = match slot(&slots, key) {
-            Some(index) => order.put(alloc, index, key, item)?,
-            None => unreachable!(),
+        let Some(index) = self.slots.get(key) else {
+            unreachable!()
         };
-        Ok(Catalog {
-            alloc,
-            hasher,
-            names,
-            slots,
-            order,
-            len,
-        })
+        let item = Shared::new(self.alloc, item)?;
+        let mut order = self.order;
+        order.set(index, Some((key, item)))?;
+        Ok(Catalog { order, ..self })
     }
 
     /// Takes the record under a key away. It fails where memory runs out.
@@ -209,26 +189,18 @@ impl<R: Named> Catalog<R> {
         requires { IsSome (record_at self key) }
         ensures { IfOk result (λ catalog. catalog ≡ without_key self key) }
     {
-        let Catalog {
-            alloc,
-            hasher,
-            names,
-            slots,
-            order,
-            len,
-        } = self;
-        let order = match slot(&slots, key) {
-            Some(index) => order.set(alloc, index, None)?,
-            None => unreachable!(),
+        let Some(index) = self.slots.get(key) else {
+            unreachable!()
         };
-        let slots = slots::remove(alloc, slots, key)?;
+        let mut slots = self.slots;
+        let mut order = self.order;
+        slots.remove(key)?;
+        order.set(index, None)?;
         Ok(Catalog {
-            alloc,
-            hasher,
-            names,
             slots,
             order,
-            len: len - 1,
+            len: self.len - 1,
+            ..self
         })
     }
 
@@ -239,22 +211,11 @@ impl<R: Named> Catalog<R> {
         if self.len == self.order.len() {
             return Ok(self);
         }
-        let Catalog {
-            alloc,
-            hasher,
-            names,
-            slots,
-            order,
-            len,
-        } = self;
-        let (slots, order) = close_up(alloc, slots, order)?;
+        let (slots, order) = close_up(self.alloc, self.slots, &self.order)?;
         Ok(Catalog {
-            alloc,
-            hasher,
-            names,
             slots,
             order,
-            len,
+            ..self
         })
     }
 

@@ -9,7 +9,7 @@ ghost use Rattle.catalog.specs.Table.{AreFound};
 use crate::hasher::NameHasher;
 use crate::named::Named;
 use crate::names::{Names, write};
-use crate::order::Order;
+use crate::order::{Order, entry_at};
 use indexmap::IndexMap;
 use std::alloc::{AllocError, Global};
 use std::sync::Arc;
@@ -44,8 +44,8 @@ fn gathered<R: Named>(
 {
     let mut map = IndexMap::with_hasher(alloc, hasher);
     for index in 0..order.len() {
-        if let Some(entry) = order.cell(index) {
-            write(alloc, &mut map, entry.1.name(), entry.0)?;
+        if let Some(entry) = entry_at(order, index) {
+            write(alloc, &mut map, entry.1.value().name(), entry.0)?;
         }
     }
     Ok(Names {

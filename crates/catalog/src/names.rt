@@ -73,7 +73,7 @@ impl Names {
         let Names { base, added } = self;
         match added {
             Some(added) => {
-                let added = put(alloc, owned(added)?, name, key)?;
+                let added = put(alloc, added, name, key)?;
                 Ok(Names {
                     base,
                     added: Some(added),
@@ -94,38 +94,42 @@ fn with_base(
 ) -> Result<Names, AllocError>
     ensures { IfOk result (λ names. (other : List ℕ) → found names other ≡ (if same_name name.now other then Some key else text_in base other)) }
 {
-    let empty = IndexMap::with_hasher(alloc, hasher);
     match base {
+        Some(base) => {
+            if Arc::strong_count(&base) == 1 {
+                Ok(Names {
+                    base: Some(put(alloc, base, name, key)?),
+                    added: None,
+                })
+            } else {
+                Ok(Names {
+                    base: Some(base),
+                    added: Some(first(alloc, hasher, name, key)?),
+                })
+            }
+        }
         None => Ok(Names {
-            base: Some(put(alloc, empty, name, key)?),
+            base: Some(first(alloc, hasher, name, key)?),
             added: None,
         }),
-        Some(base) => match Arc::try_unwrap(base) {
-            Ok(map) => Ok(Names {
-                base: Some(put(alloc, map, name, key)?),
-                added: None,
-            }),
-            Err(base) => Ok(Names {
-                base: Some(base),
-                added: Some(put(alloc, empty, name, key)?),
-            }),
-        },
     }
 }
 
-/// The map to write to: it is copied where it has other owners.
-fn owned(map: Arc<Map>) -> Result<Map, AllocError>
-    ensures { IfOk result (λ owned. (name : List ℕ) → get_by_text owned name ≡ get_by_text (arc_value map) name) }
+/// This key alone under a name.
+fn first(alloc: Global, hasher: NameHasher, name: &str, key: usize) -> Result<Arc<Map>, AllocError>
+    ensures { IfOk result (λ map. (other : List ℕ) → get_by_text (arc_value map) other ≡ (if same_name name.now other then Some key else None)) }
 {
-    Arc::unwrap_or_clone(map)
-}
-
-/// The map with this key under a name, to be shared.
-fn put(alloc: Global, mut map: Map, name: &str, key: usize) -> Result<Arc<Map>, AllocError>
-    ensures { IfOk result (λ changed. (other : List ℕ) → get_by_text (arc_value changed) other ≡ (if same_name name.now other then Some key else get_by_text map other)) }
-{
+    let mut map = IndexMap::with_hasher(alloc, hasher);
     write(alloc, &mut map, name, key)?;
     Ok(Arc::new(alloc, map)?)
+}
+
+/// The map with this key under a name. It is copied first where it has other owners.
+fn put(alloc: Global, mut map: Arc<Map>, name: &str, key: usize) -> Result<Arc<Map>, AllocError>
+    ensures { IfOk result (λ changed. (other : List ℕ) → get_by_text (arc_value changed) other ≡ (if same_name name.now other then Some key else get_by_text (arc_value map) other)) }
+{
+    write(alloc, Arc::make_mut(&mut map)?, name, key)?;
+    Ok(map)
 }
 
 /// Puts this key under a name.

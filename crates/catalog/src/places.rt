@@ -1,14 +1,13 @@
 //! The places of the entries in an order that may have gaps.
 
-ghost use Rattle.std.specs.Prelude.{◌≡◌, ◌≤◌, ◌<◌, ℕ, Some, IfOk, filter, is_some, length, slice_get, take};
-ghost use Rattle.slab.specs.Slab.{get};
-ghost use Rattle.catalog.specs.Columns.{AreApart, AreKnown, ArePlaced, cell_at, entries_in, slot_at};
+ghost use Rattle.std.specs.Prelude.{◌≡◌, ◌≤◌, ◌<◌, ℕ, Some, IfOk, OnOk, filter, is_some, length, slice_get, take};
+ghost use Rattle.catalog.specs.Columns.{AreApart, AreKnown, ArePlaced, cell_at, entries_in};
+ghost use Rattle.catalog.specs.Slots.{slot_at};
 
-use crate::order::Order;
-use crate::slots::{self, Slots};
-use slab::Slab;
+use crate::order::{Order, entry_at, key_at};
+use crate::slots::Slots;
+use chunked::Chunked;
 use std::alloc::{AllocError, Global};
-use std::sync::Arc;
 
 /// The place of the entry at an index of an order of so many entries.
 pub(crate) fn place_at<R: Drop>(order: &Order<R>, len: usize, index: usize) -> usize
@@ -43,7 +42,7 @@ fn count_entries<R: Drop>(order: &Order<R>, end: usize) -> usize
 {
     let mut count = 0;
     for index in 0..end {
-        if order.cell(index).is_some() {
+        if entry_at(order, index).is_some() {
             count += 1;
         }
     }
@@ -57,7 +56,7 @@ fn find_entry<R: Drop>(order: &Order<R>, place: usize) -> usize
 {
     let mut left = place;
     for index in 0..order.len() {
-        if order.cell(index).is_some() {
+        if entry_at(order, index).is_some() {
             if left == 0 {
                 return index;
             }
@@ -71,42 +70,42 @@ fn find_entry<R: Drop>(order: &Order<R>, place: usize) -> usize
 pub(crate) fn close_up<R: Drop>(
     alloc: Global,
     slots: Slots,
-    order: Order<R>,
+    order: &Order<R>,
 ) -> Result<(Slots, Order<R>), AllocError>
-    requires { ArePlaced (slot_at slots) order }
-    ensures entries { IfOk result (λ closed. entries_in closed.1 ≡ entries_in order) }
+    requires { ArePlaced (slot_at slots) order.now }
+    ensures entries { IfOk result (λ closed. entries_in closed.1 ≡ entries_in order.now) }
     ensures placed { IfOk result (λ closed. ArePlaced (slot_at closed.0) closed.1) }
 {
-    let closed = without_gaps(alloc, &order)?;
-    let mut places = slots::owned(alloc, slots)?;
-    number(&mut places, &closed);
-    Ok((slots::shared(alloc, places)?, closed))
+    let closed = without_gaps(alloc, order)?;
+    let mut slots = slots;
+    number(&mut slots, &closed)?;
+    Ok((slots, closed))
 }
 
 /// The entries alone.
 fn without_gaps<R: Drop>(alloc: Global, order: &Order<R>) -> Result<Order<R>, AllocError>
     ensures { IfOk result (λ closed. closed ≡ filter (λ cell. is_some cell) order.now) }
 {
-    let mut closed = Order::new(alloc);
+    let mut closed = Chunked::new(alloc);
     for index in 0..order.len() {
-        if let Some(entry) = order.cell(index) {
-            let item = Arc::try_clone(&entry.1)?;
-            closed = closed.push_shared(alloc, entry.0, item)?;
+        if let Some(entry) = entry_at(order, index) {
+            closed.push(Some(entry.clone()?))?;
         }
     }
     Ok(closed)
 }
 
 /// Writes where each key stands.
-fn number<R: Drop>(places: &mut Slab<usize>, order: &Order<R>)
+fn number<R: Drop>(slots: &mut Slots, order: &Order<R>) -> Result<(), AllocError>
     requires apart { AreApart order.now }
-    requires known { AreKnown (get places.old) order.now }
-    ensures there { (index : ℕ) (e : ℕ × R) → cell_at order.now index ≡ Some e → get places.new e.0 ≡ Some index }
-    ensures same { (key : ℕ) → is_some (get places.new key) ≡ is_some (get places.old key) }
+    requires known { AreKnown (slot_at slots.old) order.now }
+    ensures there { OnOk result ((index : ℕ) (e : ℕ × R) → cell_at order.now index ≡ Some e → slot_at slots.new e.0 ≡ Some index) }
+    ensures same { OnOk result ((key : ℕ) → is_some (slot_at slots.new key) ≡ is_some (slot_at slots.old key)) }
 {
     for index in 0..order.len() {
-        if let Some(key) = order.key_in(index) {
-            slots::set(places, key, index);
+        if let Some(key) = key_at(order, index) {
+            slots.set(key, index)?;
         }
     }
+    Ok(())
 }

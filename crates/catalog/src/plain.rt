@@ -3,32 +3,31 @@
 ghost use Rattle.std.specs.Prelude.{◌≡◌, ◌<◌, ◌∷◌, [], ◌++◌, length, map, slice_get, option_map, IfOk, IfSome, IsSome, ◌==◌};
 ghost use Rattle.std.specs.List.{position_from};
 ghost use Rattle.std.specs.Option.{option_copied};
-ghost use Rattle.std.specs.Arc.{arc_value};
 ghost use Rattle.catalog.specs.Catalog.{AreDistinct, key_named, keys_of, named, place_of, record_at, records_of, same_name, with_record, without_key};
 
 use crate::hasher::NameHasher;
 use crate::named::Named;
+use chunked::Shared;
 use std::alloc::{AllocError, Global};
 use std::fmt;
 use std::marker::Model;
-use std::sync::Arc;
 
 /// A catalog as one list.
 #[derive(Drop)]
 pub struct PlainCatalog<R: Named> {
-    entries: Vec<(usize, Arc<R>)>,
+    entries: Vec<(usize, Shared<R>)>,
     next_key: usize,
 }
 
 impl<R: Named> Model for PlainCatalog<R> {
     ghost use Rattle.std.specs.Prelude.{ℕ, List};
-    ghost use Rattle.catalog.specs.Shared.{AreKept, shown};
+    ghost use Rattle.catalog.specs.Kept.{AreKept};
 
     ghost Value = { List (ℕ × R) };
 
-    ghost view = { λ a. shown a.entries.items };
+    ghost view = { λ a. a.entries.items };
 
-    ghost invariant = { λ a. AreKept R.name (shown a.entries.items) a.next_key };
+    ghost invariant = { λ a. AreKept R.name a.entries.items a.next_key };
 }
 
 impl<R: Named> PlainCatalog<R> {
@@ -77,7 +76,7 @@ impl<R: Named> PlainCatalog<R> {
         ensures { option_copied result ≡ record_at self.now key }
     {
         match place_under(self.entries.as_slice(), key) {
-            Some(place) => Some(&self.entries[place].1),
+            Some(place) => Some(self.entries[place].1.value()),
             None => None,
         }
     }
@@ -106,7 +105,7 @@ impl<R: Named> PlainCatalog<R> {
         requires { place < length self.now }
         ensures { slice_get (records_of self.now) place ≡ Some result.now }
     {
-        &self.entries[place].1
+        self.entries[place].1.value()
     }
 
     /// Adds a record, which goes last, and gives its key. It fails where memory runs out.
@@ -120,7 +119,7 @@ impl<R: Named> PlainCatalog<R> {
             next_key: key,
         } = self;
         let next_key = key.checked_add(1).ok_or(AllocError)?;
-        let item = Arc::new(*entries.allocator(), item)?;
+        let item = Shared::new(*entries.allocator(), item)?;
         entries.push((key, item))?;
         Ok((PlainCatalog { entries, next_key }, key))
     }
@@ -135,7 +134,7 @@ impl<R: Named> PlainCatalog<R> {
             mut entries,
             next_key,
         } = self;
-        let item = Arc::new(*entries.allocator(), item)?;
+        let item = Shared::new(*entries.allocator(), item)?;
         match place_under(entries.as_slice(), key) {
             Some(place) => entries[place].1 = item,
             None => unreachable!(),
@@ -182,13 +181,15 @@ impl<R: Named> fmt::Debug for PlainCatalog<R> {
     }
 }
 
-fn place_named<R: Named>(entries: &[(usize, Arc<R>)], name: &str) -> Option<usize>
-    ensures { result ≡ position_from (λ e. same_name (R.name (arc_value e.1)) name.now) 0 entries.now }
+fn place_named<R: Named>(entries: &[(usize, Shared<R>)], name: &str) -> Option<usize>
+    ensures { result ≡ position_from (λ e. same_name (R.name e.1) name.now) 0 entries.now }
 {
-    entries.iter().position(|entry| entry.1.name() == name)
+    entries
+        .iter()
+        .position(|entry| entry.1.value().name() == name)
 }
 
-fn place_under<R: Named>(entries: &[(usize, Arc<R>)], key: usize) -> Option<usize>
+fn place_under<R: Named>(entries: &[(usize, Shared<R>)], key: usize) -> Option<usize>
     ensures { result ≡ position_from (λ e. e.0 == key) 0 entries.now }
 {
     entries.iter().position(|entry| entry.0 == key)

@@ -1,83 +1,108 @@
 //! Where the entry under each key stands.
 
-ghost use Rattle.std.specs.Prelude.{◌≡◌, ◌≢◌, ℕ, None, Some, IfOk, IsSome};
-ghost use Rattle.slab.specs.Slab.{get};
-ghost use Rattle.catalog.specs.Columns.{slot_at};
+ghost use Rattle.std.specs.Prelude.{◌≡◌, ◌≢◌, ℕ, None, Some, IfOk, IfSome, IsSome, OnOk, slice_get};
+ghost use Rattle.catalog.specs.Slots.{slot_at};
 
-use slab::Slab;
+use chunked::{Chunked, ExactClone};
 use std::alloc::{AllocError, Global};
-use std::sync::Arc;
 
-/// The index of each key in the order, shared by the copies of a catalog until one of them changes it.
-pub(crate) type Slots = Option<Arc<Slab<usize>>>;
+/// What is under a key.
+#[derive(Clone, Copy, Debug)]
+pub(crate) enum Slot {
+    /// An entry, which stands at this index of the order.
+    At(usize),
+    /// No entry any more. The key is to be used again, and then this one, which became free before.
+    Free(Option<usize>),
+}
 
-/// The index of a key.
-pub(crate) fn slot(slots: &Slots, key: usize) -> Option<usize>
-    ensures { result ≡ slot_at slots.now key }
-{
-    match slots {
-        Some(column) => column.get(key).copied(),
-        None => None,
+impl ExactClone for Slot {
+    ghost exact = { λ _ _ same. same };
+}
+
+/// The index of each key in the order, and the key that became free last.
+#[derive(Drop)]
+pub(crate) struct Slots {
+    pub(crate) keys: Chunked<Slot>,
+    pub(crate) free: Option<usize>,
+}
+
+impl Slots {
+    /// No key. It takes no memory.
+    pub(crate) fn new(alloc: Global) -> Slots
+        ensures { (key : ℕ) → slot_at result key ≡ None }
+    {
+        Slots {
+            keys: Chunked::new(alloc),
+            free: None,
+        }
     }
-}
 
-/// The same column, with one owner more.
-pub(crate) fn try_clone(slots: &Slots) -> Result<Slots, AllocError>
-    ensures { IfOk result (λ copy. (key : ℕ) → slot_at copy key ≡ slot_at slots.now key) }
-{
-    match slots {
-        Some(column) => Ok(Some(Arc::try_clone(column)?)),
-        None => Ok(None),
+    /// A copy.
+    pub(crate) fn try_clone(&self) -> Result<Slots, AllocError>
+        ensures { IfOk result (λ copy. (key : ℕ) → slot_at copy key ≡ slot_at self.now key) }
+    {
+        let keys = self.keys.try_clone()?;
+        Ok(Slots {
+            keys,
+            free: self.free,
+        })
     }
-}
 
-/// The column with the index under a new key, and that key.
-pub(crate) fn insert(
-    alloc: Global,
-    slots: Slots,
-    index: usize,
-) -> Result<(Slots, usize), AllocError>
-    ensures fresh { IfOk result (λ added. slot_at slots added.1 ≡ None) }
-    ensures there { IfOk result (λ added. slot_at added.0 added.1 ≡ Some index) }
-    ensures others { IfOk result (λ added. (other : ℕ) → other ≢ added.1 → slot_at added.0 other ≡ slot_at slots other) }
-{
-    let mut column = owned(alloc, slots)?;
-    let key = column.insert(index)?;
-    Ok((shared(alloc, column)?, key))
-}
-
-/// The column without a key.
-pub(crate) fn remove(alloc: Global, slots: Slots, key: usize) -> Result<Slots, AllocError>
-    ensures gone { IfOk result (λ left. slot_at left key ≡ None) }
-    ensures others { IfOk result (λ left. (other : ℕ) → other ≢ key → slot_at left other ≡ slot_at slots other) }
-{
-    let mut column = owned(alloc, slots)?;
-    let _index = column.try_remove(key);
-    shared(alloc, column)
-}
-
-/// Writes the index of a key.
-pub(crate) fn set(column: &mut Slab<usize>, key: usize, index: usize)
-    requires { IsSome (get column.old key) }
-    ensures there { get column.new key ≡ Some index }
-    ensures others { (other : ℕ) → other ≢ key → get column.new other ≡ get column.old other }
-{
-    column[key] = index;
-}
-
-/// The column to write to: it is copied where it has other owners.
-pub(crate) fn owned(alloc: Global, slots: Slots) -> Result<Slab<usize>, AllocError>
-    ensures { IfOk result (λ column. (key : ℕ) → get column key ≡ slot_at slots key) }
-{
-    match slots {
-        Some(column) => Arc::unwrap_or_clone(column),
-        None => Ok(Slab::new(alloc)),
+    /// The index of a key.
+    pub(crate) fn get(&self, key: usize) -> Option<usize>
+        ensures { result ≡ slot_at self.now key }
+    {
+        match self.keys.get(key) {
+            Some(Slot::At(index)) => Some(*index),
+            _ => None,
+        }
     }
-}
 
-/// The column to be shared.
-pub(crate) fn shared(alloc: Global, column: Slab<usize>) -> Result<Slots, AllocError>
-    ensures { IfOk result (λ slots. (key : ℕ) → slot_at slots key ≡ get column key) }
-{
-    Ok(Some(Arc::new(alloc, column)?))
+    /// Puts the index under a key that had none, and gives that key.
+    pub(crate) fn insert(&mut self, index: usize) -> Result<usize, AllocError>
+        ensures fresh { IfOk result (λ key. slot_at self.old key ≡ None) }
+        ensures there { IfOk result (λ key. slot_at self.new key ≡ Some index) }
+        ensures others { IfOk result (λ key. (other : ℕ) → other ≢ key → slot_at self.new other ≡ slot_at self.old other) }
+    {
+        if let Some((key, before)) = self.free_key() {
+            self.keys.set(key, Slot::At(index))?;
+            self.free = before;
+            return Ok(key);
+        }
+        let key = self.keys.len();
+        self.keys.push(Slot::At(index))?;
+        Ok(key)
+    }
+
+    /// Takes a key away.
+    pub(crate) fn remove(&mut self, key: usize) -> Result<(), AllocError>
+        requires { IsSome (slot_at self.old key) }
+        ensures gone { OnOk result (slot_at self.new key ≡ None) }
+        ensures others { OnOk result ((other : ℕ) → other ≢ key → slot_at self.new other ≡ slot_at self.old other) }
+    {
+        self.keys.set(key, Slot::Free(self.free))?;
+        self.free = Some(key);
+        Ok(())
+    }
+
+    /// Writes the index of a key.
+    pub(crate) fn set(&mut self, key: usize, index: usize) -> Result<(), AllocError>
+        requires { IsSome (slot_at self.old key) }
+        ensures there { OnOk result (slot_at self.new key ≡ Some index) }
+        ensures others { OnOk result ((other : ℕ) → other ≢ key → slot_at self.new other ≡ slot_at self.old other) }
+    {
+        self.keys.set(key, Slot::At(index))?;
+        Ok(())
+    }
+
+    /// The key that became free last, and the one before.
+    fn free_key(&self) -> Option<(usize, Option<usize>)>
+        ensures { IfSome result (λ free. slice_get self.now.keys free.0 ≡ Some (Slot.Free free.1)) }
+    {
+        let key = self.free?;
+        match self.keys.get(key) {
+            Some(Slot::Free(before)) => Some((key, *before)),
+            _ => None,
+        }
+    }
 }

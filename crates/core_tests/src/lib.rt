@@ -4,6 +4,8 @@
 #[cfg(test)]
 mod bytes;
 #[cfg(test)]
+mod chunks;
+#[cfg(test)]
 mod designs;
 #[cfg(test)]
 mod edit_lists;

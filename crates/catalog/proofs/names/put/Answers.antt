@@ -1,6 +1,18 @@
-use Rattle.std.proofs.Common.{◌∙◌, ap}
+use Rattle.std.proofs.Common.{◌≡◌, ◌∙◌, Some, refl, ap, sym, subst, inl, inr, if◌then◌else◌}
+use Rattle.std.specs.Arc.{arc_value}
 use Rattle.std.specs.HashMap.{get_by_text}
+use Rattle.std.specs.Result.{IsOk}
+use Rattle.catalog.specs.Catalog.{same_name}
+use Rattle.catalog.proofs.NameLemmas.{lookup_same}
 use Rattle.catalog.proofs.names.put.Goals as goal
 
 pub returns : goal.returns
-returns c = λ other. ap (λ m. get_by_text m other) c.in_ok-new.ensures.ok ∙ c.in_ok-write.ensures other
+returns c = λ other.
+    let own = c.in_ok-make_mut.field-0.now in
+    let kept : get_by_text own other ≡ get_by_text (arc_value c.args.map) other =
+    elim c.in_ok-make_mut.ensures.value [
+      | inl e ↦ ap (λ m. get_by_text m other) e
+      | inr copy ↦ lookup_same _ _ (λ p q r. (ap (λ bytes. same_name other bytes) r.0, r.1)) _ _ copy
+    ] in
+    let back = c.make_mut.follows.holds c.write.new.map (subst (λ r. IsOk r) (sym c.in_ok-make_mut.was) refl) in
+    ap (λ m. get_by_text m other) back ∙ c.in_ok-write.ensures other ∙ ap (λ o. if same_name c.args.name.now other then Some c.args.key else o) kept

@@ -1,5 +1,4 @@
 use Rattle.std.proofs.Common.{◌<◌, ◌∙◌, ◌+◌, ap, sym, arith, length}
-use Rattle.std.specs.Arc.{arc_value}
 use Rattle.catalog.proofs.GatherLemmas.{counted_more, counted_still}
 use Rattle.catalog.proofs.places.count_entries.Goals as goal
 use Rattle.catalog.proofs.places.count_entries.Goals.{then-is_some, else-is_some}
@@ -10,10 +9,10 @@ loop-index-preserved g c =
     let index = c.loop-index.index in
     elim c.if-is_some.branch [
       | then-is_some w ↦
-          let more = counted_more (λ x. (x.now.0, arc_value x.now.1)) c.cell.result order index c.cell.ensures (sym c.is_some.ensures ∙ w.if-is_some.true) in
+          let more = counted_more (λ x. x.now) c.entry_at.result order index c.entry_at.ensures (sym c.is_some.ensures ∙ w.if-is_some.true) in
           (w.count-is ∙ ap (λ n. n + 1) c.loop-index.invariant.0 ∙ sym more, omega arith)
       | else-is_some w ↦
           let within : index < length order = omega arith in
-          let still = counted_still (λ x. (x.now.0, arc_value x.now.1)) c.cell.result order index within c.cell.ensures (sym c.is_some.ensures ∙ w.if-is_some.false) in
+          let still = counted_still (λ x. x.now) c.entry_at.result order index within c.entry_at.ensures (sym c.is_some.ensures ∙ w.if-is_some.false) in
           (w.count-is ∙ c.loop-index.invariant.0 ∙ sym still, omega arith)
     ]

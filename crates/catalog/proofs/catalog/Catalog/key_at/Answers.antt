@@ -11,13 +11,13 @@ pub unreachable-requires : goal.unreachable-requires
 unreachable-requires g c =
     let entries = entries_in c.self.inside.order in
     let some = slice_get_some entries c.args.place (rw c.self.view_is c.requires) in
-    none-some some.0.0 (sym c.in-None.is ∙ c.key_in.ensures ∙ ap (λ o. option_map (λ e. e.0) o) (c.index_of-index.ensures ∙ some.1))
+    none-some some.0.0 (sym c.in-None.is ∙ c.key_at.ensures ∙ ap (λ o. option_map (λ e. e.0) o) (c.index_of-index.ensures ∙ some.1))
 
 pub returns : goal.returns
 returns g c =
     let entries = entries_in c.self.inside.order in
     let some = slice_get_some entries c.args.place (rw c.self.view_is c.requires) in
-    let same : c.in-Some.key ≡ some.0.0 = same_Some c.in-Some.key some.0.0 (sym c.in-Some.is ∙ c.key_in.ensures ∙ ap (λ o. option_map (λ e. e.0) o) (c.index_of-index.ensures ∙ some.1)) in
+    let same : c.in-Some.key ≡ some.0.0 = same_Some c.in-Some.key some.0.0 (sym c.in-Some.is ∙ c.key_at.ensures ∙ ap (λ o. option_map (λ e. e.0) o) (c.index_of-index.ensures ∙ some.1)) in
     let at = entry_at entries (table_distinct g.R.Named.name _ _ _ _ c.self.invariant).keys c.args.place some.0 some.1 in
     rw (← c.self.view_is) (record {
       key = at.key ∙ ap Some (sym same);

@@ -1,6 +1,7 @@
 use Rattle.std.proofs.Common.{◌≡◌, ◌∙◌, Some, sym, ap}
 use Rattle.catalog.specs.Catalog.{place_of}
-use Rattle.catalog.specs.Columns.{entries_in, slot_at}
+use Rattle.catalog.specs.Columns.{entries_in}
+use Rattle.catalog.specs.Slots.{slot_at}
 use Rattle.catalog.proofs.CellLemmas.{cell_within}
 use Rattle.catalog.proofs.EntryLemmas.{place_facts}
 use Rattle.catalog.proofs.TableLemmas.{by_slot, no_slot}
@@ -9,18 +10,18 @@ use Rattle.catalog.proofs.catalog.Catalog.place.Goals as goal
 pub place_at-requires-clause-within : goal.place_at-requires-clause-within
 place_at-requires-clause-within g c =
     let cells = c.self.inside.order in
-    let at = by_slot (slot_at c.self.inside.slots) cells c.args.key c.in-Some.index c.self.invariant.placed (sym c.slot.ensures ∙ c.in-Some.is) in
+    let at = by_slot (slot_at c.self.inside.slots) cells c.args.key c.in-Some.index c.self.invariant.placed (sym c.get.ensures ∙ c.in-Some.is) in
     cell_within cells c.in-Some.index at.2.0 at.2.1
 
 pub returns-in-Some : goal.returns-in-Some
 returns-in-Some g c =
     let cells = c.self.inside.order in
-    let at = by_slot (slot_at c.self.inside.slots) cells c.args.key c.in-Some.index c.self.invariant.placed (sym c.slot.ensures ∙ c.in-Some.is) in
+    let at = by_slot (slot_at c.self.inside.slots) cells c.args.key c.in-Some.index c.self.invariant.placed (sym c.get.ensures ∙ c.in-Some.is) in
     let place : Some c.place_at.result ≡ place_of (entries_in cells) c.args.key = ap Some c.place_at.ensures ∙ sym at.1 in
     let facts = place_facts (entries_in cells) (Some c.place_at.result) c.args.key place in
     rw (← c.self.view_is) (record { place = place; within = facts.0; there = facts.1 })
 
 pub returns-in-None-clause-place : goal.returns-in-None-clause-place
 returns-in-None-clause-place g c =
-    let none = no_slot (slot_at c.self.inside.slots) c.self.inside.order c.args.key c.self.invariant.placed (sym c.slot.ensures ∙ c.in-None.is) in
+    let none = no_slot (slot_at c.self.inside.slots) c.self.inside.order c.args.key c.self.invariant.placed (sym c.get.ensures ∙ c.in-None.is) in
     rw (← c.self.view_is) (sym none.1)

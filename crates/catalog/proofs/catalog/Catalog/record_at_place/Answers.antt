@@ -11,7 +11,7 @@ pub unreachable-requires : goal.unreachable-requires
 unreachable-requires g c =
     let entries = entries_in c.self.inside.order in
     let some = slice_get_some entries c.args.place (rw c.self.view_is c.requires) in
-    none-some some.0.1 (sym (ap option_copied c.in-None.is) ∙ c.item_in.ensures ∙ ap (λ o. option_map (λ e. e.1) o) (c.index_of-index.ensures ∙ some.1))
+    none-some some.0.1 (sym (ap option_copied c.in-None.is) ∙ c.item_at.ensures ∙ ap (λ o. option_map (λ e. e.1) o) (c.index_of-index.ensures ∙ some.1))
 
 pub returns : goal.returns
 returns g c =

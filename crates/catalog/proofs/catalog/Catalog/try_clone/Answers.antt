@@ -1,4 +1,4 @@
-use Rattle.catalog.specs.Columns.{slot_at}
+use Rattle.catalog.specs.Slots.{slot_at}
 use Rattle.catalog.specs.Found.{found}
 use Rattle.catalog.proofs.ChangeLemmas.{table_same}
 use Rattle.catalog.proofs.catalog.Catalog.try_clone.Goals as goal

@@ -13,6 +13,6 @@ returns-in_ok-added-in-Some c = λ other.
     let base = text_in c.args.self.base other in
     let old = get_by_text (arc_value c.in-Some.added) other in
     let changed : get_by_text (arc_value c.in_ok-added-in-Some.added) other ≡ (if same then Some c.args.key else old) =
-    c.in_ok-added-in-Some.ensures other ∙ ap (λ o. if same then Some c.args.key else o) (c.in_ok-owned-in-Some.ensures other) in
+    c.in_ok-added-in-Some.ensures other in
     or_changed same c.args.key (get_by_text (arc_value c.in_ok-added-in-Some.added) other) old base changed
     ∙ ap (λ part. if same then Some c.args.key else option_or (text_in part other) base) (sym c.in-Some.is)

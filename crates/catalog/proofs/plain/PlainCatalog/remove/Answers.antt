@@ -1,11 +1,10 @@
 use Rattle.std.proofs.Common.{◌≡◌, ◌==◌, Some, None, sym, ap, ◌∙◌, subst, arith}
-use Rattle.std.specs.Arc.{arc_value}
 use Rattle.std.specs.List.{position_from}
 use Rattle.catalog.specs.Catalog.{without_key}
-use Rattle.catalog.specs.Shared.{AreKept, shown}
+use Rattle.catalog.specs.Kept.{AreKept}
 use Rattle.catalog.proofs.EntryLemmas.{some_there}
-use Rattle.catalog.proofs.ListLemmas.{position_within, shown_none}
-use Rattle.catalog.proofs.SharedLemmas.{kept_without, shown_without}
+use Rattle.catalog.proofs.ListLemmas.{position_within, position_none}
+use Rattle.catalog.proofs.KeptLemmas.{kept_without, entry_without}
 use Rattle.catalog.proofs.plain.PlainCatalog.remove.Goals as goal
 
 pub remove-requires : goal.remove-requires
@@ -16,19 +15,19 @@ pub unreachable-requires : goal.unreachable-requires
 unreachable-requires g c =
     let items = c.self.inside.entries.items in
     let at : position_from (λ e. e.0 == c.args.key) 0 items ≡ None = rw c.as_slice.ensures.value at (sym c.place_under.ensures ∙ c.in-None.is) in
-    some_there (shown items) c.args.key (shown_none (λ e. (e.0, arc_value e.1)) (λ e. e.0 == c.args.key) items at) (rw c.self.view_is c.requires)
+    some_there items c.args.key (position_none (λ e. e.0 == c.args.key) 0 items at) (rw c.self.view_is c.requires)
 
 pub invariant_of-result : goal.invariant_of-result
 invariant_of-result g c =
     let items = c.self.inside.entries.items in
     let at : position_from (λ e. e.0 == c.args.key) 0 items ≡ Some c.in-Some.place = rw c.as_slice.ensures.value at (sym c.place_under.ensures ∙ c.in-Some.is) in
-    let list = shown_without items c.in-Some.place c.args.key c.remove.result c.self.invariant.distinct.keys at in
-    subst (λ l. AreKept g.R.Named.name l c.self.inside.next_key) (sym (ap (λ l. shown l) c.remove.ensures.items ∙ list))
-    (kept_without g.R.Named.name (shown items) c.self.inside.next_key c.args.key c.self.invariant)
+    let list = entry_without items c.in-Some.place c.args.key c.remove.result c.self.invariant.distinct.keys at in
+    subst (λ l. AreKept g.R.Named.name l c.self.inside.next_key) (sym (c.remove.ensures.items ∙ list))
+    (kept_without g.R.Named.name items c.self.inside.next_key c.args.key c.self.invariant)
 
 pub returns : goal.returns
 returns g c =
     let items = c.self.inside.entries.items in
     let at : position_from (λ e. e.0 == c.args.key) 0 items ≡ Some c.in-Some.place = rw c.as_slice.ensures.value at (sym c.place_under.ensures ∙ c.in-Some.is) in
-    let list = shown_without items c.in-Some.place c.args.key c.remove.result c.self.invariant.distinct.keys at in
-    ap (λ l. shown l) c.remove.ensures.items ∙ list ∙ ap (λ l. without_key l c.args.key) c.self.view_is
+    let list = entry_without items c.in-Some.place c.args.key c.remove.result c.self.invariant.distinct.keys at in
+    c.remove.ensures.items ∙ list ∙ ap (λ l. without_key l c.args.key) c.self.view_is

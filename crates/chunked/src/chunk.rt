@@ -1,0 +1,55 @@
+//! One chunk of a list: it is copied before a write where it has other owners.
+
+ghost use Rattle.std.specs.Prelude.{◌≡◌, ◌<◌, ◌∷◌, [], ◌++◌, OnErr, OnOk, length, slice_get, slice_set, take};
+ghost use Rattle.std.specs.Option.{option_copied};
+ghost use Rattle.chunked.specs.Chunks.{items_in};
+
+use crate::exact::ExactClone;
+use std::alloc::AllocError;
+use std::sync::Arc;
+
+/// How many elements a chunk has, but for the last one, which may have fewer (own).
+pub(crate) const CHUNK: usize = 256;
+
+/// A chunk, which lists share as a whole.
+pub(crate) type Chunk<T> = Arc<Vec<T>>;
+
+/// The element at an index.
+pub(crate) fn get<T: Drop>(chunk: &Chunk<T>, index: usize) -> Option<&T>
+    ensures { option_copied result ≡ slice_get (items_in chunk.now) index }
+{
+    chunk.get(index)
+}
+
+/// Adds an element.
+pub(crate) fn push<T: ExactClone>(chunk: &mut Chunk<T>, item: T) -> Result<(), AllocError>
+    ensures ok { OnOk result (items_in chunk.new ≡ items_in chunk.old ++ item ∷ []) }
+    ensures err { OnErr result (items_in chunk.new ≡ items_in chunk.old) }
+{
+    Arc::make_mut(chunk)?.push(item)?;
+    Ok(())
+}
+
+/// Writes an element.
+pub(crate) fn set<T: ExactClone>(
+    chunk: &mut Chunk<T>,
+    index: usize,
+    item: T,
+) -> Result<(), AllocError>
+    requires { index < length (items_in chunk.old) }
+    ensures ok { OnOk result (items_in chunk.new ≡ slice_set (items_in chunk.old) index item) }
+    ensures err { OnErr result (items_in chunk.new ≡ items_in chunk.old) }
+{
+    let items = Arc::make_mut(chunk)?;
+    items[index] = item;
+    Ok(())
+}
+
+/// Keeps the first elements.
+pub(crate) fn truncate<T: ExactClone>(chunk: &mut Chunk<T>, len: usize) -> Result<(), AllocError>
+    ensures ok { OnOk result (items_in chunk.new ≡ take len (items_in chunk.old)) }
+    ensures err { OnErr result (items_in chunk.new ≡ items_in chunk.old) }
+{
+    Arc::make_mut(chunk)?.truncate(len);
+    Ok(())
+}

@@ -1,0 +1,11 @@
+//! Lists in chunks that copies share, and values that copies share.
+#![tactic(auto)]
+
+mod chunk;
+mod exact;
+mod list;
+mod shared;
+
+pub use exact::ExactClone;
+pub use list::Chunked;
+pub use shared::Shared;

@@ -1,0 +1,78 @@
+//! Lists in chunks, worked out by hand.
+
+use chunked::Chunked;
+use std::alloc::Global;
+use std::process::Abort;
+
+/// The numbers from 0 up to `end`.
+fn count_up(rt: &impl Abort, alloc: Global, end: u64) -> Chunked<u64> {
+    let mut list = Chunked::new(alloc);
+    for number in 0..end {
+        list.push(number).expect(rt, "room");
+    }
+    list
+}
+
+fn copy(rt: &impl Abort, list: &Chunked<u64>) -> Chunked<u64> {
+    list.try_clone().expect(rt, "a copy")
+}
+
+fn put(rt: &impl Abort, list: &mut Chunked<u64>, index: usize, number: u64) {
+    assert!(rt; index < list.len(), "{index}");
+    list.set(index, number).expect(rt, "room");
+}
+
+/// The list has the numbers from 0 up to `end`, but for one.
+fn check_but(rt: &impl Abort, list: &Chunked<u64>, end: u64, index: usize, number: u64) {
+    let mut next = 0;
+    for at in 0..list.len() {
+        let wanted = if at == index { number } else { next };
+        assert_eq!(rt; list.get(at).copied(), Some(wanted), "{at}");
+        next = u64::wrapping_add(next, 1);
+    }
+    assert_eq!(rt; next, end);
+    assert_eq!(rt; list.get(list.len()), None);
+}
+
+fn check(rt: &impl Abort, list: &Chunked<u64>, end: u64) {
+    check_but(rt, list, end, list.len(), 0);
+}
+
+#[test]
+fn lists_grow_over_the_borders_of_chunks(rt: HostRuntime) {
+    for end in [0, 1, 255, 256, 257, 511, 512, 513, 700] {
+        let list = count_up(&rt, rt.alloc(), end);
+        check(&rt, &list, end);
+        drop(list);
+    }
+}
+
+#[test]
+fn copies_keep_what_they_had(rt: HostRuntime) {
+    let mut list = count_up(&rt, rt.alloc(), 600);
+    let mut second = copy(&rt, &list);
+    put(&rt, &mut list, 300, 1_000);
+    check_but(&rt, &list, 600, 300, 1_000);
+    check(&rt, &second, 600);
+    second.push(600).expect(&rt, "room");
+    put(&rt, &mut second, 0, 7);
+    check_but(&rt, &list, 600, 300, 1_000);
+    check_but(&rt, &second, 601, 0, 7);
+    drop(list);
+    drop(second);
+}
+
+#[test]
+fn lists_are_cut(rt: HostRuntime) {
+    let mut list = count_up(&rt, rt.alloc(), 600);
+    let whole = copy(&rt, &list);
+    for end in [601, 600, 513, 512, 511, 256, 1, 0] {
+        list.truncate(end).expect(&rt, "room");
+        check(&rt, &list, end.min(600) as u64);
+    }
+    list.push(0).expect(&rt, "room");
+    check(&rt, &list, 1);
+    check(&rt, &whole, 600);
+    drop(list);
+    drop(whole);
+}
