@@ -1,3 +1,4 @@
+pub mod Asked
 pub mod Drivers
 pub mod Moments
 pub mod Places

@@ -4,3 +4,4 @@ pub mod Lost
 pub mod Plain
 pub mod Recordings
 pub mod Run
+pub mod Work

@@ -1,12 +1,14 @@
 //! One moment of a run: due events become current, then nets are resolved, then gates are evaluated.
 
-ghost use Rattle.std.specs.Prelude.{◌≡◌, ◌≤◌, ◌+◌, map, length, slice_get, unwrap_or, All, OnOk, IfOk, if◌then◌else◌};
+ghost use Rattle.std.specs.Prelude.{◌≡◌, ◌≤◌, ◌+◌, ◌++◌, map, length, slice_get, unwrap_or, All, OnOk, IfOk, MatchResult, if◌then◌else◌};
 ghost use Rattle.fourstate.specs.declared.limits.TheConstants.{MAX_TIME};
 ghost use Rattle.gatestep.specs.Faults.{is_lost};
+ghost use Rattle.gatestep.specs.Record.{at_moment};
 ghost use Rattle.gatestep.specs.Step.{initial};
 ghost use Rattle.gatestep.specs.Tasks.{IsReady, PendingFrom};
 ghost use Rattle.scratch.specs.Kept.{IsWiring, currents_of, evaluation_from, evaluations_from, input_value, net_from, values_at, values_from};
 ghost use Rattle.scratch.specs.Run.{state_before, value};
+ghost use Rattle.scratch.specs.Work.{HasGrownOrNot, work_at};
 
 use crate::wiring::{Cell, Input, Wiring};
 use arrayvec::ArrayVec;
@@ -64,6 +66,9 @@ impl Moment {
         ensures values { OnOk result (self.new.values.items ≡ map (λ n. value S.answer design.now.netlist n t) design.now.netlist.nets) }
         ensures states { OnOk result (self.new.states.items ≡ map (state_before S.answer design.now.netlist (t + 1)) design.now.netlist.gates) }
         ensures ready { OnOk result (All (PendingFrom (t + 1)) self.new.states.items) }
+        ensures asked { MatchResult result
+            (λ _. S.asked stepper.new ≡ S.asked stepper.old ++ work_at S.answer design.now.netlist t)
+            (λ _. HasGrownOrNot (S.asked stepper.old) (S.asked stepper.new) (work_at S.answer design.now.netlist t)) }
         ensures lost { S.losses stepper.new ≡ S.losses stepper.old + (if is_lost result then 1 else 0) }
     {
         find_currents(self.states.as_slice(), t, &mut self.currents)?;
@@ -91,6 +96,7 @@ impl Moment {
         ensures states { OnOk result (self.new.states.items ≡ map (λ task. S.answer task t) self.old.tasks.items) }
         ensures values { self.new.values.items ≡ self.old.values.items }
         ensures later { OnOk result (All (PendingFrom (t + 1)) self.new.states.items) }
+        ensures asked { S.asked stepper.new ≡ S.asked stepper.old ++ at_moment t self.old.tasks.items }
         ensures lost { S.losses stepper.new ≡ S.losses stepper.old + (if is_lost result then 1 else 0) }
     {
         self.answers.clear();

@@ -1,8 +1,9 @@
 //! The run of a design from scratch.
 
-ghost use Rattle.std.specs.Prelude.{◌≡◌, ◌+◌, IfOk, if◌then◌else◌};
+ghost use Rattle.std.specs.Prelude.{◌≡◌, ◌≤◌, ◌+◌, ◌++◌, ℕ, suc, IfOk, OnErr, OnOk, if◌then◌else◌};
 ghost use Rattle.scratch.specs.Lost.{loses_a_worker};
 ghost use Rattle.scratch.specs.Run.{run_of};
+ghost use Rattle.scratch.specs.Work.{work_below};
 
 use crate::moment::Moment;
 use crate::recording::Recording;
@@ -15,13 +16,16 @@ use waveform::{Run, laws};
 
 /// The run of the design by this stepper, from moment 0 to the horizon, both included: only changes are stored. A step is
 /// made only where there is a gate to evaluate. `OutOfMemory` where an allocation was refused, here or in a step; `WorkerLost`
-/// where a step answered so.
+/// where a step answered so. Each gate is asked for once at each moment, and nothing else; on an error up to some moment.
 pub fn simulate<S: Stepper>(
     alloc: Global,
     design: &Design,
     stepper: &mut S,
 ) -> Result<Run, StepFault>
     ensures run { IfOk result (λ run. run ≡ run_of S.answer design.now.netlist) }
+    ensures asked { OnOk result (S.asked stepper.new ≡ S.asked stepper.old ++ work_below S.answer design.now.netlist (suc design.now.netlist.horizon)) }
+    ensures part { OnErr result ((n : ℕ) × (n ≤ suc design.now.netlist.horizon)
+        × (S.asked stepper.new ≡ S.asked stepper.old ++ work_below S.answer design.now.netlist n)) }
     ensures lost { S.losses stepper.new ≡ S.losses stepper.old + (if loses_a_worker result then 1 else 0) }
 {
     design.lawful();

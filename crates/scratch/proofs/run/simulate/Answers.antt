@@ -1,4 +1,4 @@
-use Rattle.std.proofs.Common.{◌≡◌, ◌+◌, ◌∙◌, ap, map, suc, [], ◌∷◌, refl, arith}
+use Rattle.std.proofs.Common.{◌≡◌, ◌≤◌, ◌+◌, ◌++◌, ◌∙◌, ap, map, subst, suc, [], ◌∷◌, Result, Ok, Err, OnErr, add-one, refl, arith}
 use Rattle.std.proofs.lemmas.Grind.{common_steps}
 use Rattle.fourstate.specs.Values.{same_value}
 use Rattle.gatestep.specs.Step.{due}
@@ -6,9 +6,15 @@ use Rattle.waveform.specs.Changes.{wave_changes_below, trace_below}
 use Rattle.waveform.specs.Entries.{same_state, standing}
 use Rattle.scratch.specs.Recordings.{pushed_each}
 use Rattle.scratch.specs.Run.{state_after, value}
+use Rattle.scratch.specs.Work.{work_below}
+use Rattle.scratch.proofs.Asked.{more, nothing, part}
 use Rattle.scratch.proofs.Moments.{map_twice}
 use Rattle.scratch.proofs.Runs.{storable, traces_early, traces_more, waves_early, waves_more}
 use Rattle.scratch.proofs.run.simulate.Goals as goal
+
+held : {A E P : Type 0} (r : Result A E) → P → OnErr r P
+held (Ok x) p = tt
+held (Err e) p = p
 
 pub open-requires : goal.open-requires
 open-requires g c =
@@ -19,7 +25,9 @@ pub loop-t-init : goal.loop-t-init
 loop-t-init g c =
     let d = c.args.design.now.netlist in
     let answer = g.S.Stepper.answer in
+    let old = g.S.Stepper.asked c.args.stepper.now in
     record {
+      asked = more answer d old old (g.S.Stepper.asked c.pass.new.stepper) 0 (nothing answer d old) c.in_ok-pass.ensures.asked;
       states = c.in_ok-pass.ensures.states;
       ready = c.in_ok-pass.ensures.ready;
       waves = c.in_ok-recording.ensures.waves ∙ ap (map (λ v. (0, v) ∷ [])) c.in_ok-pass.ensures.values ∙ map_twice (λ n. value answer d n 0) (λ v. (0, v) ∷ []) d.nets;
@@ -46,7 +54,11 @@ loop-t-preserved g c =
     rw (c.loop-t.invariant.waves, c.in_ok-pass-2.ensures.values) (waves_more answer d c.push_to_changes.ensures c.loop-t.t) in
     let traces : pushed_each same_state due c.loop-t.recording.traces.items c.pass-in-loop-t.new.self.states.items c.loop-t.t ≡ map (λ gate. trace_below (state_after answer d gate) (c.loop-t.t + 1)) d.gates =
     rw (c.loop-t.invariant.traces, c.in_ok-pass-2.ensures.states) (traces_more answer d g.met.S.Stepper.answer_pending c.push_to_changes-2.ensures c.lawful.ensures.design.gates c.loop-t.t) in
+    let old = g.S.Stepper.asked c.args.stepper.now in
+    let asked : g.S.Stepper.asked c.pass-in-loop-t.new.stepper ≡ old ++ work_below answer d (c.loop-t.t + 1) =
+    rw add-one (more answer d old (g.S.Stepper.asked c.loop-t.stepper) (g.S.Stepper.asked c.pass-in-loop-t.new.stepper) c.loop-t.t c.loop-t.invariant.asked c.in_ok-pass-2.ensures.asked) in
     record {
+      asked = asked;
       states = c.in_ok-pass-2.ensures.states;
       ready = c.in_ok-pass-2.ensures.ready;
       waves = c.in_ok-add.ensures.waves ∙ waves;
@@ -58,3 +70,47 @@ pub returns-clause-run : goal.returns-clause-run
 returns-clause-run g c =
     let at_end : c.loop-t.t ≡ suc c.args.design.now.netlist.horizon = grind (arith, common_steps) in
     rw (c.in_ok-finish.ensures, c.loop-t.invariant.waves, c.loop-t.invariant.traces, at_end, c.horizon-horizon.ensures.horizon) refl
+
+pub returns-in_err-pass-clause-part : goal.returns-in_err-pass-clause-part
+returns-in_err-pass-clause-part g c =
+    let d = c.args.design.now.netlist in
+    let answer = g.S.Stepper.answer in
+    let old = g.S.Stepper.asked c.args.stepper.now in
+    held c.from_residual-in_err-pass.result (part answer d old old (g.S.Stepper.asked c.pass.new.stepper) 0 d.horizon (omega arith) (nothing answer d old) c.in_err-pass.ensures.asked)
+
+pub returns-in_err-recording-clause-part : goal.returns-in_err-recording-clause-part
+returns-in_err-recording-clause-part g c =
+    let d = c.args.design.now.netlist in
+    let answer = g.S.Stepper.answer in
+    let old = g.S.Stepper.asked c.args.stepper.now in
+    held c.from_residual-in_err-recording.result (1, omega arith, more answer d old old (g.S.Stepper.asked c.pass.new.stepper) 0 (nothing answer d old) c.in_ok-pass.ensures.asked)
+
+pub returns-in_err-pass-2-clause-part : goal.returns-in_err-pass-2-clause-part
+returns-in_err-pass-2-clause-part g c =
+    let d = c.args.design.now.netlist in
+    let within : c.loop-t.t ≤ d.horizon = grind (arith, common_steps) in
+    held c.from_residual-in_err-pass-2.result
+    (part g.S.Stepper.answer d (g.S.Stepper.asked c.args.stepper.now) (g.S.Stepper.asked c.loop-t.stepper) (g.S.Stepper.asked c.pass-in-loop-t.new.stepper) c.loop-t.t d.horizon within
+    c.loop-t.invariant.asked c.in_err-pass-2.ensures.asked)
+
+pub returns-in_err-add-clause-part : goal.returns-in_err-add-clause-part
+returns-in_err-add-clause-part g c =
+    let d = c.args.design.now.netlist in
+    let within : c.loop-t.t ≤ d.horizon = grind (arith, common_steps) in
+    held c.from_residual-in_err-add.result (
+      suc c.loop-t.t,
+      omega arith,
+      more g.S.Stepper.answer d (g.S.Stepper.asked c.args.stepper.now) (g.S.Stepper.asked c.loop-t.stepper) (g.S.Stepper.asked c.pass-in-loop-t.new.stepper) c.loop-t.t
+          c.loop-t.invariant.asked c.in_ok-pass-2.ensures.asked,
+    )
+
+pub returns-in_err-finish-clause-part : goal.returns-in_err-finish-clause-part
+returns-in_err-finish-clause-part g c =
+    let within : c.loop-t.t ≤ suc c.args.design.now.netlist.horizon = grind (arith, common_steps) in
+    held c.from_residual-in_err-finish.result (c.loop-t.t, within, c.loop-t.invariant.asked)
+
+pub returns-clause-asked : goal.returns-clause-asked
+returns-clause-asked g c =
+    let d = c.args.design.now.netlist in
+    let at_end : c.loop-t.t ≡ suc d.horizon = grind (arith, common_steps) in
+    subst (λ n. g.S.Stepper.asked c.loop-t.stepper ≡ g.S.Stepper.asked c.args.stepper.now ++ work_below g.S.Stepper.answer d n) at_end c.loop-t.invariant.asked

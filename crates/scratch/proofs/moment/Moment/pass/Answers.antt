@@ -1,4 +1,5 @@
-use Rattle.std.proofs.Common.{◌≡◌, ◌∙◌, ap, map, Result, Ok, Err, OnOk, add-one}
+use Rattle.std.proofs.Common.{◌≡◌, ◌++◌, ◌∙◌, ap, map, Result, Ok, Err, MatchResult, OnOk, add-one, inr}
+use Rattle.gatestep.specs.Record.{at_moment}
 use Rattle.gatestep.specs.Tasks.{PendingFrom}
 use Rattle.scratch.specs.Run.{evaluation_at, net_at, state_before}
 use Rattle.scratch.proofs.Moments.{evaluations_are, map_twice, task_states, values_are}
@@ -13,6 +14,11 @@ held (Err e) p = tt
 mapped : {A E P Q : Type 0} (r : Result A E) → OnOk r P → (P → Q) → OnOk r Q
 mapped (Ok x) p follows = follows p
 mapped (Err e) p follows = tt
+
+-- what holds anyway, and what follows of it on an `Err`
+either : {A E P Q : Type 0} (r : Result A E) → P → (P → Q) → MatchResult r (λ _. P) (λ _. Q)
+either (Ok x) p follows = p
+either (Err e) p follows = follows p
 
 pub step-requires-clause-ready : goal.step-requires-clause-ready
 step-requires-clause-ready g c =
@@ -41,3 +47,16 @@ returns-clause-states g c =
     (evaluations_are d before c.args.t c.as_slice-3.result.now c.args.wiring.now.cells.items c.args.self.now.states.items values c.requires.wired.cells c.requires.states) in
     mapped c.step.result c.step.ensures.states (λ answers.
     rw add-one (answers ∙ ap (map (λ task. answer task c.args.t)) tasks ∙ map_twice (λ g. evaluation_at d before g c.args.t) (λ task. answer task c.args.t) d.gates))
+
+pub returns-clause-asked : goal.returns-clause-asked
+returns-clause-asked g c =
+    let d = c.args.design.now.netlist in
+    let answer = g.S.Stepper.answer in
+    let before = state_before answer d c.args.t in
+    let values : c.as_slice-3.result.now ≡ map (λ n. net_at d before n c.args.t) d.nets =
+    rw (c.as_slice-3.ensures.value, c.in_ok-find_values.ensures, c.as_slice-2.ensures.value, c.in_ok-find_currents.ensures, c.as_slice.ensures.value)
+    (values_are d before c.args.t c.args.self.now.states.items _ c.requires.states c.requires.wired.drivers) in
+    let tasks : c.find_tasks.new.out.items ≡ map (λ g. evaluation_at d before g c.args.t) d.gates =
+    rw (c.in_ok-find_tasks.ensures, c.as_slice-4.ensures.value)
+    (evaluations_are d before c.args.t c.as_slice-3.result.now c.args.wiring.now.cells.items c.args.self.now.states.items values c.requires.wired.cells c.requires.states) in
+    either c.step.result (c.step.ensures.asked ∙ ap (λ l. g.S.Stepper.asked c.args.stepper.now ++ at_moment c.args.t l) tasks) inr
