@@ -1,4 +1,4 @@
-use Rattle.std.proofs.Common.{◌∙◌, sym, ap, is_some, subst}
+use Rattle.std.proofs.Common.{◌∙◌, sym, ap, subst}
 use Rattle.catalog.specs.Columns.{AreApart, AreKnown, ArePlaced, cell_at, entries_in}
 use Rattle.catalog.specs.Slots.{slot_at}
 use Rattle.catalog.proofs.CellLemmas.{apart_from_placed, entries_filtered, filtered_apart}
