@@ -1,6 +1,6 @@
 # The tasks of the repository; each works on a machine that has only the toolchain.
 
-.PHONY: all test try demo mutants bench fmt
+.PHONY: all test try demo mutants speed fmt
 
 all: try
 
@@ -22,8 +22,8 @@ mutants:
 	@tools/mutants $(CRATE)
 
 # Times the proved programs over generated circuits (docs/BENCHMARKS.md).
-bench:
-	@tools/bench/run
+speed:
+	@tools/speed/run
 
 # Lays out every source and proof file.
 fmt:

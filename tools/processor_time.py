@@ -14,15 +14,34 @@ def read(process, name):
         return file.read()
 
 
-def spent(process):
-    """The seconds of a process itself, without those of its children."""
-    after_name = read(process, "stat").rpartition(b")")[2].split()
-    return (int(after_name[11]) + int(after_name[12])) / TICKS
+def numbers(process):
+    """What /proc says of a process behind its name: at 1 its parent, at 11 and 12 its time, at 19 when it began."""
+    return read(process, "stat").rpartition(b")")[2].split()
+
+
+def descendants():
+    """This process and all that it started, each with what /proc says of it."""
+    every = {}
+    for process in filter(str.isdigit, os.listdir("/proc")):
+        try:
+            every[int(process)] = numbers(process)
+        except OSError:
+            continue
+    children = {}
+    for process, said in every.items():
+        children.setdefault(int(said[1]), []).append(process)
+    found, waiting = {}, [os.getpid()]
+    while waiting:
+        process = waiting.pop()
+        if process in every:
+            found[process] = every[process]
+            waiting += children.get(process, [])
+    return found
 
 
 class Watch:
-    """Looks at the running processes until it is told to stop. `part_of(words, folder)` names the part of the work that
-    a process with these words does in this folder; None leaves it out."""
+    """Looks at the processes that this one started until it is told to stop. `part_of(words, folder)` names the part of
+    the work that a process with these words does in this folder; None leaves it out."""
 
     def __init__(self, part_of):
         self.part_of, self.seen, self.ended = part_of, {}, threading.Event()
@@ -30,15 +49,14 @@ class Watch:
         self.thread.start()
 
     def look(self):
-        for process in filter(str.isdigit, os.listdir("/proc")):
+        for process, said in descendants().items():
             try:
                 words = read(process, "cmdline").decode(errors="replace").split("\0")
                 part = self.part_of(words, os.readlink(f"/proc/{process}/cwd"))
-                if part is not None:
-                    began = read(process, "stat").rpartition(b")")[2].split()[19]
-                    self.seen[process, began] = part, spent(process)
-            except (OSError, IndexError, ValueError):
+            except (OSError, IndexError):
                 continue
+            if part is not None:
+                self.seen[process, said[19]] = part, (int(said[11]) + int(said[12])) / TICKS
 
     def look_on(self):
         while not self.ended.wait(PAUSE):

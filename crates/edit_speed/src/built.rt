@@ -18,7 +18,7 @@ pub fn built(alloc: Global, edits: &[Edit]) -> Result<Design> {
 }
 
 fn empty(alloc: Global) -> Result<Design> {
-    let top = Name::new(alloc, "bench")?;
+    let top = Name::new(alloc, "circuit")?;
     let hasher = NameHasher::fixed();
     Ok(Design::empty(alloc, hasher, top, TimeUnit::default()))
 }
