@@ -151,12 +151,13 @@ impl<R: Named> Catalog<R> {
         ensures fresh { IfOk result (λ added. record_at self added.1 ≡ None) }
     {
         let more = self.len.checked_add(1).ok_or(AllocError)?;
+        let item = Shared::new(self.alloc, item)?;
         let names = ready_names(self.alloc, self.hasher, self.names, &self.order, self.len)?;
         let mut slots = self.slots;
         let mut order = self.order;
         let key = slots.insert(order.len())?;
-        let names = names.with(self.alloc, self.hasher, item.name(), key)?;
-        order.push(Some((key, Shared::new(self.alloc, item)?)))?;
+        let names = names.with(self.alloc, self.hasher, item.value().name(), key)?;
+        order.push(Some((key, item)))?;
         Ok((
             Catalog {
                 names,
@@ -211,7 +212,7 @@ impl<R: Named> Catalog<R> {
         if self.len == self.order.len() {
             return Ok(self);
         }
-        let (slots, order) = close_up(self.alloc, self.slots, &self.order)?;
+        let (slots, order) = close_up(self.alloc, self.slots, self.order)?;
         Ok(Catalog {
             slots,
             order,

@@ -1,10 +1,10 @@
 //! The places of the entries in an order that may have gaps.
 
-ghost use Rattle.std.specs.Prelude.{◌≡◌, ◌≤◌, ◌<◌, ℕ, Some, IfOk, OnOk, filter, is_some, length, slice_get, take};
+ghost use Rattle.std.specs.Prelude.{◌≡◌, ◌≤◌, ◌<◌, ◌∷◌, [], ◌++◌, ℕ, Some, IfOk, OnOk, filter, is_some, length, slice_get, take};
 ghost use Rattle.catalog.specs.Columns.{AreApart, AreKnown, ArePlaced, cell_at, entries_in};
 ghost use Rattle.catalog.specs.Slots.{slot_at};
 
-use crate::order::{Order, entry_at, key_at};
+use crate::order::{Entry, Order, entry_at, key_at};
 use crate::slots::Slots;
 use chunked::Chunked;
 use std::alloc::{AllocError, Global};
@@ -69,15 +69,14 @@ fn find_entry<R: Drop>(order: &Order<R>, place: usize) -> usize
 /// The order without its gaps, and where each key then stands.
 pub(crate) fn close_up<R: Drop>(
     alloc: Global,
-    slots: Slots,
-    order: &Order<R>,
+    mut slots: Slots,
+    order: Order<R>,
 ) -> Result<(Slots, Order<R>), AllocError>
-    requires { ArePlaced (slot_at slots) order.now }
-    ensures entries { IfOk result (λ closed. entries_in closed.1 ≡ entries_in order.now) }
+    requires { ArePlaced (slot_at slots) order }
+    ensures entries { IfOk result (λ closed. entries_in closed.1 ≡ entries_in order) }
     ensures placed { IfOk result (λ closed. ArePlaced (slot_at closed.0) closed.1) }
 {
-    let closed = without_gaps(alloc, order)?;
-    let mut slots = slots;
+    let closed = without_gaps(alloc, &order)?;
     number(&mut slots, &closed)?;
     Ok((slots, closed))
 }
@@ -89,10 +88,18 @@ fn without_gaps<R: Drop>(alloc: Global, order: &Order<R>) -> Result<Order<R>, Al
     let mut closed = Chunked::new(alloc);
     for index in 0..order.len() {
         if let Some(entry) = entry_at(order, index) {
-            closed.push(Some(entry.clone()?))?;
+            push_copy(&mut closed, entry)?;
         }
     }
     Ok(closed)
+}
+
+/// Adds a copy of an entry.
+fn push_copy<R: Drop>(order: &mut Order<R>, entry: &Entry<R>) -> Result<(), AllocError>
+    ensures { OnOk result (order.new ≡ order.old ++ Some entry.now ∷ []) }
+{
+    let copy = entry.clone()?;
+    order.push(Some(copy))
 }
 
 /// Writes where each key stands.

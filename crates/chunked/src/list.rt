@@ -41,6 +41,11 @@ impl<T: Drop> Chunked<T> {
         }
     }
 
+    /// Where the list takes its memory.
+    pub fn allocator(&self) -> Global {
+        *self.chunks.allocator()
+    }
+
     /// A copy, which shares the chunks. It fails where memory runs out.
     pub fn try_clone(&self) -> Result<Chunked<T>, AllocError>
         ensures { IfOk result (λ copy. copy ≡ self.now) }

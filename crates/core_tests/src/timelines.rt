@@ -10,7 +10,7 @@ use fourstate::Value;
 use gatestep::Driver;
 use std::alloc::Global;
 use std::process::Abort;
-use waveform::{Change, Run, Trace, TraceEntry, Wave, laws};
+use waveform::{Change, Run, Table, Trace, TraceEntry, Wave, laws};
 
 /// The value at a moment, which is that of the function whose changes the wave keeps.
 fn value_at(wave: &Wave, t: u64) -> Value
@@ -212,4 +212,30 @@ fn a_run_keeps_waves_and_traces(rt: HostRuntime) {
     assert!(rt; run.wave(2).is_none());
     assert!(rt; run.trace(1).is_none());
     drop(run);
+}
+
+fn value_under(table: &Table<Value>, key: usize) -> Option<Value> {
+    Some(table.get(key)?.at(13))
+}
+
+#[test]
+fn copies_of_a_table_keep_what_they_had(rt: HostRuntime) {
+    let mut table = Table::new(rt.alloc());
+    assert_eq!(rt; value_under(&table, 0), None);
+    table.put(300, pulse(&rt, rt.alloc())).expect(&rt, "room");
+    let line = Wave::open(rt.alloc(), Value::HighZ).expect(&rt, "room");
+    table.put(2, line).expect(&rt, "room");
+    let copy = table.try_clone().expect(&rt, "a copy");
+    table.clear(300).expect(&rt, "room");
+    let line = Wave::open(rt.alloc(), Value::Zero).expect(&rt, "room");
+    table.put(2, line).expect(&rt, "room");
+    table.clear(1_000).expect(&rt, "room");
+    assert_eq!(rt; value_under(&table, 300), None);
+    assert_eq!(rt; value_under(&table, 2), Some(Value::Zero));
+    assert_eq!(rt; value_under(&copy, 300), Some(Value::One));
+    assert_eq!(rt; value_under(&copy, 2), Some(Value::HighZ));
+    assert_eq!(rt; value_under(&copy, 3), None);
+    assert_eq!(rt; value_under(&copy, 1_000), None);
+    drop(table);
+    drop(copy);
 }

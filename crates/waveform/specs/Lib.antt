@@ -4,5 +4,6 @@ pub mod Entries
 pub mod Joins
 pub mod Runs
 pub mod SampleLaws
+pub mod Tables
 pub mod Timelines
 pub mod TraceEntries

@@ -1,4 +1,4 @@
-use Rattle.std.proofs.Common.{◌∙◌, None, ap, sym, unwrap_or}
+use Rattle.std.proofs.Common.{◌∙◌, None, ap, unwrap_or}
 use Rattle.std.proofs.lemmas.Option.{unwrap_or-slice_get}
 use Rattle.std.specs.Option.{option_copied}
 use Rattle.catalog.proofs.order.entry_at.Goals as goal

@@ -24,17 +24,17 @@ invariant_of-result g c =
     let names = found c.in_ok-names.names in
     let more = found c.in_ok-names-2.names in
     let slots = slot_at c.insert.new.self in
-    subst (λ l. IsTable name_of more slots l c.in_ok-more.more) (sym (c.in_ok-push.ensures.ok ∙ ap (λ r. cells ++ Some (key, r) ∷ []) c.in_ok-new.ensures))
+    subst (λ l. IsTable name_of more slots l c.in_ok-more.more) (sym (c.in_ok-push.ensures.ok ∙ ap (λ r. cells ++ Some (key, r) ∷ []) c.in_ok-item.ensures))
     (subst (λ n. IsTable name_of more slots (cells ++ Some (key, item) ∷ []) n) (sym next)
     (table_push name_of names more (slot_at old.slots) slots cells old.len key item c.self.invariant.placed c.in_ok-names.ensures c.self.invariant.counted new
     c.in_ok-key.ensures.fresh (c.in_ok-key.ensures.there ∙ ap Some c.len.ensures) c.in_ok-key.ensures.others
-    (λ name. c.in_ok-names-2.ensures name ∙ ap (λ bytes. if same_name bytes name then Some key else names name) c.name.ensures)))
+    (λ name. c.in_ok-names-2.ensures name ∙ ap (λ bytes. if same_name bytes name then Some key else names name) (c.name.ensures ∙ ap name_of (c.value.ensures ∙ c.in_ok-item.ensures)))))
 
 pub returns-clause-entries : goal.returns-clause-entries
 returns-clause-entries g c =
     let cells = c.self.inside.order in
     let e : ℕ × g.row.R.Denot = (c.in_ok-key.key, c.args.item) in
-    rw (← c.self.view_is) (ap entries_in (c.in_ok-push.ensures.ok ∙ ap (λ r. cells ++ Some (c.in_ok-key.key, r) ∷ []) c.in_ok-new.ensures) ∙ entries_push cells e)
+    rw (← c.self.view_is) (ap entries_in (c.in_ok-push.ensures.ok ∙ ap (λ r. cells ++ Some (c.in_ok-key.key, r) ∷ []) c.in_ok-item.ensures) ∙ entries_push cells e)
 
 pub returns-clause-fresh : goal.returns-clause-fresh
 returns-clause-fresh g c =
