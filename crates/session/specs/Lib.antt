@@ -7,7 +7,8 @@ pub mod Questions
 pub mod Kept
 pub mod Refused
 pub mod State
+pub mod Traffic
 pub mod Transcripts
 pub mod Talk
 pub mod Opening
-pub mod Held
+pub mod Outcomes

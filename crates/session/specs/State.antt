@@ -81,3 +81,10 @@ Transcript old [] out = out ≡ []
 Transcript old (line ∷ lines) out =
     (reply : List ℕ) × (new : SessionState) × (rest : List ℕ) × Answers old line reply new × (out ≡ reply ++ rest)
     × MatchBool (ends line) (rest ≡ []) (Transcript new lines rest)
+
+-- Lines that a session has answered one after another, none of which ended it: from the state `first` it came to this one, and
+-- wrote this.
+pub data Reaches (first : SessionState) : List (List ℕ) → List ℕ → SessionState → Type 0 where
+  opened : Reaches first [] [] first
+  answered : {lines : List (List ℕ)} {out : List ℕ} {now new : SessionState} (line reply : List ℕ) →
+      Reaches first lines out now → Answers now line reply new → ends line ≡ false → Reaches first (lines ++ line ∷ []) (out ++ reply) new
