@@ -1,5 +1,7 @@
 pub mod Lines
 pub mod Words
+pub mod Verbs
+pub mod Pins
 pub mod EditLines
 pub mod Commands
 pub mod Replies
