@@ -182,24 +182,24 @@ regrouped : (input taken rest : List ℕ) (byte : ℕ) → ((input ++ taken) ++ 
 regrouped input taken rest byte = simp append_assoc
 
 -- a session that has quit in the middle of a piece
-pub quits_early : (first : SessionState) (out input piece : List ℕ) (i byte : ℕ) → i < length piece → byte ≡ get_or piece i 0
-    → HasQuit first ((input ++ take i piece) ++ byte ∷ []) out → HasQuit first (input ++ piece) out
-quits_early first out input piece i byte within is quit = λ more.
+pub quits_early : (first : SessionState) (out input piece : List ℕ) (i : ℕ) → i < length piece
+    → HasQuit first ((input ++ take i piece) ++ get_or piece i 0 ∷ []) out → HasQuit first (input ++ piece) out
+quits_early first out input piece i within quit = λ more.
+    let byte = get_or piece i 0 in
     let front = (input ++ take i piece) ++ byte ∷ [] in
     let rest = drop (i + 1) piece in
-    let parts : (take i piece ++ byte ∷ []) ++ rest ≡ piece =
-    ap (λ b. (take i piece ++ b ∷ []) ++ rest) is ∙ ap (λ xs. xs ++ rest) (sym (take_more piece i 0 within)) ∙ take-append-drop (i + 1) piece in
+    let parts : (take i piece ++ byte ∷ []) ++ rest ≡ piece = ap (λ xs. xs ++ rest) (sym (take_more piece i 0 within)) ∙ take-append-drop (i + 1) piece in
     let all : front ++ rest ≡ input ++ piece = regrouped input (take i piece) rest byte ∙ ap (λ xs. input ++ xs) parts in
     let later = whole_behind front rest in
     let P : List (List ℕ) → Type 0 = λ ls. Transcript first ls out in
     subst P (sym (append_assoc (whole_lines front) later.0 more) ∙ ap (λ ls. ls ++ more) (sym later.1 ∙ ap whole_lines all)) (quit (later.0 ++ more))
 
 -- a session that goes on with the next byte of a piece
-pub goes_further : {first s : SessionState} {kept out : List ℕ} (input piece : List ℕ) (i byte : ℕ) → i < length piece → byte ≡ get_or piece i 0
-    → Going first ((input ++ take i piece) ++ byte ∷ []) kept s out → Going first (input ++ take (i + 1) piece) kept s out
-goes_further {first = first} {s = s} {kept = kept} {out = out} input piece i byte within is going =
+pub goes_further : {first s : SessionState} {kept out : List ℕ} (input piece : List ℕ) (i : ℕ) → i < length piece
+    → Going first ((input ++ take i piece) ++ get_or piece i 0 ∷ []) kept s out → Going first (input ++ take (i + 1) piece) kept s out
+goes_further {first = first} {s = s} {kept = kept} {out = out} input piece i within going =
     let P : List ℕ → Type 0 = λ text. Going first text kept s out in
-    subst P (append_assoc input (take i piece) (byte ∷ []) ∙ ap (λ b. input ++ (take i piece ++ b ∷ [])) is ∙ ap (λ xs. input ++ xs) (sym (take_more piece i 0 within))) going
+    subst P (append_assoc input (take i piece) (get_or piece i 0 ∷ []) ∙ ap (λ xs. input ++ xs) (sym (take_more piece i 0 within))) going
 
 pub same_sink_through : {a b c : Outgoing} → SameSink a b → SameSink b c → SameSink a c
 same_sink_through p q = record { loan = q.loan ∙ p.loan; before = q.before ∙ p.before; failures_before = q.failures_before ∙ p.failures_before }

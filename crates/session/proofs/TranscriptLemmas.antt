@@ -4,10 +4,6 @@ use Rattle.std.specs.List.{list_any}
 use Rattle.std.proofs.lemmas.List.Folds.{list_any-append}
 use Rattle.session.specs.State.{SessionState, Answers, Reaches, Transcript, answered, ends, opened}
 
-transcript_line : (s s' : SessionState) (line : List ℕ) (more : List (List ℕ)) (reply rest : List ℕ)
-    → Answers s line reply s' → ends line ≡ false → Transcript s' more rest → Transcript s (line ∷ more) (reply ++ rest)
-transcript_line s s' line more reply rest answers goes t = (reply, s', rest, answers, refl, rw goes t)
-
 pub transcript_quit : (s s' : SessionState) (line : List ℕ) (more : List (List ℕ)) (reply : List ℕ)
     → Answers s line reply s' → ends line ≡ true → Transcript s (line ∷ more) reply
 transcript_quit s s' line more reply answers quits = (reply, s', [], answers, sym (append-nil reply), rw quits refl)
@@ -23,7 +19,8 @@ joins more rest opened t = t
 joins {first = first} more rest (answered {lines = lines} {out = out} {now = now} {new = new} line reply reaches answers goes) t =
     let P : List (List ℕ) → Type 0 = λ ls. Transcript first ls ((out ++ reply) ++ rest) in
     let Q : List ℕ → Type 0 = λ text. Transcript first (lines ++ line ∷ more) text in
-    let whole = joins (line ∷ more) (reply ++ rest) reaches (transcript_line now new line more reply rest answers goes t) in
+    let behind : Transcript now (line ∷ more) (reply ++ rest) = (reply, new, rest, answers, refl, rw goes t) in
+    let whole = joins (line ∷ more) (reply ++ rest) reaches behind in
     subst P (sym (append_assoc lines (line ∷ []) more)) (subst Q (sym (append_assoc out reply rest)) whole)
 
 neither : (a b : Bool) → a ≡ false → b ≡ false → (a || (b || false)) ≡ false
