@@ -1,5 +1,6 @@
 -- The lines of edits (own).
 use Rattle.std.specs.Prelude.{ℕ, List, ◌∷◌, Option, None, Some, option_map, option_and_then}
+use Rattle.fourstate.specs.Delays.{delay_times}
 use Rattle.fourstate.specs.Keywords.{gate_kind_of, net_kind_of}
 use Rattle.edits.specs.declared.edit.Edit.{Edit}
 use Rattle.edits.specs.declared.edit.Edit.TheVariants as edit
@@ -50,7 +51,7 @@ drop_edit ws = option_map (λ name. DropGate name) (one_word ws)
 -- delay G R F
 abbrev pub delay_edit : List (List ℕ) → Option EditLine
 delay_edit ws =
-    option_and_then (λ w. option_and_then (λ rise. option_map (λ fall. SetDelay w.0 rise fall) (number_of w.2)) (number_of w.1)) (three_words ws)
+    option_and_then (λ w. option_and_then (λ rise. option_map (λ fall. SetDelay w.0 (delay_times rise fall)) (number_of w.2)) (number_of w.1)) (three_words ws)
 
 -- type G KIND
 abbrev pub type_edit : List (List ℕ) → Option EditLine
@@ -65,7 +66,7 @@ gate_words _ = None
 abbrev pub gate_of_words : GateWords → Option EditLine
 gate_of_words w =
     option_and_then (λ kind. option_and_then (λ rise. option_and_then (λ fall.
-    option_map (λ inputs. AddGate w.name kind rise fall w.output inputs) (pins_of w.inputs))
+    option_map (λ inputs. AddGate w.name kind (delay_times rise fall) w.output inputs) (pins_of w.inputs))
     (number_of w.fall)) (number_of w.rise)) (gate_kind_of w.kind)
 
 abbrev pub gate_edit : List (List ℕ) → Option EditLine
@@ -103,9 +104,9 @@ edit_of (AddNet name kind) = edit.AddNet name kind
 edit_of (AddInput name) = edit.AddInput name
 edit_of (DropNet name) = edit.DropNet name
 edit_of (SetNetKind name kind) = edit.SetNetKind name kind
-edit_of (AddGate name kind rise fall output inputs) = edit.AddGate name kind rise fall output inputs
+edit_of (AddGate name kind delays output inputs) = edit.AddGate name kind delays output inputs
 edit_of (DropGate name) = edit.DropGate name
-edit_of (SetDelay name rise fall) = edit.SetDelay name rise fall
+edit_of (SetDelay name delays) = edit.SetDelay name delays
 edit_of (SetGateKind name kind) = edit.SetGateKind name kind
 edit_of (Rewire name output inputs) = edit.Rewire name output inputs
 edit_of (Stim net time value) = edit.Stim net time value

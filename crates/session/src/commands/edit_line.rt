@@ -11,7 +11,7 @@ use crate::commands::times::{read_horizon, read_stim, read_unstim};
 use crate::commands::verb::EditVerb;
 use crate::words::{WordRef, Words};
 use edits::{Edit, Word};
-use fourstate::{GateKind, NetKind, Value};
+use fourstate::{DelayTimes, GateKind, NetKind, Value};
 use std::alloc::{AllocError, Global};
 
 /// An edit, with words that it borrows from its line.
@@ -34,8 +34,7 @@ pub enum EditLine<'a> {
     AddGate {
         name: WordRef<'a>,
         kind: GateKind,
-        rise: u64,
-        fall: u64,
+        delays: DelayTimes,
         output: WordRef<'a>,
         inputs: PinWords<'a>,
     },
@@ -44,8 +43,7 @@ pub enum EditLine<'a> {
     },
     SetDelay {
         name: WordRef<'a>,
-        rise: u64,
-        fall: u64,
+        delays: DelayTimes,
     },
     SetGateKind {
         name: WordRef<'a>,
@@ -95,8 +93,7 @@ impl EditLine<'_> {
             EditLine::AddGate {
                 name,
                 kind,
-                rise,
-                fall,
+                delays,
                 output,
                 inputs,
             } => {
@@ -106,8 +103,7 @@ impl EditLine<'_> {
                 Ok(Edit::AddGate {
                     name,
                     kind: *kind,
-                    rise: *rise,
-                    fall: *fall,
+                    delays: *delays,
                     output,
                     inputs,
                 })
@@ -116,12 +112,11 @@ impl EditLine<'_> {
                 let name = own(alloc, name)?;
                 Ok(Edit::DropGate { name })
             }
-            EditLine::SetDelay { name, rise, fall } => {
+            EditLine::SetDelay { name, delays } => {
                 let name = own(alloc, name)?;
                 Ok(Edit::SetDelay {
                     name,
-                    rise: *rise,
-                    fall: *fall,
+                    delays: *delays,
                 })
             }
             EditLine::SetGateKind { name, kind } => {

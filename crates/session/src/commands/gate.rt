@@ -7,7 +7,7 @@ ghost use Rattle.session.specs.EditLines.{gate_edit, gate_of_words, gate_words, 
 use crate::commands::edit_line::EditLine;
 use crate::commands::pins::PinWords;
 use crate::words::{WordRef, Words, number};
-use fourstate::GateKind;
+use fourstate::{DelayTimes, GateKind};
 
 /// The words of `gate G KIND R F OUT IN..`, behind the first one.
 #[derive(Drop)]
@@ -56,8 +56,7 @@ fn gate_of(words: GateWords<'_>) -> Option<EditLine<'_>>
     Some(EditLine::AddGate {
         name: words.name,
         kind,
-        rise,
-        fall,
+        delays: DelayTimes::new(rise, fall),
         output: words.output,
         inputs,
     })

@@ -6,7 +6,7 @@ ghost use Rattle.session.specs.EditLines.{delay_edit, drop_edit, type_edit};
 
 use crate::commands::edit_line::EditLine;
 use crate::words::{Words, number};
-use fourstate::GateKind;
+use fourstate::{DelayTimes, GateKind};
 
 /// `drop G`.
 pub fn read_drop(words: Words<'_>) -> Option<EditLine<'_>>
@@ -23,7 +23,8 @@ pub fn read_delay(words: Words<'_>) -> Option<EditLine<'_>>
     let (name, rise, fall) = words.three()?;
     let rise = number(rise.as_bytes())?;
     let fall = number(fall.as_bytes())?;
-    Some(EditLine::SetDelay { name, rise, fall })
+    let delays = DelayTimes::new(rise, fall);
+    Some(EditLine::SetDelay { name, delays })
 }
 
 /// `type G KIND`.
