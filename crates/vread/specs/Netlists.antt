@@ -1,8 +1,7 @@
 -- The design that a module spells: its nets and its gates in order, with their names (IEEE 1364-2005, 12.1).
 use Rattle.std.specs.Prelude.{ℕ, List, map, Option, None, Some, option_map}
+use Rattle.design.specs.Connections.{Connection, to_net, to_constant}
 use Rattle.design.specs.Netlist as netlist
-use Rattle.design.specs.declared.terminal.Terminal.{Terminal as Connection}
-use Rattle.design.specs.declared.terminal.Terminal.TheVariants as to
 use Rattle.design.specs.declared.unit.Magnitude.{Magnitude as Multiple}
 use Rattle.design.specs.declared.unit.Magnitude.TheVariants as multiple
 use Rattle.design.specs.declared.unit.TimeUnit.{TimeUnit as DesignUnit}
@@ -50,8 +49,8 @@ net_entry names net = netlist.new_net (name_at names net.0) (net_kind net.1) (is
 
 -- what an input of a gate is connected to
 abbrev pub connection_of : List (List ℕ) → Terminal → Connection
-connection_of names (Net n) = to.Net (name_at names n)
-connection_of names (Constant value) = to.Constant value
+connection_of names (Net n) = to_net (name_at names n)
+connection_of names (Constant value) = to_constant value
 
 -- a gate
 abbrev pub gate_entry : List (List ℕ) → GateEntry → netlist.GateEntry
