@@ -10,7 +10,7 @@ mod ending;
 mod help;
 mod numbers;
 mod refusal;
-mod simulation;
+mod session_run;
 mod start;
 mod status;
 #[cfg(test)]
@@ -33,7 +33,7 @@ fn main(rt: HostRuntime) -> ExitCode {
             );
             let mut source = Device::new(rt.stdin());
             let mut sink = Device::new(rt.stdout());
-            let outcome = simulation::simulate(&rt, file, &args, &mut source, &mut sink);
+            let outcome = session_run::run_session(&rt, file, &args, &mut source, &mut sink);
             ending::ending(&outcome, &mut errors)
         }
         Err(StartFault::Refused(complaint)) => refusal::refuse(&complaint, &mut errors),

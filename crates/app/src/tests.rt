@@ -4,7 +4,7 @@ use crate::design_file::first_bytes_of;
 use crate::ending::ending;
 use crate::help::HELP;
 use crate::refusal::refuse;
-use crate::simulation::simulate;
+use crate::session_run::run_session;
 use crate::start::{asked, design_text};
 use edits::EditFault;
 use gatestep::Device;
@@ -212,7 +212,7 @@ fn simulated<T: AllocGlobal + RandomSource + Wait>(
     };
     let mut source = Device::new(b"input a\nstim a 4 1\nwave a\nquit\n".as_slice());
     let mut sink = Device::new(Vec::new(rt.alloc()));
-    let outcome = simulate(rt, file, &args, &mut source, &mut sink);
+    let outcome = run_session(rt, file, &args, &mut source, &mut sink);
     (outcome, sink.inner)
 }
 

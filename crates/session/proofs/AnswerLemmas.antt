@@ -1,5 +1,5 @@
 -- Answers of a session.
-use Rattle.std.proofs.Common.{◌≡◌, ℕ, List, [], ◌∷◌, true, false, refl, sym, ap, ◌∙◌, inl, inr, Option, None, Some, Result, Ok, Err, slice_get}
+use Rattle.std.proofs.Common.{◌≡◌, ℕ, List, [], ◌∷◌, refl, sym, ap, ◌∙◌, inl, inr, Option, None, Some, Result, Ok, Err, slice_get}
 use Rattle.std.specs.Prelude.{option_map}
 use Rattle.std.specs.Option.{option_map_or}
 use Rattle.std.proofs.lemmas.Option.{slice_get-map}
@@ -16,47 +16,34 @@ use Rattle.edits.specs.Edits.{edited}
 use Rattle.gatestep.specs.declared.fault.StepFault.{StepFault}
 use Rattle.gatestep.specs.declared.fault.StepFault.TheVariants as step
 use Rattle.session.specs.Refused.{IsOfStepper, MayRefuse, refusal_of}
-use Rattle.session.specs.declared.commands.command.Command.{Command}
 use Rattle.session.specs.declared.commands.command.Command.TheVariants as command
-use Rattle.edits.specs.declared.fault.EditFault.TheVariants.{OutOfMemory}
+use Rattle.session.specs.declared.commands.edit_line.EditLine.{EditLine}
 use Rattle.session.specs.declared.replies.refusal.Refusal.TheVariants as refusal
-use Rattle.session.specs.Commands.{is_change}
+use Rattle.session.specs.EditLines.{edit_of}
 use Rattle.session.specs.Replies.{ok_line, refusal_line}
 use Rattle.session.specs.Questions.{wave_of}
-use Rattle.session.specs.State.{SessionState, Replies, after_edit, edit_reply, fault_of, is_quit}
-
--- an edit may be refused because memory ran out
-pub no_memory : (s : SessionState) (c : Command) → is_change c ≡ true → Replies s c (refusal_line (refusal.Edit OutOfMemory)) s
-no_memory s (command.Change e) is = inr (inl (record { reply_is = refl; state_is = refl }))
-no_memory s command.Skip is = cc
-no_memory s (command.Ask question) is = cc
-no_memory s command.Quit is = cc
-no_memory s command.Unreadable is = cc
-no_memory s command.TooLong is = cc
-
--- an edit does not end the session
-pub change_goes_on : (c : Command) → is_change c ≡ true → is_quit c ≡ false
-change_goes_on (command.Change e) is = refl
-change_goes_on command.Skip is = refl
-change_goes_on (command.Ask question) is = refl
-change_goes_on command.Quit is = sym is
-change_goes_on command.Unreadable is = refl
-change_goes_on command.TooLong is = refl
+use Rattle.session.specs.State.{SessionState, Replies, after_edit, edit_reply, fault_of}
 
 -- an accepted edit
-pub changed : (old new : SessionState) (e : Edit) → fault_of old e ≡ None → new ≡ after_edit old e None → Replies old (command.Change e) (ok_line new.version) new
-changed old new e accepted is =
-    inl (record { reply_is = ap (λ (s : SessionState). ok_line s.version) is ∙ ap (edit_reply old) (sym accepted); state_is = is ∙ ap (after_edit old e) (sym accepted) })
+pub changed : (old new : SessionState) (line : EditLine) → fault_of old (edit_of line) ≡ None → new ≡ after_edit old (edit_of line) None
+    → Replies old (command.Change line) (ok_line new.version) new
+changed old new line accepted is =
+    let e = edit_of line in
+    inl (record {
+      reply_is = ap (λ (s : SessionState). ok_line s.version) is ∙ ap (edit_reply old) (sym accepted);
+      state_is = is ∙ ap (after_edit old e) (sym accepted);
+    })
 
 -- a refused edit
-pub refused : (old new : SessionState) (e : Edit) (r : Refusal) → new ≡ old → MayRefuse old e r → Replies old (command.Change e) (refusal_line r) new
-refused old new e (refusal.Edit fault) same (inl is) =
-    inl (record { reply_is = ap (edit_reply old) (sym is); state_is = same ∙ ap (after_edit old e) (sym is) })
-refused old new e (refusal.Edit fault) same (inr is) =
+pub refused : (old new : SessionState) (line : EditLine) (r : Refusal) → new ≡ old → MayRefuse old (edit_of line) r
+    → Replies old (command.Change line) (refusal_line r) new
+refused old new line (refusal.Edit fault) same (inl is) =
+    inl (record { reply_is = ap (edit_reply old) (sym is); state_is = same ∙ ap (after_edit old (edit_of line)) (sym is) })
+refused old new line (refusal.Edit fault) same (inr is) =
     inr (inl (record { reply_is = ap (λ f. refusal_line (refusal.Edit f)) is; state_is = same }))
-refused old new e refusal.WorkerLost same may = inr (inr (may, record { reply_is = refl; state_is = same }))
-refused old new e refusal.BadCommand same may = absurd may
-refused old new e refusal.LongLine same may = absurd may
+refused old new line refusal.WorkerLost same may = inr (inr (may, record { reply_is = refl; state_is = same }))
+refused old new line refusal.BadCommand same may = absurd may
+refused old new line refusal.LongLine same may = absurd may
 
 -- the wave of a net in a run of the design
 pub wave_found : (d : Netlist) (answer : Evaluation → ℕ → State) (run : RunRecord) (place : ℕ) (name : List ℕ) → run ≡ run_of answer d → answer ≡ advance

@@ -1,9 +1,10 @@
 pub mod RunLemmas
 pub mod OpeningLemmas
-pub mod HeldLemmas
+pub mod ServeLemmas
 pub mod ExchangeLemmas
 pub mod AnswerLemmas
 pub mod LineLemmas
 pub mod PinLemmas
 pub mod TalkLemmas
+pub mod TranscriptLemmas
 pub mod WordLemmas

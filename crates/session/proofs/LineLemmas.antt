@@ -42,18 +42,23 @@ cut_feed a byte e =
     cut-append a (byte ∷ []) ∙ ap (λ b. joined (whole_lines a) (unfinished a) (put_before b byte [] []).0 (put_before b byte [] []).1) e
     ∙ ap (λ line. (whole_lines a ++ line ∷ [], [])) (append-nil (unfinished a))
 
-joined_lines : (done : List (List ℕ)) (lines : List (List ℕ)) (rest : List ℕ) →
-    (joined done [] lines rest).0 ++ last_line (joined done [] lines rest).1 ≡ done ++ (lines ++ last_line rest)
+joined_behind : (done : List (List ℕ)) (rest : List ℕ) (lines : List (List ℕ)) (rest' : List ℕ) → (more : List (List ℕ)) × ((joined done rest lines rest').0 ≡ done ++ more)
 unfolding joined
-joined_lines done [] rest = refl
-joined_lines done (line ∷ lines) rest = append_assoc done (line ∷ lines) (last_line rest)
+joined_behind done rest [] rest' = ([], sym (append-nil done))
+joined_behind done rest (line ∷ lines) rest' = ((rest ++ line) ∷ lines, refl)
 
--- behind a finished line other lines begin
-pub lines_after : (a b : List ℕ) → unfinished a ≡ [] → lines (a ++ b) ≡ whole_lines a ++ lines b
-lines_after a b e =
-    ap (λ (p : List (List ℕ) × List ℕ). p.0 ++ last_line p.1) (cut-append a b)
-    ∙ ap (λ rest. (joined (whole_lines a) rest (whole_lines b) (unfinished b)).0 ++ last_line (joined (whole_lines a) rest (whole_lines b) (unfinished b)).1) e
-    ∙ joined_lines (whole_lines a) (whole_lines b) (unfinished b)
+-- behind the whole lines of a text stand those that a text behind it makes whole
+pub whole_behind : (a b : List ℕ) → (more : List (List ℕ)) × (whole_lines (a ++ b) ≡ whole_lines a ++ more)
+whole_behind a b =
+    let later = joined_behind (whole_lines a) (unfinished a) (whole_lines b) (unfinished b) in
+    (later.0, ap (λ (p : List (List ℕ) × List ℕ). p.0) (cut-append a b) ∙ later.1)
+
+-- the same for all lines
+pub lines_behind : (a b : List ℕ) → (more : List (List ℕ)) × (lines (a ++ b) ≡ whole_lines a ++ more)
+lines_behind a b =
+    let later = whole_behind a b in
+    let last = last_line (unfinished (a ++ b)) in
+    (later.0 ++ last, ap (λ ls. ls ++ last) later.1 ∙ append_assoc (whole_lines a) later.0 last)
 
 -- of a text and more behind it the first bytes are those of its first bytes and the more
 pub take_front : (n : ℕ) (xs ys : List ℕ) → take n (take n xs ++ ys) ≡ take n (xs ++ ys)

@@ -1,41 +1,33 @@
--- The end of a run, by how the conversation ended.
-use Rattle.std.proofs.Common.{◌≡◌, ℕ, ◌+◌, List, Option}
-use Rattle.std.specs.Prelude.{IfErr, IsErrOf, OnOk}
+-- The end of a run, by how the conversation ended or why the session did not open.
+use Rattle.std.proofs.Common.{ℕ, List, Err}
+use Rattle.std.specs.Prelude.{IfErr}
 use Rattle.session.specs.declared.fault.SessionFault.{SessionFault}
-use Rattle.session.specs.declared.fault.SessionFault.TheVariants.{Read, Write}
+use Rattle.session.specs.declared.fault.SessionFault.TheVariants as fault
 use Rattle.session.specs.declared.open.Options.{Options}
 use Rattle.session.specs.declared.talk.exchange.End.{End}
 use Rattle.session.specs.declared.talk.exchange.End.TheVariants as end
-use Rattle.session.specs.Held.{Held, outcome_of}
-use Rattle.session.specs.Opening.{FromOpening, IsOpeningFault, Opens}
+use Rattle.session.specs.Opening.{IsOpeningFault, Opens, Refuses}
+use Rattle.session.specs.Outcomes.{Ran, Serves, outcome_of}
 use Rattle.session.specs.State.{SessionState}
-use Rattle.session.specs.Transcripts.{AnswersAll, AnswersPartly, AnswersWholeLines}
+use Rattle.session.specs.Traffic.{Traffic}
 
--- Below, a session opened in the state `first`, for this text with these options.
-module _ (text : List ℕ) (options : Options) (first : SessionState) (opens : Opens text options first) where
-  pub run_ok : (e : End) (had has : Option (List ℕ)) (r r' : ℕ) (before after : Option (List ℕ)) (w w' : ℕ)
-      → Held e first had has r r' before after w w'
-      → OnOk (outcome_of e) (FromOpening text options (λ s. AnswersAll s had before after) × (r' ≡ r) × (w' ≡ w))
-  run_ok end.Input had has r r' before after w w' h = ((first, opens, h.0), h.1, h.2)
-  run_ok end.Quit had has r r' before after w w' h = ((first, opens, h.0), h.1, h.2)
-  run_ok end.ReadFailed had has r r' before after w w' h = tt
-  run_ok end.WriteFailed had has r r' before after w w' h = tt
+-- a session that opened
+pub ran : {text : List ℕ} {options : Options} {first : SessionState} (e : End) (source sink : Traffic) → Opens text options first
+    → Serves e first source sink → Ran text options source sink (outcome_of e)
+ran {first = first} end.Input source sink opens served = (first, opens, served)
+ran {first = first} end.Quit source sink opens served = (first, opens, served)
+ran {first = first} end.ReadFailed source sink opens served = (first, opens, served)
+ran {first = first} end.WriteFailed source sink opens served = (first, opens, served)
 
-  pub run_read : (e : End) (had has : Option (List ℕ)) (r r' : ℕ) (before after : Option (List ℕ)) (w w' : ℕ)
-      → Held e first had has r r' before after w w' → IsErrOf (outcome_of e) Read
-      → FromOpening text options (λ s. AnswersWholeLines s had has before after) × (r' ≡ r + 1) × (w' ≡ w)
-  run_read end.Input had has r r' before after w w' h x = absurd (cc)
-  run_read end.Quit had has r r' before after w w' h x = absurd (cc)
-  run_read end.ReadFailed had has r r' before after w w' h x = ((first, opens, h.0), h.1, h.2)
-  run_read end.WriteFailed had has r r' before after w w' h x = absurd (cc)
-
-  pub run_write : (e : End) (had has : Option (List ℕ)) (r r' : ℕ) (before after : Option (List ℕ)) (w w' : ℕ)
-      → Held e first had has r r' before after w w' → IsErrOf (outcome_of e) Write
-      → FromOpening text options (λ s. AnswersPartly s had has before after) × (r' ≡ r) × (w' ≡ w + 1)
-  run_write end.Input had has r r' before after w w' h x = absurd (cc)
-  run_write end.Quit had has r r' before after w w' h x = absurd (cc)
-  run_write end.ReadFailed had has r r' before after w w' h x = absurd (cc)
-  run_write end.WriteFailed had has r r' before after w w' h x = ((first, opens, h.0), h.1, h.2)
+-- a session that did not open
+pub not_ran : (text : List ℕ) (options : Options) (source sink : Traffic) (f : SessionFault) → IsOpeningFault f → Refuses text options f
+    → Ran text options source sink (Err f)
+not_ran text options source sink (fault.Design f) at_opening refuses = refuses
+not_ran text options source sink (fault.Edit f) at_opening refuses = refuses
+not_ran text options source sink fault.OutOfMemory at_opening refuses = refuses
+not_ran text options source sink fault.WorkerLost at_opening refuses = refuses
+not_ran text options source sink fault.Read at_opening refuses = absurd at_opening
+not_ran text options source sink fault.Write at_opening refuses = absurd at_opening
 
 pub run_opened : (e : End) (P : SessionFault → Type 0) → IfErr (outcome_of e) (λ fault. IsOpeningFault fault → P fault)
 run_opened end.Input P = tt

@@ -1,18 +1,20 @@
 -- How a session goes on, a byte at a time.
-use Rattle.std.proofs.Common.{◌≡◌, ℕ, ◌+◌, ◌<◌, ◌≤◌, List, [], ◌∷◌, ◌++◌, length, take, drop, get_or, Bool, true, false, cond, eqb, refl, sym, ap, subst, ◌∙◌, append_assoc, append-nil, inl, MatchBool, arith, zero, suc, nat_lt}
+use Rattle.std.proofs.Common.{◌≡◌, ℕ, ◌+◌, ◌<◌, ◌≤◌, List, [], ◌∷◌, ◌++◌, length, take, drop, get_or, Bool, true, false, cond, eqb, refl, sym, ap, subst, ◌∙◌, append_assoc, append-nil, MatchBool, arith, zero, suc, nat_lt}
 use Rattle.std.proofs.lemmas.Bool.{eq-eqb, ltb-false}
 use Rattle.std.proofs.lemmas.Bool.Decides.{nat_tests}
 use Rattle.std.proofs.lemmas.List.{length-append, length-take-le, take_all, take-append-drop, take-append-le, take_more}
 use Rattle.session.specs.declared.commands.command.Command.{Command}
 use Rattle.session.specs.declared.commands.command.Command.TheVariants as command
-use Rattle.session.specs.declared.replies.refusal.Refusal.TheVariants as refusal
+use Rattle.session.specs.declared.commands.command.TheConstants.{LINE_LIMIT}
+use Rattle.session.specs.declared.talk.line_buffer.TheConstants.{ROOM}
 use Rattle.session.specs.Commands.{command_of, command_within}
 use Rattle.session.specs.Lines.{whole_lines, unfinished, last_line, lines, without_return}
-use Rattle.session.specs.Replies.{ok_line, refusal_line}
-use Rattle.session.specs.State.{SessionState, Answers, Replies, Transcript, after_edit, edit_reply, ends, fault_of, is_quit, question_reply}
-use Rattle.session.specs.Talk.{Answered, Going, HasQuit, SameSink}
+use Rattle.session.specs.State.{SessionState, Answers, Reaches, Replies, Transcript, answered, ends, is_quit, opened}
+use Rattle.session.specs.Talk.{Answered, Going, HasQuit, SameSink, SameSource}
+use Rattle.gatestep.specs.Devices.Incoming.{Incoming}
 use Rattle.gatestep.specs.Devices.Outgoing.{Outgoing, Adds}
-use Rattle.session.proofs.LineLemmas.{cut_byte, cut_feed, lines_after, take_front}
+use Rattle.session.proofs.LineLemmas.{cut_byte, cut_feed, take_front, whole_behind}
+use Rattle.session.proofs.TranscriptLemmas.{joins, joins_none, transcript_last, transcript_quit}
 
 -- a short line and a byte more
 pub kept_short : (n : ℕ) (line : List ℕ) (byte : ℕ) → length line < n → line ++ byte ∷ [] ≡ take n (line ++ byte ∷ [])
@@ -32,107 +34,69 @@ chosen n line C false e =
     let all : take (suc n) line ≡ line = take_all (suc n) line (omega (arith, ltb-false n (length line) e)) in
     rw all refl
 
-command_of_kept : (line : List ℕ) → command_of (take 4097 line) ≡ command_of line
-command_of_kept line = chosen 4096 line (λ l. command_within (without_return l)) (nat_lt 4096 (length line)) refl
+command_of_kept : (line : List ℕ) → command_of (take ROOM line) ≡ command_of line
+command_of_kept line = chosen LINE_LIMIT line (λ l. command_within (without_return l)) (nat_lt LINE_LIMIT (length line)) refl
 
 -- what is kept of a line shows what it is
-answers_kept : (s s' : SessionState) (line kept reply : List ℕ) → kept ≡ take 4097 line → Answers s kept reply s' → Answers s line reply s'
+answers_kept : (s s' : SessionState) (line kept reply : List ℕ) → kept ≡ take ROOM line → Answers s kept reply s' → Answers s line reply s'
 unfolding Answers
 answers_kept s s' line kept reply e answers =
     let P : Command → Type 0 = λ c. Replies s c reply s' in
     subst P (ap command_of e ∙ command_of_kept line) answers
 
-ends_kept : (line kept : List ℕ) → kept ≡ take 4097 line → ends kept ≡ ends line
+ends_kept : (line kept : List ℕ) → kept ≡ take ROOM line → ends kept ≡ ends line
 unfolding ends
 ends_kept line kept e = ap is_quit (ap command_of e ∙ command_of_kept line)
-
--- Transcripts.
-
-transcript_line : (s s' : SessionState) (line : List ℕ) (more : List (List ℕ)) (reply rest : List ℕ)
-    → Answers s line reply s' → ends line ≡ false → Transcript s' more rest → Transcript s (line ∷ more) (reply ++ rest)
-transcript_line s s' line more reply rest answers goes t = (reply, s', rest, answers, refl, rw goes t)
-
-transcript_quit : (s s' : SessionState) (line : List ℕ) (more : List (List ℕ)) (reply : List ℕ)
-    → Answers s line reply s' → ends line ≡ true → Transcript s (line ∷ more) reply
-transcript_quit s s' line more reply answers quits = (reply, s', [], answers, sym (append-nil reply), rw quits refl)
-
-transcript_last : (s s' : SessionState) (line reply : List ℕ) (b : Bool) → ends line ≡ b → Answers s line reply s' → Transcript s (line ∷ []) reply
-transcript_last s s' line reply true e answers = (reply, s', [], answers, sym (append-nil reply), rw e refl)
-transcript_last s s' line reply false e answers = (reply, s', [], answers, sym (append-nil reply), rw e refl)
-
--- each command has a reply
-reply_of : (s : SessionState) (c : Command) → (reply : List ℕ) × (s' : SessionState) × Replies s c reply s'
-reply_of s command.Skip = ([], s, record { reply_is = refl; state_is = refl })
-reply_of s (command.Change e) =
-    (edit_reply s (fault_of s e), after_edit s e (fault_of s e), inl (record { reply_is = refl; state_is = refl }))
-reply_of s (command.Ask question) = (question_reply s question, s, record { reply_is = refl; state_is = refl })
-reply_of s command.Quit = (ok_line s.version, s, record { reply_is = refl; state_is = refl })
-reply_of s command.Unreadable = (refusal_line refusal.BadCommand, s, record { reply_is = refl; state_is = refl })
-reply_of s command.TooLong = (refusal_line refusal.LongLine, s, record { reply_is = refl; state_is = refl })
-
-answer_of : (s : SessionState) (line : List ℕ) → (reply : List ℕ) × (s' : SessionState) × Answers s line reply s'
-unfolding Answers
-answer_of s line = reply_of s (command_of line)
-
-transcript_with : (s s' : SessionState) (line : List ℕ) (more : List (List ℕ)) (reply : List ℕ) (b : Bool) → ends line ≡ b → Answers s line reply s'
-    → (rest : List ℕ) → Transcript s' more rest → (out : List ℕ) × Transcript s (line ∷ more) out
-transcript_with s s' line more reply true e answers rest t = (reply, transcript_quit s s' line more reply answers e)
-transcript_with s s' line more reply false e answers rest t = (reply ++ rest, transcript_line s s' line more reply rest answers e t)
-
--- all lines have a transcript
-transcript_of : (s : SessionState) (more : List (List ℕ)) → (out : List ℕ) × Transcript s more out
-transcript_of s [] = ([], refl)
-transcript_of s (line ∷ more) =
-    let a = answer_of s line in
-    let t = transcript_of a.1 more in
-    transcript_with s a.1 line more a.0 (ends line) refl a.2 t.0 t.1
 
 -- Bytes.
 
 -- before the first byte
 pub begins : (first : SessionState) → Going first [] [] first []
-begins first = record { line = refl; leads = λ more rest t. t }
+begins first = record { line = refl; reaches = opened }
 
 -- a byte that is no line feed
-pub stays : (first s : SessionState) (input kept out : List ℕ) (byte : ℕ) → eqb byte 10 ≡ false
-    → Going first input kept s out → Going first (input ++ byte ∷ []) (take 4097 (kept ++ byte ∷ [])) s out
-stays first s input kept out byte e going = record {
-  line = ap (λ line. take 4097 (line ++ byte ∷ [])) going.line ∙ take_front 4097 (unfinished input) (byte ∷ [])
-      ∙ ap (λ (p : List (List ℕ) × List ℕ). take 4097 p.1) (sym (cut_byte input byte e));
-  leads = λ more rest t.
-      let P : List (List ℕ) → Type 0 = λ ls. Transcript first (ls ++ more) (out ++ rest) in
-      subst P (ap (λ (p : List (List ℕ) × List ℕ). p.0) (sym (cut_byte input byte e))) (going.leads more rest t);
+stays : {first s : SessionState} {input kept out : List ℕ} (byte : ℕ) → eqb byte 10 ≡ false
+    → Going first input kept s out → Going first (input ++ byte ∷ []) (take ROOM (kept ++ byte ∷ [])) s out
+stays {first = first} {s = s} {input = input} {out = out} byte e going = record {
+  line = ap (λ line. take ROOM (line ++ byte ∷ [])) going.line ∙ take_front ROOM (unfinished input) (byte ∷ [])
+      ∙ ap (λ (p : List (List ℕ) × List ℕ). take ROOM p.1) (sym (cut_byte input byte e));
+  reaches =
+      let P : List (List ℕ) → Type 0 = λ ls. Reaches first ls out s in
+      subst P (ap (λ (p : List (List ℕ) × List ℕ). p.0) (sym (cut_byte input byte e))) going.reaches;
 }
+
+-- with a line feed the line is whole
+one_whole : (input : List ℕ) (byte : ℕ) → eqb byte 10 ≡ true → whole_lines input ++ unfinished input ∷ [] ≡ whole_lines (input ++ byte ∷ [])
+one_whole input byte e = ap (λ (p : List (List ℕ) × List ℕ). p.0) (sym (cut_feed input byte e))
 
 one_more : (input : List ℕ) (byte : ℕ) (more : List (List ℕ)) → eqb byte 10 ≡ true
     → whole_lines input ++ unfinished input ∷ more ≡ whole_lines (input ++ byte ∷ []) ++ more
 one_more input byte more e =
-    sym (append_assoc (whole_lines input) (unfinished input ∷ []) more) ∙ ap (λ (p : List (List ℕ) × List ℕ). p.0 ++ more) (sym (cut_feed input byte e))
+    sym (append_assoc (whole_lines input) (unfinished input ∷ []) more) ∙ ap (λ ls. ls ++ more) (one_whole input byte e)
 
 none_left : (input : List ℕ) (byte : ℕ) → eqb byte 10 ≡ true → unfinished (input ++ byte ∷ []) ≡ []
 none_left input byte e = ap (λ (p : List (List ℕ) × List ℕ). p.1) (cut_feed input byte e)
 
 -- the line feed of a line that does not end the session
-pub goes_on : (first s s' : SessionState) (input kept out reply : List ℕ) (byte : ℕ) → eqb byte 10 ≡ true
+goes_on : {first s s' : SessionState} {input kept out : List ℕ} (reply : List ℕ) (byte : ℕ) → eqb byte 10 ≡ true
     → Going first input kept s out → Answers s kept reply s' → ends kept ≡ false → Going first (input ++ byte ∷ []) [] s' (out ++ reply)
-goes_on first s s' input kept out reply byte e going answers goes = record {
-  line = ap (λ line. take 4097 line) (sym (none_left input byte e));
-  leads = λ more rest t.
+goes_on {first = first} {s = s} {s' = s'} {input = input} {kept = kept} {out = out} reply byte e going answers goes = record {
+  line = ap (λ line. take ROOM line) (sym (none_left input byte e));
+  reaches =
       let line = unfinished input in
-      let whole = going.leads (line ∷ more) (reply ++ rest) (transcript_line s s' line more reply rest (answers_kept s s' line kept reply going.line answers) (sym (ends_kept line kept going.line) ∙ goes) t) in
-      let P : List (List ℕ) → Type 0 = λ ls. Transcript first ls ((out ++ reply) ++ rest) in
-      let Q : List ℕ → Type 0 = λ text. Transcript first (whole_lines input ++ line ∷ more) text in
-      subst P (one_more input byte more e) (subst Q (sym (append_assoc out reply rest)) whole);
+      let P : List (List ℕ) → Type 0 = λ ls. Reaches first ls (out ++ reply) s' in
+      subst P (one_whole input byte e)
+      (answered line reply going.reaches (answers_kept s s' line kept reply going.line answers) (sym (ends_kept line kept going.line) ∙ goes));
 }
 
 -- the line feed of the line that ends the session
-pub quits : (first s s' : SessionState) (input kept out reply : List ℕ) (byte : ℕ) → eqb byte 10 ≡ true
+quits : {first s : SessionState} {input kept out : List ℕ} (s' : SessionState) (reply : List ℕ) (byte : ℕ) → eqb byte 10 ≡ true
     → Going first input kept s out → Answers s kept reply s' → ends kept ≡ true → HasQuit first (input ++ byte ∷ []) (out ++ reply)
-quits first s s' input kept out reply byte e going answers quit = λ more.
+quits {first = first} {s = s} {input = input} {kept = kept} {out = out} s' reply byte e going answers quit = λ more.
     let line = unfinished input in
-    let whole = going.leads (line ∷ lines more) reply (transcript_quit s s' line (lines more) reply (answers_kept s s' line kept reply going.line answers) (sym (ends_kept line kept going.line) ∙ quit)) in
+    let last = transcript_quit s s' line more reply (answers_kept s s' line kept reply going.line answers) (sym (ends_kept line kept going.line) ∙ quit) in
     let P : List (List ℕ) → Type 0 = λ ls. Transcript first ls (out ++ reply) in
-    subst P (one_more input byte (lines more) e ∙ sym (lines_after (input ++ byte ∷ []) more (none_left input byte e))) whole
+    subst P (one_more input byte more e) (joins (line ∷ more) reply going.reaches last)
 
 -- The input's end.
 
@@ -141,12 +105,11 @@ nothing_kept n [] e = refl
 nothing_kept n (x ∷ xs) e = cc
 
 -- where no line is left
-pub ends_empty : (first s : SessionState) (input kept out : List ℕ) → Going first input kept s out → kept ≡ [] → Transcript first (lines input) out
-ends_empty first s input kept out going none =
-    let empty : unfinished input ≡ [] = nothing_kept 4096 (unfinished input) (sym none ∙ going.line) in
+ends_empty : {first s : SessionState} {input kept out : List ℕ} → Going first input kept s out → kept ≡ [] → Transcript first (lines input) out
+ends_empty {first = first} {input = input} {out = out} going none =
+    let empty : unfinished input ≡ [] = nothing_kept LINE_LIMIT (unfinished input) (sym none ∙ going.line) in
     let P : List (List ℕ) → Type 0 = λ ls. Transcript first (whole_lines input ++ ls) out in
-    let Q : List ℕ → Type 0 = λ text. Transcript first (whole_lines input ++ []) text in
-    subst P (ap last_line (sym empty)) (subst Q (append-nil out) (going.leads [] [] refl))
+    subst P (ap last_line (sym empty)) (joins_none going.reaches)
 
 last_is : (n : ℕ) (xs : List ℕ) → 0 < length (take n xs) → last_line xs ≡ xs ∷ []
 last_is zero xs some = absurd (omega arith)
@@ -154,25 +117,19 @@ last_is (suc n) [] some = absurd (omega arith)
 last_is (suc n) (x ∷ xs) some = refl
 
 -- where a line is left, it is answered
-pub ends_line : (first s s' : SessionState) (input kept out reply : List ℕ) → Going first input kept s out → 0 < length kept → Answers s kept reply s'
+ends_line : {first s : SessionState} {input kept out : List ℕ} (s' : SessionState) (reply : List ℕ) → Going first input kept s out → 0 < length kept → Answers s kept reply s'
     → Transcript first (lines input) (out ++ reply)
-ends_line first s s' input kept out reply going some answers =
+ends_line {first = first} {s = s} {input = input} {kept = kept} {out = out} s' reply going some answers =
     let line = unfinished input in
-    let last : last_line line ≡ line ∷ [] = last_is 4097 line (rw going.line at some) in
+    let last : last_line line ≡ line ∷ [] = last_is ROOM line (rw going.line at some) in
     let P : List (List ℕ) → Type 0 = λ ls. Transcript first (whole_lines input ++ ls) (out ++ reply) in
-    subst P (sym last) (going.leads (line ∷ []) reply (transcript_last s s' line reply (ends line) refl (answers_kept s s' line kept reply going.line answers)))
-
--- what was written is a beginning of a transcript
-pub partly : (first s : SessionState) (input kept out : List ℕ) → Going first input kept s out → (rest : List ℕ) × Transcript first (lines input) (out ++ rest)
-partly first s input kept out going =
-    let t = transcript_of s (last_line (unfinished input)) in (t.0, going.leads (last_line (unfinished input)) t.0 t.1)
+    subst P (sym last)
+    (joins (line ∷ []) reply going.reaches (transcript_last s s' line reply (ends line) refl (answers_kept s s' line kept reply going.line answers)))
 
 -- what was written is the transcript of the whole lines
-pub wholly : (first s : SessionState) (input kept out : List ℕ) → Going first input kept s out → Transcript first (whole_lines input) out
-wholly first s input kept out going =
-    let P : List (List ℕ) → Type 0 = λ ls. Transcript first ls out in
-    let Q : List ℕ → Type 0 = λ text. Transcript first (whole_lines input ++ []) text in
-    subst P (append-nil (whole_lines input)) (subst Q (append-nil out) (going.leads [] [] refl))
+pub wholly : {first s : SessionState} {input kept out : List ℕ} → Going first input kept s out → Transcript first (whole_lines input) out
+wholly {first = first} {input = input} {out = out} going =
+    let P : List (List ℕ) → Type 0 = λ ls. Transcript first ls out in subst P (append-nil (whole_lines input)) (joins_none going.reaches)
 
 -- What the steps of the code leave.
 
@@ -186,7 +143,7 @@ pub closes_line : {first s s' : SessionState} {input kept line : List ℕ} {w w'
     → Going first input kept s w.text → Transcript first (lines input) w'.text
 closes_line {first = first} {s = s} {s' = s'} {input = input} {kept = kept} {w = w} {w' = w'} e some a going =
     let P : List ℕ → Type 0 = λ text. Transcript first (lines input) text in
-    subst P (sym (text_is w w' a.reply a.adds)) (ends_line first s s' input kept w.text a.reply going (rw e at some) (answers_at e a))
+    subst P (sym (text_is w w' a.reply a.adds)) (ends_line s' a.reply going (rw e at some) (answers_at e a))
 
 is_nil : (xs : List ℕ) → length xs ≡ 0 → xs ≡ []
 is_nil [] e = refl
@@ -194,20 +151,20 @@ is_nil (x ∷ xs) e = absurd (omega (arith, e))
 
 pub closes_empty : {first s : SessionState} {input kept line out : List ℕ} → line ≡ kept → length line ≡ 0 → Going first input kept s out → Transcript first (lines input) out
 closes_empty {first = first} {s = s} {input = input} {kept = kept} {line = line} {out = out} e none going =
-    ends_empty first s input kept out going (sym e ∙ is_nil line none)
+    ends_empty going (sym e ∙ is_nil line none)
 
 pub quits_line : {first s s' : SessionState} {input kept line : List ℕ} {w w' : Outgoing} (byte : ℕ) → byte ≡ 10 → line ≡ kept → Answered s s' line w w' → ends line ≡ true
     → Going first input kept s w.text → HasQuit first (input ++ byte ∷ []) w'.text
 quits_line {first = first} {s = s} {s' = s'} {input = input} {kept = kept} {w = w} {w' = w'} byte feed e a quit going = λ more.
-    let P : List ℕ → Type 0 = λ text. Transcript first (lines ((input ++ byte ∷ []) ++ more)) text in
-    subst P (sym (text_is w w' a.reply a.adds)) (quits first s s' input kept w.text a.reply byte (eq-eqb byte 10 feed) going (answers_at e a) (ap ends (sym e) ∙ quit) more)
+    let P : List ℕ → Type 0 = λ text. Transcript first (whole_lines (input ++ byte ∷ []) ++ more) text in
+    subst P (sym (text_is w w' a.reply a.adds)) (quits s' a.reply byte (eq-eqb byte 10 feed) going (answers_at e a) (ap ends (sym e) ∙ quit) more)
 
 pub goes_line : {first s s' : SessionState} {input kept kept' line : List ℕ} {w w' : Outgoing} (byte : ℕ) → byte ≡ 10 → line ≡ kept → kept' ≡ [] → Answered s s' line w w' → ends line ≡ false
     → Going first input kept s w.text → Going first (input ++ byte ∷ []) kept' s' w'.text
 goes_line {first = first} {s = s} {s' = s'} {input = input} {kept = kept} {w = w} {w' = w'} byte feed e none a goes going =
     let P : List ℕ → Type 0 = λ text. Going first (input ++ byte ∷ []) [] s' text in
     let Q : List ℕ → Type 0 = λ line. Going first (input ++ byte ∷ []) line s' w'.text in
-    subst Q (sym none) (subst P (sym (text_is w w' a.reply a.adds)) (goes_on first s s' input kept w.text a.reply byte (eq-eqb byte 10 feed) going (answers_at e a) (ap ends (sym e) ∙ goes)))
+    subst Q (sym none) (subst P (sym (text_is w w' a.reply a.adds)) (goes_on a.reply byte (eq-eqb byte 10 feed) going (answers_at e a) (ap ends (sym e) ∙ goes)))
 
 -- the line feed of a line that may end the session
 pub fed_line : {first s s' : SessionState} {input kept kept' line : List ℕ} {w w' : Outgoing} (byte : ℕ) (b : Bool) → byte ≡ 10 → line ≡ kept → kept' ≡ []
@@ -216,23 +173,26 @@ pub fed_line : {first s s' : SessionState} {input kept kept' line : List ℕ} {w
 fed_line byte true feed e none a is going = quits_line byte feed e a (sym is) going
 fed_line byte false feed e none a is going = goes_line byte feed e none a (sym is) going
 
-pub stays_line : {first s : SessionState} {input kept kept' out : List ℕ} (byte : ℕ) → eqb byte 10 ≡ false → kept' ≡ take 4097 (kept ++ byte ∷ []) → Going first input kept s out → Going first (input ++ byte ∷ []) kept' s out
+pub stays_line : {first s : SessionState} {input kept kept' out : List ℕ} (byte : ℕ) → eqb byte 10 ≡ false → kept' ≡ take ROOM (kept ++ byte ∷ []) → Going first input kept s out → Going first (input ++ byte ∷ []) kept' s out
 stays_line {first = first} {s = s} {input = input} {kept = kept} {out = out} byte other e going =
     let Q : List ℕ → Type 0 = λ line. Going first (input ++ byte ∷ []) line s out in
-    subst Q (sym e) (stays first s input kept out byte other going)
+    subst Q (sym e) (stays byte other going)
 
-regrouped : (input taken rest more : List ℕ) (byte : ℕ) → ((input ++ taken) ++ byte ∷ []) ++ (rest ++ more) ≡ (input ++ ((taken ++ byte ∷ []) ++ rest)) ++ more
-regrouped input taken rest more byte = simp append_assoc
+regrouped : (input taken rest : List ℕ) (byte : ℕ) → ((input ++ taken) ++ byte ∷ []) ++ rest ≡ input ++ ((taken ++ byte ∷ []) ++ rest)
+regrouped input taken rest byte = simp append_assoc
 
 -- a session that has quit in the middle of a piece
 pub quits_early : (first : SessionState) (out input piece : List ℕ) (i byte : ℕ) → i < length piece → byte ≡ get_or piece i 0
     → HasQuit first ((input ++ take i piece) ++ byte ∷ []) out → HasQuit first (input ++ piece) out
 quits_early first out input piece i byte within is quit = λ more.
+    let front = (input ++ take i piece) ++ byte ∷ [] in
     let rest = drop (i + 1) piece in
     let parts : (take i piece ++ byte ∷ []) ++ rest ≡ piece =
     ap (λ b. (take i piece ++ b ∷ []) ++ rest) is ∙ ap (λ xs. xs ++ rest) (sym (take_more piece i 0 within)) ∙ take-append-drop (i + 1) piece in
-    let P : List ℕ → Type 0 = λ text. Transcript first (lines text) out in
-    subst P (regrouped input (take i piece) rest more byte ∙ ap (λ xs. (input ++ xs) ++ more) parts) (quit (rest ++ more))
+    let all : front ++ rest ≡ input ++ piece = regrouped input (take i piece) rest byte ∙ ap (λ xs. input ++ xs) parts in
+    let later = whole_behind front rest in
+    let P : List (List ℕ) → Type 0 = λ ls. Transcript first ls out in
+    subst P (sym (append_assoc (whole_lines front) later.0 more) ∙ ap (λ ls. ls ++ more) (sym later.1 ∙ ap whole_lines all)) (quit (later.0 ++ more))
 
 -- a session that goes on with the next byte of a piece
 pub goes_further : {first s : SessionState} {kept out : List ℕ} (input piece : List ℕ) (i byte : ℕ) → i < length piece → byte ≡ get_or piece i 0
@@ -241,5 +201,8 @@ goes_further {first = first} {s = s} {kept = kept} {out = out} input piece i byt
     let P : List ℕ → Type 0 = λ text. Going first text kept s out in
     subst P (append_assoc input (take i piece) (byte ∷ []) ∙ ap (λ b. input ++ (take i piece ++ b ∷ [])) is ∙ ap (λ xs. input ++ xs) (sym (take_more piece i 0 within))) going
 
-pub same_through : {a b c : Outgoing} → SameSink a b → SameSink b c → SameSink a c
-same_through p q = record { loan = q.loan ∙ p.loan; before = q.before ∙ p.before; failures_before = q.failures_before ∙ p.failures_before }
+pub same_sink_through : {a b c : Outgoing} → SameSink a b → SameSink b c → SameSink a c
+same_sink_through p q = record { loan = q.loan ∙ p.loan; before = q.before ∙ p.before; failures_before = q.failures_before ∙ p.failures_before }
+
+pub same_source_through : {a b c : Incoming} {failed : ℕ} → SameSource a b 0 → SameSource b c failed → SameSource a c failed
+same_source_through p q = record { loan = q.loan ∙ p.loan; before = q.before ∙ p.before; failures = omega (arith, p.failures, q.failures) }

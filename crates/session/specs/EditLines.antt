@@ -1,77 +1,60 @@
 -- The lines of edits (own).
-use Rattle.std.specs.Prelude.{ℕ, ◌==◌, if◌then◌else◌, List, [], ◌∷◌, take, drop, Option, None, Some, option_map, option_and_then, codes}
-use Rattle.std.specs.List.{list_any}
-use Rattle.fourstate.specs.declared.value.Value.{Value}
+use Rattle.std.specs.Prelude.{ℕ, List, ◌∷◌, Option, None, Some, option_map, option_and_then}
 use Rattle.fourstate.specs.Keywords.{gate_kind_of, net_kind_of}
 use Rattle.edits.specs.declared.edit.Edit.{Edit}
-use Rattle.edits.specs.declared.edit.Edit.TheVariants.{AddNet, AddInput, DropNet, SetNetKind, AddGate, DropGate, SetDelay, SetGateKind, Rewire, Stim, Unstim, Horizon}
-use Rattle.edits.specs.declared.pin.Pin.{Pin}
-use Rattle.edits.specs.declared.pin.Pin.TheVariants.{Net, Constant}
+use Rattle.edits.specs.declared.edit.Edit.TheVariants as edit
+use Rattle.session.specs.declared.commands.edit_line.EditLine.{EditLine}
+use Rattle.session.specs.declared.commands.edit_line.EditLine.TheVariants.{AddNet, AddInput, DropNet, SetNetKind, AddGate, DropGate, SetDelay, SetGateKind, Rewire, Stim, Unstim, Horizon}
 use Rattle.session.specs.declared.commands.gate.GateWords.{GateWords}
 use Rattle.session.specs.declared.commands.gate.WireWords.{WireWords}
-use Rattle.session.specs.Words.{name_and_time, number_of, one_word, same_word, three_words, two_words, value_of}
+use Rattle.session.specs.declared.commands.verb.EditVerb.{EditVerb}
+use Rattle.session.specs.declared.commands.verb.EditVerb.TheVariants as verb
+use Rattle.session.specs.Pins.{pins_of}
+use Rattle.session.specs.Words.{name_and_time, number_of, one_word, three_words, two_words, value_of}
 
 -- Each edit from the words behind the first one of its line, if they are readable.
 
 -- net N KIND
-abbrev pub net_edit : List (List ℕ) → Option Edit
+abbrev pub net_edit : List (List ℕ) → Option EditLine
 net_edit ws = option_and_then (λ w. option_map (λ kind. AddNet w.0 kind) (net_kind_of w.1)) (two_words ws)
 
 -- input N
-abbrev pub input_edit : List (List ℕ) → Option Edit
+abbrev pub input_edit : List (List ℕ) → Option EditLine
 input_edit ws = option_map (λ name. AddInput name) (one_word ws)
 
 -- dropnet N
-abbrev pub drop_net_edit : List (List ℕ) → Option Edit
+abbrev pub drop_net_edit : List (List ℕ) → Option EditLine
 drop_net_edit ws = option_map (λ name. DropNet name) (one_word ws)
 
 -- kind N KIND
-abbrev pub kind_edit : List (List ℕ) → Option Edit
+abbrev pub kind_edit : List (List ℕ) → Option EditLine
 kind_edit ws = option_and_then (λ w. option_map (λ kind. SetNetKind w.0 kind) (net_kind_of w.1)) (two_words ws)
 
 -- stim N T V
-abbrev pub stim_edit : List (List ℕ) → Option Edit
+abbrev pub stim_edit : List (List ℕ) → Option EditLine
 stim_edit ws =
     option_and_then (λ w. option_and_then (λ time. option_map (λ v. Stim w.0 time v) (value_of w.2)) (number_of w.1)) (three_words ws)
 
 -- unstim N T
-abbrev pub unstim_edit : List (List ℕ) → Option Edit
+abbrev pub unstim_edit : List (List ℕ) → Option EditLine
 unstim_edit ws = option_map (λ w. Unstim w.0 w.1) (name_and_time ws)
 
 -- horizon T
-abbrev pub horizon_edit : List (List ℕ) → Option Edit
+abbrev pub horizon_edit : List (List ℕ) → Option EditLine
 horizon_edit ws = option_and_then (λ word. option_map (λ time. Horizon time) (number_of word)) (one_word ws)
 
 -- drop G
-abbrev pub drop_edit : List (List ℕ) → Option Edit
+abbrev pub drop_edit : List (List ℕ) → Option EditLine
 drop_edit ws = option_map (λ name. DropGate name) (one_word ws)
 
 -- delay G R F
-abbrev pub delay_edit : List (List ℕ) → Option Edit
+abbrev pub delay_edit : List (List ℕ) → Option EditLine
 delay_edit ws =
     option_and_then (λ w. option_and_then (λ rise. option_map (λ fall. SetDelay w.0 rise fall) (number_of w.2)) (number_of w.1)) (three_words ws)
 
 -- type G KIND
-abbrev pub type_edit : List (List ℕ) → Option Edit
+abbrev pub type_edit : List (List ℕ) → Option EditLine
 type_edit ws = option_and_then (λ w. option_map (λ kind. SetGateKind w.0 kind) (gate_kind_of w.1)) (two_words ws)
-
--- the value of a constant as it is written: 1'b and the value
-abbrev pub constant_of : List ℕ → Option Value
-constant_of word = if same_word (take 3 word) (codes "1'b") then value_of (drop 3 word) else None
-
--- a word with an apostrophe is a constant or unreadable; any other word names a net
-abbrev pub pin_of : List ℕ → Option Pin
-pin_of word = if list_any (λ byte. byte == 39) word then option_map (λ v. Constant v) (constant_of word) else Some (Net word)
-
--- all pins, if all are readable
-abbrev pub with_pin : Option Pin → Option (List Pin) → Option (List Pin)
-with_pin (Some pin) (Some pins) = Some (pin ∷ pins)
-with_pin (Some pin) None = None
-with_pin None pins = None
-
-abbrev pub pins_of : List (List ℕ) → Option (List Pin)
-pins_of [] = Some []
-pins_of (word ∷ ws) = with_pin (pin_of word) (pins_of ws)
 
 -- gate G KIND R F OUT IN..
 abbrev pub gate_words : List (List ℕ) → Option GateWords
@@ -79,13 +62,13 @@ gate_words (name ∷ kind ∷ rise ∷ fall ∷ output ∷ inputs) =
     Some (record { name = name; kind = kind; rise = rise; fall = fall; output = output; inputs = inputs })
 gate_words _ = None
 
-abbrev pub gate_of_words : GateWords → Option Edit
+abbrev pub gate_of_words : GateWords → Option EditLine
 gate_of_words w =
     option_and_then (λ kind. option_and_then (λ rise. option_and_then (λ fall.
     option_map (λ inputs. AddGate w.name kind rise fall w.output inputs) (pins_of w.inputs))
     (number_of w.fall)) (number_of w.rise)) (gate_kind_of w.kind)
 
-abbrev pub gate_edit : List (List ℕ) → Option Edit
+abbrev pub gate_edit : List (List ℕ) → Option EditLine
 gate_edit ws = option_and_then gate_of_words (gate_words ws)
 
 -- wire G OUT IN..
@@ -93,8 +76,38 @@ abbrev pub wire_words : List (List ℕ) → Option WireWords
 wire_words (name ∷ output ∷ inputs) = Some (record { name = name; output = output; inputs = inputs })
 wire_words _ = None
 
-abbrev pub wire_of_words : WireWords → Option Edit
+abbrev pub wire_of_words : WireWords → Option EditLine
 wire_of_words w = option_map (λ inputs. Rewire w.name w.output inputs) (pins_of w.inputs)
 
-abbrev pub wire_edit : List (List ℕ) → Option Edit
+abbrev pub wire_edit : List (List ℕ) → Option EditLine
 wire_edit ws = option_and_then wire_of_words (wire_words ws)
+
+-- the edit that a verb writes with the words behind it, if they are readable
+abbrev pub edit_line_of : EditVerb → List (List ℕ) → Option EditLine
+edit_line_of verb.Net ws = net_edit ws
+edit_line_of verb.Input ws = input_edit ws
+edit_line_of verb.DropNet ws = drop_net_edit ws
+edit_line_of verb.Kind ws = kind_edit ws
+edit_line_of verb.Gate ws = gate_edit ws
+edit_line_of verb.Drop ws = drop_edit ws
+edit_line_of verb.Delay ws = delay_edit ws
+edit_line_of verb.Type ws = type_edit ws
+edit_line_of verb.Wire ws = wire_edit ws
+edit_line_of verb.Stim ws = stim_edit ws
+edit_line_of verb.Unstim ws = unstim_edit ws
+edit_line_of verb.Horizon ws = horizon_edit ws
+
+-- the edit with words of its own
+abbrev pub edit_of : EditLine → Edit
+edit_of (AddNet name kind) = edit.AddNet name kind
+edit_of (AddInput name) = edit.AddInput name
+edit_of (DropNet name) = edit.DropNet name
+edit_of (SetNetKind name kind) = edit.SetNetKind name kind
+edit_of (AddGate name kind rise fall output inputs) = edit.AddGate name kind rise fall output inputs
+edit_of (DropGate name) = edit.DropGate name
+edit_of (SetDelay name rise fall) = edit.SetDelay name rise fall
+edit_of (SetGateKind name kind) = edit.SetGateKind name kind
+edit_of (Rewire name output inputs) = edit.Rewire name output inputs
+edit_of (Stim net time value) = edit.Stim net time value
+edit_of (Unstim net time) = edit.Unstim net time
+edit_of (Horizon time) = edit.Horizon time

@@ -1,5 +1,7 @@
 pub mod Lines
 pub mod Words
+pub mod Verbs
+pub mod Pins
 pub mod EditLines
 pub mod Commands
 pub mod Replies
@@ -7,7 +9,8 @@ pub mod Questions
 pub mod Kept
 pub mod Refused
 pub mod State
+pub mod Traffic
 pub mod Transcripts
 pub mod Talk
 pub mod Opening
-pub mod Held
+pub mod Outcomes

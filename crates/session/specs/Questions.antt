@@ -7,8 +7,8 @@ use Rattle.design.specs.Netlist.{NetEntry, Netlist, net_named}
 use Rattle.waveform.specs.Changes.{wave_at, wave_changes_below}
 use Rattle.waveform.specs.Timelines.{first_after, last_before, next_to}
 use Rattle.scratch.specs.Run.{value}
-use Rattle.session.specs.declared.commands.question.Look.{Look}
-use Rattle.session.specs.declared.commands.question.Look.TheVariants as look
+use Rattle.session.specs.declared.commands.question.Query.{Query}
+use Rattle.session.specs.declared.commands.question.Query.TheVariants as query
 use Rattle.session.specs.declared.commands.question.Question.{Question}
 use Rattle.edits.specs.declared.fault.EditFault.{EditFault}
 use Rattle.edits.specs.declared.fault.EditFault.TheVariants.{UnknownNet, TimeTooLarge}
@@ -19,26 +19,26 @@ abbrev pub wave_of : Netlist → NetEntry → List (ℕ × Value)
 wave_of d n = wave_changes_below (value advance d n) (suc d.horizon)
 
 -- what is asked is about a moment after the horizon
-abbrev pub is_past : ℕ → Look → Bool
-is_past horizon look.Wave = false
-is_past horizon (look.Value t) = nat_lt horizon t
-is_past horizon (look.Next t) = nat_lt horizon t
-is_past horizon (look.Prev t) = nat_lt horizon t
-is_past horizon (look.Seek t v) = nat_lt horizon t
+abbrev pub is_past : ℕ → Query → Bool
+is_past horizon query.Wave = false
+is_past horizon (query.Value t) = nat_lt horizon t
+is_past horizon (query.Next t) = nat_lt horizon t
+is_past horizon (query.Prev t) = nat_lt horizon t
+is_past horizon (query.Seek t v) = nat_lt horizon t
 
 -- the changes of the wave that is asked about, or why the question is refused: there must be a net of the name, and the
 -- moment must not lie after the horizon
-abbrev pub changes_within : Netlist → Look → Option NetEntry → Result (List (ℕ × Value)) EditFault
+abbrev pub changes_within : Netlist → Query → Option NetEntry → Result (List (ℕ × Value)) EditFault
 changes_within d asked None = Err UnknownNet
 changes_within d asked (Some n) = if is_past d.horizon asked then Err TimeTooLarge else Ok (wave_of d n)
 
 abbrev pub changes_asked : Netlist → Question → Result (List (ℕ × Value)) EditFault
-changes_asked d question = changes_within d question.look (net_named d question.net)
+changes_asked d question = changes_within d question.query (net_named d question.net)
 
 -- the lines that answer what is asked about these changes
-abbrev pub told : List (ℕ × Value) → Look → List ℕ
-told changes (look.Value t) = value_line (wave_at changes t)
-told changes look.Wave = wave_lines changes
-told changes (look.Next t) = change_or_none (first_after changes t)
-told changes (look.Prev t) = change_or_none (last_before changes t)
-told changes (look.Seek t v) = change_or_none (next_to same_value changes t v)
+abbrev pub query_lines : List (ℕ × Value) → Query → List ℕ
+query_lines changes (query.Value t) = value_line (wave_at changes t)
+query_lines changes query.Wave = wave_lines changes
+query_lines changes (query.Next t) = change_or_none (first_after changes t)
+query_lines changes (query.Prev t) = change_or_none (last_before changes t)
+query_lines changes (query.Seek t v) = change_or_none (next_to same_value changes t v)

@@ -1,15 +1,17 @@
 -- How a session stands in the middle of its input.
-use Rattle.std.specs.Prelude.{◌≡◌, Bool, ℕ, true, false, List, ◌++◌, take, Option, Some}
+use Rattle.std.specs.Prelude.{◌≡◌, Bool, ℕ, ◌+◌, true, false, if◌then◌else◌, List, ◌++◌, take, Option, Some}
 use Rattle.std.specs.Io.{StartsWith}
 use Rattle.gatestep.specs.Devices.Incoming.{Incoming, IsAllOf}
 use Rattle.gatestep.specs.Devices.Outgoing.{Outgoing, Adds}
 use Rattle.session.specs.declared.commands.command.Command.{Command}
+use Rattle.session.specs.declared.talk.line_buffer.TheConstants.{ROOM}
 use Rattle.session.specs.declared.talk.feed.Turn.{Turn}
 use Rattle.session.specs.declared.talk.feed.Turn.TheVariants as turn
 use Rattle.session.specs.declared.talk.exchange.End.{End}
 use Rattle.session.specs.declared.talk.exchange.End.TheVariants as end
 use Rattle.session.specs.Lines.{lines, unfinished, whole_lines}
-use Rattle.session.specs.State.{SessionState, Answers, Replies, Transcript}
+use Rattle.session.specs.State.{SessionState, Answers, Reaches, Replies, Transcript}
+use Rattle.session.specs.Transcripts.{GoesOn, StopsReading}
 
 -- a command was carried out, and its reply added to the text
 pub record CarriedOut (old new : SessionState) (command : Command) (before after : Outgoing) : Type 0 where
@@ -23,15 +25,15 @@ pub record Answered (old new : SessionState) (line : List ℕ) (before after : O
   pub answers : Answers old line reply new
   pub adds : Adds before after reply
 
--- A session that opened in the state `first` has read the input and has written `out`: it stands in the state `now`, and
--- whatever completes the rest completes the whole. Of the line that is not finished it keeps as much as shows what it is.
+-- A session that opened in the state `first` has read the input: it has answered the whole lines, has written `out` and stands
+-- in the state `now`. Of the line that is not finished it keeps as much as shows what it is.
 pub record Going (first : SessionState) (input kept : List ℕ) (now : SessionState) (out : List ℕ) : Type 0 where
-  pub line : kept ≡ take 4097 (unfinished input)
-  pub leads : (more : List (List ℕ)) (rest : List ℕ) → Transcript now more rest → Transcript first (whole_lines input ++ more) (out ++ rest)
+  pub line : kept ≡ take ROOM (unfinished input)
+  pub reaches : Reaches first (whole_lines input) out now
 
--- whatever follows gets no reply
+-- a whole line of the input has ended the session: whatever lines follow get no reply
 abbrev pub HasQuit : SessionState → List ℕ → List ℕ → Type 0
-HasQuit first input out = (more : List ℕ) → Transcript first (lines (input ++ more)) out
+HasQuit first input out = (more : List (List ℕ)) → Transcript first (whole_lines input ++ more) out
 
 -- how the session stands after a turn
 abbrev pub Stands : Turn → SessionState → List ℕ → List ℕ → SessionState → List ℕ → Type 0
@@ -55,29 +57,32 @@ pub record SameSink (old new : Outgoing) : Type 0 where
   pub before : new.before ≡ old.before
   pub failures_before : new.failures_before ≡ old.failures_before
 
--- a reader of the same device
-pub record SameSource (old new : Incoming) : Type 0 where
+-- a reader of the same device, which has failed so often since
+pub record SameSource (old new : Incoming) (failed : ℕ) : Type 0 where
   pub loan : new.loan ≡ old.loan
   pub before : new.before ≡ old.before
+  pub failures : new.failures ≡ old.failures + failed
 
 -- the whole text went out
 pub record IsSent (w : Outgoing) : Type 0 where
   pub all : w.gone ≡ w.text
   pub goes_on : w.stopped ≡ false
 
--- a beginning of a transcript went out, and the sink failed
-pub record IsCutShort (first : SessionState) (input : List ℕ) (w : Outgoing) : Type 0 where
+-- the sink failed, and a beginning of the replies to the whole lines went out, or to all lines where the input had ended
+pub record IsCutShort (first : SessionState) (r : Incoming) (w : Outgoing) : Type 0 where
+  pub ended : Bool
+  pub at_end : ended ≡ true → IsAllOf r.before r.text
   pub out : List ℕ
-  pub transcript : Transcript first (lines input) out
+  pub transcript : Transcript first (if ended then lines r.text else whole_lines r.text) out
   pub beginning : StartsWith out w.gone
   pub stopped : w.stopped ≡ true
 
 -- how a session ends
 abbrev pub Ends : End → SessionState → Incoming → Outgoing → Type 0
-Ends end.Input first r w = IsAllOf r.before r.text × Transcript first (lines r.text) w.text × IsSent w
-Ends end.Quit first r w = HasQuit first r.text w.text × IsSent w
-Ends end.ReadFailed first r w = Transcript first (whole_lines r.text) w.text × IsSent w
-Ends end.WriteFailed first r w = IsCutShort first r.text w
+Ends end.Input first r w = StopsReading r.text × IsAllOf r.before r.text × Transcript first (lines r.text) w.text × IsSent w
+Ends end.Quit first r w = StopsReading r.text × HasQuit first r.text w.text × IsSent w
+Ends end.ReadFailed first r w = GoesOn r.text × Transcript first (whole_lines r.text) w.text × IsSent w
+Ends end.WriteFailed first r w = StopsReading r.text × IsCutShort first r w
 
 -- how often the source failed at this end
 abbrev pub read_failures : Option End → ℕ

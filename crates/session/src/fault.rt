@@ -22,7 +22,7 @@ pub enum SessionFault {
     /// The source failed. The replies to all whole lines that were read stand written.
     #[error("read failed")]
     Read,
-    /// The sink failed. An exact beginning of the replies stands written.
+    /// The sink failed. An exact beginning of the replies to the lines that were read stands written.
     #[error("write failed")]
     Write,
 }

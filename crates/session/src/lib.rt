@@ -3,6 +3,7 @@
 
 mod commands;
 mod fault;
+pub mod laws;
 mod machine;
 mod open;
 mod replies;

@@ -7,12 +7,13 @@ ghost use Rattle.design.specs.Netlist.{net_named};
 ghost use Rattle.edits.specs.Checks.{cause};
 ghost use Rattle.edits.specs.Edits.{edited};
 ghost use Rattle.scratch.specs.Run.{run_of};
+ghost use Rattle.session.specs.EditLines.{edit_of};
 ghost use Rattle.session.specs.Questions.{changes_asked, wave_of};
 ghost use Rattle.session.specs.Refused.{IsOfStepper, MayRefuse, refusal_of};
 ghost use Rattle.session.specs.State.{after_edit, ends, fault_of, is_quit};
 ghost use Rattle.session.specs.Talk.{Answered, CarriedOut};
 
-use crate::commands::{Command, Question, read};
+use crate::commands::{Command, EditLine, Question, read};
 use crate::replies::{Refusal, no, ok, tell};
 use design::Design;
 use edits::{Edit, EditFault, apply_all};
@@ -64,18 +65,12 @@ impl<S: Stepper + Drop> Machine<S> {
     }
 
     /// Answers a line, which comes without its line feed, and tells whether it ends the session.
-    #[tactic(auto, unfolding(crate::specs::State::Answers, crate::specs::State::ends), using(crate::proofs::AnswerLemmas::no_memory, crate::proofs::AnswerLemmas::change_goes_on))]
+    #[tactic(auto, unfolding(crate::specs::State::Answers, crate::specs::State::ends))]
     pub fn answer<W: Sink>(&mut self, line: &[u8], writer: &mut Writer<'_, W>) -> bool
         ensures answered { Answered self.old self.new line.now writer.old writer.new }
         ensures ends { result ≡ ends line.now }
     {
-        match read(self.alloc, line) {
-            Ok(command) => self.carry_out(command, writer),
-            Err(_) => {
-                no(writer, Refusal::Edit(EditFault::OutOfMemory));
-                false
-            }
-        }
+        self.carry_out(read(line), writer)
     }
 
     fn carry_out<W: Sink>(&mut self, command: Command<'_>, writer: &mut Writer<'_, W>) -> bool
@@ -84,7 +79,7 @@ impl<S: Stepper + Drop> Machine<S> {
     {
         match command {
             Command::Skip => return false,
-            Command::Change(edit) => self.change(&edit, writer),
+            Command::Change(line) => self.change(&line, writer),
             Command::Ask(question) => self.ask(&question, writer),
             Command::Quit => {
                 ok(writer, self.version);
@@ -97,10 +92,10 @@ impl<S: Stepper + Drop> Machine<S> {
     }
 
     #[tactic(auto, using(crate::proofs::AnswerLemmas::changed, crate::proofs::AnswerLemmas::refused))]
-    fn change<W: Sink>(&mut self, edit: &Edit, writer: &mut Writer<'_, W>)
-        ensures { CarriedOut self.old self.new (Command.Change edit.now) writer.old writer.new }
+    fn change<W: Sink>(&mut self, line: &EditLine<'_>, writer: &mut Writer<'_, W>)
+        ensures { CarriedOut self.old self.new (Command.Change line.now) writer.old writer.new }
     {
-        match self.try_change(edit) {
+        match self.try_change(line) {
             Ok(()) => ok(writer, self.version),
             Err(refusal) => no(writer, refusal),
         }
@@ -108,13 +103,26 @@ impl<S: Stepper + Drop> Machine<S> {
 
     // Where it is refused nothing changes.
     #[tactic(auto, using(crate::proofs::AnswerLemmas::stepper_may_refuse))]
-    fn try_change(&mut self, edit: &Edit) -> Result<(), Refusal>
+    fn try_change(&mut self, line: &EditLine<'_>) -> Result<(), Refusal>
         ensures { MatchResult result
-            (λ _. (fault_of self.old edit.now ≡ None) × (self.new ≡ after_edit self.old edit.now None))
-            (λ refusal. (self.new ≡ self.old) × MayRefuse self.old edit.now refusal) }
+            (λ _. (fault_of self.old (edit_of line.now) ≡ None) × (self.new ≡ after_edit self.old (edit_of line.now) None))
+            (λ refusal. (self.new ≡ self.old) × MayRefuse self.old (edit_of line.now) refusal) }
     {
-        let design = self.edited(edit)?;
+        let design = self.edited_by(line)?;
         self.adopt(design)
+    }
+
+    // The design with the edit of a line.
+    fn edited_by(&self, line: &EditLine<'_>) -> Result<Design, Refusal>
+        ensures taken { IfOk result (λ design. (cause self.now.netlist (edit_of line.now) ≡ None)
+            × (design.netlist ≡ edited self.now.netlist (edit_of line.now))) }
+        ensures room { OnOk result (self.now.version < 2 ^ 64 - 1) }
+        ensures refused { IfErr result (λ refusal. MayRefuse self.now (edit_of line.now) refusal) }
+    {
+        match line.to_edit(self.alloc) {
+            Ok(edit) => self.edited(&edit),
+            Err(_) => Err(Refusal::Edit(EditFault::OutOfMemory)),
+        }
     }
 
     // The design with an edit.
@@ -165,7 +173,7 @@ impl<S: Stepper + Drop> Machine<S> {
     {
         match self.wave_asked(question) {
             Ok(wave) => {
-                tell(writer, wave, question.look);
+                tell(writer, wave, question.query);
                 ok(writer, self.version);
             }
             Err(fault) => no(writer, Refusal::Edit(fault)),
@@ -181,7 +189,7 @@ impl<S: Stepper + Drop> Machine<S> {
         let Some(wave) = self.wave(question.net.as_str()) else {
             return Err(EditFault::UnknownNet);
         };
-        if question.look.is_past(self.design.horizon()) {
+        if question.query.is_past(self.design.horizon()) {
             return Err(EditFault::TimeTooLarge);
         }
         Ok(wave)

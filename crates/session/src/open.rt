@@ -1,17 +1,17 @@
 //! The opening of a session.
 
-ghost use Rattle.std.specs.Prelude.{◌≡◌, ◌≤◌, ◌<◌, ◌+◌, [], IfErr, IfOk, IsErrOf, OnOk};
+ghost use Rattle.std.specs.Prelude.{◌≡◌, ◌≤◌, ◌<◌, [], IfErr, IfOk, OnOk};
 ghost use Rattle.fourstate.specs.declared.limits.TheConstants.{MAX_TIME};
 ghost use Rattle.gatestep.specs.Step.{advance};
 ghost use Rattle.design.specs.Netlist.{with_horizon};
 ghost use Rattle.vread.specs.Reads.{Spells};
-ghost use Rattle.session.specs.Held.{outcome_of};
-ghost use Rattle.session.specs.Opening.{FromOpening, IsOpeningFault, IsTextRefused, Opens, Refuses, fault_by};
-ghost use Rattle.session.specs.Transcripts.{AnswersAll, AnswersPartly, AnswersWholeLines};
+ghost use Rattle.session.specs.Opening.{IsOpeningFault, IsTextRefused, Opens, Refuses, fault_by};
+ghost use Rattle.session.specs.Outcomes.{Ran, outcome_of};
+ghost use Rattle.session.specs.Traffic.{traffic_of};
 
 use crate::fault::SessionFault;
 use crate::machine::Machine;
-use crate::talk::{End, Line, Session, hold};
+use crate::talk::{End, LineBuffer, Session, serve};
 use design::{Design, NameHasher};
 use edits::EditFault;
 use fourstate::MAX_TIME;
@@ -45,23 +45,15 @@ pub fn run<T: Wait + RandomSource, R: Source, W: Sink, S: Stepper + Drop>(
     stepper: S,
 ) -> Result<(), SessionFault>
     requires { S.answer ≡ advance }
-    // Every line was answered, up to and with `quit`, and neither device failed.
-    ensures ok { OnOk result (FromOpening design.now options.now (λ first. AnswersAll first (R.remaining source.old) (W.contents sink.old) (W.contents sink.new))
-        × (R.failures source.new ≡ R.failures source.old) × (W.failures sink.new ≡ W.failures sink.old)) }
-    // The source failed once, and the whole lines before were answered.
-    ensures read { IsErrOf result SessionFault.Read →
-        FromOpening design.now options.now (λ first. AnswersWholeLines first (R.remaining source.old) (R.remaining source.new) (W.contents sink.old) (W.contents sink.new))
-        × (R.failures source.new ≡ R.failures source.old + 1) × (W.failures sink.new ≡ W.failures sink.old) }
-    // The sink failed once, and an exact beginning of the replies went out.
-    ensures write { IsErrOf result SessionFault.Write →
-        FromOpening design.now options.now (λ first. AnswersPartly first (R.remaining source.old) (R.remaining source.new) (W.contents sink.old) (W.contents sink.new))
-        × (R.failures source.new ≡ R.failures source.old) × (W.failures sink.new ≡ W.failures sink.old + 1) }
-    // A session that does not open reads and writes nothing. The text is refused by its fault, and then a horizon over the limit.
-    ensures unopened { IfErr result (λ fault. IsOpeningFault fault → Refuses design.now options.now fault × (source.new ≡ source.old) × (sink.new ≡ sink.old)) }
+    ensures ran { Ran design.now options.now
+        (traffic_of R.remaining R.failures source.old source.new)
+        (traffic_of W.contents W.failures sink.old sink.new) result }
+    // A session that does not open touches neither device.
+    ensures unopened { IfErr result (λ fault. IsOpeningFault fault → (source.new ≡ source.old) × (sink.new ≡ sink.old)) }
 {
     let names = NameHasher::new(rt);
     let mut session = open(alloc, names, design, options, stepper)?;
-    let end = hold(rt, &mut session, source, sink);
+    let end = serve(rt, &mut session, source, sink);
     outcome(end)
 }
 
@@ -152,7 +144,7 @@ fn start<S: Stepper + Drop>(
     requires { S.answer ≡ advance }
     ensures { IfOk result (λ session. (session.line ≡ []) × (session.machine ≡ record { version = 0; netlist = design.netlist })) }
 {
-    let line = Line::new(alloc)?;
+    let line = LineBuffer::new(alloc)?;
     let machine = Machine::open(alloc, design, stepper)?;
     Ok(Session { line, machine })
 }

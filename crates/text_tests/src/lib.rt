@@ -8,4 +8,6 @@ mod modules;
 #[cfg(test)]
 mod readings;
 #[cfg(test)]
+mod refused;
+#[cfg(test)]
 mod sessions;

@@ -1,24 +1,23 @@
-//! The commands that ask. None of them takes memory.
+//! The commands that ask.
 
 ghost use Rattle.std.specs.Prelude.{◌≡◌};
 ghost use Rattle.session.specs.Commands.{next_question, prev_question, question_of, seek_question, value_question, wave_question};
 
-use crate::commands::question::{Look, Question};
+use crate::commands::question::{Query, Question};
 use crate::commands::times::{read_name_and_time, read_value};
-use crate::commands::verb::Verb;
+use crate::commands::verb::AskVerb;
 use crate::words::{Words, number};
 
-/// The question that a verb asks with the words behind it; none where these are unreadable or the verb asks nothing.
-pub fn read_question(verb: Verb, words: Words<'_>) -> Option<Question<'_>>
+/// The question that a verb asks with the words behind it; none where these are unreadable.
+pub fn read_question(verb: AskVerb, words: Words<'_>) -> Option<Question<'_>>
     ensures { result ≡ question_of verb words.entry }
 {
     match verb {
-        Verb::Value => ask_value(words),
-        Verb::Wave => ask_wave(words),
-        Verb::Next => ask_next(words),
-        Verb::Prev => ask_prev(words),
-        Verb::Seek => ask_seek(words),
-        _ => None,
+        AskVerb::Value => ask_value(words),
+        AskVerb::Wave => ask_wave(words),
+        AskVerb::Next => ask_next(words),
+        AskVerb::Prev => ask_prev(words),
+        AskVerb::Seek => ask_seek(words),
     }
 }
 
@@ -27,8 +26,8 @@ fn ask_value(words: Words<'_>) -> Option<Question<'_>>
     ensures { result ≡ value_question words.entry }
 {
     let (net, time) = read_name_and_time(words)?;
-    let look = Look::Value(time);
-    Some(Question { net, look })
+    let query = Query::Value(time);
+    Some(Question { net, query })
 }
 
 // `wave N`, behind its first word.
@@ -36,8 +35,8 @@ fn ask_wave(words: Words<'_>) -> Option<Question<'_>>
     ensures { result ≡ wave_question words.entry }
 {
     let net = words.one()?;
-    let look = Look::Wave;
-    Some(Question { net, look })
+    let query = Query::Wave;
+    Some(Question { net, query })
 }
 
 // `next N T`, behind its first word.
@@ -45,8 +44,8 @@ fn ask_next(words: Words<'_>) -> Option<Question<'_>>
     ensures { result ≡ next_question words.entry }
 {
     let (net, time) = read_name_and_time(words)?;
-    let look = Look::Next(time);
-    Some(Question { net, look })
+    let query = Query::Next(time);
+    Some(Question { net, query })
 }
 
 // `prev N T`, behind its first word.
@@ -54,8 +53,8 @@ fn ask_prev(words: Words<'_>) -> Option<Question<'_>>
     ensures { result ≡ prev_question words.entry }
 {
     let (net, time) = read_name_and_time(words)?;
-    let look = Look::Prev(time);
-    Some(Question { net, look })
+    let query = Query::Prev(time);
+    Some(Question { net, query })
 }
 
 // `seek N T V`, behind its first word.
@@ -65,6 +64,6 @@ fn ask_seek(words: Words<'_>) -> Option<Question<'_>>
     let (net, time, value) = words.three()?;
     let time = number(time.as_bytes())?;
     let value = read_value(value.as_bytes())?;
-    let look = Look::Seek(time, value);
-    Some(Question { net, look })
+    let query = Query::Seek(time, value);
+    Some(Question { net, query })
 }

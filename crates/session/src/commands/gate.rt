@@ -1,13 +1,13 @@
-//! The commands that connect gates: `gate` and `wire`.
+//! The commands that connect gates: `gate` and `wire`. Each is read behind its first word; none where the words are
+//! unreadable.
 
-ghost use Rattle.std.specs.Prelude.{◌≡◌, true, IfOk, OnErr, is_some};
+ghost use Rattle.std.specs.Prelude.{◌≡◌};
 ghost use Rattle.session.specs.EditLines.{gate_edit, gate_of_words, gate_words, wire_edit, wire_of_words, wire_words};
 
-use crate::commands::pins::{are_pins, read_pins};
+use crate::commands::edit_line::EditLine;
+use crate::commands::pins::PinWords;
 use crate::words::{WordRef, Words, number};
-use edits::{Edit, Word};
 use fourstate::GateKind;
-use std::alloc::{AllocError, Global};
 
 /// The words of `gate G KIND R F OUT IN..`, behind the first one.
 #[derive(Drop)]
@@ -20,18 +20,14 @@ pub struct GateWords<'a> {
     inputs: Words<'a>,
 }
 
-/// `gate G KIND R F OUT IN..`, behind its first word; none where the words are unreadable.
-pub fn read_gate(alloc: Global, words: Words<'_>) -> Result<Option<Edit>, AllocError>
-    ensures ok { IfOk result (λ edit. edit ≡ gate_edit words.entry) }
-    ensures err { OnErr result (is_some (gate_edit words.entry) ≡ true) }
+/// `gate G KIND R F OUT IN..`.
+pub fn read_gate(words: Words<'_>) -> Option<EditLine<'_>>
+    ensures { result ≡ gate_edit words.entry }
 {
-    match split_gate(words) {
-        Some(words) => read_parts(alloc, words),
-        None => Ok(None),
-    }
+    gate_of(split_gate(words)?)
 }
 
-fn split_gate<'a>(words: Words<'a>) -> Option<GateWords<'a>>
+fn split_gate(words: Words<'_>) -> Option<GateWords<'_>>
     ensures { result ≡ gate_words words.entry }
 {
     let mut rest = words;
@@ -50,36 +46,21 @@ fn split_gate<'a>(words: Words<'a>) -> Option<GateWords<'a>>
     })
 }
 
-// All words are looked at before memory is asked for.
-fn read_parts(alloc: Global, words: GateWords<'_>) -> Result<Option<Edit>, AllocError>
-    ensures ok { IfOk result (λ edit. edit ≡ gate_of_words words.entry) }
-    ensures err { OnErr result (is_some (gate_of_words words.entry) ≡ true) }
+fn gate_of(words: GateWords<'_>) -> Option<EditLine<'_>>
+    ensures { result ≡ gate_of_words words.entry }
 {
-    let Some(kind) = GateKind::from_keyword(words.kind.as_bytes()) else {
-        return Ok(None);
-    };
-    let Some(rise) = number(words.rise.as_bytes()) else {
-        return Ok(None);
-    };
-    let Some(fall) = number(words.fall.as_bytes()) else {
-        return Ok(None);
-    };
-    if !are_pins(&words.inputs) {
-        return Ok(None);
-    }
-    let name = Word::new(alloc, words.name.as_str())?;
-    let output = Word::new(alloc, words.output.as_str())?;
-    let Some(inputs) = read_pins(alloc, words.inputs)? else {
-        return Ok(None);
-    };
-    Ok(Some(Edit::AddGate {
-        name,
+    let kind = GateKind::from_keyword(words.kind.as_bytes())?;
+    let rise = number(words.rise.as_bytes())?;
+    let fall = number(words.fall.as_bytes())?;
+    let inputs = PinWords::new(words.inputs)?;
+    Some(EditLine::AddGate {
+        name: words.name,
         kind,
         rise,
         fall,
-        output,
+        output: words.output,
         inputs,
-    }))
+    })
 }
 
 /// The words of `wire G OUT IN..`, behind the first one.
@@ -90,18 +71,14 @@ pub struct WireWords<'a> {
     inputs: Words<'a>,
 }
 
-/// `wire G OUT IN..`, behind its first word; none where the words are unreadable.
-pub fn read_wire(alloc: Global, words: Words<'_>) -> Result<Option<Edit>, AllocError>
-    ensures ok { IfOk result (λ edit. edit ≡ wire_edit words.entry) }
-    ensures err { OnErr result (is_some (wire_edit words.entry) ≡ true) }
+/// `wire G OUT IN..`.
+pub fn read_wire(words: Words<'_>) -> Option<EditLine<'_>>
+    ensures { result ≡ wire_edit words.entry }
 {
-    match split_wire(words) {
-        Some(words) => read_wiring(alloc, words),
-        None => Ok(None),
-    }
+    wire_of(split_wire(words)?)
 }
 
-fn split_wire<'a>(words: Words<'a>) -> Option<WireWords<'a>>
+fn split_wire(words: Words<'_>) -> Option<WireWords<'_>>
     ensures { result ≡ wire_words words.entry }
 {
     let mut rest = words;
@@ -114,22 +91,13 @@ fn split_wire<'a>(words: Words<'a>) -> Option<WireWords<'a>>
     })
 }
 
-// All words are looked at before memory is asked for.
-fn read_wiring(alloc: Global, words: WireWords<'_>) -> Result<Option<Edit>, AllocError>
-    ensures ok { IfOk result (λ edit. edit ≡ wire_of_words words.entry) }
-    ensures err { OnErr result (is_some (wire_of_words words.entry) ≡ true) }
+fn wire_of(words: WireWords<'_>) -> Option<EditLine<'_>>
+    ensures { result ≡ wire_of_words words.entry }
 {
-    if !are_pins(&words.inputs) {
-        return Ok(None);
-    }
-    let name = Word::new(alloc, words.name.as_str())?;
-    let output = Word::new(alloc, words.output.as_str())?;
-    let Some(inputs) = read_pins(alloc, words.inputs)? else {
-        return Ok(None);
-    };
-    Ok(Some(Edit::Rewire {
-        name,
-        output,
+    let inputs = PinWords::new(words.inputs)?;
+    Some(EditLine::Rewire {
+        name: words.name,
+        output: words.output,
         inputs,
-    }))
+    })
 }

@@ -2,6 +2,7 @@
 
 mod ask;
 mod command;
+mod edit_line;
 mod gate;
 mod gates;
 mod nets;
@@ -11,4 +12,5 @@ mod times;
 mod verb;
 
 pub use command::{Command, LINE_LIMIT, read};
-pub use question::{Look, Question};
+pub use edit_line::EditLine;
+pub use question::{Query, Question};

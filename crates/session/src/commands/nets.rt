@@ -1,63 +1,42 @@
-//! The commands that change nets.
+//! The commands that change nets. Each is read behind its first word; none where the words are unreadable.
 
-ghost use Rattle.std.specs.Prelude.{◌≡◌, true, IfOk, OnErr, is_some};
+ghost use Rattle.std.specs.Prelude.{◌≡◌};
 ghost use Rattle.session.specs.EditLines.{drop_net_edit, input_edit, kind_edit, net_edit};
 
+use crate::commands::edit_line::EditLine;
 use crate::words::Words;
-use edits::{Edit, Word};
 use fourstate::NetKind;
-use std::alloc::{AllocError, Global};
 
-/// `net N KIND`, behind its first word; none where the words are unreadable.
-pub fn read_net(alloc: Global, words: Words<'_>) -> Result<Option<Edit>, AllocError>
-    ensures ok { IfOk result (λ edit. edit ≡ net_edit words.entry) }
-    ensures err { OnErr result (is_some (net_edit words.entry) ≡ true) }
+/// `net N KIND`.
+pub fn read_net(words: Words<'_>) -> Option<EditLine<'_>>
+    ensures { result ≡ net_edit words.entry }
 {
-    let Some((name, kind)) = words.two() else {
-        return Ok(None);
-    };
-    let Some(kind) = NetKind::from_keyword(kind.as_bytes()) else {
-        return Ok(None);
-    };
-    let name = Word::new(alloc, name.as_str())?;
-    Ok(Some(Edit::AddNet { name, kind }))
+    let (name, kind) = words.two()?;
+    let kind = NetKind::from_keyword(kind.as_bytes())?;
+    Some(EditLine::AddNet { name, kind })
 }
 
-/// `input N`, behind its first word; none where the words are unreadable.
-pub fn read_input(alloc: Global, words: Words<'_>) -> Result<Option<Edit>, AllocError>
-    ensures ok { IfOk result (λ edit. edit ≡ input_edit words.entry) }
-    ensures err { OnErr result (is_some (input_edit words.entry) ≡ true) }
+/// `input N`.
+pub fn read_input(words: Words<'_>) -> Option<EditLine<'_>>
+    ensures { result ≡ input_edit words.entry }
 {
-    let Some(name) = words.one() else {
-        return Ok(None);
-    };
-    let name = Word::new(alloc, name.as_str())?;
-    Ok(Some(Edit::AddInput { name }))
+    let name = words.one()?;
+    Some(EditLine::AddInput { name })
 }
 
-/// `dropnet N`, behind its first word; none where the words are unreadable.
-pub fn read_drop_net(alloc: Global, words: Words<'_>) -> Result<Option<Edit>, AllocError>
-    ensures ok { IfOk result (λ edit. edit ≡ drop_net_edit words.entry) }
-    ensures err { OnErr result (is_some (drop_net_edit words.entry) ≡ true) }
+/// `dropnet N`.
+pub fn read_drop_net(words: Words<'_>) -> Option<EditLine<'_>>
+    ensures { result ≡ drop_net_edit words.entry }
 {
-    let Some(name) = words.one() else {
-        return Ok(None);
-    };
-    let name = Word::new(alloc, name.as_str())?;
-    Ok(Some(Edit::DropNet { name }))
+    let name = words.one()?;
+    Some(EditLine::DropNet { name })
 }
 
-/// `kind N KIND`, behind its first word; none where the words are unreadable.
-pub fn read_kind(alloc: Global, words: Words<'_>) -> Result<Option<Edit>, AllocError>
-    ensures ok { IfOk result (λ edit. edit ≡ kind_edit words.entry) }
-    ensures err { OnErr result (is_some (kind_edit words.entry) ≡ true) }
+/// `kind N KIND`.
+pub fn read_kind(words: Words<'_>) -> Option<EditLine<'_>>
+    ensures { result ≡ kind_edit words.entry }
 {
-    let Some((name, kind)) = words.two() else {
-        return Ok(None);
-    };
-    let Some(kind) = NetKind::from_keyword(kind.as_bytes()) else {
-        return Ok(None);
-    };
-    let name = Word::new(alloc, name.as_str())?;
-    Ok(Some(Edit::SetNetKind { name, kind }))
+    let (name, kind) = words.two()?;
+    let kind = NetKind::from_keyword(kind.as_bytes())?;
+    Some(EditLine::SetNetKind { name, kind })
 }

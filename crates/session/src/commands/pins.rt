@@ -1,8 +1,8 @@
 //! The inputs of a gate, as words.
 
-ghost use Rattle.std.specs.Prelude.{◌≡◌, ◌==◌, take, drop, codes, true, IfOk, is_some};
+ghost use Rattle.std.specs.Prelude.{◌≡◌, ◌==◌, true, take, drop, codes, IfOk, Some, is_some};
 ghost use Rattle.std.specs.List.{list_any};
-ghost use Rattle.session.specs.EditLines.{constant_of, pin_of, pins_of};
+ghost use Rattle.session.specs.Pins.{ArePins, constant_of, pin_of, pins_of};
 ghost use Rattle.session.specs.Words.{same_word, value_of};
 
 use crate::commands::times::read_value;
@@ -10,10 +10,48 @@ use crate::words::{WordRef, Words};
 use edits::{Pin, Pins, Word};
 use fourstate::Value;
 use std::alloc::{AllocError, Global};
+use std::marker::Model;
 
-/// Whether each word is a readable input.
+/// Words each of which is a readable input.
+#[derive(Drop)]
+pub struct PinWords<'a> {
+    words: Words<'a>,
+}
+
+impl<'a> Model for PinWords<'a> {
+    ghost use Rattle.std.specs.Prelude.{List, [], unwrap_or};
+    ghost use Rattle.edits.specs.declared.pin.Pin.{Pin};
+    ghost use Rattle.session.specs.Pins.{ArePins, pins_of};
+
+    ghost Value = { List Pin };
+
+    ghost view = { λ p. unwrap_or (pins_of p.words) [] };
+
+    ghost invariant = { λ p. ArePins p.words };
+}
+
+impl<'a> PinWords<'a> {
+    /// The inputs that words write; none where one of them is unreadable.
+    pub fn new(words: Words<'a>) -> Option<PinWords<'a>>
+        ensures { result ≡ pins_of words.entry }
+    {
+        if are_pins(&words) {
+            Some(PinWords { words })
+        } else {
+            None
+        }
+    }
+
+    /// The inputs, with names of their own.
+    pub fn to_pins(&self, alloc: Global) -> Result<Pins, AllocError>
+        ensures { IfOk result (λ pins. pins ≡ self.now) }
+    {
+        make_pins(alloc, self.words.again())
+    }
+}
+
 #[tactic(auto, using(crate::proofs::PinLemmas::pins_left, crate::proofs::PinLemmas::pins_fail))]
-pub fn are_pins(words: &Words<'_>) -> bool
+fn are_pins(words: &Words<'_>) -> bool
     ensures { result ≡ is_some (pins_of words.now) }
 {
     let mut rest = words.again();
@@ -25,20 +63,18 @@ pub fn are_pins(words: &Words<'_>) -> bool
     true
 }
 
-/// The inputs that words write; none where one of them is unreadable.
-#[tactic(auto, using(crate::proofs::PinLemmas::pins_more, crate::proofs::PinLemmas::pins_fail))]
-pub fn read_pins(alloc: Global, words: Words<'_>) -> Result<Option<Pins>, AllocError>
-    ensures { IfOk result (λ pins. pins ≡ pins_of words.entry) }
+#[tactic(auto, using(crate::proofs::PinLemmas::pins_more, crate::proofs::PinLemmas::first_fits, crate::proofs::PinLemmas::others_fit))]
+fn make_pins(alloc: Global, words: Words<'_>) -> Result<Pins, AllocError>
+    requires { ArePins words }
+    ensures { IfOk result (λ pins. pins_of words.entry ≡ Some pins) }
 {
     let mut rest = words;
     let mut pins = Pins::new(alloc);
     while let Some(word) = rest.next() {
-        let Some(pin) = read_pin(alloc, &word)? else {
-            return Ok(None);
-        };
+        let pin = make_pin(alloc, &word)?;
         pins.push(pin)?;
     }
-    Ok(Some(pins))
+    Ok(pins)
 }
 
 fn is_pin(word: &WordRef<'_>) -> bool
@@ -48,14 +84,17 @@ fn is_pin(word: &WordRef<'_>) -> bool
     !has_apostrophe(bytes) || read_constant(bytes).is_some()
 }
 
-fn read_pin(alloc: Global, word: &WordRef<'_>) -> Result<Option<Pin>, AllocError>
-    ensures { IfOk result (λ pin. pin ≡ pin_of word.now) }
+fn make_pin(alloc: Global, word: &WordRef<'_>) -> Result<Pin, AllocError>
+    requires { is_some (pin_of word.now) ≡ true }
+    ensures { IfOk result (λ pin. pin_of word.now ≡ Some pin) }
 {
-    if has_apostrophe(word.as_bytes()) {
-        let value = read_constant(word.as_bytes());
-        return Ok(value.map(Pin::Constant));
+    if !has_apostrophe(word.as_bytes()) {
+        return Ok(Pin::Net(Word::new(alloc, word.as_str())?));
     }
-    Ok(Some(Pin::Net(Word::new(alloc, word.as_str())?)))
+    match read_constant(word.as_bytes()) {
+        Some(value) => Ok(Pin::Constant(value)),
+        None => unreachable!(),
+    }
 }
 
 fn has_apostrophe(word: &[u8]) -> bool

@@ -8,7 +8,7 @@ use fourstate::Value;
 
 /// What is asked about a wave. Moments are in time units.
 #[derive(Clone, Copy, Debug, PartialEq, Eq)]
-pub enum Look {
+pub enum Query {
     /// The value at a moment.
     Value(u64),
     /// All changes.
@@ -21,14 +21,14 @@ pub enum Look {
     Seek(u64, Value),
 }
 
-impl Look {
+impl Query {
     /// Whether it is about a moment after `horizon`.
     pub fn is_past(self, horizon: u64) -> bool
         ensures { result ≡ is_past horizon self }
     {
         match self {
-            Look::Wave => false,
-            Look::Value(time) | Look::Next(time) | Look::Prev(time) | Look::Seek(time, _) => {
+            Query::Wave => false,
+            Query::Value(time) | Query::Next(time) | Query::Prev(time) | Query::Seek(time, _) => {
                 time > horizon
             }
         }
@@ -41,5 +41,5 @@ pub struct Question<'a> {
     /// The name of the net.
     pub net: WordRef<'a>,
     /// What is asked.
-    pub look: Look,
+    pub query: Query,
 }

@@ -1,51 +1,39 @@
-//! The commands that change stimulus and horizon.
+//! The commands that change stimulus and horizon, and the moments and values of lines. Each command is read behind its first
+//! word; none where the words are unreadable.
 
-ghost use Rattle.std.specs.Prelude.{◌≡◌, true, IfOk, OnErr, is_some};
+ghost use Rattle.std.specs.Prelude.{◌≡◌};
 ghost use Rattle.session.specs.EditLines.{horizon_edit, stim_edit, unstim_edit};
 ghost use Rattle.session.specs.Words.{name_and_time, value_of};
 
+use crate::commands::edit_line::EditLine;
 use crate::words::{WordRef, Words, number};
-use edits::{Edit, Word};
 use fourstate::Value;
-use std::alloc::{AllocError, Global};
 
-/// `stim N T V`, behind its first word; none where the words are unreadable.
-pub fn read_stim(alloc: Global, words: Words<'_>) -> Result<Option<Edit>, AllocError>
-    ensures ok { IfOk result (λ edit. edit ≡ stim_edit words.entry) }
-    ensures err { OnErr result (is_some (stim_edit words.entry) ≡ true) }
+/// `stim N T V`.
+pub fn read_stim(words: Words<'_>) -> Option<EditLine<'_>>
+    ensures { result ≡ stim_edit words.entry }
 {
-    let Some((net, time, value)) = words.three() else {
-        return Ok(None);
-    };
-    let Some(time) = number(time.as_bytes()) else {
-        return Ok(None);
-    };
-    let Some(value) = read_value(value.as_bytes()) else {
-        return Ok(None);
-    };
-    let net = Word::new(alloc, net.as_str())?;
-    Ok(Some(Edit::Stim { net, time, value }))
+    let (net, time, value) = words.three()?;
+    let time = number(time.as_bytes())?;
+    let value = read_value(value.as_bytes())?;
+    Some(EditLine::Stim { net, time, value })
 }
 
-/// `unstim N T`, behind its first word; none where the words are unreadable.
-pub fn read_unstim(alloc: Global, words: Words<'_>) -> Result<Option<Edit>, AllocError>
-    ensures ok { IfOk result (λ edit. edit ≡ unstim_edit words.entry) }
-    ensures err { OnErr result (is_some (unstim_edit words.entry) ≡ true) }
+/// `unstim N T`.
+pub fn read_unstim(words: Words<'_>) -> Option<EditLine<'_>>
+    ensures { result ≡ unstim_edit words.entry }
 {
-    let Some((net, time)) = read_name_and_time(words) else {
-        return Ok(None);
-    };
-    let net = Word::new(alloc, net.as_str())?;
-    Ok(Some(Edit::Unstim { net, time }))
+    let (net, time) = read_name_and_time(words)?;
+    Some(EditLine::Unstim { net, time })
 }
 
-/// `horizon T`, behind its first word; none where the words are unreadable. It takes no memory.
-pub fn read_horizon(words: Words<'_>) -> Option<Edit>
+/// `horizon T`.
+pub fn read_horizon(words: Words<'_>) -> Option<EditLine<'_>>
     ensures { result ≡ horizon_edit words.entry }
 {
     let time = words.one()?;
     let time = number(time.as_bytes())?;
-    Some(Edit::Horizon { time })
+    Some(EditLine::Horizon { time })
 }
 
 /// A name, and a moment in time units.

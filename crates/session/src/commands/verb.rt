@@ -1,11 +1,22 @@
 //! The first word of a command.
 
 ghost use Rattle.std.specs.Prelude.{◌≡◌};
-ghost use Rattle.session.specs.Commands.{verb_of, verb_word};
+ghost use Rattle.session.specs.Verbs.{ask_word, edit_word, verb_of, verb_word};
 
 /// What a command's first word asks for.
 #[derive(Clone, Copy, Debug, PartialEq, Eq)]
 pub enum Verb {
+    /// A change of the design.
+    Edit(EditVerb),
+    /// An answer about a wave.
+    Ask(AskVerb),
+    /// The end of the session.
+    Quit,
+}
+
+/// Which change of the design.
+#[derive(Clone, Copy, Debug, PartialEq, Eq)]
+pub enum EditVerb {
     Net,
     Input,
     DropNet,
@@ -18,33 +29,72 @@ pub enum Verb {
     Stim,
     Unstim,
     Horizon,
+}
+
+/// Which answer about a wave.
+#[derive(Clone, Copy, Debug, PartialEq, Eq)]
+pub enum AskVerb {
     Value,
     Wave,
     Next,
     Prev,
     Seek,
-    Quit,
+}
+
+impl EditVerb {
+    fn keyword(self) -> &'static str
+        ensures { result.now ≡ edit_word self }
+    {
+        match self {
+            EditVerb::Net => "net",
+            EditVerb::Input => "input",
+            EditVerb::DropNet => "dropnet",
+            EditVerb::Kind => "kind",
+            EditVerb::Gate => "gate",
+            EditVerb::Drop => "drop",
+            EditVerb::Delay => "delay",
+            EditVerb::Type => "type",
+            EditVerb::Wire => "wire",
+            EditVerb::Stim => "stim",
+            EditVerb::Unstim => "unstim",
+            EditVerb::Horizon => "horizon",
+        }
+    }
+}
+
+impl AskVerb {
+    fn keyword(self) -> &'static str
+        ensures { result.now ≡ ask_word self }
+    {
+        match self {
+            AskVerb::Value => "value",
+            AskVerb::Wave => "wave",
+            AskVerb::Next => "next",
+            AskVerb::Prev => "prev",
+            AskVerb::Seek => "seek",
+        }
+    }
 }
 
 impl Verb {
     const ALL: [Verb; 18] = [
-        Verb::Net,
-        Verb::Input,
-        Verb::DropNet,
-        Verb::Kind,
-        Verb::Gate,
-        Verb::Drop,
-        Verb::Delay,
-        Verb::Type,
-        Verb::Wire,
-        Verb::Stim,
-        Verb::Unstim,
-        Verb::Horizon,
-        Verb::Value,
-        Verb::Wave,
-        Verb::Next,
-        Verb::Prev,
-        Verb::Seek,
+        Verb::Edit(EditVerb::Net),
+        Verb::Edit(EditVerb::Input),
+        Verb::Edit(EditVerb::DropNet),
+        Verb::Edit(EditVerb::Kind),
+        Verb::Edit(EditVerb::Gate),
+        Verb::Edit(EditVerb::Drop),
+        Verb::Edit(EditVerb::Delay),
+        Verb::Edit(EditVerb::Type),
+        Verb::Edit(EditVerb::Wire),
+        Verb::Edit(EditVerb::Stim),
+        Verb::Edit(EditVerb::Unstim),
+        Verb::Edit(EditVerb::Horizon),
+        Verb::Ask(AskVerb::Value),
+        Verb::Ask(AskVerb::Wave),
+        Verb::Ask(AskVerb::Next),
+        Verb::Ask(AskVerb::Prev),
+        Verb::Ask(AskVerb::Seek),
         Verb::Quit,
     ];
 
@@ -52,23 +102,8 @@ impl Verb {
         ensures { result.now ≡ verb_word self }
     {
         match self {
-            Verb::Net => "net",
-            Verb::Input => "input",
-            Verb::DropNet => "dropnet",
-            Verb::Kind => "kind",
-            Verb::Gate => "gate",
-            Verb::Drop => "drop",
-            Verb::Delay => "delay",
-            Verb::Type => "type",
-            Verb::Wire => "wire",
-            Verb::Stim => "stim",
-            Verb::Unstim => "unstim",
-            Verb::Horizon => "horizon",
-            Verb::Value => "value",
-            Verb::Wave => "wave",
-            Verb::Next => "next",
-            Verb::Prev => "prev",
-            Verb::Seek => "seek",
+            Verb::Edit(verb) => verb.keyword(),
+            Verb::Ask(verb) => verb.keyword(),
             Verb::Quit => "quit",
         }
     }

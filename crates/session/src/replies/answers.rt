@@ -2,10 +2,10 @@
 
 ghost use Rattle.std.specs.Prelude.{◌≡◌};
 ghost use Rattle.gatestep.specs.Devices.Outgoing.{Adds};
-ghost use Rattle.session.specs.Questions.{told};
+ghost use Rattle.session.specs.Questions.{query_lines};
 ghost use Rattle.session.specs.Replies.{change_or_none, value_line};
 
-use crate::commands::Look;
+use crate::commands::Query;
 use crate::replies::lines::{change_reply, wave};
 use fourstate::Value;
 use gatestep::{Sink, Writer};
@@ -13,15 +13,15 @@ use waveform::Wave;
 
 /// The lines that answer what is asked about a wave. Its changes are found by halving; only a search for a value walks
 /// over the changes that it skips.
-pub fn tell<W: Sink>(writer: &mut Writer<'_, W>, changes: &Wave, look: Look)
-    ensures { Adds writer.old writer.new (told changes.now look) }
+pub fn tell<W: Sink>(writer: &mut Writer<'_, W>, changes: &Wave, query: Query)
+    ensures { Adds writer.old writer.new (query_lines changes.now query) }
 {
-    match look {
-        Look::Value(time) => value_reply(writer, changes.at(time)),
-        Look::Wave => wave(writer, changes.changes()),
-        Look::Next(time) => change_or_none(writer, changes.next_after(time)),
-        Look::Prev(time) => change_or_none(writer, changes.last_before(time)),
-        Look::Seek(time, value) => change_or_none(writer, changes.next_value(time, value)),
+    match query {
+        Query::Value(time) => value_reply(writer, changes.at(time)),
+        Query::Wave => wave(writer, changes.changes()),
+        Query::Next(time) => change_or_none(writer, changes.next_after(time)),
+        Query::Prev(time) => change_or_none(writer, changes.last_before(time)),
+        Query::Seek(time, value) => change_or_none(writer, changes.next_value(time, value)),
     }
 }
 

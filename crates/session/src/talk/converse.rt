@@ -1,27 +1,26 @@
 //! A whole conversation, from the first byte to the end.
 
-ghost use Rattle.std.specs.Prelude.{◌≡◌, ◌+◌, [], Some, false};
-ghost use Rattle.session.specs.Held.{Held};
+ghost use Rattle.std.specs.Prelude.{◌≡◌, [], Some, false};
+ghost use Rattle.session.specs.Outcomes.{Serves};
 ghost use Rattle.session.specs.Talk.{Ends, SameSink, SameSource, read_failures};
+ghost use Rattle.session.specs.Traffic.{traffic_of};
 
-use crate::talk::exchange::{End, exchange};
+use crate::talk::exchange::{End, PIECE, exchange};
 use crate::talk::feed::Session;
 use gatestep::{Reader, Sink, Source, Stepper, Writer};
 use std::sync::Wait;
 
-/// How many bytes are asked of the source at once.
-const PIECE: usize = 4_096;
-
 /// Answers the lines of the source until one of them or the input's end ends the session. It waits for the source.
-pub fn hold<T: Wait, R: Source, W: Sink, S: Stepper + Drop>(
+pub fn serve<T: Wait, R: Source, W: Sink, S: Stepper + Drop>(
     rt: &T,
     session: &mut Session<S>,
     source: &mut R,
     sink: &mut W,
 ) -> End
     requires { session.old.line ≡ [] }
-    ensures { Held result session.old.machine (R.remaining source.old) (R.remaining source.new) (R.failures source.old) (R.failures source.new)
-        (W.contents sink.old) (W.contents sink.new) (W.failures sink.old) (W.failures sink.new) }
+    ensures { Serves result session.old.machine
+        (traffic_of R.remaining R.failures source.old source.new)
+        (traffic_of W.contents W.failures sink.old sink.new) }
 {
     let mut reader = Reader::new(source);
     let mut writer = Writer::new(sink);
@@ -45,8 +44,7 @@ fn talk<T: Wait, R: Source, W: Sink, S: Stepper + Drop>(
     requires stopped { writer.old.stopped ≡ false }
     ensures ends { Ends result session.old.machine reader.new writer.new }
     ensures sink { SameSink writer.old writer.new }
-    ensures source { SameSource reader.old reader.new }
-    ensures failures { reader.new.failures ≡ reader.old.failures + read_failures (Some result) }
+    ensures source { SameSource reader.old reader.new (read_failures (Some result)) }
 {
     let mut buffer = [0; PIECE];
     for _ in rt.forever() {

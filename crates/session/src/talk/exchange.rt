@@ -1,11 +1,14 @@
 //! The exchange of input and replies.
 
-ghost use Rattle.std.specs.Prelude.{◌≡◌, ◌+◌, ◌<◌, Option, None, Some, List, ℕ, length, IfNone, MatchOption};
+ghost use Rattle.std.specs.Prelude.{◌<◌, ◌≤◌, Option, None, Some, List, ℕ, length, IfNone, MatchOption};
 ghost use Rattle.session.specs.State.{SessionState};
 ghost use Rattle.session.specs.Talk.{Ends, Going, IsSent, SameSink, SameSource, read_failures};
 
 use crate::talk::feed::{Session, Turn};
 use gatestep::{Reader, Sink, Source, Stepper, Writer};
+
+/// The most bytes that are asked of the source at once.
+pub const PIECE: usize = 4_096;
 
 /// How a session ended.
 #[derive(Clone, Copy, Debug, PartialEq, Eq)]
@@ -28,6 +31,7 @@ pub fn exchange<R: Source, W: Sink, S: Stepper + Drop>(
     buffer: &mut [u8],
 ) -> Option<End>
     requires room { 0 < length buffer.old }
+    requires at_once { length buffer.old ≤ PIECE }
     requires sent { IsSent writer.old }
     ensures goes_on { (first : SessionState) → Going first reader.old.text session.old.line session.old.machine writer.old.text
         → MatchOption result (Going first reader.new.text session.new.line session.new.machine writer.new.text × IsSent writer.new)
@@ -35,8 +39,7 @@ pub fn exchange<R: Source, W: Sink, S: Stepper + Drop>(
     // A session that goes on has read some bytes.
     ensures read_more { IfNone result (length reader.old.text < length reader.new.text) }
     ensures sink { SameSink writer.old writer.new }
-    ensures source { SameSource reader.old reader.new }
-    ensures failures { reader.new.failures ≡ reader.old.failures + read_failures result }
+    ensures source { SameSource reader.old reader.new (read_failures result) }
 {
     let Some(n) = reader.read(buffer) else {
         return Some(End::ReadFailed);

@@ -6,7 +6,7 @@ ghost use Rattle.session.specs.State.{SessionState, Transcript};
 ghost use Rattle.session.specs.Talk.{Going, HasQuit, SameSink, Stands, is_finished, is_waiting};
 
 use crate::machine::Machine;
-use crate::talk::line::Line;
+use crate::talk::line_buffer::LineBuffer;
 use gatestep::{Sink, Stepper, Writer};
 
 /// How a session goes on.
@@ -23,7 +23,7 @@ pub enum Turn {
 /// A session: the line that is being read, and the design.
 #[derive(Drop)]
 pub struct Session<S: Stepper + Drop> {
-    pub line: Line,
+    pub line: LineBuffer,
     pub machine: Machine<S>,
 }
 

@@ -3,9 +3,9 @@
 mod converse;
 mod exchange;
 mod feed;
-mod line;
+mod line_buffer;
 
-pub use converse::hold;
+pub use converse::serve;
 pub use exchange::End;
 pub use feed::Session;
-pub use line::Line;
+pub use line_buffer::LineBuffer;

@@ -18,7 +18,7 @@ pub fn number(word: &[u8]) -> Option<u64>
 fn are_digits(word: &[u8]) -> bool
     ensures { result ≡ list_all is_digit word.now }
 {
-    word.iter().all(|byte| 48 <= *byte && *byte <= 57)
+    word.iter().all(|byte| b'0' <= *byte && *byte <= b'9')
 }
 
 #[tactic(auto, using(crate::proofs::WordLemmas::value_with_digit))]

@@ -10,41 +10,37 @@ use std::marker::Model;
 /// A word of a line.
 #[derive(Drop)]
 pub struct WordRef<'a> {
-    text: &'a str,
+    bytes: &'a [u8],
 }
 
 impl<'a> Model for WordRef<'a> {
-    ghost use Rattle.std.specs.Prelude.{ℕ, List};
+    ghost use Rattle.std.specs.Prelude.{◌≡◌, ℕ, List, true};
+    ghost use Rattle.std.specs.List.{list_all};
+    ghost use Rattle.session.specs.Words.{is_plain};
 
     ghost Value = { List ℕ };
 
-    ghost view = { λ w. w.text.now };
+    ghost view = { λ w. w.bytes.now };
+
+    ghost invariant = { λ w. list_all is_plain w.bytes.now ≡ true };
 }
 
 impl<'a> WordRef<'a> {
-    // A word whose bytes a line may hold.
-    fn new(word: &'a [u8]) -> WordRef<'a>
-        requires { list_all is_plain word.now ≡ true }
-        ensures { result ≡ word.now }
-    {
-        match str::from_utf8(word) {
-            Ok(text) => WordRef { text },
-            Err(_) => unreachable!(),
-        }
-    }
-
     /// The word as text.
     pub fn as_str(&self) -> &str
         ensures { result.now ≡ self.now }
     {
-        self.text
+        match str::from_utf8(self.bytes) {
+            Ok(text) => text,
+            Err(_) => unreachable!(),
+        }
     }
 
     /// The word's bytes.
     pub fn as_bytes(&self) -> &[u8]
         ensures { result.now ≡ self.now }
     {
-        self.text.as_bytes()
+        self.bytes
     }
 }
 
@@ -87,9 +83,9 @@ impl<'a> Words<'a> {
         if text.is_empty() {
             return None;
         }
-        let (word, rest) = split_word(text);
+        let (bytes, rest) = split_word(text);
         self.rest = rest;
-        Some(WordRef::new(word))
+        Some(WordRef { bytes })
     }
 
     /// The same words, to be walked once more.

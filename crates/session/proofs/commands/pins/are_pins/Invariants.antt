@@ -1,6 +1,6 @@
 use Rattle.std.proofs.Common.{◌≡◌, length}
 use Rattle.std.specs.Prelude.{is_some}
-use Rattle.session.specs.EditLines.{pins_of}
+use Rattle.session.specs.Pins.{pins_of}
 use Rattle.session.proofs.commands.pins.are_pins.Given as goal
 
 abbrev pub invariant-loop-word : goal.invariant-loop-word

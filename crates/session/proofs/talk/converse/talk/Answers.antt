@@ -1,6 +1,4 @@
-use Rattle.std.proofs.Common.{arith}
-use Rattle.session.proofs.HeldLemmas.{source_through}
-use Rattle.session.proofs.TalkLemmas.{same_through}
+use Rattle.session.proofs.TalkLemmas.{same_sink_through, same_source_through}
 use Rattle.session.proofs.talk.converse.talk.Goals as goal
 
 pub loop-preserved : goal.loop-preserved
@@ -12,8 +10,7 @@ loop-preserved g c =
       record {
         going = more.0;
         sent = more.1;
-        sink = same_through was.sink c.exchange.ensures.sink;
-        source = source_through was.source c.exchange.ensures.source;
-        failures = omega (arith, was.failures, c.in_default.ensures.failures);
+        sink = same_sink_through was.sink c.exchange.ensures.sink;
+        source = same_source_through was.source c.in_default.ensures.source;
       },
     )

@@ -1,4 +1,3 @@
-use Rattle.std.proofs.Common.{◌≡◌}
 use Rattle.session.specs.Talk.{Going, IsSent, SameSink, SameSource}
 use Rattle.session.proofs.talk.converse.talk.Given as goal
 
@@ -9,6 +8,5 @@ invariant-loop g l =
       going : Going l.initial.session.machine l.reader.text l.session.line l.session.machine l.writer.text;
       sent : IsSent l.writer;
       sink : SameSink l.initial.writer l.writer;
-      source : SameSource l.initial.reader l.reader;
-      failures : l.reader.failures ≡ l.initial.reader.failures;
+      source : SameSource l.initial.reader l.reader 0;
     }

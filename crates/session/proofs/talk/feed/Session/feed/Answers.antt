@@ -1,7 +1,7 @@
 use Rattle.std.proofs.Common.{◌++◌, List, ℕ, get_or, take, refl, subst}
 use Rattle.std.proofs.lemmas.List.{take_all}
 use Rattle.session.specs.Talk.{Going}
-use Rattle.session.proofs.TalkLemmas.{goes_further, quits_early, same_through}
+use Rattle.session.proofs.TalkLemmas.{goes_further, quits_early, same_sink_through}
 use Rattle.session.proofs.talk.feed.Session.feed.Goals as goal
 
 pub returns-then-take_byte-clause-stands : goal.returns-then-take_byte-clause-stands
@@ -17,7 +17,7 @@ loop-byte-preserved g c =
       stands = λ first input going.
           goes_further input piece i (get_or piece i 0) c.loop-byte-test.true refl
           (c.if-take_byte.ensures.stands first (input ++ take i piece) (c.loop-byte.invariant.stands first input going));
-      sink = same_through c.loop-byte.invariant.sink c.take_byte.ensures.sink;
+      sink = same_sink_through c.loop-byte.invariant.sink c.take_byte.ensures.sink;
     }
 
 pub returns-clause-stands : goal.returns-clause-stands

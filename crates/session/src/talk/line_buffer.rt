@@ -11,11 +11,11 @@ const ROOM: usize = LINE_LIMIT + 1;
 
 /// The first bytes of a line, as many as show what it is. The room for them is made once.
 #[derive(Drop)]
-pub struct Line {
+pub struct LineBuffer {
     bytes: Vec<u8>,
 }
 
-impl Model for Line {
+impl Model for LineBuffer {
     ghost use Rattle.std.specs.Prelude.{ℕ, List};
     ghost use Rattle.session.specs.Kept.{HasRoom};
 
@@ -26,18 +26,18 @@ impl Model for Line {
     ghost invariant = { λ l. HasRoom l.bytes };
 }
 
-impl Line {
+impl LineBuffer {
     /// An empty line.
-    pub fn new(alloc: Global) -> Result<Line, AllocError>
+    pub fn new(alloc: Global) -> Result<LineBuffer, AllocError>
         ensures { IfOk result (λ line. line ≡ []) }
     {
         let bytes = Vec::with_capacity(alloc, ROOM)?;
-        Ok(Line { bytes })
+        Ok(LineBuffer { bytes })
     }
 
     /// Adds a byte, unless enough are kept.
     pub fn add(&mut self, byte: u8)
-        ensures { self.new ≡ take 4097 (self.old ++ byte ∷ []) }
+        ensures { self.new ≡ take ROOM (self.old ++ byte ∷ []) }
     {
         if self.bytes.len() < ROOM {
             self.bytes.push(byte).unwrap();

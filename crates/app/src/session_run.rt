@@ -1,0 +1,49 @@
+//! A session over the file and the horizon that were asked for.
+
+ghost use Rattle.std.specs.Prelude.{◌≡◌, Err, IfErr, IfOk};
+ghost use Rattle.std.specs.IoError.{error_kind};
+ghost use Rattle.session.specs.Opening.{IsOpeningFault};
+ghost use Rattle.session.specs.Outcomes.{Ran};
+ghost use Rattle.session.specs.Traffic.{traffic_of};
+ghost use Rattle.app.specs.Start.{options_of, unread_fault};
+
+use crate::arguments::Args;
+use crate::start::design_text;
+use gatestep::{Serial, Sink, Source};
+use session::{Options, SessionFault};
+use std::io;
+use std::random::RandomSource;
+use std::sync::Wait;
+
+/// Answers the lines of the source on the sink, for the design that a file spells. `file` is what the reading of it gave; a
+/// file that can't be read is a failed read (own).
+pub fn run_session<T: AllocGlobal + RandomSource + Wait, R: Source, W: Sink>(
+    rt: &T,
+    file: io::Result<Vec<u8>>,
+    args: &Args,
+    source: &mut R,
+    sink: &mut W,
+) -> Result<(), SessionFault>
+    // A file that can't be read is told, and the devices are left alone.
+    ensures unread { IfErr file (λ error. (result ≡ Err (unread_fault (error_kind error))) × (source.new ≡ source.old) × (sink.new ≡ sink.old)) }
+    ensures ran { IfOk file (λ text. Ran text.items (options_of args.now)
+        (traffic_of R.remaining R.failures source.old source.new)
+        (traffic_of W.contents W.failures sink.old sink.new) result) }
+    // A session that does not open touches neither device.
+    ensures unopened { IfOk file (λ text. IfErr result (λ fault. IsOpeningFault fault → (source.new ≡ source.old) × (sink.new ≡ sink.old))) }
+{
+    let text = design_text(file)?;
+    let options = Options {
+        horizon: args.horizon,
+        delay: args.delay,
+    };
+    session::run(
+        rt,
+        rt.alloc(),
+        text.as_slice(),
+        &options,
+        source,
+        sink,
+        Serial::new(),
+    )
+}

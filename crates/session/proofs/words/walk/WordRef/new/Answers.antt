@@ -1,5 +1,0 @@
-use Rattle.session.proofs.WordLemmas.{plain_is_text}
-use Rattle.session.proofs.words.walk.WordRef.new.Goals as goal
-
-pub unreachable-requires : goal.unreachable-requires
-unreachable-requires c = c.in-Err.ensures.cases.0 (plain_is_text c.args.word.now c.requires)

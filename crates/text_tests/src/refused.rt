@@ -1,0 +1,153 @@
+//! Words of Verilog that are refused, and which of two faults of one text is told.
+
+use design::NameHasher;
+use edits::EditFault;
+use std::alloc::{AllocError, Global};
+use std::test::Fail;
+use vread::{ReadFault, ReadFaultKind, read};
+
+// The keywords of IEEE 1364-2005, Annex B, that are refused (own).
+const WORDS: [&str; 85] = [
+    "always",
+    "assign",
+    "automatic",
+    "begin",
+    "case",
+    "casex",
+    "casez",
+    "cmos",
+    "deassign",
+    "default",
+    "defparam",
+    "disable",
+    "edge",
+    "else",
+    "end",
+    "endcase",
+    "endfunction",
+    "endgenerate",
+    "endprimitive",
+    "endspecify",
+    "endtable",
+    "endtask",
+    "event",
+    "for",
+    "force",
+    "forever",
+    "fork",
+    "function",
+    "generate",
+    "genvar",
+    "if",
+    "initial",
+    "inout",
+    "integer",
+    "join",
+    "large",
+    "localparam",
+    "macromodule",
+    "medium",
+    "negedge",
+    "nmos",
+    "parameter",
+    "pmos",
+    "posedge",
+    "primitive",
+    "pull0",
+    "pull1",
+    "pulldown",
+    "pullup",
+    "rcmos",
+    "real",
+    "realtime",
+    "reg",
+    "release",
+    "repeat",
+    "rnmos",
+    "rpmos",
+    "rtran",
+    "rtranif0",
+    "rtranif1",
+    "scalared",
+    "signed",
+    "small",
+    "specify",
+    "specparam",
+    "strong0",
+    "strong1",
+    "supply0",
+    "supply1",
+    "table",
+    "task",
+    "time",
+    "tran",
+    "tranif0",
+    "tranif1",
+    "tri0",
+    "tri1",
+    "trireg",
+    "unsigned",
+    "uwire",
+    "vectored",
+    "wait",
+    "weak0",
+    "weak1",
+    "while",
+];
+
+fn fault_of(alloc: Global, text: &str) -> Option<ReadFault> {
+    match read(alloc, NameHasher::fixed(), text.as_bytes(), None) {
+        Ok(design) => {
+            drop(design);
+            None
+        }
+        Err(fault) => Some(fault),
+    }
+}
+
+#[test]
+fn words_that_are_left_out(rt: HostRuntime) -> Result<(), Fail> {
+    let unsupported = ReadFault {
+        line: 2,
+        kind: ReadFaultKind::Unsupported,
+    };
+    for word in WORDS {
+        let text = format!(in rt.alloc(); "module m;\n{word} w;\nendmodule")?;
+        assert_eq!(rt;
+            fault_of(rt.alloc(), text.as_str()),
+            Some(unsupported),
+            "{word}"
+        );
+    }
+    Ok(())
+}
+
+// A module of 65,537 nets, with a gate of two outputs whose name is so long.
+fn crowded(alloc: Global, length: usize) -> Result<String, AllocError> {
+    let mut text = String::new(alloc);
+    text.push_str("module m; wire n")?;
+    for place in 0..65_536u32 {
+        let net = format!(in alloc; ",n{place}")?;
+        text.push_str(net.as_str())?;
+    }
+    text.push_str("; buf #1 ")?;
+    for _ in 0..length {
+        text.push('g')?;
+    }
+    text.push_str(" (n0,n1,n); endmodule")?;
+    Ok(text)
+}
+
+// The two names that are made of a name of 1,023 bytes are over their limit of 1,024, and that is looked for first.
+#[test]
+fn a_long_name_among_too_many_nets(rt: HostRuntime) -> Result<(), Fail> {
+    for (length, fault) in [(1_022, EditFault::TooMany), (1_023, EditFault::BadName)] {
+        let text = crowded(rt.alloc(), length)?;
+        let kind = ReadFaultKind::Edit(fault);
+        assert_eq!(rt;
+            fault_of(rt.alloc(), text.as_str()),
+            Some(ReadFault { line: 1, kind })
+        );
+    }
+    Ok(())
+}
