@@ -4,7 +4,7 @@ use crate::circuit::{input_count, name_of, random_delay, random_pins};
 use crate::random::Random;
 use anyhow::Result;
 use edits::Edit;
-use fourstate::Value;
+use fourstate::{DelayTimes, Value};
 use std::alloc::Global;
 
 /// What an edit changes.
@@ -60,9 +60,9 @@ fn random_point(alloc: Global, random: &mut Random, inputs: usize) -> Result<Edi
 }
 
 fn random_delays(alloc: Global, random: &mut Random, number: usize) -> Result<Edit> {
-    let (rise, fall) = (random_delay(random), random_delay(random));
+    let delays = DelayTimes::new(random_delay(random), random_delay(random));
     let name = name_of(alloc, "g", number)?;
-    Ok(Edit::SetDelay { name, rise, fall })
+    Ok(Edit::SetDelay { name, delays })
 }
 
 fn random_wiring(alloc: Global, random: &mut Random, inputs: usize, number: usize) -> Result<Edit> {

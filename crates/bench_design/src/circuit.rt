@@ -4,7 +4,7 @@
 use crate::random::Random;
 use anyhow::{Result, bail};
 use edits::{Edit, Pin, Pins, Word};
-use fourstate::{GateKind, NetKind};
+use fourstate::{DelayTimes, GateKind, NetKind};
 use std::alloc::Global;
 
 /// The kinds of gates, each with a number of inputs.
@@ -58,15 +58,14 @@ fn added_net(alloc: Global, number: usize) -> Result<Edit> {
 
 fn added_gate(alloc: Global, random: &mut Random, inputs: usize, number: usize) -> Result<Edit> {
     let (kind, _) = kind_of(number);
-    let (rise, fall) = (random_delay(random), random_delay(random));
+    let delays = DelayTimes::new(random_delay(random), random_delay(random));
     let name = name_of(alloc, "g", number)?;
     let output = name_of(alloc, "n", number)?;
     let inputs = random_pins(alloc, random, inputs, number)?;
     Ok(Edit::AddGate {
         name,
         kind,
-        rise,
-        fall,
+        delays,
         output,
         inputs,
     })

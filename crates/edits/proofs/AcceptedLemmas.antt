@@ -5,7 +5,8 @@ use Rattle.std.proofs.lemmas.Bool.{leb-false, ltb-false}
 use Rattle.std.proofs.lemmas.Bool.Decides.{nat_tests}
 use Rattle.fourstate.specs.declared.gate.GateKind.{GateKind}
 use Rattle.fourstate.specs.declared.limits.TheConstants.{MAX_DELAY, MAX_TIME}
-use Rattle.fourstate.specs.Delays.{IsDelay}
+use Rattle.fourstate.specs.Delays.{AreDelays, IsDelay}
+use Rattle.fourstate.specs.declared.delay_times.DelayTimes.{DelayTimes}
 use Rattle.fourstate.specs.Gates.{takes_inputs}
 use Rattle.design.specs.declared.limits.TheConstants.{MAX_NETS, MAX_GATES, MAX_POINTS}
 use Rattle.design.specs.Names.{is_name}
@@ -13,7 +14,7 @@ use Rattle.design.specs.Netlist.{Netlist, has_gate, has_net, is_used, point_tota
 use Rattle.edits.specs.declared.pin.Pin.{Pin}
 use Rattle.edits.specs.declared.fault.EditFault.{EditFault}
 use Rattle.edits.specs.declared.fault.EditFault.TheVariants as fault
-use Rattle.edits.specs.Accepted.{FreesNet, FreesPoint, RetimesGate, RetypesGate, RewiresGate, TakesDelays, TakesGate, TakesNet, TakesPoint, TakesWiring}
+use Rattle.edits.specs.Accepted.{FreesNet, FreesPoint, RetimesGate, RetypesGate, RewiresGate, TakesGate, TakesNet, TakesPoint, TakesWiring}
 use Rattle.edits.specs.Checks.{delay_checks, first_fault, gate_takes, gate_there, input_checks, is_input_net, is_known, is_point, kind_fits, net_there, new_gate_checks, new_net_checks, wiring_checks}
 use Rattle.edits.proofs.CheckLemmas.{head_fails, head_holds}
 
@@ -76,33 +77,33 @@ frees_net d name none =
 delay_fits : (n : ℕ) → (n == 0) ≡ false → nat_lt MAX_DELAY n ≡ false → IsDelay n
 delay_fits n some within = (grind (arith, nat_tests), ltb-false MAX_DELAY n within)
 
-takes_delays : (rise fall : ℕ) → (rise == 0 || fall == 0) ≡ false → (nat_lt MAX_DELAY rise || nat_lt MAX_DELAY fall) ≡ false → TakesDelays rise fall
-takes_delays rise fall some within =
-    let s = both_false (rise == 0) (fall == 0) some in
-    let w = both_false (nat_lt MAX_DELAY rise) (nat_lt MAX_DELAY fall) within in
-    record { rise_fits = delay_fits rise s.0 w.0; fall_fits = delay_fits fall s.1 w.1 }
+delays_fit : (delays : DelayTimes) → (delays.rise == 0 || delays.fall == 0) ≡ false → (nat_lt MAX_DELAY delays.rise || nat_lt MAX_DELAY delays.fall) ≡ false → AreDelays delays
+delays_fit delays some within =
+    let s = both_false (delays.rise == 0) (delays.fall == 0) some in
+    let w = both_false (nat_lt MAX_DELAY delays.rise) (nat_lt MAX_DELAY delays.fall) within in
+    record { rise = delay_fits delays.rise s.0 w.0; fall = delay_fits delays.fall s.1 w.1 }
 
 takes_wiring : (d : Netlist) (output : List ℕ) (inputs : List Pin) → not (has_net d output && list_all (is_known d) inputs) ≡ false → is_input_net d output ≡ false → TakesWiring d output inputs
 takes_wiring d output inputs there undriven =
     let both = both_true (has_net d output) (list_all (is_known d) inputs) (true_of (has_net d output && list_all (is_known d) inputs) there) in
     record { output_there = both.0; inputs_known = both.1; undriven = undriven }
 
-abbrev gate_checks : Netlist → List ℕ → GateKind → ℕ → ℕ → List ℕ → List Pin → List (Bool × EditFault)
-gate_checks d name kind rise fall output inputs =
-    new_gate_checks d name ++ (delay_checks rise fall ++ wiring_checks d (takes_inputs kind (length inputs)) output inputs)
+abbrev gate_checks : Netlist → List ℕ → GateKind → DelayTimes → List ℕ → List Pin → List (Bool × EditFault)
+gate_checks d name kind delays output inputs =
+    new_gate_checks d name ++ (delay_checks delays ++ wiring_checks d (takes_inputs kind (length inputs)) output inputs)
 
-pub takes_gate : (d : Netlist) (name : List ℕ) (kind : GateKind) (rise fall : ℕ) (output : List ℕ) (inputs : List Pin)
-    → first_fault (new_gate_checks d name ++ (delay_checks rise fall ++ wiring_checks d (takes_inputs kind (length inputs)) output inputs)) ≡ None
-    → TakesGate d name kind rise fall output inputs
-takes_gate d name kind rise fall output inputs none =
-    let a : AllFail (gate_checks d name kind rise fall output inputs) = all_fail (gate_checks d name kind rise fall output inputs) none in
+pub takes_gate : (d : Netlist) (name : List ℕ) (kind : GateKind) (delays : DelayTimes) (output : List ℕ) (inputs : List Pin)
+    → first_fault (new_gate_checks d name ++ (delay_checks delays ++ wiring_checks d (takes_inputs kind (length inputs)) output inputs)) ≡ None
+    → TakesGate d name kind delays output inputs
+takes_gate d name kind delays output inputs none =
+    let a : AllFail (gate_checks d name kind delays output inputs) = all_fail (gate_checks d name kind delays output inputs) none in
     let b = a.1.1.1 in
     let w = b.1.1 in
     record {
       named = holds (is_name name) a.0;
       absent = a.1.0;
       room = leb-false MAX_GATES (length d.gates) a.1.1.0;
-      delays = takes_delays rise fall b.0 b.1.0;
+      in_range = delays_fit delays b.0 b.1.0;
       inputs_fit = holds (takes_inputs kind (length inputs)) w.0;
       wiring = takes_wiring d output inputs w.1.0 w.1.1.0;
     }
@@ -111,13 +112,13 @@ pub keeps_gate : (d : Netlist) (name : List ℕ) → first_fault (gate_there d n
 keeps_gate d name none =
     let a : AllFail (gate_there d name ∷ []) = all_fail (gate_there d name ∷ []) none in true_of (has_gate d name) a.0
 
-abbrev retime_checks : Netlist → List ℕ → ℕ → ℕ → List (Bool × EditFault)
-retime_checks d name rise fall = gate_there d name ∷ delay_checks rise fall
+abbrev retime_checks : Netlist → List ℕ → DelayTimes → List (Bool × EditFault)
+retime_checks d name delays = gate_there d name ∷ delay_checks delays
 
-pub retimes_gate : (d : Netlist) (name : List ℕ) (rise fall : ℕ) → first_fault (gate_there d name ∷ delay_checks rise fall) ≡ None → RetimesGate d name rise fall
-retimes_gate d name rise fall none =
-    let a : AllFail (retime_checks d name rise fall) = all_fail (retime_checks d name rise fall) none in
-    record { there = true_of (has_gate d name) a.0; delays = takes_delays rise fall a.1.0 a.1.1.0 }
+pub retimes_gate : (d : Netlist) (name : List ℕ) (delays : DelayTimes) → first_fault (gate_there d name ∷ delay_checks delays) ≡ None → RetimesGate d name delays
+retimes_gate d name delays none =
+    let a : AllFail (retime_checks d name delays) = all_fail (retime_checks d name delays) none in
+    record { there = true_of (has_gate d name) a.0; in_range = delays_fit delays a.1.0 a.1.1.0 }
 
 abbrev retype_checks : Netlist → List ℕ → GateKind → List (Bool × EditFault)
 retype_checks d name kind = gate_there d name ∷ (not (kind_fits d name kind), fault.WrongArity) ∷ []

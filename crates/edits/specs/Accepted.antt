@@ -3,7 +3,8 @@ use Rattle.std.specs.Prelude.{◌≡◌, ◌<◌, ◌≤◌, ℕ, true, false, I
 use Rattle.std.specs.List.{list_all}
 use Rattle.fourstate.specs.declared.gate.GateKind.{GateKind}
 use Rattle.fourstate.specs.declared.limits.TheConstants.{MAX_TIME}
-use Rattle.fourstate.specs.Delays.{IsDelay}
+use Rattle.fourstate.specs.Delays.{AreDelays}
+use Rattle.fourstate.specs.declared.delay_times.DelayTimes.{DelayTimes}
 use Rattle.fourstate.specs.Gates.{takes_inputs}
 use Rattle.design.specs.declared.limits.TheConstants.{MAX_NETS, MAX_GATES, MAX_POINTS}
 use Rattle.design.specs.Names.{is_name}
@@ -28,24 +29,19 @@ pub record TakesWiring (d : Netlist) (output : List ℕ) (inputs : List Pin) : T
   pub inputs_known : list_all (is_known d) inputs ≡ true
   pub undriven : is_input_net d output ≡ false
 
--- a gate may have these delays
-pub record TakesDelays (rise fall : ℕ) : Type 0 where
-  pub rise_fits : IsDelay rise
-  pub fall_fits : IsDelay fall
-
 -- a gate may be added
-pub record TakesGate (d : Netlist) (name : List ℕ) (kind : GateKind) (rise fall : ℕ) (output : List ℕ) (inputs : List Pin) : Type 0 where
+pub record TakesGate (d : Netlist) (name : List ℕ) (kind : GateKind) (delays : DelayTimes) (output : List ℕ) (inputs : List Pin) : Type 0 where
   pub named : IsTrue (is_name name)
   pub absent : has_gate d name ≡ false
   pub room : length d.gates < MAX_GATES
-  pub delays : TakesDelays rise fall
+  pub in_range : AreDelays delays
   pub inputs_fit : IsTrue (takes_inputs kind (length inputs))
   pub wiring : TakesWiring d output inputs
 
 -- the gate of this name may have other delays
-pub record RetimesGate (d : Netlist) (name : List ℕ) (rise fall : ℕ) : Type 0 where
+pub record RetimesGate (d : Netlist) (name : List ℕ) (delays : DelayTimes) : Type 0 where
   pub there : has_gate d name ≡ true
-  pub delays : TakesDelays rise fall
+  pub in_range : AreDelays delays
 
 -- the gate of this name may have another kind
 pub record RetypesGate (d : Netlist) (name : List ℕ) (kind : GateKind) : Type 0 where

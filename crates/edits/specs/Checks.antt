@@ -2,6 +2,7 @@
 use Rattle.std.specs.Prelude.{Bool, false, ℕ, ◌==◌, ◌&&◌, ◌||◌, not, nat_le, nat_lt, List, [], ◌∷◌, ◌++◌, length, Option, option_map}
 use Rattle.std.specs.List.{find, list_all}
 use Rattle.std.specs.Option.{option_map_or}
+use Rattle.fourstate.specs.declared.delay_times.DelayTimes.{DelayTimes}
 use Rattle.fourstate.specs.declared.limits.TheConstants.{MAX_DELAY, MAX_TIME}
 use Rattle.fourstate.specs.declared.gate.GateKind.{GateKind}
 use Rattle.fourstate.specs.Gates.{takes_inputs}
@@ -55,9 +56,10 @@ abbrev pub new_gate_checks : Netlist → List ℕ → List (Bool × EditFault)
 new_gate_checks d name =
     (not (is_name name), BadName) ∷ (has_gate d name, DuplicateName) ∷ (nat_le MAX_GATES (length d.gates), TooMany) ∷ []
 
-abbrev pub delay_checks : ℕ → ℕ → List (Bool × EditFault)
-delay_checks rise fall =
-    (rise == 0 || fall == 0, ZeroDelay) ∷ (nat_lt MAX_DELAY rise || nat_lt MAX_DELAY fall, DelayTooLarge) ∷ []
+abbrev pub delay_checks : DelayTimes → List (Bool × EditFault)
+delay_checks delays =
+    (delays.rise == 0 || delays.fall == 0, ZeroDelay)
+    ∷ (nat_lt MAX_DELAY delays.rise || nat_lt MAX_DELAY delays.fall, DelayTooLarge) ∷ []
 
 -- whether the number of inputs fits is asked first
 abbrev pub wiring_checks : Netlist → Bool → List ℕ → List Pin → List (Bool × EditFault)
@@ -75,10 +77,10 @@ checks d (AddNet name kind) = new_net_checks d name
 checks d (AddInput name) = new_net_checks d name
 checks d (DropNet name) = net_there d name ∷ (is_used d name, NetInUse) ∷ []
 checks d (SetNetKind name kind) = net_there d name ∷ []
-checks d (AddGate name kind rise fall output inputs) =
-    new_gate_checks d name ++ (delay_checks rise fall ++ wiring_checks d (takes_inputs kind (length inputs)) output inputs)
+checks d (AddGate name kind delays output inputs) =
+    new_gate_checks d name ++ (delay_checks delays ++ wiring_checks d (takes_inputs kind (length inputs)) output inputs)
 checks d (DropGate name) = gate_there d name ∷ []
-checks d (SetDelay name rise fall) = gate_there d name ∷ delay_checks rise fall
+checks d (SetDelay name delays) = gate_there d name ∷ delay_checks delays
 checks d (SetGateKind name kind) = gate_there d name ∷ (not (kind_fits d name kind), WrongArity) ∷ []
 checks d (Rewire name output inputs) =
     gate_there d name ∷ wiring_checks d (gate_takes d name (length inputs)) output inputs

@@ -19,10 +19,10 @@ edited d (AddNet name kind) = with_net d (new_net name kind false)
 edited d (AddInput name) = with_net d (new_net name Wire true)
 edited d (DropNet name) = without_net d name
 edited d (SetNetKind name kind) = with_net_kind d name kind
-edited d (AddGate name kind rise fall output inputs) =
-    with_gate d (record { name = name; kind = kind; delays = record { rise = rise; fall = fall }; output = output; inputs = map connection_of inputs })
+edited d (AddGate name kind delays output inputs) =
+    with_gate d (record { name = name; kind = kind; delays = delays; output = output; inputs = map connection_of inputs })
 edited d (DropGate name) = without_gate d name
-edited d (SetDelay name rise fall) = with_delays d name (record { rise = rise; fall = fall })
+edited d (SetDelay name delays) = with_delays d name delays
 edited d (SetGateKind name kind) = with_gate_kind d name kind
 edited d (Rewire name output inputs) = with_wiring d name output (map connection_of inputs)
 edited d (Stim net time v) = with_point d net time v

@@ -4,7 +4,7 @@ ghost use Rattle.std.specs.Prelude.{◌≡◌, IfOk};
 
 use crate::pin::Pins;
 use crate::word::Word;
-use fourstate::{GateKind, NetKind, Value};
+use fourstate::{DelayTimes, GateKind, NetKind, Value};
 use std::alloc::AllocError;
 
 /// A change of a design, which names nets and gates by words. Times and delays are in time units. Any edit can be
@@ -33,8 +33,7 @@ pub enum Edit {
     AddGate {
         name: Word,
         kind: GateKind,
-        rise: u64,
-        fall: u64,
+        delays: DelayTimes,
         output: Word,
         inputs: Pins,
     },
@@ -45,8 +44,7 @@ pub enum Edit {
     /// Other delays of a gate.
     SetDelay {
         name: Word,
-        rise: u64,
-        fall: u64,
+        delays: DelayTimes,
     },
     /// Another kind of a gate, which its inputs have to fit.
     SetGateKind {

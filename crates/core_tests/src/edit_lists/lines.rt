@@ -2,7 +2,7 @@
 
 use design::{Design, Name, NameHasher};
 use edits::{Edit, EditFault, Pin, Pins, Word, apply_all};
-use fourstate::{GateKind, NetKind, TimeUnit, Value};
+use fourstate::{DelayTimes, GateKind, NetKind, TimeUnit, Value};
 use std::alloc::Global;
 use std::process::Abort;
 
@@ -82,11 +82,18 @@ fn wired(rt: &impl Abort, alloc: Global, words: &[&str], name: Word) -> Edit {
     Edit::AddGate {
         name,
         kind: gate_kind(rt, at(rt, words, 2)),
-        rise: number(rt, at(rt, words, 3)),
-        fall: number(rt, at(rt, words, 4)),
+        delays: delays(rt, words, 3),
         output: word(rt, alloc, at(rt, words, 5)),
         inputs: pins(rt, alloc, words, 6),
     }
+}
+
+/// The delays that two words from this place on write.
+fn delays(rt: &impl Abort, words: &[&str], place: usize) -> DelayTimes {
+    assert!(rt; place < 4);
+    let rise = number(rt, at(rt, words, place));
+    let fall = number(rt, at(rt, words, place + 1));
+    DelayTimes::new(rise, fall)
 }
 
 fn unwired(rt: &impl Abort, words: &[&str], name: Word) -> Edit {
@@ -104,8 +111,7 @@ fn unwired(rt: &impl Abort, words: &[&str], name: Word) -> Edit {
         "drop" => Edit::DropGate { name },
         "delay" => Edit::SetDelay {
             name,
-            rise: number(rt, at(rt, words, 2)),
-            fall: number(rt, at(rt, words, 3)),
+            delays: delays(rt, words, 2),
         },
         "type" => Edit::SetGateKind {
             name,

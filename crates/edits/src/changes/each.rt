@@ -26,16 +26,15 @@ pub fn carry_out(alloc: Global, design: Design, edit: &Edit) -> Result<Design, A
         Edit::AddGate {
             name,
             kind,
-            rise,
-            fall,
+            delays,
             output,
             inputs,
         } => {
             let (name, output, inputs) = (name.as_str(), output.as_str(), inputs.as_slice());
-            add_gate(alloc, design, name, *kind, *rise, *fall, output, inputs)
+            add_gate(alloc, design, name, *kind, *delays, output, inputs)
         }
         Edit::DropGate { name } => remove_gate(design, name.as_str()),
-        Edit::SetDelay { name, rise, fall } => retime(design, name.as_str(), *rise, *fall),
+        Edit::SetDelay { name, delays } => retime(design, name.as_str(), *delays),
         Edit::SetGateKind { name, kind } => retype(design, name.as_str(), *kind),
         Edit::Rewire {
             name,

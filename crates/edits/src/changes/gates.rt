@@ -1,15 +1,16 @@
 //! Changes of gates that were checked before.
 
 ghost use Rattle.std.specs.Prelude.{◌≡◌, true, IfOk, map};
+ghost use Rattle.fourstate.specs.Delays.{AreDelays};
 ghost use Rattle.design.specs.Keys.{IsConnected, entry_in, netlist};
 ghost use Rattle.design.specs.Netlist.{has_gate, with_delays, with_gate, with_gate_kind, with_wiring, without_gate};
-ghost use Rattle.edits.specs.Accepted.{RetimesGate, RetypesGate, RewiresGate, TakesDelays, TakesGate};
+ghost use Rattle.edits.specs.Accepted.{RetimesGate, RetypesGate, RewiresGate, TakesGate};
 ghost use Rattle.edits.specs.Edits.{connection_of};
 
 use crate::changes::terminals::{key_of_net, terminals};
 use crate::pin::Pin;
 use design::{Design, Gate, Name};
-use fourstate::{Delays, GateKind};
+use fourstate::{DelayTimes, Delays, GateKind};
 use std::alloc::{AllocError, Global};
 
 pub fn add_gate(
@@ -17,21 +18,20 @@ pub fn add_gate(
     design: Design,
     name: &str,
     kind: GateKind,
-    rise: u64,
-    fall: u64,
+    delays: DelayTimes,
     output: &str,
     inputs: &[Pin],
 ) -> Result<Design, AllocError>
-    requires { TakesGate (netlist design) name.now kind rise fall output.now inputs.now }
+    requires { TakesGate (netlist design) name.now kind delays output.now inputs.now }
     ensures { IfOk result (λ new. netlist new ≡ with_gate (netlist design) (record {
       name = name.now;
       kind = kind;
-      delays = record { rise = rise; fall = fall };
+      delays = delays;
       output = output.now;
       inputs = map connection_of inputs.now;
     })) }
 {
-    let gate = gate_of(alloc, &design, name, kind, rise, fall, output, inputs)?;
+    let gate = gate_of(alloc, &design, name, kind, delays, output, inputs)?;
     let (design, _key) = design.add_gate(gate)?;
     Ok(design)
 }
@@ -42,16 +42,15 @@ fn gate_of(
     design: &Design,
     name: &str,
     kind: GateKind,
-    rise: u64,
-    fall: u64,
+    delays: DelayTimes,
     output: &str,
     inputs: &[Pin],
 ) -> Result<Gate, AllocError>
-    requires { TakesGate (netlist design.now) name.now kind rise fall output.now inputs.now }
+    requires { TakesGate (netlist design.now) name.now kind delays output.now inputs.now }
     ensures entry { IfOk result (λ gate. entry_in design.now.nets gate ≡ record {
       name = name.now;
       kind = kind;
-      delays = record { rise = rise; fall = fall };
+      delays = delays;
       output = output.now;
       inputs = map connection_of inputs.now;
     }) }
@@ -60,7 +59,7 @@ fn gate_of(
     let name = Name::new(alloc, name)?;
     let inputs = terminals(alloc, design, inputs)?;
     let output = key_of_net(design, output);
-    Ok(Gate::new(name, kind, delays_of(rise, fall), output, inputs))
+    Ok(Gate::new(name, kind, delays_of(delays), output, inputs))
 }
 
 #[tactic(auto, using(crate::proofs::FoundLemmas::gate_found))]
@@ -75,11 +74,11 @@ pub fn remove_gate(design: Design, name: &str) -> Result<Design, AllocError>
 }
 
 #[tactic(auto, using(crate::proofs::FoundLemmas::gate_found))]
-pub fn retime(design: Design, name: &str, rise: u64, fall: u64) -> Result<Design, AllocError>
-    requires { RetimesGate (netlist design) name.now rise fall }
-    ensures { IfOk result (λ new. netlist new ≡ with_delays (netlist design) name.now (record { rise = rise; fall = fall })) }
+pub fn retime(design: Design, name: &str, delays: DelayTimes) -> Result<Design, AllocError>
+    requires { RetimesGate (netlist design) name.now delays }
+    ensures { IfOk result (λ new. netlist new ≡ with_delays (netlist design) name.now delays) }
 {
-    let delays = delays_of(rise, fall);
+    let delays = delays_of(delays);
     match design.gate(name) {
         Some(key) => design.set_delays(key, delays),
         None => unreachable!(),
@@ -115,11 +114,11 @@ pub fn rewire(
     }
 }
 
-fn delays_of(rise: u64, fall: u64) -> Delays
-    requires { TakesDelays rise fall }
-    ensures { result ≡ record { rise = rise; fall = fall } }
+fn delays_of(times: DelayTimes) -> Delays
+    requires { AreDelays times }
+    ensures { result ≡ times }
 {
-    match Delays::new(rise, fall) {
+    match Delays::from_times(times) {
         Some(delays) => delays,
         None => unreachable!(),
     }

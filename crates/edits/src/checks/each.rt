@@ -25,16 +25,15 @@ pub fn check(design: &Design, edit: &Edit) -> Option<EditFault>
         Edit::AddGate {
             name,
             kind,
-            rise,
-            fall,
+            delays,
             output,
             inputs,
         } => {
             let (name, output, inputs) = (name.as_str(), output.as_str(), inputs.as_slice());
-            check_gate(design, name, *kind, *rise, *fall, output, inputs)
+            check_gate(design, name, *kind, *delays, output, inputs)
         }
         Edit::DropGate { name } => check_gate_there(design, name.as_str()),
-        Edit::SetDelay { name, rise, fall } => check_retimed(design, name.as_str(), *rise, *fall),
+        Edit::SetDelay { name, delays } => check_retimed(design, name.as_str(), *delays),
         Edit::SetGateKind { name, kind } => check_kind(design, name.as_str(), *kind),
         Edit::Rewire {
             name,

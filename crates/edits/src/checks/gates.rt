@@ -10,7 +10,7 @@ ghost use Rattle.design.specs.Keys.{netlist};
 use crate::fault::EditFault;
 use crate::pin::Pin;
 use design::{Design, MAX_GATES, Name};
-use fourstate::{GateKind, MAX_DELAY, fits};
+use fourstate::{DelayTimes, GateKind, MAX_DELAY, fits};
 
 /// Of an edit that asks only that a gate is there.
 pub fn check_gate_there(design: &Design, name: &str) -> Option<EditFault>
@@ -29,18 +29,17 @@ pub fn check_gate(
     design: &Design,
     name: &str,
     kind: GateKind,
-    rise: u64,
-    fall: u64,
+    delays: DelayTimes,
     output: &str,
     inputs: &[Pin],
 ) -> Option<EditFault>
     ensures { result ≡ first_fault (new_gate_checks (netlist design.now) name.now
-        ++ (delay_checks rise fall ++ wiring_checks (netlist design.now) (takes_inputs kind (length inputs.now)) output.now inputs.now)) }
+        ++ (delay_checks delays ++ wiring_checks (netlist design.now) (takes_inputs kind (length inputs.now)) output.now inputs.now)) }
 {
     if let Some(fault) = check_new_gate(design, name) {
         return Some(fault);
     }
-    if let Some(fault) = check_delays(rise, fall) {
+    if let Some(fault) = check_delays(delays) {
         return Some(fault);
     }
     check_wiring(design, fits(kind, inputs.len()), output, inputs)
@@ -60,9 +59,10 @@ fn check_new_gate(design: &Design, name: &str) -> Option<EditFault>
     }
 }
 
-fn check_delays(rise: u64, fall: u64) -> Option<EditFault>
-    ensures { result ≡ first_fault (delay_checks rise fall) }
+fn check_delays(delays: DelayTimes) -> Option<EditFault>
+    ensures { result ≡ first_fault (delay_checks delays) }
 {
+    let DelayTimes { rise, fall } = delays;
     if rise == 0 || fall == 0 {
         Some(EditFault::ZeroDelay)
     } else if rise > MAX_DELAY || fall > MAX_DELAY {
@@ -89,11 +89,11 @@ fn check_wiring(design: &Design, fit: bool, output: &str, inputs: &[Pin]) -> Opt
 }
 
 /// Of an edit that sets the delays of a gate.
-pub fn check_retimed(design: &Design, name: &str, rise: u64, fall: u64) -> Option<EditFault>
-    ensures { result ≡ first_fault (gate_there (netlist design.now) name.now ∷ delay_checks rise fall) }
+pub fn check_retimed(design: &Design, name: &str, delays: DelayTimes) -> Option<EditFault>
+    ensures { result ≡ first_fault (gate_there (netlist design.now) name.now ∷ delay_checks delays) }
 {
     if design.has_gate(name) {
-        check_delays(rise, fall)
+        check_delays(delays)
     } else {
         Some(EditFault::UnknownGate)
     }
