@@ -4,7 +4,7 @@ use Rattle.std.proofs.lemmas.Bool.{eq-eqb, eqb-false, eqb-true, ne_eqb}
 use Rattle.std.proofs.lemmas.List.Sums.{sum_by-cons}
 use Rattle.std.specs.List.{filter, find, sum_by}
 use Rattle.catalog.specs.Catalog.{keys_of, record_at, records_of, with_record, without_key}
-use Rattle.design.specs.Keys as Keys
+use Rattle.design.specs.Lists as Lists
 use Rattle.design.specs.Names.{same_name}
 use Rattle.design.proofs.EntryLemmas.{Apart, Each, alone, each_here, each_map, each_weaker, filter_map, filter_within, map_map, map_within}
 
@@ -70,7 +70,7 @@ records_without {X} name es key x keys names h =
     (each_weaker (λ e. ((e.0 == key) ≡ same_name (name e.1) (name x)) × ((e.0 == key) ≡ true → e.1 ≡ x)) (λ e. not (e.0 == key) ≡ not (same_name (name e.1) (name x))) (λ e at. ap not at.0) es (alone name es key x keys names h)))
     ∙ sym (filter_map (λ m. not (same_name (name m) (name x))) (λ e. e.1) es)
 
-pub keys_without : {X : Type 0} (es : List (ℕ × X)) (key : ℕ) → keys_of (without_key es key) ≡ Keys.without_key (keys_of es) key
+pub keys_without : {X : Type 0} (es : List (ℕ × X)) (key : ℕ) → keys_of (without_key es key) ≡ Lists.without_key (keys_of es) key
 keys_without es key = sym (filter_map (λ k. not (k == key)) (λ e. e.0) es)
 
 either_none : {X : Type 0} (b : Bool) (o : Option X) → o ≡ None → o ≡ cond b None o

@@ -1,10 +1,10 @@
 -- Entries, each a record under a key: those of one key, and lists of keys beside them.
-use Rattle.std.proofs.Common.{◌≡◌, ◌≢◌, ℕ, zero, suc, Bool, true, false, cond, ◌==◌, ◌&&◌, List, [], ◌∷◌, map, Some, None, option_map, AllPairs, All, sym, refl, ap, subst, ◌∙◌, arith}
+use Rattle.std.proofs.Common.{◌≡◌, ◌≢◌, ℕ, zero, suc, Bool, true, false, cond, ◌==◌, ◌&&◌, ◌||◌, List, [], ◌∷◌, ◌++◌, map, Some, None, option_map, AllPairs, All, sym, refl, ap, subst, ◌∙◌, arith}
 use Rattle.std.proofs.lemmas.Bool.{both_ways, eqb-true, ne_eqb}
 use Rattle.std.proofs.lemmas.List.Elements.{All-cons, All-head, All-tail}
 use Rattle.std.proofs.lemmas.List.Kept.{AllPairs-cons}
-use Rattle.std.specs.List.{filter, find, zip}
-use Rattle.catalog.specs.Catalog.{keys_of, names_of, record_at, records_of}
+use Rattle.std.specs.List.{filter, find, list_all, list_any}
+use Rattle.catalog.specs.Catalog.{keys_of, names_of, record_at}
 use Rattle.design.specs.Names.{same_name}
 use Rattle.design.proofs.NameLemmas.{name_differs, name_same}
 
@@ -58,6 +58,52 @@ pub each_map : {X Y : Type 0} (P : Y → Type 0) (f : X → Y) (xs : List X) →
 each_map P f [] h = tt
 each_map P f (x ∷ xs) h = (h.0, each_map P f xs h.1)
 
+pub each_push : {X : Type 0} (P : X → Type 0) (xs : List X) (x : X) → Each P xs → P x → Each P (xs ++ x ∷ [])
+each_push P [] x h one = (one, tt)
+each_push P (y ∷ xs) x h one = (h.0, each_push P xs x h.1 one)
+
+pub each_filter : {X : Type 0} (P : X → Type 0) (p : X → Bool) (xs : List X) → Each P xs → Each P (filter p xs)
+each_filter P p [] h = tt
+each_filter {X} P p (x ∷ xs) h = step (p x) (each_filter P p xs h.1)
+  where
+    step : (b : Bool) → Each P (filter p xs) → Each P (cond b (x ∷ filter p xs) (filter p xs))
+    step true rest = (h.0, rest)
+    step false rest = rest
+
+pub apart_filter : {X Y : Type 0} (f : X → Y) (p : X → Bool) (xs : List X) → Apart f xs → Apart f (filter p xs)
+apart_filter f p [] h = tt
+apart_filter {X} f p (x ∷ xs) h = step (p x) (apart_filter f p xs h.1)
+  where
+    step : (b : Bool) → Apart f (filter p xs) → Apart f (cond b (x ∷ filter p xs) (filter p xs))
+    step true rest = (each_filter (λ y. f x ≢ f y) p xs h.0, rest)
+    step false rest = rest
+
+-- one more, whose image none of the others has
+pub apart_push : {X Y : Type 0} (f : X → Y) (xs : List X) (x : X) → Apart f xs → Each (λ y. f y ≢ f x) xs → Apart f (xs ++ x ∷ [])
+apart_push f [] x h other = (tt, tt)
+apart_push f (y ∷ xs) x h other = (each_push (λ z. f y ≢ f z) xs x h.0 other.0, apart_push f xs x h.1 other.1)
+
+-- no image is this name
+pub unnamed : {X : Type 0} (name : X → List ℕ) (xs : List X) (n : List ℕ) → list_any (λ x. same_name (name x) n) xs ≡ false → Each (λ x. name x ≢ n) xs
+unnamed name [] n h = tt
+unnamed {X} name (x ∷ xs) n h = step (same_name (name x) n) refl (λ none. unnamed name xs n none) h
+  where
+    step : (b : Bool) → same_name (name x) n ≡ b → (list_any (λ y. same_name (name y) n) xs ≡ false → Each (λ y. name y ≢ n) xs) → (b || list_any (λ y. same_name (name y) n) xs) ≡ false → (name x ≢ n) × Each (λ y. name y ≢ n) xs
+    step true at rest none = absurd (cc)
+    step false at rest none = ((λ same. both_ways (same_name (name x) n) at (name_same (name x) n same)), rest none)
+
+pub each_unmap : {X Y : Type 0} (P : Y → Type 0) (f : X → Y) (xs : List X) → Each P (map f xs) → Each (λ x. P (f x)) xs
+each_unmap P f [] h = tt
+each_unmap P f (x ∷ xs) h = (h.0, each_unmap P f xs h.1)
+
+pub apart_map : {X Y Z : Type 0} (g : Y → Z) (f : X → Y) (xs : List X) → Apart (λ x. g (f x)) xs → Apart g (map f xs)
+apart_map g f [] h = tt
+apart_map g f (x ∷ xs) h = (each_map (λ y. g (f x) ≢ g y) f xs h.0, apart_map g f xs h.1)
+
+pub apart_unmap : {X Y Z : Type 0} (g : Y → Z) (f : X → Y) (xs : List X) → Apart g (map f xs) → Apart (λ x. g (f x)) xs
+apart_unmap g f [] h = tt
+apart_unmap g f (x ∷ xs) h = (each_unmap (λ y. g (f x) ≢ g y) f xs h.0, apart_unmap g f xs h.1)
+
 pub map_within : {X Y : Type 0} (f g : X → Y) (xs : List X) → Each (λ x. f x ≡ g x) xs → map f xs ≡ map g xs
 map_within f g [] h = refl
 map_within f g (x ∷ xs) h = let first = h.0 in let rest = map_within f g xs h.1 in λ i. first i ∷ rest i
@@ -69,6 +115,30 @@ map_map g f (x ∷ xs) = ap (λ l. g (f x) ∷ l) (map_map g f xs)
 pub filter_within : {X : Type 0} (p q : X → Bool) (xs : List X) → Each (λ x. p x ≡ q x) xs → filter p xs ≡ filter q xs
 filter_within p q [] h = refl
 filter_within p q (x ∷ xs) h = ap (λ b. cond b (x ∷ filter p xs) (filter p xs)) h.0 ∙ ap (λ l. cond (q x) (x ∷ l) l) (filter_within p q xs h.1)
+
+pub find_within : {X : Type 0} (p q : X → Bool) (xs : List X) → Each (λ x. p x ≡ q x) xs → find p xs ≡ find q xs
+find_within p q [] h = refl
+find_within p q (x ∷ xs) h = ap (λ b. cond b (Some x) (find p xs)) h.0 ∙ ap (λ o. cond (q x) (Some x) o) (find_within p q xs h.1)
+
+pub any_within : {X : Type 0} (p q : X → Bool) (xs : List X) → Each (λ x. p x ≡ q x) xs → list_any p xs ≡ list_any q xs
+any_within p q [] h = refl
+any_within p q (x ∷ xs) h = ap (λ b. b || list_any p xs) h.0 ∙ ap (λ b. q x || b) (any_within p q xs h.1)
+
+pub any_map : {X Y : Type 0} (p : Y → Bool) (f : X → Y) (xs : List X) → list_any p (map f xs) ≡ list_any (λ x. p (f x)) xs
+any_map p f [] = refl
+any_map p f (x ∷ xs) = ap (λ b. p (f x) || b) (any_map p f xs)
+
+pub any_none : {X : Type 0} (p : X → Bool) (xs : List X) → list_any p xs ≡ false → Each (λ x. p x ≡ false) xs
+any_none p [] h = tt
+any_none {X} p (x ∷ xs) h = step (p x) refl (λ none. any_none p xs none) h
+  where
+    step : (b : Bool) → p x ≡ b → (list_any p xs ≡ false → Each (λ y. p y ≡ false) xs) → (b || list_any p xs) ≡ false → (p x ≡ false) × Each (λ y. p y ≡ false) xs
+    step true at rest none = absurd (cc)
+    step false at rest none = (at, rest none)
+
+pub all_map : {X Y : Type 0} (p : Y → Bool) (f : X → Y) (xs : List X) → Each (λ x. p (f x) ≡ true) xs → list_all p (map f xs) ≡ true
+all_map p f [] h = refl
+all_map p f (x ∷ xs) h = ap (λ b. b && list_all p (map f xs)) h.0 ∙ all_map p f xs h.1
 
 pub filter_map : {X Y : Type 0} (p : Y → Bool) (f : X → Y) (xs : List X) → filter p (map f xs) ≡ map f (filter (λ x. p (f x)) xs)
 filter_map p f [] = refl
@@ -96,9 +166,14 @@ filter_filter {X} p q (x ∷ xs) = step (q x) ∙ ap (λ l. cond (p x && q x) (x
 
 -- Look-ups.
 
-pub zip_parts : {X : Type 0} (es : List (ℕ × X)) → zip (keys_of es) (records_of es) ≡ es
-zip_parts [] = refl
-zip_parts (e ∷ es) = ap (λ l. e ∷ l) (zip_parts es)
+pub record_map : {X Y : Type 0} (f : X → Y) (es : List (ℕ × X)) (key : ℕ) → record_at (map (λ e. (e.0, f e.1)) es) key ≡ option_map f (record_at es key)
+record_map f [] key = refl
+record_map {X} {Y} f (e ∷ es) key = step (e.0 == key) (record_map f es key)
+  where
+    step : (b : Bool) → record_at (map (λ g. (g.0, f g.1)) es) key ≡ option_map f (record_at es key) →
+        option_map (λ (g : ℕ × Y). g.1) (cond b (Some (e.0, f e.1)) (find (λ g. g.0 == key) (map (λ g. (g.0, f g.1)) es))) ≡ option_map f (option_map (λ (g : ℕ × X). g.1) (cond b (Some e) (find (λ g. g.0 == key) es)))
+    step true rest = refl
+    step false rest = rest
 
 -- what is said of each entry is said of the one that is found
 pub found : {X : Type 0} (P : ℕ → X → Type 0) (es : List (ℕ × X)) (key : ℕ) (x : X) → Each (λ e. P e.0 e.1) es → record_at es key ≡ Some x → P key x
@@ -146,6 +221,17 @@ alone {X} name (e ∷ es) key x keys names h = step (e.0 == key) refl (alone nam
     step false at later g =
         let apart : name e.1 ≢ name x = found (λ k y. name e.1 ≢ name y) es key x names.0 g in
         ((at ∙ sym (name_differs (name e.1) (name x) apart), λ on. absurd (both_ways (e.0 == key) at on)), later g)
+
+-- the record of a key is the one that is found
+pub here : {X : Type 0} (es : List (ℕ × X)) (key : ℕ) (x : X) → Apart (λ e. e.0) es → record_at es key ≡ Some x → Each (λ e. (e.0 == key) ≡ true → e.1 ≡ x) es
+here [] key x keys h = tt
+here {X} (e ∷ es) key x keys h = step (e.0 == key) refl (here es key x keys.1) h
+  where
+    step : (b : Bool) → (e.0 == key) ≡ b → (record_at es key ≡ Some x → Each (λ f. (f.0 == key) ≡ true → f.1 ≡ x) es) → option_map (λ f. f.1) (cond b (Some e) (find (λ f. f.0 == key) es)) ≡ Some x → Each (λ f. (f.0 == key) ≡ true → f.1 ≡ x) (e ∷ es)
+    step true at later g =
+        let same : e.1 ≡ x = cc in
+        (λ on. same, each_weaker (λ f. e.0 ≢ f.0) (λ f. (f.0 == key) ≡ true → f.1 ≡ x) (λ f apart on. absurd (apart (eqb-true e.0 key at ∙ sym (eqb-true f.0 key on)))) es keys.0)
+    step false at later g = (λ on. absurd (both_ways (e.0 == key) at on), later g)
 
 -- as a catalog says it
 pub keys_apart : {X : Type 0} (es : List (ℕ × X)) → AllPairs (λ a b. a ≢ b) (keys_of es) → Apart (λ e. e.0) es

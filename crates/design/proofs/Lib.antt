@@ -1,5 +1,7 @@
 pub mod BlockLemmas
+pub mod ByNameLemmas
 pub mod ChangeLemmas
+pub mod ConnectionLemmas
 pub mod DesignLemmas
 pub mod EntryLemmas
 pub mod GateLemmas

@@ -1,20 +1,30 @@
 -- Look-ups by name and by key: of entries, and of the records with their keys beside them.
 use Rattle.std.proofs.Common.{◌≡◌, ◌≢◌, ℕ, suc, ◌+◌, Bool, true, false, cond, ◌==◌, ◌||◌, List, [], ◌∷◌, length, map, Option, Some, None, option_map, is_some, IsSome, IsSomeAnd, IfSome, IfNone, All, sym, refl, ap, subst, ◌∙◌, arith}
 use Rattle.std.proofs.lemmas.Bool.{eq-eqb, eqb-true, ne_eqb}
-use Rattle.std.specs.List.{filter, find, list_any, position_from, zip}
+use Rattle.std.specs.List.{filter, find, list_any, position_from}
 use Rattle.std.specs.Option.{option_map_or}
 use Rattle.catalog.specs.Catalog.{key_named, keys_of, named, place_of, record_at, records_of}
-use Rattle.design.specs.Kept.{keys_where}
+use Rattle.design.specs.Keys.{keys_where, name_of}
 use Rattle.design.specs.Names.{same_name}
-use Rattle.design.proofs.EntryLemmas.{Apart, Each, each_to, each_weaker, zip_parts}
+use Rattle.design.specs.Netlist.{NetEntry}
+use Rattle.design.proofs.EntryLemmas.{Apart, Each, each_to, each_weaker}
+use Rattle.design.proofs.NameLemmas.{name_is}
 
-find_map : {X Y : Type 0} (p : Y → Bool) (f : X → Y) (xs : List X) → find p (map f xs) ≡ option_map f (find (λ x. p (f x)) xs)
+pub find_map : {X Y : Type 0} (p : Y → Bool) (f : X → Y) (xs : List X) → find p (map f xs) ≡ option_map f (find (λ x. p (f x)) xs)
 find_map p f [] = refl
 find_map {X} {Y} p f (x ∷ xs) = step (p (f x)) (find_map p f xs)
   where
     step : (b : Bool) → find p (map f xs) ≡ option_map f (find (λ x. p (f x)) xs) → cond b (Some (f x)) (find p (map f xs)) ≡ option_map f (cond b (Some x) (find (λ x. p (f x)) xs))
     step true rest = refl
     step false rest = rest
+
+found_passes : {X : Type 0} (p : X → Bool) (xs : List X) (y : X) → find p xs ≡ Some y → p y ≡ true
+found_passes p [] y h = cc
+found_passes {X} p (x ∷ xs) y h = step (p x) refl (λ rest. found_passes p xs y rest) h
+  where
+    step : (b : Bool) → p x ≡ b → (find p xs ≡ Some y → p y ≡ true) → cond b (Some x) (find p xs) ≡ Some y → p y ≡ true
+    step true at later g = let same : x ≡ y = cc in ap p (sym same) ∙ at
+    step false at later g = later g
 
 pub any_found : {X : Type 0} (p : X → Bool) (xs : List X) → list_any p xs ≡ is_some (find p xs)
 any_found p [] = refl
@@ -24,17 +34,9 @@ any_found {X} p (x ∷ xs) = step (p x) (any_found p xs)
     step true rest = refl
     step false rest = rest
 
-some_map : {X Y : Type 0} (f : X → Y) (o : Option X) → is_some (option_map f o) ≡ is_some o
+pub some_map : {X Y : Type 0} (f : X → Y) (o : Option X) → is_some (option_map f o) ≡ is_some o
 some_map f None = refl
 some_map f (Some x) = refl
-
--- by key
-pub by_key : {X : Type 0} (es : List (ℕ × X)) (key : ℕ) → option_map (λ (p : ℕ × X). p.1) (find (λ p. p.0 == key) (zip (keys_of es) (records_of es))) ≡ record_at es key
-by_key {X} es key = ap (λ (l : List (ℕ × X)). option_map (λ (p : ℕ × X). p.1) (find (λ p. p.0 == key) l)) (zip_parts es)
-
--- by name
-pub by_name : {X : Type 0} (name : X → List ℕ) (es : List (ℕ × X)) (n : List ℕ) → option_map (λ (p : ℕ × X). p.0) (find (λ p. same_name (name p.1) n) (zip (keys_of es) (records_of es))) ≡ key_named name es n
-by_name {X} name es n = ap (λ (l : List (ℕ × X)). option_map (λ (p : ℕ × X). p.0) (find (λ p. same_name (name p.1) n) l)) (zip_parts es)
 
 pub record_named : {X : Type 0} (name : X → List ℕ) (es : List (ℕ × X)) (n : List ℕ) → find (λ x. same_name (name x) n) (records_of es) ≡ option_map (λ (p : ℕ × X). p.1) (named name es n)
 record_named name es n = find_map (λ x. same_name (name x) n) (λ p. p.1) es
@@ -100,6 +102,18 @@ none_position p k (x ∷ xs) h = step (p x) (λ e. none_position p (k + 1) xs e)
     step true later e = cc
     step false later e = later e
 
+-- what has a place is there
+pub place_there : {X : Type 0} (es : List (ℕ × X)) (key : ℕ) → is_some (place_of es key) ≡ is_some (record_at es key)
+place_there {X} es key = position_is_some (λ e. e.0 == key) 0 es ∙ any_found (λ e. e.0 == key) es ∙ sym (some_map (λ (e : ℕ × X). e.1) (find (λ e. e.0 == key) es))
+
+-- the name of what is found by its name
+pub name_found : (nets : List (ℕ × NetEntry)) (name : List ℕ) (key : ℕ) → Some key ≡ key_named (λ n. n.name) nets name → record_at nets key ≡ option_map (λ e. e.1) (named (λ n. n.name) nets name) → name_of nets key ≡ name
+name_found nets name key at there = ap (λ (o : Option NetEntry). option_map_or (λ n. n.name) o []) there ∙ passes (named (λ n. n.name) nets name) refl (sym at)
+  where
+    passes : (o : Option (ℕ × NetEntry)) → named (λ n. n.name) nets name ≡ o → option_map (λ (e : ℕ × NetEntry). e.0) o ≡ Some key → option_map_or (λ (n : NetEntry). n.name) (option_map (λ (e : ℕ × NetEntry). e.1) o) [] ≡ name
+    passes None found at = cc
+    passes (Some e) found at = name_is e.1.name name (found_passes (λ f. same_name f.1.name name) nets e found)
+
 pub if_none : {X : Type 0} (o : Option X) (P : Type 0) → (o ≡ None → P) → IfNone o P
 if_none None P h = h refl
 if_none (Some x) P h = tt
@@ -131,14 +145,6 @@ if_at None P x h e = cc
 if_at (Some y) P x h e = let same : y ≡ x = cc in subst P same h
 
 -- The lists beside the nets.
-
-pub listed : {X : Type 0} (F : X → List ℕ) (o : Option X) (list : List ℕ) → list ≡ option_map_or F o [] → IfSome o (λ x. list ≡ F x)
-listed F None list h = tt
-listed F (Some x) list h = h
-
-pub listed_all : {X : Type 0} (P : ℕ → Type 0) (F : X → List ℕ) (o : Option X) → ((x : X) → All P (F x)) → All P (option_map_or F o [])
-listed_all P F None h = λ k d within. absurd (omega arith)
-listed_all P F (Some x) h = h x
 
 there_more : {X : Type 0} (f : ℕ × X) (es : List (ℕ × X)) (k : ℕ) → IsSome (record_at es k) → IsSome (record_at (f ∷ es) k)
 there_more {X} f es k h = step (f.0 == k)

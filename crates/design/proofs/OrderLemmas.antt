@@ -5,9 +5,8 @@ use Rattle.std.proofs.lemmas.List.{append-nil, map_push}
 use Rattle.std.proofs.lemmas.List.Elements.{filter-append}
 use Rattle.std.specs.List.{filter}
 use Rattle.catalog.specs.Catalog.{keys_of, record_at}
-use Rattle.design.specs.Keys as Keys
-use Rattle.design.specs.Kept.{keys_where}
-use Rattle.design.specs.Lists.{IsInOrder, contains, with_key_in}
+use Rattle.design.specs.Keys.{keys_where}
+use Rattle.design.specs.Lists.{IsInOrder, contains, with_key_in, without_key}
 use Rattle.design.proofs.EntryLemmas.{Apart, Each, absent, each_both, each_here, each_weaker, filter_filter, filter_map, filter_within}
 
 -- Which keys a list has.
@@ -79,13 +78,13 @@ more_in_order {X} es key x list free h =
     h ∙ sym (append-nil (filter has (keys_of es))) ∙ ap (λ l. filter has (keys_of es) ++ l) (sym off) ∙ sym (filter-append has (keys_of es) (key ∷ [])) ∙ ap (λ l. filter has l) (sym (map_push (λ (e : ℕ × X). e.0) es (key, x)))
 
 -- without a key
-pub without_in_order : (keys list : List ℕ) (key : ℕ) → IsInOrder keys list → IsInOrder keys (Keys.without_key list key)
+pub without_in_order : (keys list : List ℕ) (key : ℕ) → IsInOrder keys list → IsInOrder keys (without_key list key)
 without_in_order keys list key h =
     let t : ℕ → Bool = λ k. not (k == key) && contains list k in
-    let is : Keys.without_key list key ≡ filter t keys = ap (λ l. Keys.without_key l key) h ∙ filter_filter (λ k. not (k == key)) (contains list) keys in
-    is ∙ filter_within t (contains (Keys.without_key list key)) keys (each_here (λ k. t k ≡ contains (Keys.without_key list key) k) (λ k. sym (has_without k list)) keys)
+    let is : without_key list key ≡ filter t keys = ap (λ l. without_key l key) h ∙ filter_filter (λ k. not (k == key)) (contains list) keys in
+    is ∙ filter_within t (contains (without_key list key)) keys (each_here (λ k. t k ≡ contains (without_key list key) k) (λ k. sym (has_without k list)) keys)
   where
-    has_without : (k : ℕ) (l : List ℕ) → contains (Keys.without_key l key) k ≡ (not (k == key) && contains l k)
+    has_without : (k : ℕ) (l : List ℕ) → contains (without_key l key) k ≡ (not (k == key) && contains l k)
     has_without k [] = none (not (k == key))
       where
         none : (b : Bool) → false ≡ (b && false)
@@ -93,7 +92,7 @@ without_in_order keys list key h =
         none false = refl
     has_without k (m ∷ l) = step (m == key) refl (has_without k l)
       where
-        step : (b : Bool) → (m == key) ≡ b → contains (Keys.without_key l key) k ≡ (not (k == key) && contains l k) → contains (cond (not b) (m ∷ Keys.without_key l key) (Keys.without_key l key)) k ≡ (not (k == key) && ((m == k) || contains l k))
+        step : (b : Bool) → (m == key) ≡ b → contains (without_key l key) k ≡ (not (k == key) && contains l k) → contains (cond (not b) (m ∷ without_key l key) (without_key l key)) k ≡ (not (k == key) && ((m == k) || contains l k))
         step true at rest = rest ∙ gone (m == k) refl
           where
             gone : (c : Bool) → (m == k) ≡ c → (not (k == key) && contains l k) ≡ (not (k == key) && (c || contains l k))

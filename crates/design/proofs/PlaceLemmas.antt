@@ -6,7 +6,7 @@ use Rattle.std.specs.List.{AllWithin, filter, find, position_from}
 use Rattle.std.specs.List.Sorted.{IsPartitionPoint, IsPartitionedBy}
 use Rattle.std.specs.Option.{option_map_or}
 use Rattle.catalog.specs.Catalog.{keys_of, place_of, record_at}
-use Rattle.design.specs.Kept.{keys_where}
+use Rattle.design.specs.Keys.{keys_where}
 use Rattle.design.specs.Lists.{IsInOrder, contains, with_key_in}
 use Rattle.design.proofs.EntryLemmas.{Apart, Each, each_both, each_here, each_weaker, filter_map, filter_within}
 

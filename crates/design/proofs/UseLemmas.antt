@@ -1,33 +1,33 @@
 -- Whether a gate reads or drives the net of a key.
-use Rattle.std.proofs.Common.{◌≡◌, ◌==◌, ◌||◌, ℕ, Bool, true, false, not, List, [], Option, Some, None, IfSome, length, sym, refl, ap, ◌∙◌}
+use Rattle.std.proofs.Common.{◌≡◌, ◌==◌, ◌||◌, ℕ, Bool, true, false, not, List, Some, length, sym, refl, ap, ◌∙◌}
 use Rattle.std.proofs.lemmas.Bool.{or_left}
-use Rattle.catalog.specs.Catalog.{record_at}
-use Rattle.design.specs.Kept.{Store, drivers_at, keys_where, netlist_of, readers_at}
-use Rattle.design.specs.Names.{same_name}
-use Rattle.design.specs.Netlist.{GateEntry, NetEntry, is_used, reads}
-use Rattle.std.specs.Option.{option_map_or}
+use Rattle.std.specs.List.{list_any}
+use Rattle.catalog.specs.Catalog.{record_at, records_of}
+use Rattle.design.specs.Keys.{Keyed, KeyedGate, driver_keys, drives_key, netlist, reader_keys, reads_key}
+use Rattle.design.specs.Kept.{IsKept}
+use Rattle.design.specs.Netlist.{NetEntry, is_used}
+use Rattle.design.proofs.ConnectionLemmas.{used_by_name}
+use Rattle.design.proofs.DesignLemmas.{net_keys_apart, nets_apart}
 use Rattle.design.proofs.LookLemmas.{none_pass, some_pass}
 
 or_right : (a b : Bool) → b ≡ true → (a || b) ≡ true
 or_right true b h = refl
 or_right false b h = h
 
-pub used_by_reader : (s : Store) (key : ℕ) (list : List ℕ) → list ≡ readers_at s key → (length list == 0) ≡ false → IfSome (record_at s.nets key) (λ n. true ≡ is_used (netlist_of s) n.name)
-used_by_reader s key list e some = step (record_at s.nets key) e
-  where
-    step : (o : Option NetEntry) → list ≡ option_map_or (λ n. keys_where (λ e. reads e.1 n.name) s.gates) o [] → IfSome o (λ n. true ≡ is_used (netlist_of s) n.name)
-    step None at = tt
-    step (Some n) at =
-        sym (some_pass (λ (g : GateEntry). reads g n.name) (λ g. reads g n.name || same_name g.output n.name) s.gates (ap (λ (l : List ℕ). length l == 0) (sym at) ∙ some) (λ g h. or_left (reads g n.name) (same_name g.output n.name) h))
+used_is : (d : Keyed) (points : ℕ) (read driven : List (List (List ℕ))) (key : ℕ) (n : NetEntry) → IsKept d points read driven → record_at d.nets key ≡ Some n → is_used (netlist d) n.name ≡ list_any (λ g. reads_key g key || drives_key g key) (records_of d.gates)
+unfolding netlist
+used_is d points read driven key n h there = used_by_name d.nets d.gates key n (net_keys_apart d points read driven h) (nets_apart d points read driven h) there h.keys.connected
 
-pub used_by_driver : (s : Store) (key : ℕ) (readers drivers : List ℕ) → readers ≡ readers_at s key → (length readers == 0) ≡ true → drivers ≡ drivers_at s key → IfSome (record_at s.nets key) (λ n. not (length drivers == 0) ≡ is_used (netlist_of s) n.name)
-used_by_driver s key readers drivers e none d = step (record_at s.nets key) e d
+pub used_by_reader : (d : Keyed) (points : ℕ) (read driven : List (List (List ℕ))) (key : ℕ) (n : NetEntry) (list : List ℕ) → IsKept d points read driven → record_at d.nets key ≡ Some n → list ≡ reader_keys d key → (length list == 0) ≡ false → true ≡ is_used (netlist d) n.name
+used_by_reader d points read driven key n list h there at some =
+    sym (used_is d points read driven key n h there
+    ∙ some_pass (λ (g : KeyedGate). reads_key g key) (λ g. reads_key g key || drives_key g key) d.gates (ap (λ (l : List ℕ). length l == 0) (sym at) ∙ some) (λ g on. or_left (reads_key g key) (drives_key g key) on))
+
+pub used_by_driver : (d : Keyed) (points : ℕ) (read driven : List (List (List ℕ))) (key : ℕ) (n : NetEntry) (readers drivers : List ℕ) → IsKept d points read driven → record_at d.nets key ≡ Some n → readers ≡ reader_keys d key → (length readers == 0) ≡ true → drivers ≡ driver_keys d key →
+    not (length drivers == 0) ≡ is_used (netlist d) n.name
+used_by_driver d points read driven key n readers drivers h there at none on = two (length drivers == 0) refl ∙ sym (used_is d points read driven key n h there)
   where
-    step : (o : Option NetEntry) → readers ≡ option_map_or (λ n. keys_where (λ e. reads e.1 n.name) s.gates) o [] → drivers ≡ option_map_or (λ n. keys_where (λ e. same_name e.1.output n.name) s.gates) o [] → IfSome o (λ n. not (length drivers == 0) ≡ is_used (netlist_of s) n.name)
-    step None at on = tt
-    step (Some n) at on = two (length drivers == 0) refl
-      where
-        two : (b : Bool) → (length drivers == 0) ≡ b → not b ≡ is_used (netlist_of s) n.name
-        two true h = sym (none_pass (λ (g : GateEntry). reads g n.name) (λ g. same_name g.output n.name) s.gates (ap (λ (l : List ℕ). length l == 0) (sym at) ∙ none) (ap (λ (l : List ℕ). length l == 0) (sym on) ∙ h))
-        two false h =
-            sym (some_pass (λ (g : GateEntry). same_name g.output n.name) (λ g. reads g n.name || same_name g.output n.name) s.gates (ap (λ (l : List ℕ). length l == 0) (sym on) ∙ h) (λ g h. or_right (reads g n.name) (same_name g.output n.name) h))
+    two : (b : Bool) → (length drivers == 0) ≡ b → not b ≡ list_any (λ g. reads_key g key || drives_key g key) (records_of d.gates)
+    two true l = sym (none_pass (λ (g : KeyedGate). reads_key g key) (λ g. drives_key g key) d.gates (ap (λ (m : List ℕ). length m == 0) (sym at) ∙ none) (ap (λ (m : List ℕ). length m == 0) (sym on) ∙ l))
+    two false l =
+        sym (some_pass (λ (g : KeyedGate). drives_key g key) (λ g. reads_key g key || drives_key g key) d.gates (ap (λ (m : List ℕ). length m == 0) (sym on) ∙ l) (λ g it. or_right (reads_key g key) (drives_key g key) it))

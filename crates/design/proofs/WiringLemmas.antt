@@ -1,93 +1,36 @@
--- Lists of gate keys: which are changed by a name or by terminals, and what they are after an edit of the gates.
-use Rattle.std.proofs.Common.{◌≡◌, ◌≢◌, ℕ, ◌+◌, ◌<◌, Bool, true, false, not, cond, ◌==◌, ◌&&◌, ◌||◌, List, [], ◌∷◌, ◌++◌, length, get_or, take, Option, Some, None, option_map, sym, refl, ap, subst, ◌∙◌}
-use Rattle.std.proofs.lemmas.Bool.{both_ways, eq-eqb, eqb-false, eqb-true, ne_eqb}
+-- Lists of gate keys: which are changed by terminals, and what they are after an edit of the gates.
+use Rattle.std.proofs.Common.{◌≡◌, ℕ, ◌+◌, ◌<◌, Bool, true, false, not, cond, ◌==◌, ◌&&◌, ◌||◌, List, [], ◌∷◌, ◌++◌, length, get_or, take, None, sym, refl, ap, subst, ◌∙◌}
+use Rattle.std.proofs.lemmas.Bool.{eq-eqb, eqb-true}
 use Rattle.std.proofs.lemmas.List.{append-nil, take_more}
 use Rattle.std.proofs.lemmas.List.Elements.{filter-append}
 use Rattle.std.proofs.lemmas.List.Folds.{list_any-append}
-use Rattle.std.specs.List.{filter, find, list_any}
-use Rattle.std.specs.Option.{option_map_or}
-use Rattle.catalog.specs.Catalog.{key_named, keys_of, record_at, with_record, without_key}
+use Rattle.std.specs.List.{filter}
+use Rattle.catalog.specs.Catalog.{keys_of, record_at, with_record, without_key}
 use Rattle.design.specs.declared.terminal.Terminal.{Terminal}
-use Rattle.design.specs.Keys as Keys
-use Rattle.design.specs.Kept.{is_among, is_at, is_named, keys_where}
+use Rattle.design.specs.Keys.{is_among, is_at, keys_where}
+use Rattle.design.specs.Lists as Lists
 use Rattle.design.specs.Lists.{AreChanged, IsInOrder, list_of, with_key_in}
-use Rattle.design.specs.Names.{same_name}
-use Rattle.design.specs.Netlist.{NetEntry, is_at_net}
-use Rattle.design.proofs.EntryLemmas.{Apart, Each, absent, each_here, each_weaker, filter_filter, filter_map, filter_within, found}
-use Rattle.design.proofs.NameLemmas.{name_differs, name_is, name_same}
-use Rattle.design.proofs.OrderLemmas.{where_with, with_in_order}
-
--- The net of a name.
-
-option_none : {X : Type 0} (f : X → Bool) (o : Option X) → ((x : X) → o ≡ Some x → f x ≡ false) → option_map_or f o false ≡ false
-option_none f None h = refl
-option_none f (Some x) h = h x refl
-
-pub named_none : (nets : List (ℕ × NetEntry)) (name : List ℕ) (k : ℕ) → key_named (λ n. n.name) nets name ≡ None → is_named nets name k ≡ false
-named_none nets name k h = option_none (λ n. same_name name n.name) (record_at nets k) (λ n at. found (λ j m. same_name name m.name ≡ false) nets k n (each nets h) at)
-  where
-    each : (es : List (ℕ × NetEntry)) → key_named (λ n. n.name) es name ≡ None → Each (λ e. same_name name e.1.name ≡ false) es
-    each [] h = tt
-    each (e ∷ es) h = step (same_name e.1.name name) refl (λ g. each es g) h
-      where
-        step : (b : Bool) → same_name e.1.name name ≡ b → (key_named (λ n. n.name) es name ≡ None → Each (λ f. same_name name f.1.name ≡ false) es) → option_map (λ (f : ℕ × NetEntry). f.0) (cond b (Some e) (find (λ f. same_name f.1.name name) es)) ≡ None → Each (λ f. same_name name f.1.name ≡ false) (e ∷ es)
-        step true at later g = cc
-        step false at later g = (name_differs name e.1.name (λ same. both_ways (same_name e.1.name name) at (name_same e.1.name name (sym same))), later g)
-
-pub named_is : (nets : List (ℕ × NetEntry)) (name : List ℕ) (number k : ℕ) → Apart (λ e. e.0) nets → Apart (λ e. e.1.name) nets → key_named (λ n. n.name) nets name ≡ Some number → is_named nets name k ≡ (k == number)
-named_is [] name number k keys names h = cc
-named_is (e ∷ es) name number k keys names h = step (same_name e.1.name name) refl (λ g. named_is es name number k keys.1 names.1 g) h
-  where
-    key_in : (fs : List (ℕ × NetEntry)) → key_named (λ n. n.name) fs name ≡ Some number → Each (λ f. e.0 ≢ f.0) fs → e.0 ≢ number
-    key_in [] g apart = cc
-    key_in (f ∷ fs) g apart = one (same_name f.1.name name) (λ l. key_in fs l apart.1) g
-      where
-        one : (b : Bool) → (key_named (λ n. n.name) fs name ≡ Some number → e.0 ≢ number) → option_map (λ (x : ℕ × NetEntry). x.0) (cond b (Some f) (find (λ x. same_name x.1.name name) fs)) ≡ Some number → e.0 ≢ number
-        one true later l = let same : f.0 ≡ number = cc in λ at. apart.0 (at ∙ sym same)
-        one false later l = later l
-
-    step : (b : Bool) → same_name e.1.name name ≡ b → (key_named (λ n. n.name) es name ≡ Some number → is_named es name k ≡ (k == number)) → option_map (λ (f : ℕ × NetEntry). f.0) (cond b (Some e) (find (λ f. same_name f.1.name name) es)) ≡ Some number → is_named (e ∷ es) name k ≡ (k == number)
-    step true at later g = here (e.0 == k) refl
-      where
-        same : e.0 ≡ number
-        same = cc
-
-        here : (c : Bool) → (e.0 == k) ≡ c → option_map_or (λ n. same_name name n.name) (option_map (λ (f : ℕ × NetEntry). f.1) (cond c (Some e) (find (λ f. f.0 == k) es))) false ≡ (k == number)
-        here true on = name_same name e.1.name (sym (name_is e.1.name name at)) ∙ sym (eq-eqb k number (sym (eqb-true e.0 k on) ∙ same))
-        here false off =
-            option_none (λ n. same_name name n.name) (record_at es k) (λ n there. found (λ j m. same_name name m.name ≡ false) es k n
-            (each_weaker (λ f. e.1.name ≢ f.1.name) (λ f. same_name name f.1.name ≡ false) (λ f apart. name_differs name f.1.name (λ alike. apart (name_is e.1.name name at ∙ alike))) es names.0) there)
-            ∙ sym (ne_eqb k number (λ alike. eqb-false e.0 k off (same ∙ sym alike)))
-    step false at later g = here (e.0 == k) refl
-      where
-        here : (c : Bool) → (e.0 == k) ≡ c → option_map_or (λ n. same_name name n.name) (option_map (λ (f : ℕ × NetEntry). f.1) (cond c (Some e) (find (λ f. f.0 == k) es))) false ≡ (k == number)
-        here true on =
-            name_differs name e.1.name (λ alike. both_ways (same_name e.1.name name) at (name_same e.1.name name (sym alike)))
-            ∙ sym (ne_eqb k number (λ alike. key_in es g keys.0 (eqb-true e.0 k on ∙ alike)))
-        here false off = later g
+use Rattle.design.proofs.EntryLemmas.{Apart, Each, absent, each_here, each_weaker, filter_filter, filter_map, filter_within}
+use Rattle.design.proofs.OrderLemmas.{where_with, with_in_order, without_in_order}
 
 -- Terminals, one after another.
 
-among_more : (nets : List (ℕ × NetEntry)) (inputs : List Terminal) (i k : ℕ) (terminal : Terminal) → i < length inputs → terminal ≡ get_or inputs i terminal → is_among nets (take (i + 1) inputs) k ≡ (is_among nets (take i inputs) k || is_at nets terminal k)
-among_more nets inputs i k terminal within here = step (record_at nets k)
+among_more : (inputs : List Terminal) (i k : ℕ) (terminal : Terminal) → i < length inputs → terminal ≡ get_or inputs i terminal → is_among (take (i + 1) inputs) k ≡ (is_among (take i inputs) k || is_at terminal k)
+among_more inputs i k terminal within here =
+    ap (λ l. is_among l k) (take_more inputs i terminal within)
+    ∙ list_any-append (λ t. is_at t k) (take i inputs) (get_or inputs i terminal ∷ [])
+    ∙ ap (λ (b : Bool). is_among (take i inputs) k || b) (or_none (is_at (get_or inputs i terminal) k) ∙ ap (λ t. is_at t k) (sym here))
   where
     or_none : (b : Bool) → (b || false) ≡ b
     or_none true = refl
     or_none false = refl
 
-    step : (o : Option NetEntry) → option_map_or (λ n. list_any (is_at_net n.name) (take (i + 1) inputs)) o false ≡ (option_map_or (λ n. list_any (is_at_net n.name) (take i inputs)) o false || option_map_or (λ n. is_at_net n.name terminal) o false)
-    step None = refl
-    step (Some n) =
-        ap (λ l. list_any (is_at_net n.name) l) (take_more inputs i terminal within)
-        ∙ list_any-append (is_at_net n.name) (take i inputs) (get_or inputs i terminal ∷ [])
-        ∙ ap (λ (b : Bool). list_any (is_at_net n.name) (take i inputs) || b) (or_none (is_at_net n.name (get_or inputs i terminal)) ∙ ap (is_at_net n.name) (sym here))
-
 -- one terminal more, where the change once more is the change
-pub among_turn : (nets : List (ℕ × NetEntry)) (inputs : List Terminal) (i : ℕ) (terminal : Terminal) (change : List ℕ → List ℕ) (lists before after : List (List (List ℕ))) → ((list : List ℕ) → change (change list) ≡ change list) → i < length inputs → terminal ≡ get_or inputs i terminal →
-    AreChanged (is_among nets (take i inputs)) change lists before → AreChanged (is_at nets terminal) change before after → AreChanged (is_among nets (take (i + 1) inputs)) change lists after
-among_turn nets inputs i terminal change lists before after twice within here so_far now k =
-    now k ∙ ap (λ (l : List ℕ). cond (is_at nets terminal k) (change l) l) (so_far k) ∙ step (is_among nets (take i inputs) k) (is_at nets terminal k) (list_of lists k)
-    ∙ ap (λ (b : Bool). cond b (change (list_of lists k)) (list_of lists k)) (sym (among_more nets inputs i k terminal within here))
+pub among_turn : (inputs : List Terminal) (i : ℕ) (terminal : Terminal) (change : List ℕ → List ℕ) (lists before after : List (List (List ℕ))) → ((list : List ℕ) → change (change list) ≡ change list) → i < length inputs → terminal ≡ get_or inputs i terminal →
+    AreChanged (is_among (take i inputs)) change lists before → AreChanged (is_at terminal) change before after → AreChanged (is_among (take (i + 1) inputs)) change lists after
+among_turn inputs i terminal change lists before after twice within here so_far now k =
+    now k ∙ ap (λ (l : List ℕ). cond (is_at terminal k) (change l) l) (so_far k) ∙ step (is_among (take i inputs) k) (is_at terminal k) (list_of lists k)
+    ∙ ap (λ (b : Bool). cond b (change (list_of lists k)) (list_of lists k)) (sym (among_more inputs i k terminal within here))
   where
     step : (a b : Bool) (l : List ℕ) → cond b (change (cond a (change l) l)) (cond a (change l) l) ≡ cond (a || b) (change l) l
     step true true l = twice l
@@ -95,10 +38,7 @@ among_turn nets inputs i terminal change lists before after twice within here so
     step false true l = refl
     step false false l = refl
 
-pub among_none : (nets : List (ℕ × NetEntry)) (k : ℕ) → is_among nets [] k ≡ false
-among_none nets k = option_none (λ n. false) (record_at nets k) (λ n at. refl)
-
-pub without_twice : (key : ℕ) (list : List ℕ) → Keys.without_key (Keys.without_key list key) key ≡ Keys.without_key list key
+pub without_twice : (key : ℕ) (list : List ℕ) → Lists.without_key (Lists.without_key list key) key ≡ Lists.without_key list key
 without_twice key list = filter_filter (λ k. not (k == key)) (λ k. not (k == key)) list ∙ filter_within (λ k. not (k == key) && not (k == key)) (λ k. not (k == key)) list (each_here (λ k. (not (k == key) && not (k == key)) ≡ not (k == key)) (λ k. and_twice (not (k == key))) list)
   where
     and_twice : (b : Bool) → (b && b) ≡ b
@@ -112,6 +52,14 @@ changed_in_order es test key lists new apart ordered changed k = subst (IsInOrde
     step true = with_in_order es key (list_of lists k) apart
     step false = ordered k
 
+-- lists without a key are in order, as an addition asks
+pub left_in_order : (keys : List ℕ) (test : ℕ → Bool) (key : ℕ) (lists less : List (List (List ℕ))) → ((k : ℕ) → IsInOrder keys (list_of lists k)) → AreChanged test (λ list. Lists.without_key list key) lists less → (k : ℕ) → IsInOrder keys (list_of less k)
+left_in_order keys test key lists less was changed k = subst (IsInOrder keys) (sym (changed k)) (step (test k))
+  where
+    step : (b : Bool) → IsInOrder keys (cond b (Lists.without_key (list_of lists k) key) (list_of lists k))
+    step true = without_in_order keys (list_of lists k) key (was k)
+    step false = was k
+
 -- the same change of the one list whose key is asked for
 pub changed_there : (net k : ℕ) (f g : List ℕ → List ℕ) (lists : List (List (List ℕ))) → f (list_of lists net) ≡ g (list_of lists net) → cond (k == net) (f (list_of lists k)) (list_of lists k) ≡ cond (k == net) (g (list_of lists k)) (list_of lists k)
 changed_there net k f g lists same = step (k == net) refl
@@ -123,7 +71,7 @@ changed_there net k f g lists same = step (k == net) refl
 -- Edits of the gates: q says which gates a list has the keys of.
 
 -- without a key
-pub where_without : {X : Type 0} (q : ℕ × X → Bool) (es : List (ℕ × X)) (key : ℕ) → Keys.without_key (keys_where q es) key ≡ keys_where (λ e. not (e.0 == key) && q e) es
+pub where_without : {X : Type 0} (q : ℕ × X → Bool) (es : List (ℕ × X)) (key : ℕ) → Lists.without_key (keys_where q es) key ≡ keys_where (λ e. not (e.0 == key) && q e) es
 where_without q es key = filter_map (λ k. not (k == key)) (λ e. e.0) (filter q es) ∙ ap (λ l. keys_of l) (filter_filter (λ e. not (e.0 == key)) q es)
 
 -- taken away

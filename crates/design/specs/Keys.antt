@@ -1,84 +1,171 @@
--- Keys: numbers that name the nets and gates of a design.
-use Rattle.std.specs.Prelude.{◌≡◌, ◌≢◌, ℕ, ◌==◌, ◌++◌, not, List, [], ◌∷◌, length, map, Option, option_map, IfSome, AllPairs}
-use Rattle.std.specs.List.{filter, find, zip}
-use Rattle.design.specs.Names.{same_name}
-use Rattle.design.specs.Netlist.{NetEntry, GateEntry, Netlist, reads, with_gate, with_net, without_gate, without_net}
+-- A design as it is kept: each net and each gate with its key, a number that names it, and connections by key; and the
+-- same design by names.
+use Rattle.std.specs.Prelude.{◌≡◌, ◌≢◌, Bool, false, IsTrue, ℕ, ◌==◌, ◌++◌, List, [], ◌∷◌, length, map, Option, IsSome, IsSomeAnd, All, AllPairs}
+use Rattle.std.specs.List.{filter, list_any}
+use Rattle.std.specs.Option.{option_map_or}
+use Rattle.fourstate.specs.declared.gate.GateKind.{GateKind}
+use Rattle.fourstate.specs.Delays.{AreDelays}
+use Rattle.fourstate.specs.declared.delay_times.DelayTimes.{DelayTimes}
+use Rattle.fourstate.specs.Gates.{takes_inputs}
+use Rattle.catalog.specs.Catalog as Catalog
+use Rattle.catalog.specs.Catalog.{key_named, keys_of, record_at, records_of, with_record}
+use Rattle.design.specs.declared.terminal.Terminal.{Terminal}
+use Rattle.design.specs.declared.terminal.Terminal.TheVariants.{Net, Constant}
+use Rattle.fourstate.specs.declared.unit.TimeUnit.{TimeUnit}
+use Rattle.design.specs.Connections.{Connection, to_net, to_constant}
+use Rattle.design.specs.Names.{is_name}
+use Rattle.design.specs.Netlist.{NetEntry, GateEntry, Netlist}
 
--- a design with the key of each net and of each gate, in their order
+-- a gate drives the net of the key output, and reads nets by key, or constants
+pub record KeyedGate : Type 0 where
+  pub name : List ℕ
+  pub kind : GateKind
+  pub delays : DelayTimes
+  pub output : ℕ
+  pub inputs : List Terminal
+
+-- a design: its nets and its gates in order, each with its key
 pub record Keyed : Type 0 where
-  pub netlist : Netlist
-  pub net_keys : List ℕ
-  pub gate_keys : List ℕ
+  pub top : List ℕ
+  pub unit : TimeUnit
+  pub horizon : ℕ
+  pub nets : List (ℕ × NetEntry)
+  pub gates : List (ℕ × KeyedGate)
 
--- the nets, each with its key
-abbrev pub keyed_nets : Keyed → List (ℕ × NetEntry)
-keyed_nets d = zip d.net_keys d.netlist.nets
+-- The design by names.
 
--- the gates, each with its key
-abbrev pub keyed_gates : Keyed → List (ℕ × GateEntry)
-keyed_gates d = zip d.gate_keys d.netlist.gates
+-- the name of the net of this key, no bytes without one
+abbrev pub name_of : List (ℕ × NetEntry) → ℕ → List ℕ
+name_of nets key = option_map_or (λ n. n.name) (record_at nets key) []
 
--- the key of the net of this name
-abbrev pub net_key : Keyed → List ℕ → Option ℕ
-net_key d name = option_map (λ p. p.0) (find (λ p. same_name p.1.name name) (keyed_nets d))
+abbrev pub connection_in : List (ℕ × NetEntry) → Terminal → Connection
+connection_in nets (Net key) = to_net (name_of nets key)
+connection_in nets (Constant v) = to_constant v
 
--- the key of the gate of this name
-abbrev pub gate_key : Keyed → List ℕ → Option ℕ
-gate_key d name = option_map (λ p. p.0) (find (λ p. same_name p.1.name name) (keyed_gates d))
+-- the gate with the names of its nets
+abbrev pub entry_in : List (ℕ × NetEntry) → KeyedGate → GateEntry
+entry_in nets g = record {
+  name = g.name;
+  kind = g.kind;
+  delays = g.delays;
+  output = name_of nets g.output;
+  inputs = map (connection_in nets) g.inputs;
+}
+
+-- the gates with the names of their nets, each with its key
+abbrev pub named_gates : List (ℕ × NetEntry) → List (ℕ × KeyedGate) → List (ℕ × GateEntry)
+named_gates nets gates = map (λ e. (e.0, entry_in nets e.1)) gates
+
+-- the design by names
+unfoldable pub netlist : Keyed → Netlist
+netlist d = record {
+  top = d.top;
+  unit = d.unit;
+  nets = records_of d.nets;
+  gates = records_of (named_gates d.nets d.gates);
+  horizon = d.horizon;
+}
+
+-- Look-ups.
 
 -- the net that has this key
 abbrev pub net_by_key : Keyed → ℕ → Option NetEntry
-net_by_key d key = option_map (λ p. p.1) (find (λ p. p.0 == key) (keyed_nets d))
+net_by_key d key = record_at d.nets key
 
 -- the gate that has this key
-abbrev pub gate_by_key : Keyed → ℕ → Option GateEntry
-gate_by_key d key = option_map (λ p. p.1) (find (λ p. p.0 == key) (keyed_gates d))
+abbrev pub gate_by_key : Keyed → ℕ → Option KeyedGate
+gate_by_key d key = record_at d.gates key
 
--- the keys of the gates that read the net of this name, each once, in the gates' order
-abbrev pub reader_keys : Keyed → List ℕ → List ℕ
-reader_keys d name = map (λ p. p.0) (filter (λ p. reads p.1 name) (keyed_gates d))
+-- the key of the net of this name
+abbrev pub net_key : Keyed → List ℕ → Option ℕ
+net_key d name = key_named (λ n. n.name) d.nets name
 
--- the keys of the gates that drive the net of this name, in the gates' order
-abbrev pub driver_keys : Keyed → List ℕ → List ℕ
-driver_keys d name = map (λ p. p.0) (filter (λ p. same_name p.1.output name) (keyed_gates d))
+-- the key of the gate of this name
+abbrev pub gate_key : Keyed → List ℕ → Option ℕ
+gate_key d name = key_named (λ g. g.name) d.gates name
+
+-- Connections.
+
+-- the terminal is at the net of this key
+abbrev pub is_at : Terminal → ℕ → Bool
+is_at (Net net) key = key == net
+is_at (Constant v) key = false
+
+-- the net of this key is among these
+abbrev pub is_among : List Terminal → ℕ → Bool
+is_among inputs key = list_any (λ terminal. is_at terminal key) inputs
+
+-- the gate reads the net of this key at one of its inputs, or drives it
+abbrev pub reads_key : KeyedGate → ℕ → Bool
+reads_key g key = is_among g.inputs key
+
+abbrev pub drives_key : KeyedGate → ℕ → Bool
+drives_key g key = key == g.output
+
+-- the keys of the entries that pass, in order
+abbrev pub keys_where : {X : Type 0} → (ℕ × X → Bool) → List (ℕ × X) → List ℕ
+keys_where test entries = keys_of (filter test entries)
+
+-- the keys of the gates that read the net of this key, each once, in the gates' order
+abbrev pub reader_keys : Keyed → ℕ → List ℕ
+reader_keys d key = keys_where (λ e. reads_key e.1 key) d.gates
+
+-- the keys of the gates that drive the net of this key, in the gates' order
+abbrev pub driver_keys : Keyed → ℕ → List ℕ
+driver_keys d key = keys_where (λ e. drives_key e.1 key) d.gates
+
+-- the terminal is a constant, or the net of its key is there
+abbrev pub IsThere : List (ℕ × NetEntry) → Terminal → Type 0
+IsThere nets (Net key) = IsSome (record_at nets key)
+IsThere nets (Constant v) = Unit {0}
+
+-- the net of this key is there and no input: a gate may drive it
+abbrev pub IsDrivable : List (ℕ × NetEntry) → ℕ → Type 0
+IsDrivable nets key = IsSomeAnd (record_at nets key) (λ n. n.is_input ≡ false)
+
+-- a gate in its design: its output is a net that is no input, and each input is a constant or a net
+pub record IsConnected (nets : List (ℕ × NetEntry)) (g : KeyedGate) : Type 0 where
+  pub output : IsDrivable nets g.output
+  pub inputs : All (IsThere nets) g.inputs
+
+-- a gate by itself
+pub record IsKeyedGate (g : KeyedGate) : Type 0 where
+  pub named : IsTrue (is_name g.name)
+  pub inputs_fit : IsTrue (takes_inputs g.kind (length g.inputs))
+  pub delays_in_range : AreDelays g.delays
+
+-- what holds of the keys of every design: no two nets and no two gates have the same one, and each connection is there
+pub record AreKeys (d : Keyed) : Type 0 where
+  pub distinct_nets : AllPairs (λ a b. a ≢ b) (keys_of d.nets)
+  pub distinct_gates : AllPairs (λ a b. a ≢ b) (keys_of d.gates)
+  pub connected : All (IsConnected d.nets) (records_of d.gates)
 
 -- Edits.
 
--- the keys without this one
-abbrev pub without_key : List ℕ → ℕ → List ℕ
-without_key keys key = filter (λ k. not (k == key)) keys
+-- a design with no nets and no gates
+abbrev pub empty_design : List ℕ → TimeUnit → Keyed
+empty_design top unit = record { top = top; unit = unit; horizon = 0; nets = []; gates = [] }
 
 -- the design with a net more, and its key
 abbrev pub with_keyed_net : Keyed → NetEntry → ℕ → Keyed
-with_keyed_net d n key =
-    record { netlist = with_net d.netlist n; net_keys = d.net_keys ++ key ∷ []; gate_keys = d.gate_keys }
+with_keyed_net d n key = record d { nets = d.nets ++ (key, n) ∷ [] }
 
 -- the design with a gate more, and its key
-abbrev pub with_keyed_gate : Keyed → GateEntry → ℕ → Keyed
-with_keyed_gate d g key =
-    record { netlist = with_gate d.netlist g; net_keys = d.net_keys; gate_keys = d.gate_keys ++ key ∷ [] }
+abbrev pub with_keyed_gate : Keyed → KeyedGate → ℕ → Keyed
+with_keyed_gate d g key = record d { gates = d.gates ++ (key, g) ∷ [] }
 
 -- the design without the net of this key
-abbrev pub without_keyed_net : Keyed → NetEntry → ℕ → Keyed
-without_keyed_net d n key =
-    record { netlist = without_net d.netlist n.name; net_keys = without_key d.net_keys key; gate_keys = d.gate_keys }
+abbrev pub without_keyed_net : Keyed → ℕ → Keyed
+without_keyed_net d key = record d { nets = Catalog.without_key d.nets key }
 
 -- the design without the gate of this key
-abbrev pub without_keyed_gate : Keyed → GateEntry → ℕ → Keyed
-without_keyed_gate d g key =
-    record { netlist = without_gate d.netlist g.name; net_keys = d.net_keys; gate_keys = without_key d.gate_keys key }
+abbrev pub without_keyed_gate : Keyed → ℕ → Keyed
+without_keyed_gate d key = record d { gates = Catalog.without_key d.gates key }
 
--- the design with the netlist that an edit of the net of this key makes
-abbrev pub EditsNet : Keyed → ℕ → (NetEntry → Netlist) → Keyed → Type 0
-EditsNet d key edit made = IfSome (net_by_key d key) (λ n. made ≡ record d { netlist = edit n })
+-- the design with this net in place of that of the key
+abbrev pub with_net_at : Keyed → ℕ → NetEntry → Keyed
+with_net_at d key n = record d { nets = with_record d.nets key n }
 
--- the design with the netlist that an edit of the gate of this key makes
-abbrev pub EditsGate : Keyed → ℕ → (GateEntry → Netlist) → Keyed → Type 0
-EditsGate d key edit made = IfSome (gate_by_key d key) (λ g. made ≡ record d { netlist = edit g })
-
--- what holds of the keys of every design: each net and each gate has one, and no two are alike
-pub record AreKeys (d : Keyed) : Type 0 where
-  pub net_count : length d.net_keys ≡ length d.netlist.nets
-  pub gate_count : length d.gate_keys ≡ length d.netlist.gates
-  pub distinct_nets : AllPairs (λ a b. a ≢ b) d.net_keys
-  pub distinct_gates : AllPairs (λ a b. a ≢ b) d.gate_keys
+-- the design with this gate in place of that of the key
+abbrev pub with_gate_at : Keyed → ℕ → KeyedGate → Keyed
+with_gate_at d key g = record d { gates = with_record d.gates key g }

@@ -1,4 +1,5 @@
 pub mod Blocks
+pub mod Connections
 pub mod Kept
 pub mod Keys
 pub mod Lawful

@@ -1,5 +1,5 @@
 -- Lists of gate keys by net key, in blocks.
-use Rattle.std.specs.Prelude.{◌≡◌, Bool, ℕ, ◌/◌, ◌%◌, ◌==◌, ◌||◌, if◌then◌else◌, List, []}
+use Rattle.std.specs.Prelude.{◌≡◌, Bool, ℕ, ◌/◌, ◌%◌, ◌==◌, ◌||◌, not, if◌then◌else◌, List, []}
 use Rattle.std.specs.List.{filter, list_any, slice_index_or}
 use Rattle.design.specs.declared.key_lists.TheConstants.{BLOCK}
 
@@ -14,6 +14,10 @@ block_at blocks index = slice_index_or blocks index []
 -- the list of a key
 abbrev pub list_of : List (List (List ℕ)) → ℕ → List ℕ
 list_of blocks key = list_at (block_at blocks (key / BLOCK)) (key % BLOCK)
+
+-- the keys without this one
+abbrev pub without_key : List ℕ → ℕ → List ℕ
+without_key keys key = filter (λ k. not (k == key)) keys
 
 -- the key is in the list
 abbrev pub contains : List ℕ → ℕ → Bool

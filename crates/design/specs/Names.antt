@@ -1,12 +1,8 @@
 -- Names, as bytes (own).
-use Rattle.std.specs.Prelude.{Bool, ℕ, ◌==◌, ◌&&◌, not, nat_le, nat_eq, List, length, codes}
+use Rattle.std.specs.Prelude.{Bool, ℕ, ◌==◌, ◌&&◌, not, nat_le, List, length, codes}
 use Rattle.std.specs.List.{list_all}
-use Rattle.std.specs.Cmp.Lexicographic.{pointwise}
+pub use Rattle.catalog.specs.Catalog.{same_name}
 use Rattle.design.specs.declared.limits.TheConstants.{MAX_NAME}
-
--- two names are the same
-abbrev pub same_name : List ℕ → List ℕ → Bool
-same_name a b = pointwise nat_eq a b
 
 -- a byte that a name may have: printable and no blank, apostrophe or dot
 abbrev pub is_name_byte : ℕ → Bool

@@ -9,9 +9,8 @@ use Rattle.fourstate.specs.declared.value.Value.TheVariants.{Unknown}
 use Rattle.fourstate.specs.declared.gate.GateKind.{GateKind}
 use Rattle.fourstate.specs.declared.net.NetKind.{NetKind}
 use Rattle.fourstate.specs.declared.delay_times.DelayTimes.{DelayTimes}
-use Rattle.design.specs.declared.terminal.Terminal.{Terminal}
-use Rattle.design.specs.declared.terminal.Terminal.TheVariants.{Net, Constant}
 use Rattle.fourstate.specs.declared.unit.TimeUnit.{TimeUnit}
+use Rattle.design.specs.Connections.{Connection, to_net, to_constant}
 use Rattle.design.specs.Names.{same_name}
 
 -- a net: its stimulus points, in order of time, each with the value that the net has from then on
@@ -27,7 +26,7 @@ pub record GateEntry : Type 0 where
   pub kind : GateKind
   pub delays : DelayTimes
   pub output : List ℕ
-  pub inputs : List Terminal
+  pub inputs : List Connection
 
 -- a design: times are in units of `unit`, and a run ends at the horizon
 pub record Netlist : Type 0 where
@@ -63,19 +62,19 @@ has_gate d name = list_any (λ g. same_name g.name name) d.gates
 abbrev pub is_drivable : Netlist → List ℕ → Bool
 is_drivable d name = option_map_or (λ n. not n.is_input) (net_named d name) false
 
--- the terminal is a constant or names a net that is there
-abbrev pub is_readable : Netlist → Terminal → Bool
-is_readable d (Net name) = has_net d name
-is_readable d (Constant v) = true
+-- the connection is a constant or names a net that is there
+abbrev pub is_readable : Netlist → Connection → Bool
+is_readable d (to_net name) = has_net d name
+is_readable d (to_constant v) = true
 
 -- the gates that drive the net of this name
 abbrev pub drivers_of : Netlist → List ℕ → List GateEntry
 drivers_of d name = filter (λ g. same_name g.output name) d.gates
 
--- the terminal names the net of this name
-abbrev pub is_at_net : List ℕ → Terminal → Bool
-is_at_net name (Net read) = same_name read name
-is_at_net name (Constant v) = false
+-- the connection names the net of this name
+abbrev pub is_at_net : List ℕ → Connection → Bool
+is_at_net name (to_net read) = same_name read name
+is_at_net name (to_constant v) = false
 
 -- the gate reads the net of this name at one of its inputs
 abbrev pub reads : GateEntry → List ℕ → Bool
@@ -171,7 +170,7 @@ with_gate_kind d name kind =
     (λ g. record { name = g.name; kind = kind; delays = g.delays; output = g.output; inputs = g.inputs })
 
 -- the design with the gate of this name at other nets
-abbrev pub with_wiring : Netlist → List ℕ → List ℕ → List Terminal → Netlist
+abbrev pub with_wiring : Netlist → List ℕ → List ℕ → List Connection → Netlist
 with_wiring d name output inputs =
     with_gate_changed d name
     (λ g. record { name = g.name; kind = g.kind; delays = g.delays; output = output; inputs = inputs })

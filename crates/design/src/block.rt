@@ -2,8 +2,7 @@
 
 ghost use Rattle.std.specs.Prelude.{◌≡◌, ◌≤◌, ◌<◌, ℕ, ◌==◌, [], if◌then◌else◌, insert, IfOk, OnOk, length};
 ghost use Rattle.design.specs.Blocks.{lists_shown};
-ghost use Rattle.design.specs.Keys.{without_key};
-ghost use Rattle.design.specs.Lists.{list_at};
+ghost use Rattle.design.specs.Lists.{list_at, without_key};
 
 use crate::key::GateKey;
 use std::alloc::{AllocError, Global};

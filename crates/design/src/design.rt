@@ -1,10 +1,12 @@
 //! Designs: what is read of them.
 
-ghost use Rattle.std.specs.Prelude.{◌≡◌, ◌≤◌, ◌<◌, [], length, slice_get, IfOk};
+ghost use Rattle.std.specs.Prelude.{◌≡◌, ◌≤◌, ◌<◌, ℕ, IsSome, length, map, slice_get, IfOk};
+ghost use Rattle.std.specs.List.{filter};
 ghost use Rattle.fourstate.specs.declared.limits.TheConstants.{MAX_TIME};
-ghost use Rattle.design.specs.Keys.{AreKeys, gate_by_key, net_by_key};
+ghost use Rattle.catalog.specs.Catalog.{keys_of, records_of};
+ghost use Rattle.design.specs.Keys.{AreKeys, IsConnected, drives_key, empty_design, entry_in, gate_by_key, name_of, net_by_key, netlist};
 ghost use Rattle.design.specs.Lawful.{IsDesign};
-ghost use Rattle.design.specs.Netlist.{empty_netlist, point_total};
+ghost use Rattle.design.specs.Netlist.{drivers_of, empty_netlist, net_named, point_total};
 
 use crate::gate::Gate;
 use crate::key::{GateKey, NetKey};
@@ -35,19 +37,19 @@ impl Model for Design {
 
     ghost Value = { Keyed };
 
-    ghost use Rattle.design.specs.Kept.{keyed};
-    ghost use Rattle.design.specs.Shown.{IsWhole, store_of};
+    ghost use Rattle.design.specs.Shown.{IsWhole, design_of};
 
-    ghost view = { λ a. keyed (store_of a) };
+    ghost view = { design_of };
 
     ghost invariant = { IsWhole };
 }
 
 impl Design {
     /// A design with no nets and no gates, and with the horizon 0.
-    #[tactic(auto, using(crate::proofs::DesignLemmas::empty_is_design))]
+    #[tactic(auto, using(crate::proofs::DesignLemmas::empty_is_kept), unfolding(crate::specs::Keys::netlist))]
     pub fn empty(alloc: Global, hasher: NameHasher, top: Name, unit: TimeUnit) -> Design
-        ensures { result ≡ record { netlist = empty_netlist top unit; net_keys = []; gate_keys = [] } }
+        ensures by_key { result ≡ empty_design top unit }
+        ensures by_name { netlist result ≡ empty_netlist top unit }
     {
         top.lawful();
         Design {
@@ -94,22 +96,25 @@ impl Design {
     }
 
     /// The design's name.
+    #[tactic(auto, unfolding(crate::specs::Keys::netlist))]
     pub fn top(&self) -> &Name
-        ensures { result.now ≡ self.now.netlist.top }
+        ensures { result.now ≡ (netlist self.now).top }
     {
         &self.top
     }
 
     /// How long one unit of the design's times is.
+    #[tactic(auto, unfolding(crate::specs::Keys::netlist))]
     pub fn unit(&self) -> TimeUnit
-        ensures { result ≡ self.now.netlist.unit }
+        ensures { result ≡ (netlist self.now).unit }
     {
         self.unit
     }
 
     /// The last moment of a run, in time units.
+    #[tactic(auto, unfolding(crate::specs::Keys::netlist))]
     pub fn horizon(&self) -> u64
-        ensures horizon { result ≡ self.now.netlist.horizon }
+        ensures horizon { result ≡ (netlist self.now).horizon }
         ensures within { result ≤ MAX_TIME }
     {
         self.horizon
@@ -117,46 +122,49 @@ impl Design {
 
     /// How many nets there are.
     pub fn net_count(&self) -> usize
-        ensures { result ≡ length self.now.netlist.nets }
+        ensures { result ≡ length (netlist self.now).nets }
     {
         self.nets.len()
     }
 
     /// How many gates there are.
     pub fn gate_count(&self) -> usize
-        ensures { result ≡ length self.now.netlist.gates }
+        ensures { result ≡ length (netlist self.now).gates }
     {
         self.gates.len()
     }
 
     /// How many stimulus points there are, over all nets.
+    #[tactic(auto, unfolding(crate::specs::Keys::netlist))]
     pub fn point_count(&self) -> usize
-        ensures { result ≡ point_total self.now.netlist.nets }
+        ensures { result ≡ point_total (netlist self.now).nets }
     {
         self.points
     }
 
     /// The net at a place in the order of the nets.
     pub fn net_at(&self, place: usize) -> &Net
-        requires { place < length self.now.netlist.nets }
-        ensures { slice_get self.now.netlist.nets place ≡ Some result.now }
+        requires { place < length (netlist self.now).nets }
+        ensures { slice_get (netlist self.now).nets place ≡ Some result.now }
     {
         self.nets.record_at_place(place)
     }
 
     /// The gate at a place in the order of the gates.
     pub fn gate_at(&self, place: usize) -> &Gate
-        requires { place < length self.now.netlist.gates }
-        ensures { slice_get self.now.netlist.gates place ≡ Some result.now }
+        requires { place < length (netlist self.now).gates }
+        ensures gate { slice_get (records_of self.now.gates) place ≡ Some result.now }
+        ensures named { slice_get (netlist self.now).gates place ≡ Some (entry_in self.now.nets result.now) }
+        ensures connected { IsConnected self.now.nets result.now }
     {
         self.gates.record_at_place(place)
     }
 
     /// The key of the net at a place in the order of the nets.
     pub fn net_key_at(&self, place: usize) -> NetKey
-        requires { place < length self.now.netlist.nets }
-        ensures key { slice_get self.now.net_keys place ≡ Some result }
-        ensures net { net_by_key self.now result ≡ slice_get self.now.netlist.nets place }
+        requires { place < length (netlist self.now).nets }
+        ensures key { slice_get (keys_of self.now.nets) place ≡ Some result }
+        ensures net { net_by_key self.now result ≡ slice_get (netlist self.now).nets place }
     {
         let number = self.nets.key_at(place);
         NetKey { number }
@@ -164,9 +172,9 @@ impl Design {
 
     /// The key of the gate at a place in the order of the gates.
     pub fn gate_key_at(&self, place: usize) -> GateKey
-        requires { place < length self.now.netlist.gates }
-        ensures key { slice_get self.now.gate_keys place ≡ Some result }
-        ensures gate { gate_by_key self.now result ≡ slice_get self.now.netlist.gates place }
+        requires { place < length (netlist self.now).gates }
+        ensures key { slice_get (keys_of self.now.gates) place ≡ Some result }
+        ensures gate { gate_by_key self.now result ≡ slice_get (records_of self.now.gates) place }
     {
         let number = self.gates.key_at(place);
         GateKey { number }
@@ -174,8 +182,17 @@ impl Design {
 
     /// The law of every design and of its keys; nothing runs.
     pub fn lawful(&self)
-        ensures design { IsDesign self.now.netlist }
+        ensures design { IsDesign (netlist self.now) }
         ensures keys { AreKeys self.now }
+    {
+        let _nets = &self.nets;
+    }
+
+    /// The law of keys and names: a key's name finds what the key finds, and the drivers of a net are those of its key;
+    /// nothing runs.
+    pub fn names_are_keys(&self)
+        ensures nets { (key : ℕ) → net_named (netlist self.now) (name_of self.now.nets key) ≡ net_by_key self.now key }
+        ensures drivers { (key : ℕ) → IsSome (net_by_key self.now key) → drivers_of (netlist self.now) (name_of self.now.nets key) ≡ map (entry_in self.now.nets) (filter (λ g. drives_key g key) (records_of self.now.gates)) }
     {
         let _nets = &self.nets;
     }

@@ -1,22 +1,18 @@
 //! Edits of the gates of a design.
 
-ghost use Rattle.std.specs.Prelude.{◌≡◌, ◌<◌, ◌++◌, ◌∷◌, [], ℕ, List, false, IsTrue, IsSome, IsSomeAnd, IfSome, IfOk, length};
-ghost use Rattle.std.specs.List.{list_all};
+ghost use Rattle.std.specs.Prelude.{◌≡◌, ◌<◌, ◌++◌, ◌∷◌, [], ℕ, List, false, IsTrue, IsSome, IsSomeAnd, IfSome, IfOk, All, length, map};
 ghost use Rattle.fourstate.specs.Gates.{takes_inputs};
 ghost use Rattle.catalog.specs.Catalog.{key_named, keys_of, record_at, with_record, without_key};
 ghost use Rattle.design.specs.declared.limits.TheConstants.{MAX_GATES};
-ghost use Rattle.design.specs.Keys as Keys;
-ghost use Rattle.design.specs.Keys.{EditsGate, gate_by_key, with_keyed_gate, without_keyed_gate};
-ghost use Rattle.design.specs.Kept.{is_among, is_named};
+ghost use Rattle.design.specs.Keys.{IsConnected, IsDrivable, IsThere, connection_in, drives_key, entry_in, gate_by_key, name_of, netlist, reads_key, with_gate_at, with_keyed_gate, without_keyed_gate};
+ghost use Rattle.design.specs.Lists as Lists;
 ghost use Rattle.design.specs.Lists.{AreChanged, IsInOrder, list_of, with_key_in};
-ghost use Rattle.design.specs.Records.{gate_with_delays, gate_with_kind, gate_with_wiring};
-ghost use Rattle.design.specs.Netlist.{has_gate, is_drivable, is_readable, with_delays, with_gate_kind, with_wiring};
+ghost use Rattle.design.specs.Records.{IsInPlaceOf, gate_with_delays, gate_with_kind, gate_with_wiring};
+ghost use Rattle.design.specs.Netlist.{GateEntry, has_gate, with_delays, with_gate, with_gate_changed, with_gate_kind, with_wiring, without_gate};
 
 use crate::design::Design;
 use crate::gate::Gate;
-use crate::key::GateKey;
-use crate::name::Name;
-use crate::net::Net;
+use crate::key::{GateKey, NetKey};
 use crate::terminal::Terminal;
 use crate::wires::Wires;
 use catalog::Catalog;
@@ -27,14 +23,14 @@ use std::alloc::AllocError;
 impl Design {
     /// Adds a gate, and gives its key.
     pub fn add_gate(self, gate: Gate) -> Result<(Design, GateKey), AllocError>
-        requires absent { has_gate self.netlist gate.name ≡ false }
-        requires room { length self.netlist.gates < MAX_GATES }
-        requires output { IsTrue (is_drivable self.netlist gate.output) }
-        requires inputs { IsTrue (list_all (is_readable self.netlist) gate.inputs) }
-        ensures { IfOk result (λ made. made.0 ≡ with_keyed_gate self gate made.1) }
+        requires absent { has_gate (netlist self) gate.name ≡ false }
+        requires room { length (netlist self).gates < MAX_GATES }
+        requires connected { IsConnected self.nets gate }
+        ensures by_key { IfOk result (λ made. made.0 ≡ with_keyed_gate self gate made.1) }
+        ensures by_name { IfOk result (λ made. netlist made.0 ≡ with_gate (netlist self) (entry_in self.nets gate)) }
     {
         gate.lawful();
-        let (gates, wires, key) = with_gate(self.gates, self.wires, &self.nets, gate)?;
+        let (gates, wires, key) = with_gate(self.gates, self.wires, gate)?;
         let design = Design {
             gates,
             wires,
@@ -46,9 +42,10 @@ impl Design {
     /// Takes a gate away. The others keep their keys.
     pub fn remove_gate(self, gate: GateKey) -> Result<Design, AllocError>
         requires { IsSome (gate_by_key self gate) }
-        ensures { IfOk result (λ made. IfSome (gate_by_key self gate) (λ g. made ≡ without_keyed_gate self g gate)) }
+        ensures by_key { IfOk result (λ made. made ≡ without_keyed_gate self gate) }
+        ensures by_name { IfOk result (λ made. IfSome (gate_by_key self gate) (λ g. netlist made ≡ without_gate (netlist self) g.name)) }
     {
-        let (gates, wires) = without_gate(self.gates, self.wires, &self.nets, gate)?;
+        let (gates, wires) = without_gate(self.gates, self.wires, gate)?;
         Ok(Design {
             gates,
             wires,
@@ -59,37 +56,48 @@ impl Design {
     /// Gives a gate other delays.
     pub fn set_delays(self, gate: GateKey, delays: Delays) -> Result<Design, AllocError>
         requires { IsSome (gate_by_key self gate) }
-        ensures { IfOk result (EditsGate self gate (λ g. with_delays self.netlist g.name delays)) }
+        ensures by_key { IfOk result (λ made. IfSome (gate_by_key self gate) (λ g. made ≡ with_gate_at self gate (gate_with_delays g delays))) }
+        ensures by_name { IfOk result (λ made. IfSome (gate_by_key self gate) (λ g. netlist made ≡ with_delays (netlist self) g.name delays)) }
     {
-        delays_in_range(&delays);
-        let gates = with_delays_at(self.gates, gate.number, delays)?;
-        Ok(Design { gates, ..self })
+        let new = self.gate_of(gate).clone()?.with_delays(delays);
+        self.put_gate(gate, new)
     }
 
     /// Gives a gate another kind, which takes as many inputs as the gate has.
     pub fn set_gate_kind(self, gate: GateKey, kind: GateKind) -> Result<Design, AllocError>
         requires { IsSomeAnd (gate_by_key self gate) (λ g. IsTrue (takes_inputs kind (length g.inputs))) }
-        ensures { IfOk result (EditsGate self gate (λ g. with_gate_kind self.netlist g.name kind)) }
+        ensures by_key { IfOk result (λ made. IfSome (gate_by_key self gate) (λ g. made ≡ with_gate_at self gate (gate_with_kind g kind))) }
+        ensures by_name { IfOk result (λ made. IfSome (gate_by_key self gate) (λ g. netlist made ≡ with_gate_kind (netlist self) g.name kind)) }
     {
-        let gates = with_kind_at(self.gates, gate.number, kind)?;
+        let new = self.gate_of(gate).clone()?.with_kind(kind);
+        self.put_gate(gate, new)
+    }
+
+    /// Puts a gate in place of another one with its name and its connections.
+    fn put_gate(self, gate: GateKey, new: Gate) -> Result<Design, AllocError>
+        requires { IsSomeAnd (gate_by_key self gate) (λ old. IsInPlaceOf old new) }
+        ensures by_key { IfOk result (λ made. made ≡ with_gate_at self gate new) }
+        ensures by_name { IfOk result (λ made. IfSome (gate_by_key self gate) (λ old. (change : GateEntry → GateEntry) → entry_in self.nets new ≡ change (entry_in self.nets old) → netlist made ≡ with_gate_changed (netlist self) old.name change)) }
+    {
+        new.lawful();
+        let gates = self.gates.replace(gate.number, new)?;
         Ok(Design { gates, ..self })
     }
 
-    /// Puts a gate at other nets: it drives the net of the name `output`, and reads `inputs`.
+    /// Puts a gate at other nets: it drives the net `output`, and reads `inputs`.
     pub fn rewire(
         self,
         gate: GateKey,
-        output: Name,
+        output: NetKey,
         inputs: Vec<Terminal>,
     ) -> Result<Design, AllocError>
         requires fit { IsSomeAnd (gate_by_key self gate) (λ g. IsTrue (takes_inputs g.kind (length inputs.items))) }
-        requires output { IsTrue (is_drivable self.netlist output) }
-        requires inputs { IsTrue (list_all (is_readable self.netlist) inputs.items) }
-        ensures { IfOk result (EditsGate self gate (λ g. with_wiring self.netlist g.name output inputs.items)) }
+        requires output { IsDrivable self.nets output }
+        requires inputs { All (IsThere self.nets) inputs.items }
+        ensures by_key { IfOk result (λ made. IfSome (gate_by_key self gate) (λ g. made ≡ with_gate_at self gate (gate_with_wiring g output inputs.items))) }
+        ensures by_name { IfOk result (λ made. IfSome (gate_by_key self gate) (λ g. netlist made ≡ with_wiring (netlist self) g.name (name_of self.nets output) (map (connection_in self.nets) inputs.items))) }
     {
-        let (gates, wires) = with_wiring_at(
-            self.gates, self.wires, &self.nets, gate, output, inputs,
-        )?;
+        let (gates, wires) = with_wiring_at(self.gates, self.wires, gate, output, inputs)?;
         Ok(Design {
             gates,
             wires,
@@ -102,7 +110,6 @@ impl Design {
 fn with_gate(
     gates: Catalog<Gate>,
     wires: Wires,
-    nets: &Catalog<Net>,
     gate: Gate,
 ) -> Result<(Catalog<Gate>, Wires, GateKey), AllocError>
     requires absent { key_named (λ g. g.name) gates gate.name ≡ None }
@@ -110,15 +117,15 @@ fn with_gate(
     requires drivers { (k : ℕ) → IsInOrder (keys_of gates) (list_of wires.drivers k) }
     ensures entries { IfOk result (λ made. made.0 ≡ gates ++ (made.2, gate) ∷ []) }
     ensures fresh { IfOk result (λ made. record_at gates made.2 ≡ None) }
-    ensures readers { IfOk result (λ made. AreChanged (is_among nets.now gate.inputs) (with_key_in (keys_of made.0) made.2) wires.fanout made.1.fanout) }
-    ensures drivers { IfOk result (λ made. AreChanged (is_named nets.now gate.output) (with_key_in (keys_of made.0) made.2) wires.drivers made.1.drivers) }
+    ensures readers { IfOk result (λ made. AreChanged (reads_key gate) (with_key_in (keys_of made.0) made.2) wires.fanout made.1.fanout) }
+    ensures drivers { IfOk result (λ made. AreChanged (drives_key gate) (with_key_in (keys_of made.0) made.2) wires.drivers made.1.drivers) }
 {
     let (gates, number) = gates.push(gate)?;
     let key = GateKey { number };
     let Some(gate) = gates.get(number) else {
         unreachable!();
     };
-    let wires = wires.add(nets, &gates, gate, key)?;
+    let wires = wires.add(&gates, gate, key)?;
     Ok((gates, wires, key))
 }
 
@@ -126,75 +133,41 @@ fn with_gate(
 fn without_gate(
     gates: Catalog<Gate>,
     wires: Wires,
-    nets: &Catalog<Net>,
     key: GateKey,
 ) -> Result<(Catalog<Gate>, Wires), AllocError>
     requires { IsSome (record_at gates key) }
     ensures gates { IfOk result (λ made. made.0 ≡ without_key gates key) }
-    ensures readers { IfOk result (λ made. IfSome (record_at gates key) (λ old. AreChanged (is_among nets.now old.inputs) (λ list. Keys.without_key list key) wires.fanout made.1.fanout)) }
-    ensures drivers { IfOk result (λ made. IfSome (record_at gates key) (λ old. AreChanged (is_named nets.now old.output) (λ list. Keys.without_key list key) wires.drivers made.1.drivers)) }
+    ensures readers { IfOk result (λ made. IfSome (record_at gates key) (λ old. AreChanged (reads_key old) (λ list. Lists.without_key list key) wires.fanout made.1.fanout)) }
+    ensures drivers { IfOk result (λ made. IfSome (record_at gates key) (λ old. AreChanged (drives_key old) (λ list. Lists.without_key list key) wires.drivers made.1.drivers)) }
 {
     let Some(old) = gates.get(key.number) else {
         unreachable!();
     };
-    let wires = wires.remove(nets, old, key)?;
+    let wires = wires.remove(old, key)?;
     let gates = gates.remove(key.number)?;
     Ok((gates, wires))
-}
-
-/// The gates with the delays of one changed.
-fn with_delays_at(
-    gates: Catalog<Gate>,
-    key: usize,
-    delays: Delays,
-) -> Result<Catalog<Gate>, AllocError>
-    requires { IsSome (record_at gates key) }
-    ensures { IfOk result (λ made. IfSome (record_at gates key) (λ g. made ≡ with_record gates key (gate_with_delays g delays))) }
-{
-    let Some(old) = gates.get(key) else {
-        unreachable!();
-    };
-    let new = old.clone()?.with_delays(delays);
-    gates.replace(key, new)
-}
-
-/// The gates with the kind of one changed.
-fn with_kind_at(
-    gates: Catalog<Gate>,
-    key: usize,
-    kind: GateKind,
-) -> Result<Catalog<Gate>, AllocError>
-    requires { IsSomeAnd (record_at gates key) (λ g. IsTrue (takes_inputs kind (length g.inputs))) }
-    ensures { IfOk result (λ made. IfSome (record_at gates key) (λ g. made ≡ with_record gates key (gate_with_kind g kind))) }
-{
-    let Some(old) = gates.get(key) else {
-        unreachable!();
-    };
-    let new = old.clone()?.with_kind(kind);
-    gates.replace(key, new)
 }
 
 /// The gates with one put at other nets, and the lists with its key there.
 fn with_wiring_at(
     gates: Catalog<Gate>,
     wires: Wires,
-    nets: &Catalog<Net>,
     key: GateKey,
-    output: Name,
+    output: NetKey,
     inputs: Vec<Terminal>,
 ) -> Result<(Catalog<Gate>, Wires), AllocError>
     requires fit { IsSomeAnd (record_at gates key) (λ g. IsTrue (takes_inputs g.kind (length inputs.items))) }
     requires readers { (k : ℕ) → IsInOrder (keys_of gates) (list_of wires.fanout k) }
     requires drivers { (k : ℕ) → IsInOrder (keys_of gates) (list_of wires.drivers k) }
     ensures gates { IfOk result (λ made. IfSome (record_at gates key) (λ g. made.0 ≡ with_record gates key (gate_with_wiring g output inputs.items))) }
-    ensures readers { IfOk result (λ made. IfSome (record_at gates key) (λ g. (less : List (List (List ℕ))) × AreChanged (is_among nets.now g.inputs) (λ list. Keys.without_key list key) wires.fanout less × AreChanged (is_among nets.now inputs.items) (with_key_in (keys_of gates) key) less made.1.fanout)) }
-    ensures drivers { IfOk result (λ made. IfSome (record_at gates key) (λ g. (less : List (List (List ℕ))) × AreChanged (is_named nets.now g.output) (λ list. Keys.without_key list key) wires.drivers less × AreChanged (is_named nets.now output) (with_key_in (keys_of gates) key) less made.1.drivers)) }
+    ensures readers { IfOk result (λ made. IfSome (record_at gates key) (λ g. (less : List (List (List ℕ))) × AreChanged (reads_key g) (λ list. Lists.without_key list key) wires.fanout less × AreChanged (reads_key (gate_with_wiring g output inputs.items)) (with_key_in (keys_of gates) key) less made.1.fanout)) }
+    ensures drivers { IfOk result (λ made. IfSome (record_at gates key) (λ g. (less : List (List (List ℕ))) × AreChanged (drives_key g) (λ list. Lists.without_key list key) wires.drivers less × AreChanged (drives_key (gate_with_wiring g output inputs.items)) (with_key_in (keys_of gates) key) less made.1.drivers)) }
 {
     let Some(old) = gates.get(key.number) else {
         unreachable!();
     };
     let new = old.with_wiring(output, inputs)?;
-    let wires = wires.rewire(nets, &gates, old, &new, key)?;
+    let wires = wires.rewire(&gates, old, &new, key)?;
     let gates = gates.replace(key.number, new)?;
     Ok((gates, wires))
 }

@@ -4,9 +4,9 @@ ghost use Rattle.std.specs.Prelude.{◌≡◌, ◌≤◌, ◌<◌, [], true, fal
 ghost use Rattle.fourstate.specs.declared.limits.TheConstants.{MAX_TIME};
 ghost use Rattle.catalog.specs.Catalog.{record_at, with_record};
 ghost use Rattle.design.specs.declared.limits.TheConstants.{MAX_NETS, MAX_POINTS};
-ghost use Rattle.design.specs.Keys.{EditsNet, net_by_key, with_keyed_net, without_keyed_net};
+ghost use Rattle.design.specs.Keys.{net_by_key, netlist, with_keyed_net, with_net_at, without_keyed_net};
 ghost use Rattle.design.specs.Records.{net_with_kind, net_without_point};
-ghost use Rattle.design.specs.Netlist.{has_net, has_point, is_used, net_with_point, new_net, point_total, with_net_kind, with_point, without_point};
+ghost use Rattle.design.specs.Netlist.{has_net, has_point, is_used, net_with_point, new_net, point_total, with_net, with_net_kind, with_point, without_net, without_point};
 
 use crate::design::Design;
 use crate::key::NetKey;
@@ -19,27 +19,33 @@ use std::alloc::{AllocError, Global};
 impl Design {
     /// Adds a net that is no input, and gives its key.
     pub fn add_net(self, name: Name, kind: NetKind) -> Result<(Design, NetKey), AllocError>
-        requires absent { has_net self.netlist name ≡ false }
-        requires room { length self.netlist.nets < MAX_NETS }
-        ensures { IfOk result (λ made. made.0 ≡ with_keyed_net self (new_net name kind false) made.1) }
+        requires absent { has_net (netlist self) name ≡ false }
+        requires room { length (netlist self).nets < MAX_NETS }
+        ensures by_key { IfOk result (λ made. made.0 ≡ with_keyed_net self (new_net name kind false) made.1) }
+        ensures by_name { IfOk result (λ made. netlist made.0 ≡ with_net (netlist self) (new_net name kind false)) }
+        ensures there { IfOk result (λ made. net_by_key made.0 made.1 ≡ Some (new_net name kind false)) }
     {
         self.push_net(Net::new(name, kind, false))
     }
 
     /// Adds an input, a net of the kind `wire` with no stimulus points, and gives its key.
     pub fn add_input(self, name: Name) -> Result<(Design, NetKey), AllocError>
-        requires absent { has_net self.netlist name ≡ false }
-        requires room { length self.netlist.nets < MAX_NETS }
-        ensures { IfOk result (λ made. made.0 ≡ with_keyed_net self (new_net name NetKind.Wire true) made.1) }
+        requires absent { has_net (netlist self) name ≡ false }
+        requires room { length (netlist self).nets < MAX_NETS }
+        ensures by_key { IfOk result (λ made. made.0 ≡ with_keyed_net self (new_net name NetKind.Wire true) made.1) }
+        ensures by_name { IfOk result (λ made. netlist made.0 ≡ with_net (netlist self) (new_net name NetKind.Wire true)) }
+        ensures there { IfOk result (λ made. net_by_key made.0 made.1 ≡ Some (new_net name NetKind.Wire true)) }
     {
         self.push_net(Net::new(name, NetKind::Wire, true))
     }
 
     fn push_net(self, net: Net) -> Result<(Design, NetKey), AllocError>
         requires bare { net.points ≡ [] }
-        requires absent { has_net self.netlist net.name ≡ false }
-        requires room { length self.netlist.nets < MAX_NETS }
-        ensures { IfOk result (λ made. made.0 ≡ with_keyed_net self net made.1) }
+        requires absent { has_net (netlist self) net.name ≡ false }
+        requires room { length (netlist self).nets < MAX_NETS }
+        ensures by_key { IfOk result (λ made. made.0 ≡ with_keyed_net self net made.1) }
+        ensures by_name { IfOk result (λ made. netlist made.0 ≡ with_net (netlist self) net) }
+        ensures there { IfOk result (λ made. net_by_key made.0 made.1 ≡ Some net) }
     {
         net.lawful();
         let (nets, number) = self.nets.push(net)?;
@@ -48,8 +54,9 @@ impl Design {
 
     /// Takes a net that no gate reads or drives away, and its points with it. The others keep their keys.
     pub fn remove_net(self, net: NetKey) -> Result<Design, AllocError>
-        requires unused { IsSomeAnd (net_by_key self net) (λ n. is_used self.netlist n.name ≡ false) }
-        ensures { IfOk result (λ made. IfSome (net_by_key self net) (λ n. made ≡ without_keyed_net self n net)) }
+        requires unused { IsSomeAnd (net_by_key self net) (λ n. is_used (netlist self) n.name ≡ false) }
+        ensures by_key { IfOk result (λ made. made ≡ without_keyed_net self net) }
+        ensures by_name { IfOk result (λ made. IfSome (net_by_key self net) (λ n. netlist made ≡ without_net (netlist self) n.name)) }
     {
         let points = self.points - self.net_of(net).points().len();
         let nets = self.nets.remove(net.number)?;
@@ -63,7 +70,8 @@ impl Design {
     /// Gives a net another kind.
     pub fn set_net_kind(self, net: NetKey, kind: NetKind) -> Result<Design, AllocError>
         requires { IsSome (net_by_key self net) }
-        ensures { IfOk result (EditsNet self net (λ n. with_net_kind self.netlist n.name kind)) }
+        ensures by_key { IfOk result (λ made. IfSome (net_by_key self net) (λ n. made ≡ with_net_at self net (net_with_kind n kind))) }
+        ensures by_name { IfOk result (λ made. IfSome (net_by_key self net) (λ n. netlist made ≡ with_net_kind (netlist self) n.name kind)) }
     {
         let nets = with_kind_at(self.nets, net.number, kind)?;
         Ok(Design { nets, ..self })
@@ -73,8 +81,9 @@ impl Design {
     pub fn set_point(self, net: NetKey, t: u64, value: Value) -> Result<Design, AllocError>
         requires input { IsSomeAnd (net_by_key self net) (λ n. n.is_input ≡ true) }
         requires moment { t ≤ MAX_TIME }
-        requires room { IsSomeAnd (net_by_key self net) (λ n. has_point n.points t ≡ false → point_total self.netlist.nets < MAX_POINTS) }
-        ensures { IfOk result (EditsNet self net (λ n. with_point self.netlist n.name t value)) }
+        requires room { IsSomeAnd (net_by_key self net) (λ n. has_point n.points t ≡ false → point_total (netlist self).nets < MAX_POINTS) }
+        ensures by_key { IfOk result (λ made. IfSome (net_by_key self net) (λ n. made ≡ with_net_at self net (net_with_point n t value))) }
+        ensures by_name { IfOk result (λ made. IfSome (net_by_key self net) (λ n. netlist made ≡ with_point (netlist self) n.name t value)) }
     {
         let points = self.points + usize::from(!self.has_point(net, t));
         let alloc = self.wires.allocator();
@@ -89,7 +98,8 @@ impl Design {
     /// Takes the stimulus point of a net at the moment `t` away.
     pub fn remove_point(self, net: NetKey, t: u64) -> Result<Design, AllocError>
         requires { IsSomeAnd (net_by_key self net) (λ n. has_point n.points t ≡ true) }
-        ensures { IfOk result (EditsNet self net (λ n. without_point self.netlist n.name t)) }
+        ensures by_key { IfOk result (λ made. IfSome (net_by_key self net) (λ n. made ≡ with_net_at self net (net_without_point n t))) }
+        ensures by_name { IfOk result (λ made. IfSome (net_by_key self net) (λ n. netlist made ≡ without_point (netlist self) n.name t)) }
     {
         let points = self.points - 1;
         let alloc = self.wires.allocator();

@@ -1,25 +1,26 @@
 //! Look-ups in a design by name and by key.
 
-ghost use Rattle.std.specs.Prelude.{◌≡◌, ◌<◌, All, length, slice_get, IsSome, IfSome, IfNone, is_some};
-ghost use Rattle.std.specs.List.{list_all, position_from};
-ghost use Rattle.design.specs.Keys.{driver_keys, gate_by_key, gate_key, net_by_key, net_key, reader_keys};
+ghost use Rattle.std.specs.Prelude.{◌≡◌, ◌<◌, All, length, option_map, slice_get, IsSome, IfSome, IfNone, is_some};
+ghost use Rattle.std.specs.List.{position_from};
+ghost use Rattle.catalog.specs.Catalog.{place_of, records_of};
+ghost use Rattle.design.specs.Keys.{IsConnected, driver_keys, entry_in, gate_by_key, gate_key, name_of, net_by_key, net_key, netlist, reader_keys};
 ghost use Rattle.design.specs.Names.{same_name};
-ghost use Rattle.design.specs.Netlist.{gate_named, has_gate, has_net, has_point, is_drivable, is_readable, is_used, net_named};
+ghost use Rattle.design.specs.Netlist.{gate_named, has_gate, has_net, has_point, is_used, net_named};
 
 use crate::design::Design;
 use crate::gate::Gate;
 use crate::key::{GateKey, NetKey};
+use crate::name::Name;
 use crate::net::Net;
-use crate::terminal::Terminal;
 
 impl Design {
     /// The place of the net of this name in the order of the nets.
     pub fn net_place(&self, name: &str) -> Option<usize>
-        ensures place { result ≡ position_from (λ n. same_name n.name name.now) 0 self.now.netlist.nets }
-        ensures there { is_some result ≡ has_net self.now.netlist name.now }
-        ensures within { IfSome result (λ place. place < length self.now.netlist.nets) }
-        ensures net { IfSome result (λ place. slice_get self.now.netlist.nets place ≡ net_named self.now.netlist name.now) }
-        ensures absent { IfNone result (net_named self.now.netlist name.now ≡ None) }
+        ensures place { result ≡ position_from (λ n. same_name n.name name.now) 0 (netlist self.now).nets }
+        ensures there { is_some result ≡ has_net (netlist self.now) name.now }
+        ensures within { IfSome result (λ place. place < length (netlist self.now).nets) }
+        ensures net { IfSome result (λ place. slice_get (netlist self.now).nets place ≡ net_named (netlist self.now) name.now) }
+        ensures absent { IfNone result (net_named (netlist self.now) name.now ≡ None) }
     {
         match self.nets.key(name) {
             Some(key) => self.nets.place(key),
@@ -29,11 +30,11 @@ impl Design {
 
     /// The place of the gate of this name in the order of the gates.
     pub fn gate_place(&self, name: &str) -> Option<usize>
-        ensures place { result ≡ position_from (λ g. same_name g.name name.now) 0 self.now.netlist.gates }
-        ensures there { is_some result ≡ has_gate self.now.netlist name.now }
-        ensures within { IfSome result (λ place. place < length self.now.netlist.gates) }
-        ensures gate { IfSome result (λ place. slice_get self.now.netlist.gates place ≡ gate_named self.now.netlist name.now) }
-        ensures absent { IfNone result (gate_named self.now.netlist name.now ≡ None) }
+        ensures place { result ≡ position_from (λ g. same_name g.name name.now) 0 (netlist self.now).gates }
+        ensures there { is_some result ≡ has_gate (netlist self.now) name.now }
+        ensures within { IfSome result (λ place. place < length (netlist self.now).gates) }
+        ensures gate { IfSome result (λ place. slice_get (netlist self.now).gates place ≡ gate_named (netlist self.now) name.now) }
+        ensures absent { IfNone result (gate_named (netlist self.now) name.now ≡ None) }
     {
         match self.gates.key(name) {
             Some(key) => self.gates.place(key),
@@ -44,9 +45,10 @@ impl Design {
     /// The key of the net of this name.
     pub fn net(&self, name: &str) -> Option<NetKey>
         ensures key { result ≡ net_key self.now name.now }
-        ensures there { is_some result ≡ has_net self.now.netlist name.now }
-        ensures net { IfSome result (λ key. net_by_key self.now key ≡ net_named self.now.netlist name.now) }
-        ensures absent { IfNone result (net_named self.now.netlist name.now ≡ None) }
+        ensures there { is_some result ≡ has_net (netlist self.now) name.now }
+        ensures net { IfSome result (λ key. net_by_key self.now key ≡ net_named (netlist self.now) name.now) }
+        ensures name { IfSome result (λ key. name_of self.now.nets key ≡ name.now) }
+        ensures absent { IfNone result (net_named (netlist self.now) name.now ≡ None) }
     {
         match self.nets.key(name) {
             Some(number) => Some(NetKey { number }),
@@ -57,9 +59,9 @@ impl Design {
     /// The key of the gate of this name.
     pub fn gate(&self, name: &str) -> Option<GateKey>
         ensures key { result ≡ gate_key self.now name.now }
-        ensures there { is_some result ≡ has_gate self.now.netlist name.now }
-        ensures gate { IfSome result (λ key. gate_by_key self.now key ≡ gate_named self.now.netlist name.now) }
-        ensures absent { IfNone result (gate_named self.now.netlist name.now ≡ None) }
+        ensures there { is_some result ≡ has_gate (netlist self.now) name.now }
+        ensures gate { IfSome result (λ key. option_map (entry_in self.now.nets) (gate_by_key self.now key) ≡ gate_named (netlist self.now) name.now) }
+        ensures absent { IfNone result (gate_named (netlist self.now) name.now ≡ None) }
     {
         match self.gates.key(name) {
             Some(number) => Some(GateKey { number }),
@@ -67,18 +69,34 @@ impl Design {
         }
     }
 
-    /// Whether a net of the design has this key.
-    pub fn has_net_key(&self, net: NetKey) -> bool
-        ensures { result ≡ is_some (net_by_key self.now net) }
+    /// The place of a net in the order of the nets; none where no net of the design has this key. It is found in one step
+    /// as long as no net was removed since the last `close_up`.
+    pub fn net_place_of(&self, net: NetKey) -> Option<usize>
+        ensures place { result ≡ place_of self.now.nets net }
+        ensures there { is_some result ≡ is_some (net_by_key self.now net) }
+        ensures within { IfSome result (λ place. place < length (netlist self.now).nets) }
+        ensures net { IfSome result (λ place. slice_get (netlist self.now).nets place ≡ net_by_key self.now net) }
     {
-        self.nets.get(net.number).is_some()
+        self.nets.place(net.number)
     }
 
-    /// Whether a gate of the design has this key.
-    pub fn has_gate_key(&self, gate: GateKey) -> bool
-        ensures { result ≡ is_some (gate_by_key self.now gate) }
+    /// The place of a gate in the order of the gates; none where no gate of the design has this key. It is found in one
+    /// step as long as no gate was removed since the last `close_up`.
+    pub fn gate_place_of(&self, gate: GateKey) -> Option<usize>
+        ensures place { result ≡ place_of self.now.gates gate }
+        ensures there { is_some result ≡ is_some (gate_by_key self.now gate) }
+        ensures within { IfSome result (λ place. place < length (netlist self.now).gates) }
+        ensures gate { IfSome result (λ place. slice_get (records_of self.now.gates) place ≡ gate_by_key self.now gate) }
     {
-        self.gates.get(gate.number).is_some()
+        self.gates.place(gate.number)
+    }
+
+    /// The name of the net that has a key.
+    pub fn name_of(&self, net: NetKey) -> &Name
+        requires { IsSome (net_by_key self.now net) }
+        ensures { result.now ≡ name_of self.now.nets net }
+    {
+        self.net_of(net).name()
     }
 
     /// The net that has a key.
@@ -95,7 +113,8 @@ impl Design {
     /// The gate that has a key.
     pub fn gate_of(&self, gate: GateKey) -> &Gate
         requires { IsSome (gate_by_key self.now gate) }
-        ensures { gate_by_key self.now gate ≡ Some result.now }
+        ensures gate { gate_by_key self.now gate ≡ Some result.now }
+        ensures connected { IsConnected self.now.nets result.now }
     {
         match self.gates.get(gate.number) {
             Some(gate) => gate,
@@ -105,8 +124,7 @@ impl Design {
 
     /// The keys of the gates that read a net, each once, in the order of the gates.
     pub fn fanout(&self, net: NetKey) -> &[GateKey]
-        requires { IsSome (net_by_key self.now net) }
-        ensures readers { IfSome (net_by_key self.now net) (λ n. result.now ≡ reader_keys self.now n.name) }
+        ensures readers { result.now ≡ reader_keys self.now net }
         ensures gates { All (λ key. IsSome (gate_by_key self.now key)) result.now }
     {
         self.wires.fanout.at(net)
@@ -114,8 +132,7 @@ impl Design {
 
     /// The keys of the gates that drive a net, in the order of the gates.
     pub fn drivers(&self, net: NetKey) -> &[GateKey]
-        requires { IsSome (net_by_key self.now net) }
-        ensures drivers { IfSome (net_by_key self.now net) (λ n. result.now ≡ driver_keys self.now n.name) }
+        ensures drivers { result.now ≡ driver_keys self.now net }
         ensures gates { All (λ key. IsSome (gate_by_key self.now key)) result.now }
     {
         self.wires.drivers.at(net)
@@ -124,7 +141,7 @@ impl Design {
     /// Whether a gate reads or drives a net.
     pub fn is_used(&self, net: NetKey) -> bool
         requires { IsSome (net_by_key self.now net) }
-        ensures { IfSome (net_by_key self.now net) (λ n. result ≡ is_used self.now.netlist n.name) }
+        ensures { IfSome (net_by_key self.now net) (λ n. result ≡ is_used (netlist self.now) n.name) }
     {
         if !self.wires.fanout.at(net).is_empty() {
             return true;
@@ -142,42 +159,15 @@ impl Design {
 
     /// Whether a net has this name.
     pub fn has_net(&self, name: &str) -> bool
-        ensures { result ≡ has_net self.now.netlist name.now }
+        ensures { result ≡ has_net (netlist self.now) name.now }
     {
         self.nets.key(name).is_some()
     }
 
     /// Whether a gate has this name.
     pub fn has_gate(&self, name: &str) -> bool
-        ensures { result ≡ has_gate self.now.netlist name.now }
+        ensures { result ≡ has_gate (netlist self.now) name.now }
     {
         self.gates.key(name).is_some()
-    }
-
-    /// Whether a net has this name and is no input, so that a gate may drive it.
-    #[tactic(auto, using(crate::proofs::LookLemmas::any_found))]
-    pub fn is_drivable(&self, name: &str) -> bool
-        ensures { result ≡ is_drivable self.now.netlist name.now }
-    {
-        match self.net(name) {
-            Some(net) => !self.net_of(net).is_input(),
-            None => false,
-        }
-    }
-
-    /// Whether each terminal is a constant or names a net, so that a gate may read it.
-    pub fn are_readable(&self, inputs: &[Terminal]) -> bool
-        ensures { result ≡ list_all (is_readable self.now.netlist) inputs.now }
-    {
-        inputs.iter().all(|terminal| self.is_readable(terminal))
-    }
-
-    fn is_readable(&self, terminal: &Terminal) -> bool
-        ensures { result ≡ is_readable self.now.netlist terminal.now }
-    {
-        match terminal {
-            Terminal::Net(name) => self.has_net(name.as_str()),
-            Terminal::Constant(_) => true,
-        }
     }
 }

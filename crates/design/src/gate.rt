@@ -2,9 +2,10 @@
 
 ghost use Rattle.std.specs.Prelude.{◌≡◌, IfOk, IsTrue, length};
 ghost use Rattle.fourstate.specs.Gates.{takes_inputs};
-ghost use Rattle.design.specs.Lawful.{IsGate};
+ghost use Rattle.design.specs.Keys.{IsKeyedGate};
 ghost use Rattle.design.specs.Records.{gate_with_delays, gate_with_kind, gate_with_wiring};
 
+use crate::key::NetKey;
 use crate::name::Name;
 use crate::terminal::Terminal;
 use catalog::Named;
@@ -13,26 +14,25 @@ use fourstate::{Delays, GateKind};
 use std::alloc::AllocError;
 use std::marker::Model;
 
-/// A gate instance: it drives the net of one name, and reads nets by name, or constants (IEEE 1364-2005, 7.1). The
-/// type keeps that the number of inputs fits the kind.
+/// A gate instance: it drives the net of one key, and reads nets by key, or constants (IEEE 1364-2005, 7.1). The type
+/// keeps that the number of inputs fits the kind.
 #[derive(Debug, Drop)]
 pub struct Gate {
     name: Name,
     kind: GateKind,
     delays: Delays,
-    output: Name,
+    output: NetKey,
     inputs: Vec<Terminal>,
 }
 
 impl Model for Gate {
-    ghost use Rattle.design.specs.Netlist.{GateEntry};
-    ghost use Rattle.design.specs.Lawful.{IsGate};
+    ghost use Rattle.design.specs.Keys.{IsKeyedGate, KeyedGate};
 
-    ghost Value = { GateEntry };
+    ghost Value = { KeyedGate };
 
     ghost view = { λ a. record { name = a.name; kind = a.kind; delays = a.delays; output = a.output; inputs = a.inputs.items } };
 
-    ghost invariant = { λ a. IsGate (record { name = a.name; kind = a.kind; delays = a.delays; output = a.output; inputs = a.inputs.items }) };
+    ghost invariant = { λ a. IsKeyedGate (record { name = a.name; kind = a.kind; delays = a.delays; output = a.output; inputs = a.inputs.items }) };
 }
 
 impl Gate {
@@ -41,7 +41,7 @@ impl Gate {
         name: Name,
         kind: GateKind,
         delays: Delays,
-        output: Name,
+        output: NetKey,
         inputs: Vec<Terminal>,
     ) -> Gate
         requires { IsTrue (takes_inputs kind (length inputs.items)) }
@@ -79,11 +79,11 @@ impl Gate {
         self.delays
     }
 
-    /// The name of the net that the gate drives.
-    pub fn output(&self) -> &Name
-        ensures { result.now ≡ self.now.output }
+    /// The key of the net that the gate drives.
+    pub fn output(&self) -> NetKey
+        ensures { result ≡ self.now.output }
     {
-        &self.output
+        self.output
     }
 
     /// What each input is connected to, in order; their number fits the kind.
@@ -113,7 +113,7 @@ impl Gate {
     /// The gate at other nets.
     pub(crate) fn with_wiring(
         &self,
-        output: Name,
+        output: NetKey,
         inputs: Vec<Terminal>,
     ) -> Result<Gate, AllocError>
         requires { IsTrue (takes_inputs self.now.kind (length inputs.items)) }
@@ -131,7 +131,7 @@ impl Gate {
 
     /// The law of every gate; nothing runs.
     pub fn lawful(&self)
-        ensures { IsGate self.now }
+        ensures { IsKeyedGate self.now }
     {
         let _inputs = &self.inputs;
     }
@@ -144,13 +144,12 @@ impl Clone for Gate {
 
     fn clone(&self) -> Result<Gate, AllocError> {
         let name = self.name.clone()?;
-        let output = self.output.clone()?;
-        let inputs = self.inputs.clone()?;
+        let inputs = Vec::from_slice(*self.inputs.allocator(), self.inputs())?;
         Ok(Gate {
             name,
             kind: self.kind,
             delays: self.delays,
-            output,
+            output: self.output,
             inputs,
         })
     }

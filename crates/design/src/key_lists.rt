@@ -1,8 +1,7 @@
 //! Lists of gate keys by net key, which copies share.
 
 ghost use Rattle.std.specs.Prelude.{◌≡◌, ◌≤◌, ◌<◌, ℕ, ◌==◌, [], if◌then◌else◌, insert, IfOk, OnOk, length};
-ghost use Rattle.design.specs.Keys.{without_key};
-ghost use Rattle.design.specs.Lists.{AreChanged, block_at, list_of};
+ghost use Rattle.design.specs.Lists.{AreChanged, block_at, list_of, without_key};
 ghost use Rattle.design.specs.Blocks.{blocks_shown};
 
 use crate::block::Block;

@@ -2,15 +2,13 @@
 
 ghost use Rattle.std.specs.Prelude.{◌≡◌, ℕ, List, [], IsSome, IfOk};
 ghost use Rattle.catalog.specs.Catalog.{keys_of, record_at};
-ghost use Rattle.design.specs.Keys.{without_key};
-ghost use Rattle.design.specs.Kept.{is_among, is_named};
-ghost use Rattle.design.specs.Lists.{AreChanged, IsInOrder, list_of, with_key_in};
+ghost use Rattle.design.specs.Keys.{drives_key, reads_key};
+ghost use Rattle.design.specs.Lists.{AreChanged, IsInOrder, list_of, with_key_in, without_key};
 
 use crate::gate::Gate;
 use crate::key::GateKey;
 use crate::key_lists::KeyLists;
-use crate::net::Net;
-use crate::wiring::{add_among, add_at, remove_among, remove_at};
+use crate::wiring::{add, add_among, remove_among};
 use catalog::Catalog;
 use std::alloc::{AllocError, Global};
 
@@ -38,40 +36,33 @@ impl Wires {
     }
 
     /// The lists with the key of a gate at the nets that it reads and drives.
-    pub fn add(
-        self,
-        nets: &Catalog<Net>,
-        gates: &Catalog<Gate>,
-        gate: &Gate,
-        key: GateKey,
-    ) -> Result<Wires, AllocError>
+    pub fn add(self, gates: &Catalog<Gate>, gate: &Gate, key: GateKey) -> Result<Wires, AllocError>
         requires there { IsSome (record_at gates.now key) }
         requires readers { (k : ℕ) → IsInOrder (keys_of gates.now) (list_of self.fanout k) }
         requires drivers { (k : ℕ) → IsInOrder (keys_of gates.now) (list_of self.drivers k) }
-        ensures readers { IfOk result (λ new. AreChanged (is_among nets.now gate.now.inputs) (with_key_in (keys_of gates.now) key) self.fanout new.fanout) }
-        ensures drivers { IfOk result (λ new. AreChanged (is_named nets.now gate.now.output) (with_key_in (keys_of gates.now) key) self.drivers new.drivers) }
+        ensures readers { IfOk result (λ new. AreChanged (reads_key gate.now) (with_key_in (keys_of gates.now) key) self.fanout new.fanout) }
+        ensures drivers { IfOk result (λ new. AreChanged (drives_key gate.now) (with_key_in (keys_of gates.now) key) self.drivers new.drivers) }
     {
         let Wires { fanout, drivers } = self;
-        let fanout = add_among(fanout, nets, gates, gate.inputs(), key)?;
-        let drivers = add_at(drivers, nets, gates, gate.output().as_str(), key)?;
+        let fanout = add_among(fanout, gates, gate.inputs(), key)?;
+        let drivers = add(drivers, gates, gate.output(), key)?;
         Ok(Wires { fanout, drivers })
     }
 
     /// The lists without the key of a gate, which stood at the nets that it reads and drives.
-    pub fn remove(self, nets: &Catalog<Net>, gate: &Gate, key: GateKey) -> Result<Wires, AllocError>
-        ensures readers { IfOk result (λ new. AreChanged (is_among nets.now gate.now.inputs) (λ list. without_key list key) self.fanout new.fanout) }
-        ensures drivers { IfOk result (λ new. AreChanged (is_named nets.now gate.now.output) (λ list. without_key list key) self.drivers new.drivers) }
+    pub fn remove(self, gate: &Gate, key: GateKey) -> Result<Wires, AllocError>
+        ensures readers { IfOk result (λ new. AreChanged (reads_key gate.now) (λ list. without_key list key) self.fanout new.fanout) }
+        ensures drivers { IfOk result (λ new. AreChanged (drives_key gate.now) (λ list. without_key list key) self.drivers new.drivers) }
     {
         let Wires { fanout, drivers } = self;
-        let fanout = remove_among(fanout, nets, gate.inputs(), key)?;
-        let drivers = remove_at(drivers, nets, gate.output().as_str(), key)?;
+        let fanout = remove_among(fanout, gate.inputs(), key)?;
+        let drivers = drivers.remove(gate.output(), key)?;
         Ok(Wires { fanout, drivers })
     }
 
     /// The lists with the key of a gate at the nets that it reads and drives, which stood at those of the gate before.
     pub fn rewire(
         self,
-        nets: &Catalog<Net>,
         gates: &Catalog<Gate>,
         old: &Gate,
         new: &Gate,
@@ -80,11 +71,11 @@ impl Wires {
         requires there { IsSome (record_at gates.now key) }
         requires readers { (k : ℕ) → IsInOrder (keys_of gates.now) (list_of self.fanout k) }
         requires drivers { (k : ℕ) → IsInOrder (keys_of gates.now) (list_of self.drivers k) }
-        ensures readers { IfOk result (λ wires. (less : List (List (List ℕ))) × AreChanged (is_among nets.now old.now.inputs) (λ list. without_key list key) self.fanout less × AreChanged (is_among nets.now new.now.inputs) (with_key_in (keys_of gates.now) key) less wires.fanout) }
-        ensures drivers { IfOk result (λ wires. (less : List (List (List ℕ))) × AreChanged (is_named nets.now old.now.output) (λ list. without_key list key) self.drivers less × AreChanged (is_named nets.now new.now.output) (with_key_in (keys_of gates.now) key) less wires.drivers) }
+        ensures readers { IfOk result (λ wires. (less : List (List (List ℕ))) × AreChanged (reads_key old.now) (λ list. without_key list key) self.fanout less × AreChanged (reads_key new.now) (with_key_in (keys_of gates.now) key) less wires.fanout) }
+        ensures drivers { IfOk result (λ wires. (less : List (List (List ℕ))) × AreChanged (drives_key old.now) (λ list. without_key list key) self.drivers less × AreChanged (drives_key new.now) (with_key_in (keys_of gates.now) key) less wires.drivers) }
     {
-        let less = self.remove(nets, old, key)?;
-        let wires = less.add(nets, gates, new, key)?;
+        let less = self.remove(old, key)?;
+        let wires = less.add(gates, new, key)?;
         Ok(wires)
     }
 }

@@ -1,15 +1,16 @@
 -- Nets and gates that are found by their names.
-use Rattle.std.proofs.Common.{◌≡◌, ℕ, ◌<◌, List, [], ◌∷◌, length, Bool, true, false, not, IsTrue, find, Option, Some, None, refl, sym, ap, subst, ◌∙◌}
+use Rattle.std.proofs.Common.{◌≡◌, ℕ, ◌<◌, List, [], ◌∷◌, length, Bool, true, false, IsTrue, find, Option, Some, None, option_map, refl, sym, ap, subst, ◌∙◌}
 use Rattle.std.specs.Prelude.{IfOk, IfSome, IsSome, Result, Ok, Err}
 use Rattle.std.specs.List.{list_any}
 use Rattle.std.specs.Option.{IsSomeAnd, option_map_or}
+use Rattle.std.proofs.lemmas.List.{length-map}
 use Rattle.std.proofs.lemmas.Slice.Eq.{bytes_eq-Decides}
 use Rattle.fourstate.specs.declared.gate.GateKind.{GateKind}
 use Rattle.fourstate.specs.Gates.{takes_inputs}
 use Rattle.design.specs.declared.limits.TheConstants.{MAX_POINTS}
-use Rattle.design.specs.Keys.{Keyed}
+use Rattle.design.specs.Keys.{Keyed, KeyedGate, connection_in, entry_in, netlist}
 use Rattle.design.specs.Names.{same_name}
-use Rattle.design.specs.Netlist.{GateEntry, NetEntry, Netlist, gate_named, has_gate, has_net, has_point, is_drivable, is_used, net_named, point_total}
+use Rattle.design.specs.Netlist.{GateEntry, NetEntry, Netlist, gate_named, has_gate, has_net, has_point, is_used, net_named, point_total}
 use Rattle.edits.specs.Accepted.{FreesNet, TakesPoint}
 use Rattle.edits.specs.Checks.{gate_takes, is_input_net, is_point, kind_fits}
 
@@ -104,51 +105,73 @@ room_found d name t o e takes =
 pub input_there : (d : Netlist) (name : List ℕ) → is_input_net d name ≡ true → has_net d name ≡ true
 input_there d name is = find_any (λ n. same_name n.name name) d.nets (some_of (λ n. n.is_input) (net_named d name) is)
 
-drivable_by : (o : Option NetEntry) → IsSome o → option_map_or (λ n. n.is_input) o false ≡ false → IsTrue (option_map_or (λ n. not n.is_input) o false)
-drivable_by (Some n) some e = rw e refl
+drivable_by : (o : Option NetEntry) → IsSome o → option_map_or (λ n. n.is_input) o false ≡ false → IsSomeAnd o (λ n. n.is_input ≡ false)
+drivable_by (Some n) some e = e
 drivable_by None some e = absurd (cc)
 
-pub drivable_there : (d : Netlist) (name : List ℕ) → has_net d name ≡ true → is_input_net d name ≡ false → IsTrue (is_drivable d name)
-drivable_there d name there undriven = drivable_by (net_named d name) (any_find (λ n. same_name n.name name) d.nets there) undriven
+pub drivable_found : (d : Netlist) (name : List ℕ) (o : Option NetEntry) → o ≡ net_named d name → has_net d name ≡ true → is_input_net d name ≡ false → IsSomeAnd o (λ n. n.is_input ≡ false)
+drivable_found d name o e there undriven =
+    drivable_by o (net_found d name o e there) (ap (λ p. option_map_or (λ n. n.is_input) p false) e ∙ undriven)
 
--- Gates.
+-- Gates: a gate is found by its key, and the entry of the name is its own with the names of its nets.
 
-pub gate_found : (d : Netlist) (name : List ℕ) (o : Option GateEntry) → o ≡ gate_named d name → has_gate d name ≡ true → IsSome o
-gate_found d name o e there = let Q : Option GateEntry → Type 0 = λ o. IsSome o in subst Q (sym e) (any_find (λ g. same_name g.name name) d.gates there)
+entry_by : (nets : List (ℕ × NetEntry)) (o : Option KeyedGate) (q : Option GateEntry) (P : GateEntry → Type 0) → option_map (entry_in nets) o ≡ q → IsSomeAnd q P → IsSomeAnd o (λ g. P (entry_in nets g))
+entry_by nets (Some g) (Some h) P e some = let same : h ≡ entry_in nets g = cc in subst P same some
+entry_by nets (Some g) None P e some = absurd some
+entry_by nets None (Some h) P e some = absurd (cc)
+entry_by nets None None P e some = absurd some
 
-pub kind_found : (d : Netlist) (name : List ℕ) (kind : GateKind) (o : Option GateEntry) → o ≡ gate_named d name → kind_fits d name kind ≡ true
+weaker : {X : Type 0} (o : Option X) (P Q : X → Type 0) → ((x : X) → P x → Q x) → IsSomeAnd o P → IsSomeAnd o Q
+weaker (Some x) P Q w some = w x some
+weaker None P Q w some = absurd some
+
+some_and : {X : Type 0} (o : Option X) (P : X → Type 0) → IsSomeAnd o P → IsSome o
+some_and (Some x) P some = refl
+some_and None P some = absurd some
+
+named_gate : (d : Netlist) (nets : List (ℕ × NetEntry)) (name : List ℕ) (o : Option KeyedGate) → option_map (entry_in nets) o ≡ gate_named d name → has_gate d name ≡ true → IsSomeAnd o (λ g. g.name ≡ name)
+named_gate d nets name o e there =
+    entry_by nets o (gate_named d name) (λ g. g.name ≡ name) e
+    (found_and (λ g. same_name g.name name) d.gates (gate_named d name) (λ g. g.name ≡ name) refl there (λ g same. (bytes_eq-Decides g.name name).0 same))
+
+pub gate_found : (d : Netlist) (nets : List (ℕ × NetEntry)) (name : List ℕ) (o : Option KeyedGate) → option_map (entry_in nets) o ≡ gate_named d name → has_gate d name ≡ true → IsSome o
+gate_found d nets name o e there = some_and o (λ g. g.name ≡ name) (named_gate d nets name o e there)
+
+pub kind_found : (d : Netlist) (nets : List (ℕ × NetEntry)) (name : List ℕ) (kind : GateKind) (o : Option KeyedGate) → option_map (entry_in nets) o ≡ gate_named d name → kind_fits d name kind ≡ true
     → IsSomeAnd o (λ g. IsTrue (takes_inputs kind (length g.inputs)))
-kind_found d name kind o e fit = passes (λ g. takes_inputs kind (length g.inputs)) o (gate_named d name) e fit
+kind_found d nets name kind o e fit =
+    weaker o (λ g. takes_inputs kind (length (entry_in nets g).inputs) ≡ true) (λ g. IsTrue (takes_inputs kind (length g.inputs))) (λ g fits. ap (takes_inputs kind) (sym (length-map g.inputs (connection_in nets))) ∙ fits)
+    (entry_by nets o (gate_named d name) (λ g. takes_inputs kind (length g.inputs) ≡ true) e (passes_by (λ g. takes_inputs kind (length g.inputs)) (gate_named d name) fit))
 
-pub arity_found : (d : Netlist) (name : List ℕ) (n : ℕ) (o : Option GateEntry) → o ≡ gate_named d name → gate_takes d name n ≡ true
+pub arity_found : (d : Netlist) (nets : List (ℕ × NetEntry)) (name : List ℕ) (n : ℕ) (o : Option KeyedGate) → option_map (entry_in nets) o ≡ gate_named d name → gate_takes d name n ≡ true
     → IsSomeAnd o (λ g. IsTrue (takes_inputs g.kind n))
-arity_found d name n o e fit = passes (λ g. takes_inputs g.kind n) o (gate_named d name) e fit
+arity_found d nets name n o e fit = entry_by nets o (gate_named d name) (λ g. IsTrue (takes_inputs g.kind n)) e (passes_by (λ g. takes_inputs g.kind n) (gate_named d name) fit)
+
+-- what is asked of the gate that is found
+pub kind_asked : (d : Netlist) (nets : List (ℕ × NetEntry)) (name : List ℕ) (kind : GateKind) (g : KeyedGate) → Some (entry_in nets g) ≡ gate_named d name → kind_fits d name kind ≡ takes_inputs kind (length g.inputs)
+kind_asked d nets name kind g e = ap (λ o. option_map_or (λ (h : GateEntry). takes_inputs kind (length h.inputs)) o false) (sym e) ∙ ap (takes_inputs kind) (length-map g.inputs (connection_in nets))
+
+pub arity_asked : (d : Netlist) (nets : List (ℕ × NetEntry)) (name : List ℕ) (n : ℕ) (g : KeyedGate) → Some (entry_in nets g) ≡ gate_named d name → gate_takes d name n ≡ takes_inputs g.kind n
+arity_asked d nets name n g e = ap (λ o. option_map_or (λ (h : GateEntry). takes_inputs h.kind n) o false) (sym e)
 
 -- Changes of what is found.
 
-some_result : {X : Type 0} (name_of : X → List ℕ) (name : List ℕ) (o : Option X) (made : Keyed) (change : X → Keyed) (netlist : List ℕ → Netlist)
-    → ((x : X) → (change x).netlist ≡ netlist (name_of x)) → IsSomeAnd o (λ x. name_of x ≡ name) → IfSome o (λ x. made ≡ change x) → made.netlist ≡ netlist name
-some_result name_of name (Some x) made change netlist each named is = ap (λ (k : Keyed). k.netlist) is ∙ each x ∙ ap netlist named
-some_result name_of name None made change netlist each named is = absurd named
+some_result : {X : Type 0} (name_of : X → List ℕ) (name : List ℕ) (o : Option X) (made : Keyed) (change : List ℕ → Netlist) → IsSomeAnd o (λ x. name_of x ≡ name) → IfSome o (λ x. netlist made ≡ change (name_of x)) → netlist made ≡ change name
+some_result name_of name (Some x) made change named is = is ∙ ap change named
+some_result name_of name None made change named is = absurd named
 
-ok_result : {X E : Type 0} (name_of : X → List ℕ) (name : List ℕ) (o : Option X) (r : Result Keyed E) (change : X → Keyed) (netlist : List ℕ → Netlist)
-    → ((x : X) → (change x).netlist ≡ netlist (name_of x)) → IsSomeAnd o (λ x. name_of x ≡ name)
-    → IfOk r (λ made. IfSome o (λ x. made ≡ change x)) → IfOk r (λ new. new.netlist ≡ netlist name)
-ok_result name_of name o (Ok made) change netlist each named is = some_result name_of name o made change netlist each named is
-ok_result name_of name o (Err e) change netlist each named is = tt
+ok_result : {X E : Type 0} (name_of : X → List ℕ) (name : List ℕ) (o : Option X) (r : Result Keyed E) (change : List ℕ → Netlist) → IsSomeAnd o (λ x. name_of x ≡ name)
+    → IfOk r (λ made. IfSome o (λ x. netlist made ≡ change (name_of x))) → IfOk r (λ made. netlist made ≡ change name)
+ok_result name_of name o (Ok made) change named is = some_result name_of name o made change named is
+ok_result name_of name o (Err e) change named is = tt
 
 -- a change of the net that is found by a name
-pub net_result : {E : Type 0} (d : Netlist) (name : List ℕ) (o : Option NetEntry) (r : Result Keyed E) (change : NetEntry → Keyed) (netlist : List ℕ → Netlist)
-    → ((n : NetEntry) → (change n).netlist ≡ netlist n.name) → o ≡ net_named d name → has_net d name ≡ true
-    → IfOk r (λ made. IfSome o (λ n. made ≡ change n)) → IfOk r (λ new. new.netlist ≡ netlist name)
-net_result d name o r change netlist each e there is =
-    ok_result (λ (n : NetEntry). n.name) name o r change netlist each
-    (found_and (λ n. same_name n.name name) d.nets o (λ n. n.name ≡ name) e there (λ n same. (bytes_eq-Decides n.name name).0 same)) is
+pub net_result : {E : Type 0} (d : Netlist) (name : List ℕ) (o : Option NetEntry) (r : Result Keyed E) (change : List ℕ → Netlist) → o ≡ net_named d name → has_net d name ≡ true
+    → IfOk r (λ made. IfSome o (λ n. netlist made ≡ change n.name)) → IfOk r (λ made. netlist made ≡ change name)
+net_result d name o r change e there is =
+    ok_result (λ (n : NetEntry). n.name) name o r change (found_and (λ n. same_name n.name name) d.nets o (λ n. n.name ≡ name) e there (λ n same. (bytes_eq-Decides n.name name).0 same)) is
 
 -- a change of the gate that is found by a name
-pub gate_result : {E : Type 0} (d : Netlist) (name : List ℕ) (o : Option GateEntry) (r : Result Keyed E) (change : GateEntry → Keyed) (netlist : List ℕ → Netlist)
-    → ((g : GateEntry) → (change g).netlist ≡ netlist g.name) → o ≡ gate_named d name → has_gate d name ≡ true
-    → IfOk r (λ made. IfSome o (λ g. made ≡ change g)) → IfOk r (λ new. new.netlist ≡ netlist name)
-gate_result d name o r change netlist each e there is =
-    ok_result (λ (g : GateEntry). g.name) name o r change netlist each
-    (found_and (λ g. same_name g.name name) d.gates o (λ g. g.name ≡ name) e there (λ g same. (bytes_eq-Decides g.name name).0 same)) is
+pub gate_result : {E : Type 0} (d : Netlist) (nets : List (ℕ × NetEntry)) (name : List ℕ) (o : Option KeyedGate) (r : Result Keyed E) (change : List ℕ → Netlist) → option_map (entry_in nets) o ≡ gate_named d name → has_gate d name ≡ true
+    → IfOk r (λ made. IfSome o (λ g. netlist made ≡ change g.name)) → IfOk r (λ made. netlist made ≡ change name)
+gate_result d nets name o r change e there is = ok_result (λ (g : KeyedGate). g.name) name o r change (named_gate d nets name o e there) is

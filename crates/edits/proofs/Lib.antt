@@ -2,4 +2,4 @@ pub mod AcceptedLemmas
 pub mod BatchLemmas
 pub mod CheckLemmas
 pub mod FoundLemmas
-pub mod NameLemmas
+pub mod KnownLemmas

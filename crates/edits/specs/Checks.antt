@@ -14,7 +14,7 @@ use Rattle.edits.specs.declared.edit.Edit.TheVariants.{AddNet, AddInput, DropNet
 use Rattle.edits.specs.declared.pin.Pin.{Pin}
 use Rattle.edits.specs.declared.fault.EditFault.{EditFault}
 use Rattle.edits.specs.declared.fault.EditFault.TheVariants.{UnknownNet, UnknownGate, DuplicateName, BadName, ZeroDelay, DelayTooLarge, WrongArity, DrivenInput, NotInput, NetInUse, TimeTooLarge, NoSuchPoint, TooMany}
-use Rattle.edits.specs.Edits.{terminal_of}
+use Rattle.edits.specs.Edits.{connection_of}
 
 -- What is asked of a design.
 
@@ -28,7 +28,7 @@ is_point d name t = option_map_or (λ n. has_point n.points t) (net_named d name
 
 -- a gate's input is a constant or names a net that is there
 abbrev pub is_known : Netlist → Pin → Bool
-is_known d input = is_readable d (terminal_of input)
+is_known d input = is_readable d (connection_of input)
 
 -- a gate of this name may have this many inputs
 abbrev pub gate_takes : Netlist → List ℕ → ℕ → Bool

@@ -3,6 +3,7 @@
 ghost use Rattle.std.specs.Prelude.{◌≡◌, ◌⊎◌, None, Some, IfErr, IfOk, MatchResult};
 ghost use Rattle.edits.specs.Batches.{batch, refusal};
 ghost use Rattle.edits.specs.Edits.{edited};
+ghost use Rattle.design.specs.Keys.{netlist};
 
 use crate::changes::carry_out;
 use crate::checks::check;
@@ -20,8 +21,8 @@ pub fn apply_all(
     design: &Design,
     edits: &[Edit],
 ) -> Result<Design, (usize, EditFault)>
-    ensures ok { IfOk result (λ new. batch design.now.netlist edits.now ≡ Ok new.netlist) }
-    ensures err { IfErr result (λ refused. (batch design.now.netlist edits.now ≡ Err refused) ⊎ (refused.1 ≡ EditFault.OutOfMemory)) }
+    ensures ok { IfOk result (λ new. batch (netlist design.now) edits.now ≡ Ok (netlist new)) }
+    ensures err { IfErr result (λ refused. (batch (netlist design.now) edits.now ≡ Err refused) ⊎ (refused.1 ≡ EditFault.OutOfMemory)) }
 {
     let mut new = match design.try_clone() {
         Ok(design) => design,
@@ -42,8 +43,8 @@ pub fn apply_all(
 /// The design with the edit that stands at a place of a list.
 fn apply(alloc: Global, design: Design, place: usize, edit: &Edit) -> Result<Design, EditFault>
     ensures { MatchResult result
-        (λ new. (refusal place design.netlist edit.now ≡ None) × (new.netlist ≡ edited design.netlist edit.now))
-        (λ fault. (refusal place design.netlist edit.now ≡ Some fault) ⊎ (fault ≡ EditFault.OutOfMemory)) }
+        (λ new. (refusal place (netlist design) edit.now ≡ None) × (netlist new ≡ edited (netlist design) edit.now))
+        (λ fault. (refusal place (netlist design) edit.now ≡ Some fault) ⊎ (fault ≡ EditFault.OutOfMemory)) }
 {
     match refusal(place, &design, edit) {
         Some(fault) => Err(fault),
@@ -56,7 +57,7 @@ fn apply(alloc: Global, design: Design, place: usize, edit: &Edit) -> Result<Des
 
 /// Why the edit that stands at a place of a list is refused, if it is.
 fn refusal(place: usize, design: &Design, edit: &Edit) -> Option<EditFault>
-    ensures { result ≡ refusal place design.now.netlist edit.now }
+    ensures { result ≡ refusal place (netlist design.now) edit.now }
 {
     if place >= MAX_EDITS {
         return Some(EditFault::TooMany);

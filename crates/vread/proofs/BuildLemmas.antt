@@ -5,7 +5,7 @@ use Rattle.std.specs.List.{list_any}
 use Rattle.std.proofs.lemmas.Bool.Decides.{nat_tests}
 use Rattle.design.specs.declared.limits.TheConstants.{MAX_GATES, MAX_NETS}
 use Rattle.fourstate.specs.declared.unit.TimeUnit.{TimeUnit}
-use Rattle.design.specs.Keys.{Keyed}
+use Rattle.design.specs.Keys.{Keyed, netlist}
 use Rattle.design.specs.Netlist.{Netlist, empty_netlist}
 use Rattle.vtext.specs.declared.fault.ReadFaultKind.{ReadFaultKind}
 use Rattle.vtext.specs.Modules.{ModuleEntry, ModuleList}
@@ -22,11 +22,11 @@ whole names top name unit = record { top = name; unit = unit; nets = map (net_en
 
 pub made_whole : {E : Type 0} (list : ModuleList) (top : ModuleEntry) (names : List (List ℕ)) (name : List ℕ) (unit : TimeUnit) (empty : Netlist) (d : Keyed) (r : Result Keyed E)
     → names ≡ list.names → name ≡ name_at names top.name → unit ≡ unit_of list.unit → empty ≡ empty_netlist name unit
-    → d.netlist ≡ record empty { nets = map (net_entry names) top.nets }
-    → IfOk r (λ made. made.netlist ≡ record d.netlist { gates = map (gate_entry names) top.gates })
-    → IfOk r (λ made. made.netlist ≡ netlist_of list top)
+    → netlist d ≡ record empty { nets = map (net_entry names) top.nets }
+    → IfOk r (λ made. netlist made ≡ record (netlist d) { gates = map (gate_entry names) top.gates })
+    → IfOk r (λ made. netlist made ≡ netlist_of list top)
 made_whole list top names name unit empty d (Ok made) is_names is_name is_unit is_empty is_d holds =
-    let bare : d.netlist ≡ record (empty_netlist name unit) { nets = map (net_entry names) top.nets } =
+    let bare : netlist d ≡ record (empty_netlist name unit) { nets = map (net_entry names) top.nets } =
     is_d ∙ ap (λ (n : Netlist). record n { nets = map (net_entry names) top.nets }) is_empty in
     holds ∙ ap (λ (n : Netlist). record n { gates = map (gate_entry names) top.gates }) bare
     ∙ ap (λ m. whole names top m unit) is_name

@@ -1,5 +1,5 @@
 -- The gates of a design that is made of a module.
-use Rattle.std.proofs.Common.{◌≡◌, ◌≢◌, ℕ, suc, ◌<◌, nat_eq, Bool, true, false, not, List, [], ◌∷◌, length, map, take, get_or, find, Some, IsSome, All, refl, sym, ap, subst, ◌∙◌, arith}
+use Rattle.std.proofs.Common.{◌≡◌, ◌≢◌, ℕ, suc, ◌<◌, nat_eq, Bool, true, false, not, List, [], ◌∷◌, length, map, take, get_or, find, Option, Some, None, IsSome, IsSomeAnd, All, ◌||◌, if◌then◌else◌, refl, sym, ap, subst, ◌∙◌, arith}
 use Rattle.std.specs.List.{list_all, list_any, slice_get}
 use Rattle.std.specs.Option.{option_map_or}
 use Rattle.std.proofs.lemmas.Bool.{and_from, both_ways, false_from_ne_true}
@@ -24,9 +24,28 @@ use Rattle.vread.proofs.NameLemmas.{spelling_is_name}
 any_fails : {X : Type 0} (p : X → Bool) (xs : List X) (k : ℕ) (d : X) → list_any p xs ≡ false → k < length xs → p (get_or xs k d) ≡ false
 any_fails p xs k d none within = false_from_ne_true (p (get_or xs k d)) (λ t. both_ways (list_any p xs) none (list_any_at p xs k d within t))
 
-pub all_pass : {X : Type 0} (p : X → Bool) (xs : List X) → All (λ x. p x ≡ true) xs → list_all p xs ≡ true
-all_pass p [] all = refl
-all_pass p (x ∷ xs) all = and_from (p x) (list_all p xs) (all 0 x (omega arith)) (all_pass p xs (λ k d within. all (suc k) d (omega arith)))
+-- a net that a gate may drive is there, and is no input
+drives_by : (o : Option netlist.NetEntry) → option_map_or (λ n. not n.is_input) o false ≡ true → IsSomeAnd o (λ n. n.is_input ≡ false)
+drives_by None h = absurd (cc)
+drives_by (Some n) h = not_true n.is_input h
+  where
+    not_true : (b : Bool) → not b ≡ true → b ≡ false
+    not_true true e = absurd (cc)
+    not_true false e = refl
+
+pub drivable_key : (d : Netlist) (name : List ℕ) (o : Option netlist.NetEntry) → o ≡ netlist.net_named d name → is_drivable d name ≡ true → IsSomeAnd o (λ n. n.is_input ≡ false)
+drivable_key d name o e h = let P : Option netlist.NetEntry → Type 0 = λ p. IsSomeAnd p (λ n. n.is_input ≡ false) in subst P (sym e) (drives_by (netlist.net_named d name) h)
+
+pub drivable_there : (d : Netlist) (name : List ℕ) → is_drivable d name ≡ true → has_net d name ≡ true
+drivable_there d name h = there d.nets h
+  where
+    there : (ns : List netlist.NetEntry) → option_map_or (λ n. not n.is_input) (find (λ n. same_name n.name name) ns) false ≡ true → list_any (λ n. same_name n.name name) ns ≡ true
+    there [] e = absurd (cc)
+    there (n ∷ ns) e = step (same_name n.name name) (λ f. there ns f) e
+      where
+        step : (b : Bool) → (option_map_or (λ n. not n.is_input) (find (λ n. same_name n.name name) ns) false ≡ true → list_any (λ n. same_name n.name name) ns ≡ true) → option_map_or (λ n. not n.is_input) (if b then Some n else find (λ n. same_name n.name name) ns) false ≡ true → (b || list_any (λ n. same_name n.name name) ns) ≡ true
+        step true later f = refl
+        step false later f = later f
 
 module _ (names : List (List ℕ)) (top : ModuleEntry) (fit : IsFitModule names top) where
   -- a number that is one of the module's nets
@@ -91,19 +110,15 @@ module _ (names : List (List ℕ)) (top : ModuleEntry) (fit : IsFitModule names 
         ap (λ (m : netlist.GateEntry). has_gate d m.name) same ∙ ap (λ gs. list_any (λ g. same_name g.name (gate_bytes names gate)) gs) before ∙ none
 
     -- it drives a net that is no input
-    pub drives_at : (d : Netlist) (made : netlist.GateEntry) → d.nets ≡ map (net_entry names) top.nets → made ≡ gate_entry names gate → is_drivable d made.output ≡ true
-    drives_at d made all same =
+    pub drives_at : (d : Netlist) → d.nets ≡ map (net_entry names) top.nets → is_drivable d (name_at names gate.output) ≡ true
+    drives_at d all =
         let undriven : drives_input top.nets gate ≡ false =
         sym (ap (drives_input top.nets) (at gate)) ∙ any_fails (drives_input top.nets) top.gates place gate fit.undriven within in
-        ap (λ (m : netlist.GateEntry). is_drivable d m.output) same ∙ drivable_at d gate.output all sound.output undriven
+        drivable_at d gate.output all sound.output undriven
 
     -- it reads nets that are there
-    pub reads_at : (d : Netlist) (made : netlist.GateEntry) → d.nets ≡ map (net_entry names) top.nets → made ≡ gate_entry names gate → list_all (is_readable d) made.inputs ≡ true
-    reads_at d made all same =
-        ap (λ (m : netlist.GateEntry). list_all (is_readable d) m.inputs) same
-        ∙ list_all-map (is_readable d) (connection_of names) gate.inputs
-        ∙ all_pass (λ terminal. is_readable d (connection_of names terminal)) gate.inputs
-        (λ k e inside. readable_input d (get_or gate.inputs k e) all (sound.inputs k e inside))
+    pub reads_at : (d : Netlist) → d.nets ≡ map (net_entry names) top.nets → All (λ terminal. is_readable d (connection_of names terminal) ≡ true) gate.inputs
+    reads_at d all = λ k e inside. readable_input d (get_or gate.inputs k e) all (sound.inputs k e inside)
 
 -- what stands at an index
 pub gate_at : (gates found : List GateEntry) (place : ℕ) (gate : GateEntry) → found ≡ gates → place < length gates → gate ≡ get_or found place gate → slice_get gates place ≡ Some gate

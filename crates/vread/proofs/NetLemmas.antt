@@ -6,9 +6,9 @@ use Rattle.std.proofs.lemmas.Option.{get_or_from_slice_get, slice_get_within}
 use Rattle.std.proofs.lemmas.Slice.Eq.{bytes_eq-Decides}
 use Rattle.fourstate.specs.declared.net.NetKind.{NetKind}
 use Rattle.fourstate.specs.declared.net.NetKind.TheVariants.{Wire}
-use Rattle.design.specs.Keys.{Keyed, net_by_key, with_keyed_net}
+use Rattle.design.specs.Keys.{Keyed, netlist}
 use Rattle.design.specs.Names.{same_name}
-use Rattle.design.specs.Netlist.{Netlist, has_net, new_net, with_net, with_net_kind}
+use Rattle.design.specs.Netlist.{NetEntry, Netlist, has_net, new_net, with_net, with_net_kind}
 use Rattle.vtext.specs.declared.net.Net as nets
 use Rattle.vtext.specs.Modules.{ModuleEntry}
 use Rattle.vtext.specs.Names.{name_at, number_of}
@@ -16,7 +16,7 @@ use Rattle.vtext.specs.Nets.{is_input, net_kind}
 use Rattle.vtext.specs.Sound.{IsGoodNumber}
 use Rattle.vread.specs.Netlists.{net_entry}
 use Rattle.vread.specs.Parts.{IsFitModule}
-use Rattle.vread.proofs.Lists.{change_last, last_at, names_apart, none_earlier, one_more}
+use Rattle.vread.proofs.Lists.{change_last, names_apart, none_earlier, one_more}
 
 module _ (names : List (List ℕ)) (top : ModuleEntry) (fit : IsFitModule names top) (place : ℕ) (net : ℕ × nets.Net) (is : slice_get top.nets place ≡ Some net) where
   -- the name of a net may be one of a design
@@ -47,9 +47,9 @@ module _ (names : List (List ℕ)) (top : ModuleEntry) (fit : IsFitModule names 
       ∙ ap (λ ns. record d { nets = ns }) (ap (λ ns. ns ++ net_entry names net ∷ []) before ∙ sym (one_more (net_entry names) top.nets place net is))
 
   pub added_ok : {E : Type 0} (d : Netlist) (name : List ℕ) (r : Result Keyed E) → d.nets ≡ map (net_entry names) (take place top.nets) → name ≡ name_at names net.0
-      → IfOk r (λ made. made.netlist ≡ with_net d (new_net name (net_kind net.1) (is_input net.1)))
-      → IfOk r (λ made. made.netlist ≡ record d { nets = map (net_entry names) (take (place + 1) top.nets) })
-  added_ok d name (Ok made) before same holds = added_at d made.netlist name before same holds
+      → IfOk r (λ made. netlist made ≡ with_net d (new_net name (net_kind net.1) (is_input net.1)))
+      → IfOk r (λ made. netlist made ≡ record d { nets = map (net_entry names) (take (place + 1) top.nets) })
+  added_ok d name (Ok made) before same holds = added_at d (netlist made) name before same holds
   added_ok d name (Err e) before same holds = tt
 
 -- An input of another kind than `wire`.
@@ -64,17 +64,8 @@ with_kind d name kind absent =
     ap (λ ns. record d { nets = ns })
     (change_last (λ n. same_name n.name name) (λ n. record { name = n.name; kind = kind; is_input = n.is_input; points = n.points }) d.nets (new_net name Wire true) absent ((bytes_eq-Decides name name).1 refl))
 
-pub input_there : (d new : Keyed) (name : List ℕ) (number key place : ℕ) → new ≡ with_keyed_net d (new_net name Wire true) number → place ≡ length d.netlist.nets
-    → net_by_key new key ≡ slice_get new.netlist.nets place → net_by_key new key ≡ Some (new_net name Wire true)
-input_there d new name number key place is at found =
-    found ∙ ap (λ (k : Keyed). slice_get k.netlist.nets place) is ∙ ap (λ n. slice_get (d.netlist.nets ++ new_net name Wire true ∷ []) n) at ∙ last_at d.netlist.nets (new_net name Wire true)
-
-pub input_made : {E : Type 0} (d new : Keyed) (name : List ℕ) (kind : NetKind) (number key place : ℕ) (r : Result Keyed E) → new ≡ with_keyed_net d (new_net name Wire true) number
-    → place ≡ length d.netlist.nets → has_net d.netlist name ≡ false → net_by_key new key ≡ slice_get new.netlist.nets place
-    → IfOk r (λ made. IfSome (net_by_key new key) (λ n. made ≡ record new { netlist = with_net_kind new.netlist n.name kind }))
-    → IfOk r (λ made. made.netlist ≡ with_net d.netlist (new_net name kind true))
-input_made d new name kind number key place (Ok made) is at absent found holds =
-    let one = if_some_at (net_by_key new key) (new_net name Wire true) (λ n. made ≡ record new { netlist = with_net_kind new.netlist n.name kind })
-    (input_there d new name number key place is at found) holds in
-    ap (λ (k : Keyed). k.netlist) one ∙ ap (λ (k : Keyed). with_net_kind k.netlist name kind) is ∙ with_kind d.netlist name kind absent
-input_made d new name kind number key place (Err e) is at absent found holds = tt
+pub input_made : {E : Type 0} (d new : Netlist) (name : List ℕ) (kind : NetKind) (o : Option NetEntry) (r : Result Keyed E) → o ≡ Some (new_net name Wire true) → new ≡ with_net d (new_net name Wire true) → has_net d name ≡ false
+    → IfOk r (λ made. IfSome o (λ n. netlist made ≡ with_net_kind new n.name kind)) → IfOk r (λ made. netlist made ≡ with_net d (new_net name kind true))
+input_made d new name kind o (Ok made) there is absent holds =
+    if_some_at o (new_net name Wire true) (λ n. netlist made ≡ with_net_kind new n.name kind) there holds ∙ ap (λ (m : Netlist). with_net_kind m name kind) is ∙ with_kind d name kind absent
+input_made d new name kind o (Err e) there is absent holds = tt

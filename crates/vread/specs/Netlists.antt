@@ -1,11 +1,10 @@
 -- The design that a module spells: its nets and its gates in order, with their names (IEEE 1364-2005, 12.1).
 use Rattle.std.specs.Prelude.{ℕ, List, map, Option, option_map, unwrap_or}
-use Rattle.design.specs.Netlist as netlist
-use Rattle.design.specs.declared.terminal.Terminal.{Terminal as Connection}
-use Rattle.design.specs.declared.terminal.Terminal.TheVariants as to
 use Rattle.fourstate.specs.declared.unit.Magnitude.TheVariants.{One}
 use Rattle.fourstate.specs.declared.unit.TimeUnit.{TimeUnit}
 use Rattle.fourstate.specs.declared.unit.Unit.TheVariants.{Nanosecond}
+use Rattle.design.specs.Connections.{Connection, to_net, to_constant}
+use Rattle.design.specs.Netlist as netlist
 use Rattle.vtext.specs.declared.gate.Terminal.{Terminal}
 use Rattle.vtext.specs.declared.gate.Terminal.TheVariants.{Net, Constant}
 use Rattle.vtext.specs.declared.net.Net as nets
@@ -27,8 +26,8 @@ net_entry names net = netlist.new_net (name_at names net.0) (net_kind net.1) (is
 
 -- what an input of a gate is connected to
 abbrev pub connection_of : List (List ℕ) → Terminal → Connection
-connection_of names (Net n) = to.Net (name_at names n)
-connection_of names (Constant value) = to.Constant value
+connection_of names (Net n) = to_net (name_at names n)
+connection_of names (Constant value) = to_constant value
 
 -- a gate
 abbrev pub gate_entry : List (List ℕ) → GateEntry → netlist.GateEntry

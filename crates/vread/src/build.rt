@@ -1,6 +1,7 @@
 //! The design of the modules of a text, or their fault.
 
 ghost use Rattle.std.specs.Prelude.{◌≡◌, ◌⊎◌, None, Some, All, IfErr, IfOk};
+ghost use Rattle.design.specs.Keys.{netlist};
 ghost use Rattle.vread.specs.LateFaults.{late_fault};
 ghost use Rattle.vread.specs.Netlists.{design_of, netlist_of, unit_of};
 ghost use Rattle.vread.specs.Parts.{IsFitModule};
@@ -25,7 +26,7 @@ pub fn design_of(
 ) -> Result<Design, ReadFault>
     requires { All (IsSoundModule modules.now.names) modules.now.modules }
     ensures faultless { IfOk result (λ _. late_fault text.now modules.now ≡ None) }
-    ensures whole { IfOk result (λ design. design_of modules.now ≡ Some design.netlist) }
+    ensures whole { IfOk result (λ design. design_of modules.now ≡ Some (netlist design)) }
     ensures err { IfErr result (λ fault. (fault ≡ out_of_memory) ⊎ (late_fault text.now modules.now ≡ Some fault)) }
 {
     let Some(top) = modules.list().first() else {
@@ -46,7 +47,7 @@ fn design_from(
     top: &Module,
 ) -> Result<Design, AllocError>
     requires { IsFitModule modules.now.names top.now }
-    ensures { IfOk result (λ design. design.netlist ≡ netlist_of modules.now top.now) }
+    ensures { IfOk result (λ design. netlist design ≡ netlist_of modules.now top.now) }
 {
     let names = modules.names();
     let name = name_of(alloc, names, top.name())?;

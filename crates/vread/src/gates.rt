@@ -1,13 +1,16 @@
 //! The gates of a design, from those of the module at its top.
 
-ghost use Rattle.std.specs.Prelude.{◌≡◌, ◌+◌, ◌<◌, [], All, IfOk, IsTrue, length, map, take};
+ghost use Rattle.std.specs.Prelude.{◌≡◌, ◌+◌, ◌<◌, [], true, All, IfOk, IsTrue, length, map, take};
 ghost use Rattle.fourstate.specs.Delays.{AreDelays};
+ghost use Rattle.design.specs.Keys.{IsConnected, IsThere, connection_in, entry_in, netlist};
 ghost use Rattle.design.specs.Names.{is_name};
+ghost use Rattle.design.specs.Netlist.{is_drivable, is_readable};
 ghost use Rattle.vread.specs.Netlists.{connection_of, gate_entry, net_entry};
 ghost use Rattle.vread.specs.Parts.{IsFitGate, IsFitModule, IsNamedInput};
 ghost use Rattle.vtext.specs.GateNames.{gate_bytes};
+ghost use Rattle.vtext.specs.Names.{name_at};
 
-use crate::names::{name_from, name_of};
+use crate::names::{key_of, name_from, name_of};
 use design::{Design, Gate, Name, Terminal};
 use fourstate::Delays;
 use std::alloc::{AllocError, Global};
@@ -21,9 +24,9 @@ pub fn with_gates(
     top: &Module,
 ) -> Result<Design, AllocError>
     requires fit { IsFitModule names.now top.now }
-    requires nets { design.netlist.nets ≡ map (net_entry names.now) top.now.nets }
-    requires bare { design.netlist.gates ≡ [] }
-    ensures { IfOk result (λ made. made.netlist ≡ record design.netlist { gates = map (gate_entry names.now) top.now.gates }) }
+    requires nets { (netlist design).nets ≡ map (net_entry names.now) top.now.nets }
+    requires bare { (netlist design).gates ≡ [] }
+    ensures { IfOk result (λ made. netlist made ≡ record (netlist design) { gates = map (gate_entry names.now) top.now.gates }) }
 {
     let mut made = design;
     for place in 0..top.gates().len() {
@@ -42,23 +45,31 @@ fn with_gate_at(
 ) -> Result<Design, AllocError>
     requires fit { IsFitModule names.now top.now }
     requires within { place < length top.now.gates }
-    requires nets { design.netlist.nets ≡ map (net_entry names.now) top.now.nets }
-    requires before { design.netlist.gates ≡ map (gate_entry names.now) (take place top.now.gates) }
-    ensures { IfOk result (λ made. made.netlist ≡ record design.netlist { gates = map (gate_entry names.now) (take (place + 1) top.now.gates) }) }
+    requires nets { (netlist design).nets ≡ map (net_entry names.now) top.now.nets }
+    requires before { (netlist design).gates ≡ map (gate_entry names.now) (take place top.now.gates) }
+    ensures { IfOk result (λ made. netlist made ≡ record (netlist design) { gates = map (gate_entry names.now) (take (place + 1) top.now.gates) }) }
 {
-    let gate = gate_of(alloc, names, &top.gates()[place])?;
+    let gate = gate_of(alloc, &design, names, &top.gates()[place])?;
     let (design, _key) = design.add_gate(gate)?;
     Ok(design)
 }
 
-/// A gate of a module as one of a design.
-fn gate_of(alloc: Global, names: &Names, gate: &vtext::Gate) -> Result<Gate, AllocError>
-    requires { IsFitGate names.now gate.now }
-    ensures { IfOk result (λ made. made ≡ gate_entry names.now gate.now) }
+/// A gate of a module as one of a design that has its nets.
+fn gate_of(
+    alloc: Global,
+    design: &Design,
+    names: &Names,
+    gate: &vtext::Gate,
+) -> Result<Gate, AllocError>
+    requires fit { IsFitGate names.now gate.now }
+    requires output { is_drivable (netlist design.now) (name_at names.now gate.now.output) ≡ true }
+    requires inputs { All (λ input. is_readable (netlist design.now) (connection_of names.now input) ≡ true) gate.now.inputs }
+    ensures entry { IfOk result (λ made. entry_in design.now.nets made ≡ gate_entry names.now gate.now) }
+    ensures connected { IfOk result (IsConnected design.now.nets) }
 {
     let name = name_of_gate(alloc, names, gate)?;
-    let output = name_of(alloc, names, gate.output())?;
-    let inputs = connections(alloc, names, gate.inputs())?;
+    let inputs = connections(alloc, design, names, gate.inputs())?;
+    let output = key_of(design, names, gate.output());
     let delays = delays_of(gate);
     Ok(Gate::new(name, gate.kind(), delays, output, inputs))
 }
@@ -88,26 +99,32 @@ fn delays_of(gate: &vtext::Gate) -> Delays
 /// What the inputs of a gate are connected to.
 fn connections(
     alloc: Global,
+    design: &Design,
     names: &Names,
     inputs: &[vtext::Terminal],
 ) -> Result<Vec<Terminal>, AllocError>
-    requires { All (IsNamedInput names.now) inputs.now }
-    ensures { IfOk result (λ made. made.items ≡ map (connection_of names.now) inputs.now) }
+    requires named { All (IsNamedInput names.now) inputs.now }
+    requires there { All (λ input. is_readable (netlist design.now) (connection_of names.now input) ≡ true) inputs.now }
+    ensures named { IfOk result (λ made. map (connection_in design.now.nets) made.items ≡ map (connection_of names.now) inputs.now) }
+    ensures there { IfOk result (λ made. All (IsThere design.now.nets) made.items) }
+    ensures count { IfOk result (λ made. length made.items ≡ length inputs.now) }
 {
-    let mut made = Vec::new(alloc);
+    let mut made = Vec::with_capacity(alloc, inputs.len())?;
     for input in inputs {
-        let connection = connection(alloc, names, *input)?;
+        let connection = connection(design, names, *input);
         made.push(connection)?;
     }
     Ok(made)
 }
 
-fn connection(alloc: Global, names: &Names, input: vtext::Terminal) -> Result<Terminal, AllocError>
-    requires { IsNamedInput names.now input }
-    ensures { IfOk result (λ made. made ≡ connection_of names.now input) }
+fn connection(design: &Design, names: &Names, input: vtext::Terminal) -> Terminal
+    requires named { IsNamedInput names.now input }
+    requires there { is_readable (netlist design.now) (connection_of names.now input) ≡ true }
+    ensures named { connection_in design.now.nets result ≡ connection_of names.now input }
+    ensures there { IsThere design.now.nets result }
 {
     match input {
-        vtext::Terminal::Net(number) => Ok(Terminal::Net(name_of(alloc, names, number)?)),
-        vtext::Terminal::Constant(value) => Ok(Terminal::Constant(value)),
+        vtext::Terminal::Net(number) => Terminal::Net(key_of(design, names, number)),
+        vtext::Terminal::Constant(value) => Terminal::Constant(value),
     }
 }

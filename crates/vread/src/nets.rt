@@ -1,6 +1,7 @@
 //! The nets of a design, from those of the module at its top.
 
 ghost use Rattle.std.specs.Prelude.{◌≡◌, ◌+◌, ◌<◌, [], false, true, IfOk, length, map, slice_get, take, Some};
+ghost use Rattle.design.specs.Keys.{netlist};
 ghost use Rattle.design.specs.declared.limits.TheConstants.{MAX_NETS};
 ghost use Rattle.design.specs.Netlist.{has_net, new_net, with_net};
 ghost use Rattle.vread.specs.Netlists.{net_entry};
@@ -21,8 +22,8 @@ pub fn with_nets(
     top: &Module,
 ) -> Result<Design, AllocError>
     requires fit { IsFitModule names.now top.now }
-    requires bare { design.netlist.nets ≡ [] }
-    ensures { IfOk result (λ made. made.netlist ≡ record design.netlist { nets = map (net_entry names.now) top.now.nets }) }
+    requires bare { (netlist design).nets ≡ [] }
+    ensures { IfOk result (λ made. netlist made ≡ record (netlist design) { nets = map (net_entry names.now) top.now.nets }) }
 {
     let mut made = design;
     for place in 0..top.net_count() {
@@ -41,8 +42,8 @@ fn with_net_at(
 ) -> Result<Design, AllocError>
     requires fit { IsFitModule names.now top.now }
     requires within { place < length top.now.nets }
-    requires before { design.netlist.nets ≡ map (net_entry names.now) (take place top.now.nets) }
-    ensures { IfOk result (λ made. made.netlist ≡ record design.netlist { nets = map (net_entry names.now) (take (place + 1) top.now.nets) }) }
+    requires before { (netlist design).nets ≡ map (net_entry names.now) (take place top.now.nets) }
+    ensures { IfOk result (λ made. netlist made ≡ record (netlist design) { nets = map (net_entry names.now) (take (place + 1) top.now.nets) }) }
 {
     let Some((number, net)) = top.net_at(place) else {
         unreachable!()
@@ -53,9 +54,9 @@ fn with_net_at(
 
 /// The design with a net more.
 fn with_net(design: Design, name: Name, net: Net) -> Result<Design, AllocError>
-    requires absent { has_net design.netlist name ≡ false }
-    requires room { length design.netlist.nets < MAX_NETS }
-    ensures { IfOk result (λ made. made.netlist ≡ with_net design.netlist (new_net name (net_kind net) (is_input net))) }
+    requires absent { has_net (netlist design) name ≡ false }
+    requires room { length (netlist design).nets < MAX_NETS }
+    ensures { IfOk result (λ made. netlist made ≡ with_net (netlist design) (new_net name (net_kind net) (is_input net))) }
 {
     if net.is_input() {
         with_input(design, name, net.net_kind())
@@ -67,12 +68,10 @@ fn with_net(design: Design, name: Name, net: Net) -> Result<Design, AllocError>
 
 /// The design with an input more.
 fn with_input(design: Design, name: Name, kind: NetKind) -> Result<Design, AllocError>
-    requires absent { has_net design.netlist name ≡ false }
-    requires room { length design.netlist.nets < MAX_NETS }
-    ensures { IfOk result (λ made. made.netlist ≡ with_net design.netlist (new_net name kind true)) }
+    requires absent { has_net (netlist design) name ≡ false }
+    requires room { length (netlist design).nets < MAX_NETS }
+    ensures { IfOk result (λ made. netlist made ≡ with_net (netlist design) (new_net name kind true)) }
 {
-    let place = design.net_count();
-    let (design, _key) = design.add_input(name)?;
-    let key = design.net_key_at(place);
+    let (design, key) = design.add_input(name)?;
     design.set_net_kind(key, kind)
 }

@@ -1,6 +1,7 @@
 //! The design that a text spells, or the text's fault.
 
 ghost use Rattle.std.specs.Prelude.{◌≡◌, ◌<◌, ◌⊎◌, Err, IfErr, IfOk, length};
+ghost use Rattle.design.specs.Keys.{netlist};
 ghost use Rattle.lexing.specs.declared.limits.TheConstants.{MAX_TEXT};
 ghost use Rattle.vread.specs.Reads.{IsReadFault, Spells};
 ghost use Rattle.vtext.specs.ReadFaults.{out_of_memory, too_long};
@@ -19,7 +20,7 @@ pub fn read(
     text: &[u8],
     default: Option<u32>,
 ) -> Result<Design, ReadFault>
-    ensures ok { IfOk result (λ design. Spells default text.now design.netlist) }
+    ensures ok { IfOk result (λ design. Spells default text.now (netlist design)) }
     ensures err { IfErr result (λ fault. (fault ≡ out_of_memory) ⊎ IsReadFault default text.now fault) }
     // A text over its limit is looked at no further.
     ensures long { MAX_TEXT < length text.now → result ≡ Err too_long }

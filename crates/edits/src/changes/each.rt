@@ -3,6 +3,7 @@
 ghost use Rattle.std.specs.Prelude.{◌≡◌, IfOk, None};
 ghost use Rattle.edits.specs.Checks.{cause};
 ghost use Rattle.edits.specs.Edits.{edited};
+ghost use Rattle.design.specs.Keys.{netlist};
 
 use crate::changes::gates::{add_gate, remove_gate, retime, retype, rewire};
 use crate::changes::nets::{add_input, add_net, remove_net, set_net_kind};
@@ -14,8 +15,8 @@ use std::alloc::{AllocError, Global};
 /// The design with the edit, which it accepts.
 #[tactic(auto, using(crate::proofs::AcceptedLemmas::accepted))]
 pub fn carry_out(alloc: Global, design: Design, edit: &Edit) -> Result<Design, AllocError>
-    requires { cause design.netlist edit.now ≡ None }
-    ensures { IfOk result (λ new. new.netlist ≡ edited design.netlist edit.now) }
+    requires { cause (netlist design) edit.now ≡ None }
+    ensures { IfOk result (λ new. netlist new ≡ edited (netlist design) edit.now) }
 {
     match edit {
         Edit::AddNet { name, kind } => add_net(alloc, design, name.as_str(), *kind),

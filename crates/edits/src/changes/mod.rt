@@ -2,8 +2,8 @@
 
 mod each;
 mod gates;
-mod names;
 mod nets;
 mod points;
+mod terminals;
 
 pub(crate) use each::carry_out;

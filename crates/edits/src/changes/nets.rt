@@ -2,6 +2,7 @@
 
 ghost use Rattle.std.specs.Prelude.{◌≡◌, true, false, IfOk};
 ghost use Rattle.fourstate.specs.declared.net.NetKind.TheVariants.{Wire};
+ghost use Rattle.design.specs.Keys.{netlist};
 ghost use Rattle.design.specs.Netlist.{has_net, new_net, with_net, with_net_kind, without_net};
 ghost use Rattle.edits.specs.Accepted.{FreesNet, TakesNet};
 
@@ -15,8 +16,8 @@ pub fn add_net(
     name: &str,
     kind: NetKind,
 ) -> Result<Design, AllocError>
-    requires { TakesNet design.netlist name.now }
-    ensures { IfOk result (λ new. new.netlist ≡ with_net design.netlist (new_net name.now kind false)) }
+    requires { TakesNet (netlist design) name.now }
+    ensures { IfOk result (λ new. netlist new ≡ with_net (netlist design) (new_net name.now kind false)) }
 {
     let name = Name::new(alloc, name)?;
     let (design, _key) = design.add_net(name, kind)?;
@@ -24,8 +25,8 @@ pub fn add_net(
 }
 
 pub fn add_input(alloc: Global, design: Design, name: &str) -> Result<Design, AllocError>
-    requires { TakesNet design.netlist name.now }
-    ensures { IfOk result (λ new. new.netlist ≡ with_net design.netlist (new_net name.now Wire true)) }
+    requires { TakesNet (netlist design) name.now }
+    ensures { IfOk result (λ new. netlist new ≡ with_net (netlist design) (new_net name.now Wire true)) }
 {
     let name = Name::new(alloc, name)?;
     let (design, _key) = design.add_input(name)?;
@@ -34,8 +35,8 @@ pub fn add_input(alloc: Global, design: Design, name: &str) -> Result<Design, Al
 
 #[tactic(auto, using(crate::proofs::FoundLemmas::net_found))]
 pub fn remove_net(design: Design, name: &str) -> Result<Design, AllocError>
-    requires { FreesNet design.netlist name.now }
-    ensures { IfOk result (λ new. new.netlist ≡ without_net design.netlist name.now) }
+    requires { FreesNet (netlist design) name.now }
+    ensures { IfOk result (λ new. netlist new ≡ without_net (netlist design) name.now) }
 {
     match design.net(name) {
         Some(key) => design.remove_net(key),
@@ -45,8 +46,8 @@ pub fn remove_net(design: Design, name: &str) -> Result<Design, AllocError>
 
 #[tactic(auto, using(crate::proofs::FoundLemmas::net_found))]
 pub fn set_net_kind(design: Design, name: &str, kind: NetKind) -> Result<Design, AllocError>
-    requires { has_net design.netlist name.now ≡ true }
-    ensures { IfOk result (λ new. new.netlist ≡ with_net_kind design.netlist name.now kind) }
+    requires { has_net (netlist design) name.now ≡ true }
+    ensures { IfOk result (λ new. netlist new ≡ with_net_kind (netlist design) name.now kind) }
 {
     match design.net(name) {
         Some(key) => design.set_net_kind(key, kind),

@@ -2,6 +2,7 @@
 
 ghost use Rattle.std.specs.Prelude.{◌≡◌, ◌≤◌, IfOk};
 ghost use Rattle.fourstate.specs.declared.limits.TheConstants.{MAX_TIME};
+ghost use Rattle.design.specs.Keys.{netlist};
 ghost use Rattle.design.specs.Netlist.{with_horizon, with_point, without_point};
 ghost use Rattle.edits.specs.Accepted.{FreesPoint, TakesPoint};
 
@@ -11,8 +12,8 @@ use std::alloc::AllocError;
 
 #[tactic(auto, using(crate::proofs::FoundLemmas::input_found, crate::proofs::FoundLemmas::room_found))]
 pub fn set_point(design: Design, net: &str, time: u64, value: Value) -> Result<Design, AllocError>
-    requires { TakesPoint design.netlist net.now time }
-    ensures { IfOk result (λ new. new.netlist ≡ with_point design.netlist net.now time value) }
+    requires { TakesPoint (netlist design) net.now time }
+    ensures { IfOk result (λ new. netlist new ≡ with_point (netlist design) net.now time value) }
 {
     match design.net(net) {
         Some(key) => design.set_point(key, time, value),
@@ -22,8 +23,8 @@ pub fn set_point(design: Design, net: &str, time: u64, value: Value) -> Result<D
 
 #[tactic(auto, using(crate::proofs::FoundLemmas::point_found))]
 pub fn remove_point(design: Design, net: &str, time: u64) -> Result<Design, AllocError>
-    requires { FreesPoint design.netlist net.now time }
-    ensures { IfOk result (λ new. new.netlist ≡ without_point design.netlist net.now time) }
+    requires { FreesPoint (netlist design) net.now time }
+    ensures { IfOk result (λ new. netlist new ≡ without_point (netlist design) net.now time) }
 {
     match design.net(net) {
         Some(key) => design.remove_point(key, time),
@@ -33,7 +34,7 @@ pub fn remove_point(design: Design, net: &str, time: u64) -> Result<Design, Allo
 
 pub fn set_horizon(design: Design, time: u64) -> Design
     requires { time ≤ MAX_TIME }
-    ensures { result.netlist ≡ with_horizon design.netlist time }
+    ensures { netlist result ≡ with_horizon (netlist design) time }
 {
     design.set_horizon(time)
 }

@@ -2,6 +2,7 @@
 
 ghost use Rattle.std.specs.Prelude.{◌≡◌};
 ghost use Rattle.edits.specs.Checks.{cause};
+ghost use Rattle.design.specs.Keys.{netlist};
 
 use crate::checks::gates::{
     check_gate, check_gate_there, check_kind, check_new_wiring, check_retimed,
@@ -14,7 +15,7 @@ use design::Design;
 
 /// Why the design refuses the edit, the first cause in the order of the checks; none where it accepts it.
 pub fn check(design: &Design, edit: &Edit) -> Option<EditFault>
-    ensures { result ≡ cause design.now.netlist edit.now }
+    ensures { result ≡ cause (netlist design.now) edit.now }
 {
     match edit {
         Edit::AddNet { name, kind: _ } => check_new_net(design, name.as_str()),

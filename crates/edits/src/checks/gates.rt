@@ -5,6 +5,7 @@ ghost use Rattle.std.specs.List.{list_all};
 ghost use Rattle.fourstate.specs.Gates.{takes_inputs};
 ghost use Rattle.edits.specs.Checks.{delay_checks, first_fault, gate_takes, gate_there, is_input_net, is_known, kind_fits, new_gate_checks, wiring_checks};
 ghost use Rattle.edits.specs.declared.fault.EditFault.TheVariants as fault;
+ghost use Rattle.design.specs.Keys.{netlist};
 
 use crate::fault::EditFault;
 use crate::pin::Pin;
@@ -13,7 +14,7 @@ use fourstate::{DelayTimes, GateKind, MAX_DELAY, fits};
 
 /// Of an edit that asks only that a gate is there.
 pub fn check_gate_there(design: &Design, name: &str) -> Option<EditFault>
-    ensures { result ≡ first_fault (gate_there design.now.netlist name.now ∷ []) }
+    ensures { result ≡ first_fault (gate_there (netlist design.now) name.now ∷ []) }
 {
     if design.has_gate(name) {
         None
@@ -32,8 +33,8 @@ pub fn check_gate(
     output: &str,
     inputs: &[Pin],
 ) -> Option<EditFault>
-    ensures { result ≡ first_fault (new_gate_checks design.now.netlist name.now
-        ++ (delay_checks delays ++ wiring_checks design.now.netlist (takes_inputs kind (length inputs.now)) output.now inputs.now)) }
+    ensures { result ≡ first_fault (new_gate_checks (netlist design.now) name.now
+        ++ (delay_checks delays ++ wiring_checks (netlist design.now) (takes_inputs kind (length inputs.now)) output.now inputs.now)) }
 {
     if let Some(fault) = check_new_gate(design, name) {
         return Some(fault);
@@ -45,7 +46,7 @@ pub fn check_gate(
 }
 
 fn check_new_gate(design: &Design, name: &str) -> Option<EditFault>
-    ensures { result ≡ first_fault (new_gate_checks design.now.netlist name.now) }
+    ensures { result ≡ first_fault (new_gate_checks (netlist design.now) name.now) }
 {
     if !Name::is_valid(name) {
         Some(EditFault::BadName)
@@ -74,7 +75,7 @@ fn check_delays(delays: DelayTimes) -> Option<EditFault>
 /// `fit` says whether the number of inputs fits.
 #[tactic(auto, using(crate::proofs::FoundLemmas::net_found))]
 fn check_wiring(design: &Design, fit: bool, output: &str, inputs: &[Pin]) -> Option<EditFault>
-    ensures { result ≡ first_fault (wiring_checks design.now.netlist fit output.now inputs.now) }
+    ensures { result ≡ first_fault (wiring_checks (netlist design.now) fit output.now inputs.now) }
 {
     if !fit {
         return Some(EditFault::WrongArity);
@@ -89,7 +90,7 @@ fn check_wiring(design: &Design, fit: bool, output: &str, inputs: &[Pin]) -> Opt
 
 /// Of an edit that sets the delays of a gate.
 pub fn check_retimed(design: &Design, name: &str, delays: DelayTimes) -> Option<EditFault>
-    ensures { result ≡ first_fault (gate_there design.now.netlist name.now ∷ delay_checks delays) }
+    ensures { result ≡ first_fault (gate_there (netlist design.now) name.now ∷ delay_checks delays) }
 {
     if design.has_gate(name) {
         check_delays(delays)
@@ -101,7 +102,7 @@ pub fn check_retimed(design: &Design, name: &str, delays: DelayTimes) -> Option<
 /// Of an edit that sets the kind of a gate.
 #[tactic(auto, using(crate::proofs::FoundLemmas::gate_found))]
 pub fn check_kind(design: &Design, name: &str, kind: GateKind) -> Option<EditFault>
-    ensures { result ≡ first_fault (gate_there design.now.netlist name.now ∷ (not (kind_fits design.now.netlist name.now kind), fault.WrongArity) ∷ []) }
+    ensures { result ≡ first_fault (gate_there (netlist design.now) name.now ∷ (not (kind_fits (netlist design.now) name.now kind), fault.WrongArity) ∷ []) }
 {
     match design.gate(name) {
         None => Some(EditFault::UnknownGate),
@@ -118,8 +119,8 @@ pub fn check_new_wiring(
     output: &str,
     inputs: &[Pin],
 ) -> Option<EditFault>
-    ensures { result ≡ first_fault (gate_there design.now.netlist name.now
-        ∷ wiring_checks design.now.netlist (gate_takes design.now.netlist name.now (length inputs.now)) output.now inputs.now) }
+    ensures { result ≡ first_fault (gate_there (netlist design.now) name.now
+        ∷ wiring_checks (netlist design.now) (gate_takes (netlist design.now) name.now (length inputs.now)) output.now inputs.now) }
 {
     match design.gate(name) {
         None => Some(EditFault::UnknownGate),
@@ -131,13 +132,13 @@ pub fn check_new_wiring(
 }
 
 fn are_known(design: &Design, inputs: &[Pin]) -> bool
-    ensures { result ≡ list_all (is_known design.now.netlist) inputs.now }
+    ensures { result ≡ list_all (is_known (netlist design.now)) inputs.now }
 {
     inputs.iter().all(|input| is_known(design, input))
 }
 
 fn is_known(design: &Design, input: &Pin) -> bool
-    ensures { result ≡ is_known design.now.netlist input.now }
+    ensures { result ≡ is_known (netlist design.now) input.now }
 {
     match input {
         Pin::Net(word) => design.has_net(word.as_str()),

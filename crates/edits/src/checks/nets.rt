@@ -1,6 +1,7 @@
 //! Checks of edits of nets.
 
 ghost use Rattle.std.specs.Prelude.{◌≡◌, ◌∷◌, []};
+ghost use Rattle.design.specs.Keys.{netlist};
 ghost use Rattle.design.specs.Netlist.{is_used};
 ghost use Rattle.edits.specs.Checks.{first_fault, net_there, new_net_checks};
 ghost use Rattle.edits.specs.declared.fault.EditFault.TheVariants as fault;
@@ -10,7 +11,7 @@ use design::{Design, MAX_NETS, Name};
 
 /// Of an edit that adds a net.
 pub fn check_new_net(design: &Design, name: &str) -> Option<EditFault>
-    ensures { result ≡ first_fault (new_net_checks design.now.netlist name.now) }
+    ensures { result ≡ first_fault (new_net_checks (netlist design.now) name.now) }
 {
     if !Name::is_valid(name) {
         Some(EditFault::BadName)
@@ -25,7 +26,7 @@ pub fn check_new_net(design: &Design, name: &str) -> Option<EditFault>
 
 /// Of an edit that asks only that a net is there.
 pub fn check_kept_net(design: &Design, name: &str) -> Option<EditFault>
-    ensures { result ≡ first_fault (net_there design.now.netlist name.now ∷ []) }
+    ensures { result ≡ first_fault (net_there (netlist design.now) name.now ∷ []) }
 {
     if design.has_net(name) {
         None
@@ -37,7 +38,7 @@ pub fn check_kept_net(design: &Design, name: &str) -> Option<EditFault>
 /// Of an edit that removes a net.
 #[tactic(auto, using(crate::proofs::FoundLemmas::net_found, crate::proofs::FoundLemmas::used_found))]
 pub fn check_unused_net(design: &Design, name: &str) -> Option<EditFault>
-    ensures { result ≡ first_fault (net_there design.now.netlist name.now ∷ (is_used design.now.netlist name.now, fault.NetInUse) ∷ []) }
+    ensures { result ≡ first_fault (net_there (netlist design.now) name.now ∷ (is_used (netlist design.now) name.now, fault.NetInUse) ∷ []) }
 {
     match design.net(name) {
         None => Some(EditFault::UnknownNet),

@@ -2,6 +2,7 @@
 
 ghost use Rattle.std.specs.Prelude.{◌≡◌, ◌∷◌, ◌++◌, ◌&&◌, [], not, nat_le, nat_lt, length};
 ghost use Rattle.fourstate.specs.declared.limits.TheConstants.{MAX_TIME};
+ghost use Rattle.design.specs.Keys.{netlist};
 ghost use Rattle.design.specs.declared.limits.TheConstants.{MAX_POINTS};
 ghost use Rattle.design.specs.Netlist.{point_total};
 ghost use Rattle.edits.specs.Checks.{first_fault, input_checks, is_point};
@@ -14,8 +15,8 @@ use fourstate::MAX_TIME;
 /// Of an edit that sets a stimulus point.
 #[tactic(auto, using(crate::proofs::FoundLemmas::net_found))]
 pub fn check_set_point(design: &Design, net: &str, time: u64) -> Option<EditFault>
-    ensures { result ≡ first_fault (input_checks design.now.netlist net.now
-        ++ ((nat_lt MAX_TIME time, fault.TimeTooLarge) ∷ (not (is_point design.now.netlist net.now time) && nat_le MAX_POINTS (point_total design.now.netlist.nets), fault.TooMany) ∷ [])) }
+    ensures { result ≡ first_fault (input_checks (netlist design.now) net.now
+        ++ ((nat_lt MAX_TIME time, fault.TimeTooLarge) ∷ (not (is_point (netlist design.now) net.now time) && nat_le MAX_POINTS (point_total (netlist design.now).nets), fault.TooMany) ∷ [])) }
 {
     match design.net(net) {
         None => Some(EditFault::UnknownNet),
@@ -31,7 +32,7 @@ pub fn check_set_point(design: &Design, net: &str, time: u64) -> Option<EditFaul
 /// Of an edit that takes a stimulus point away.
 #[tactic(auto, using(crate::proofs::FoundLemmas::net_found))]
 pub fn check_point(design: &Design, net: &str, time: u64) -> Option<EditFault>
-    ensures { result ≡ first_fault (input_checks design.now.netlist net.now ++ ((not (is_point design.now.netlist net.now time), fault.NoSuchPoint) ∷ [])) }
+    ensures { result ≡ first_fault (input_checks (netlist design.now) net.now ++ ((not (is_point (netlist design.now) net.now time), fault.NoSuchPoint) ∷ [])) }
 {
     match design.net(net) {
         None => Some(EditFault::UnknownNet),

@@ -1,9 +1,9 @@
 use Rattle.std.proofs.Common.{take}
 use Rattle.catalog.specs.Catalog.{keys_of}
-use Rattle.design.specs.Kept.{is_among}
+use Rattle.design.specs.Keys.{is_among}
 use Rattle.design.specs.Lists.{AreChanged, with_key_in}
 use Rattle.design.proofs.wiring.add_among.Given as goal
 
 -- the lists are changed for the terminals so far
 abbrev pub invariant-loop-terminal : goal.invariant-loop-terminal
-invariant-loop-terminal l = AreChanged (is_among l.fn.nets (take l.terminal-index l.inputs)) (with_key_in (keys_of l.fn.gates) l.fn.key) l.fn.lists l.lists
+invariant-loop-terminal l = AreChanged (is_among (take l.terminal-index l.inputs)) (with_key_in (keys_of l.fn.gates) l.fn.key) l.fn.lists l.lists

@@ -1,9 +1,9 @@
 use Rattle.std.proofs.Common.{ℕ, List}
-use Rattle.design.specs.Keys.{without_key}
+use Rattle.design.specs.Lists.{without_key}
 use Rattle.design.proofs.WiringLemmas.{among_turn, without_twice}
 use Rattle.design.proofs.wiring.remove_among.Goals as goal
 
 pub loop-terminal-preserved : goal.loop-terminal-preserved
 loop-terminal-preserved c =
-    among_turn c.args.nets.now c.args.inputs.now c.loop-terminal.terminal-index c.terminal-item.result (λ (list : List ℕ). without_key list c.args.key) c.args.lists c.loop-terminal.lists c.in_ok-lists.lists (without_twice c.args.key)
+    among_turn c.args.inputs.now c.loop-terminal.terminal-index c.terminal-item.result (λ (list : List ℕ). without_key list c.args.key) c.args.lists c.loop-terminal.lists c.in_ok-lists.lists (without_twice c.args.key)
     c.loop-terminal-test.true c.terminal-item.is c.loop-terminal.invariant c.in_ok-lists.ensures

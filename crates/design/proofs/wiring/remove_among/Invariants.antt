@@ -1,9 +1,8 @@
 use Rattle.std.proofs.Common.{take}
-use Rattle.design.specs.Keys.{without_key}
-use Rattle.design.specs.Kept.{is_among}
-use Rattle.design.specs.Lists.{AreChanged}
+use Rattle.design.specs.Keys.{is_among}
+use Rattle.design.specs.Lists.{AreChanged, without_key}
 use Rattle.design.proofs.wiring.remove_among.Given as goal
 
 -- the lists are changed for the terminals so far
 abbrev pub invariant-loop-terminal : goal.invariant-loop-terminal
-invariant-loop-terminal l = AreChanged (is_among l.fn.nets (take l.terminal-index l.inputs)) (λ list. without_key list l.fn.key) l.fn.lists l.lists
+invariant-loop-terminal l = AreChanged (is_among (take l.terminal-index l.inputs)) (λ list. without_key list l.fn.key) l.fn.lists l.lists

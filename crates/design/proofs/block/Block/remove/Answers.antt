@@ -1,5 +1,5 @@
 use Rattle.std.proofs.Common.{ℕ, [], Vec, Global, ap, ◌∙◌}
-use Rattle.design.specs.Keys.{without_key}
+use Rattle.design.specs.Lists.{without_key}
 use Rattle.design.specs.Lists.{list_at}
 use Rattle.design.proofs.BlockLemmas.{changed_at}
 use Rattle.design.proofs.block.Block.remove.Goals as goal

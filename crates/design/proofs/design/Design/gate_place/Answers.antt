@@ -1,34 +1,46 @@
-use Rattle.std.proofs.Common.{is_some, ap, sym, ◌∙◌}
+use Rattle.std.proofs.Common.{is_some, option_map, ap, sym, ◌∙◌}
 use Rattle.std.proofs.lemmas.Option.{IfSome_then}
+use Rattle.design.specs.Keys.{KeyedGate, entry_in, netlist}
 use Rattle.design.specs.Names.{same_name}
-use Rattle.design.specs.Netlist.{GateEntry}
+use Rattle.design.specs.Shown.{design_of}
+use Rattle.design.proofs.ByNameLemmas.{gate_at_is, gate_named_is, gate_position_is, has_gate_is}
 use Rattle.design.proofs.EntryLemmas.{keys_apart}
 use Rattle.design.proofs.LookLemmas.{has_named, if_none, none_named, none_position, place_named, position_is_some, position_missing, record_named}
+use Rattle.design.proofs.DesignLemmas.{gate_count_is}
 use Rattle.design.proofs.design.Design.gate_place.Goals as goal
 
 pub returns-in-Some-clause-place : goal.returns-in-Some-clause-place
-returns-in-Some-clause-place c =
-    rw (← c.self.view_is) (c.place.ensures.place ∙ place_named (λ (g : GateEntry). g.name) c.self.inside.gates c.args.name.now c.in-Some.key (keys_apart c.self.inside.gates c.self.invariant.gate_keys) c.in-Some.ensures.key)
+unfolding netlist
+returns-in-Some-clause-place c = rw (← c.self.view_is) (c.place.ensures.place ∙ place_named (λ (n : KeyedGate). n.name) c.self.inside.gates c.args.name.now c.in-Some.key (keys_apart c.self.inside.gates c.self.invariant.keys.distinct_gates) c.in-Some.ensures.key ∙ sym (gate_position_is (design_of c.self.inside) c.args.name.now))
 
 pub returns-in-Some-clause-there : goal.returns-in-Some-clause-there
+unfolding netlist
 returns-in-Some-clause-there c =
-    let at = c.place.ensures.place ∙ place_named (λ (g : GateEntry). g.name) c.self.inside.gates c.args.name.now c.in-Some.key (keys_apart c.self.inside.gates c.self.invariant.gate_keys) c.in-Some.ensures.key in
-    rw (← c.self.view_is) (ap (λ o. is_some o) at ∙ position_is_some (λ (g : GateEntry). same_name g.name c.args.name.now) 0 _)
+    let at = c.place.ensures.place ∙ place_named (λ (n : KeyedGate). n.name) c.self.inside.gates c.args.name.now c.in-Some.key (keys_apart c.self.inside.gates c.self.invariant.keys.distinct_gates) c.in-Some.ensures.key in
+    rw (← c.self.view_is) (ap (λ o. is_some o) at ∙ position_is_some (λ (n : KeyedGate). same_name n.name c.args.name.now) 0 _ ∙ sym (has_gate_is (design_of c.self.inside) c.args.name.now))
 
 pub returns-in-Some-clause-gate : goal.returns-in-Some-clause-gate
+unfolding netlist
 returns-in-Some-clause-gate c =
-    rw (← c.self.view_is) (IfSome_then c.place.result c.place.ensures.there (λ place at. at ∙ c.in-Some.ensures.there ∙ sym (record_named (λ (g : GateEntry). g.name) c.self.inside.gates c.args.name.now)))
+    rw (← c.self.view_is) (IfSome_then c.place.result c.place.ensures.there (λ place at. gate_at_is (design_of c.self.inside) place ∙ ap (λ o. option_map (entry_in c.self.inside.nets) o) (at ∙ c.in-Some.ensures.there ∙ sym (record_named (λ (n : KeyedGate). n.name) c.self.inside.gates c.args.name.now)) ∙ sym (gate_named_is (design_of c.self.inside) c.args.name.now)))
 
 pub returns-in-Some-clause-absent : goal.returns-in-Some-clause-absent
+unfolding netlist
 returns-in-Some-clause-absent c =
-    let at = c.place.ensures.place ∙ place_named (λ (g : GateEntry). g.name) c.self.inside.gates c.args.name.now c.in-Some.key (keys_apart c.self.inside.gates c.self.invariant.gate_keys) c.in-Some.ensures.key in
-    rw (← c.self.view_is) (if_none c.place.result _ (λ none. position_missing (λ (g : GateEntry). same_name g.name c.args.name.now) 0 _ (sym at ∙ none)))
+    let at = c.place.ensures.place ∙ place_named (λ (n : KeyedGate). n.name) c.self.inside.gates c.args.name.now c.in-Some.key (keys_apart c.self.inside.gates c.self.invariant.keys.distinct_gates) c.in-Some.ensures.key in
+    rw (← c.self.view_is) (if_none c.place.result _ (λ none. gate_named_is (design_of c.self.inside) c.args.name.now ∙ ap (λ o. option_map (entry_in c.self.inside.nets) o) (position_missing (λ (n : KeyedGate). same_name n.name c.args.name.now) 0 _ (sym at ∙ none))))
 
 pub returns-in-None-clause-place : goal.returns-in-None-clause-place
-returns-in-None-clause-place c = rw (← c.self.view_is) (sym (none_position (λ (g : GateEntry). same_name g.name c.args.name.now) 0 _ (none_named (λ (g : GateEntry). g.name) c.self.inside.gates c.args.name.now c.in-None.ensures.key)))
+unfolding netlist
+returns-in-None-clause-place c = rw (← c.self.view_is) (sym (gate_position_is (design_of c.self.inside) c.args.name.now ∙ none_position (λ (n : KeyedGate). same_name n.name c.args.name.now) 0 _ (none_named (λ (n : KeyedGate). n.name) c.self.inside.gates c.args.name.now c.in-None.ensures.key)))
 
 pub returns-in-None-clause-there : goal.returns-in-None-clause-there
-returns-in-None-clause-there c = rw (← c.self.view_is) (ap (λ o. is_some o) c.in-None.ensures.key ∙ has_named (λ (g : GateEntry). g.name) c.self.inside.gates c.args.name.now)
+unfolding netlist
+returns-in-None-clause-there c = rw (← c.self.view_is) (ap (λ o. is_some o) c.in-None.ensures.key ∙ has_named (λ (n : KeyedGate). n.name) c.self.inside.gates c.args.name.now ∙ sym (has_gate_is (design_of c.self.inside) c.args.name.now))
 
 pub returns-in-None-clause-absent : goal.returns-in-None-clause-absent
-returns-in-None-clause-absent c = rw (← c.self.view_is) (none_named (λ (g : GateEntry). g.name) c.self.inside.gates c.args.name.now c.in-None.ensures.key)
+unfolding netlist
+returns-in-None-clause-absent c = rw (← c.self.view_is) (gate_named_is (design_of c.self.inside) c.args.name.now ∙ ap (λ o. option_map (entry_in c.self.inside.nets) o) (none_named (λ (n : KeyedGate). n.name) c.self.inside.gates c.args.name.now c.in-None.ensures.key))
+
+pub returns-in-Some-clause-within : goal.returns-in-Some-clause-within
+returns-in-Some-clause-within c = rw (← c.self.view_is, gate_count_is (design_of c.self.inside)) c.place.ensures.within

@@ -1,5 +1,5 @@
 use Rattle.design.specs.Blocks.{blocks_shown}
-use Rattle.design.specs.Keys.{without_key}
+use Rattle.design.specs.Lists.{without_key}
 use Rattle.design.proofs.BlockLemmas.{list_changed}
 use Rattle.design.proofs.key_lists.KeyLists.remove.Goals as goal
 

@@ -1,15 +1,15 @@
 use Rattle.catalog.specs.Catalog.{keys_of}
-use Rattle.design.specs.Kept.{is_among, is_named}
-use Rattle.design.proofs.GateLemmas.{left_in_order}
+use Rattle.design.specs.Keys.{drives_key, reads_key}
+use Rattle.design.proofs.WiringLemmas.{left_in_order}
 use Rattle.design.proofs.wires.Wires.rewire.Goals as goal
 
 pub add-requires-clause-readers : goal.add-requires-clause-readers
 add-requires-clause-readers c =
-    left_in_order (keys_of c.args.gates.now) (is_among c.args.nets.now c.args.old.now.inputs) c.args.key c.args.self.fanout c.in_ok-less.less.fanout c.requires.readers c.in_ok-less.ensures.readers
+    left_in_order (keys_of c.args.gates.now) (reads_key c.args.old.now) c.args.key c.args.self.fanout c.in_ok-less.less.fanout c.requires.readers c.in_ok-less.ensures.readers
 
 pub add-requires-clause-drivers : goal.add-requires-clause-drivers
 add-requires-clause-drivers c =
-    left_in_order (keys_of c.args.gates.now) (is_named c.args.nets.now c.args.old.now.output) c.args.key c.args.self.drivers c.in_ok-less.less.drivers c.requires.drivers c.in_ok-less.ensures.drivers
+    left_in_order (keys_of c.args.gates.now) (drives_key c.args.old.now) c.args.key c.args.self.drivers c.in_ok-less.less.drivers c.requires.drivers c.in_ok-less.ensures.drivers
 
 pub returns-clause-readers : goal.returns-clause-readers
 returns-clause-readers c = (c.in_ok-less.less.fanout, c.in_ok-less.ensures.readers, c.in_ok-wires.ensures.readers)

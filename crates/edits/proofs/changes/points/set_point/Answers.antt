@@ -1,5 +1,5 @@
-use Rattle.std.proofs.Common.{refl}
-use Rattle.design.specs.Keys.{net_by_key}
+use Rattle.std.proofs.Common.{ℕ, List}
+use Rattle.design.specs.Keys.{net_by_key, netlist}
 use Rattle.design.specs.Netlist.{with_point}
 use Rattle.edits.proofs.FoundLemmas.{input_there, net_result}
 use Rattle.edits.proofs.changes.points.set_point.Goals as goal
@@ -7,4 +7,4 @@ use Rattle.edits.proofs.changes.points.set_point.Goals as goal
 pub returns : goal.returns
 returns c =
     let k = c.args.design in let name = c.args.net.now in
-    net_result k.netlist name (net_by_key k c.in-Some.key) c.set_point.result (λ n. record k { netlist = with_point k.netlist n.name c.args.time c.args.value }) (λ m. with_point k.netlist m c.args.time c.args.value) (λ n. refl) c.in-Some.ensures.net (input_there k.netlist name c.requires.input) c.set_point.ensures
+    net_result (netlist k) name (net_by_key k c.in-Some.key) c.set_point.result (λ (m : List ℕ). with_point (netlist k) m c.args.time c.args.value) c.in-Some.ensures.net (input_there (netlist k) name c.requires.input) c.set_point.ensures.by_name

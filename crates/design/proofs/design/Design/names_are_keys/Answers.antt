@@ -1,0 +1,13 @@
+use Rattle.design.specs.Shown.{design_of}
+use Rattle.design.proofs.ByNameLemmas.{drivers_by_key, named_by_key}
+use Rattle.design.proofs.design.Design.names_are_keys.Goals as goal
+
+pub returns-clause-nets : goal.returns-clause-nets
+returns-clause-nets c =
+    let a = c.self.inside in
+    rw (← c.self.view_is) (λ key. named_by_key (design_of a) a.points a.wires.fanout a.wires.drivers key c.self.invariant)
+
+pub returns-clause-drivers : goal.returns-clause-drivers
+returns-clause-drivers c =
+    let a = c.self.inside in
+    rw (← c.self.view_is) (λ key there. drivers_by_key (design_of a) a.points a.wires.fanout a.wires.drivers key c.self.invariant there)

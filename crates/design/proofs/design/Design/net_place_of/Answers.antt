@@ -1,0 +1,16 @@
+use Rattle.std.proofs.Common.{is_some, ap, ◌∙◌}
+use Rattle.design.specs.Keys.{netlist}
+use Rattle.design.proofs.LookLemmas.{place_there}
+use Rattle.design.specs.Shown.{design_of}
+use Rattle.design.proofs.DesignLemmas.{net_count_is}
+use Rattle.design.proofs.design.Design.net_place_of.Goals as goal
+
+pub returns-clause-there : goal.returns-clause-there
+returns-clause-there c = rw (← c.self.view_is, ← c.net.view_is) (ap (λ o. is_some o) c.place.ensures.place ∙ place_there c.self.inside.nets c.net.inside.number)
+
+pub returns-clause-net : goal.returns-clause-net
+unfolding netlist
+returns-clause-net c = rw (← c.self.view_is, ← c.net.view_is) c.place.ensures.there
+
+pub returns-clause-within : goal.returns-clause-within
+returns-clause-within c = rw (← c.self.view_is, net_count_is (design_of c.self.inside)) c.place.ensures.within
