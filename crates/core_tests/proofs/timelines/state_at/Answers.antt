@@ -1,4 +1,4 @@
-use Rattle.std.proofs.Common.{◌≡◌, ◌∙◌, ap}
+use Rattle.std.proofs.Common.{◌∙◌, ap}
 use Rattle.waveform.specs.Changes.{state_at}
 use Rattle.core_tests.proofs.timelines.state_at.Goals as goal
 

@@ -1,4 +1,4 @@
-use Rattle.std.proofs.Common.{◌≡◌, ◌∙◌, ap, refl}
+use Rattle.std.proofs.Common.{◌∙◌, ap, refl}
 use Rattle.waveform.specs.Changes.{wave_at}
 use Rattle.core_tests.proofs.timelines.value_at.Goals as goal
 
