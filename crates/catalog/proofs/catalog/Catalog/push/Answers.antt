@@ -17,25 +17,25 @@ invariant_of-result g c =
     let name_of = g.R.Named.name in
     let old = c.self.inside in
     let cells = old.order in
-    let key = c.in_ok-key.key in
+    let key = c.in_ok-names-2.key in
     let item = c.args.item in
     let next : c.in_ok-more.more ≡ old.len + 1 = search rules in
     let new : key_named name_of (entries_in cells) (name_of item) ≡ None = rw c.self.view_is c.requires in
     let names = found c.in_ok-names.names in
     let more = found c.in_ok-names-2.names in
-    let slots = slot_at c.insert.new.self in
-    subst (λ l. IsTable name_of more slots l c.in_ok-more.more) (sym (c.in_ok-push.ensures.ok ∙ ap (λ r. cells ++ Some (key, r) ∷ []) c.in_ok-item.ensures))
+    let slots = slot_at c.enter.new.slots in
+    subst (λ l. IsTable name_of more slots l c.in_ok-more.more) (sym (c.in_ok-names-2.ensures.last ∙ ap (λ r. cells ++ Some (key, r) ∷ []) c.in_ok-item.ensures))
     (subst (λ n. IsTable name_of more slots (cells ++ Some (key, item) ∷ []) n) (sym next)
     (table_push name_of names more (slot_at old.slots) slots cells old.len key item c.self.invariant.placed c.in_ok-names.ensures c.self.invariant.counted new
-    c.in_ok-key.ensures.fresh (c.in_ok-key.ensures.there ∙ ap Some c.len.ensures) c.in_ok-key.ensures.others
-    (λ name. c.in_ok-names-2.ensures name ∙ ap (λ bytes. if same_name bytes name then Some key else names name) (c.name.ensures ∙ ap name_of (c.value.ensures ∙ c.in_ok-item.ensures)))))
+    c.in_ok-names-2.ensures.fresh c.in_ok-names-2.ensures.there c.in_ok-names-2.ensures.others
+    (λ name. c.in_ok-names-2.ensures.named name ∙ ap (λ bytes. if same_name bytes name then Some key else names name) (ap name_of c.in_ok-item.ensures))))
 
 pub returns-clause-entries : goal.returns-clause-entries
 returns-clause-entries g c =
     let cells = c.self.inside.order in
-    let e : ℕ × g.row.R.Denot = (c.in_ok-key.key, c.args.item) in
-    rw (← c.self.view_is) (ap entries_in (c.in_ok-push.ensures.ok ∙ ap (λ r. cells ++ Some (c.in_ok-key.key, r) ∷ []) c.in_ok-item.ensures) ∙ entries_push cells e)
+    let e : ℕ × g.row.R.Denot = (c.in_ok-names-2.key, c.args.item) in
+    rw (← c.self.view_is) (ap entries_in (c.in_ok-names-2.ensures.last ∙ ap (λ r. cells ++ Some (c.in_ok-names-2.key, r) ∷ []) c.in_ok-item.ensures) ∙ entries_push cells e)
 
 pub returns-clause-fresh : goal.returns-clause-fresh
 returns-clause-fresh g c =
-    rw (← c.self.view_is) (no_slot (slot_at c.self.inside.slots) c.self.inside.order c.in_ok-key.key c.self.invariant.placed c.in_ok-key.ensures.fresh).0
+    rw (← c.self.view_is) (no_slot (slot_at c.self.inside.slots) c.self.inside.order c.in_ok-names-2.key c.self.invariant.placed c.in_ok-names-2.ensures.fresh).0
