@@ -28,8 +28,15 @@ pub no_delay : (words : List Text) (name : List ℕ) (h : ℕ) → is_taken word
 unfolding asked
 no_delay words name h taken design horizon delay = rw (taken, design, horizon, delay) refl
 
--- words that `clap` takes and that ask for nothing: so say their entries
-pub values_refused : (words : List Text) (design horizon delay : Option Text) → is_taken words ≡ true → asked words ≡ None → value_of (codes "design") words ≡ design
-    → value_of (codes "horizon") words ≡ horizon → value_of (codes "delay") words ≡ delay → arguments_of design (horizon_given horizon) (delay_given delay) ≡ None
+-- words that `clap` takes and that ask for nothing
+pub nothing_asked : (words : List Text) → is_taken words ≡ true → asked words ≡ None
+    → arguments_of (value_of (codes "design") words) (horizon_given (value_of (codes "horizon") words)) (delay_given (value_of (codes "delay") words)) ≡ None
 unfolding asked
-values_refused words design horizon delay taken none d h l = rw (taken, d, h, l) at none
+nothing_asked words taken none = rw taken at none
+
+-- so say their entries
+pub values_refused : (words : List Text) (design horizon delay : Option Text)
+    → arguments_of (value_of (codes "design") words) (horizon_given (value_of (codes "horizon") words)) (delay_given (value_of (codes "delay") words)) ≡ None
+    → value_of (codes "design") words ≡ design → value_of (codes "horizon") words ≡ horizon → value_of (codes "delay") words ≡ delay
+    → arguments_of design (horizon_given horizon) (delay_given delay) ≡ None
+values_refused words design horizon delay none d h l = rw (d, h, l) at none

@@ -1,4 +1,5 @@
-use Rattle.std.proofs.Common.{arith}
+use Rattle.std.proofs.Common.{◌+◌, arith}
+use Rattle.lexing.specs.declared.limits.TheConstants.{MAX_TEXT}
 use Rattle.app.proofs.FileLemmas.{consumes_more, consumes_none, first_of_all, first_of_most, length_more}
 use Rattle.app.proofs.design_file.first_bytes.Goals as goal
 
@@ -9,7 +10,7 @@ pub returns-then-count-eq0-clause-first : goal.returns-then-count-eq0-clause-fir
 returns-then-count-eq0-clause-first g c =
     let taken = c.in_ok-count.ensures.taken in
     let grown = length_more _ _ _ _ _ taken in
-    first_of_all _ _ _ 4194305 (consumes_more _ _ _ _ _ _ c.blocks-2.invariant.0 taken) (taken.end c.if-count-eq0.true) (omega arith)
+    first_of_all _ _ _ (MAX_TEXT + 1) (consumes_more _ _ _ _ _ _ c.blocks-2.invariant.0 taken) (taken.end c.if-count-eq0.true) (omega arith)
 
 pub returns-then-count-eq0-clause-rest : goal.returns-then-count-eq0-clause-rest
 returns-then-count-eq0-clause-rest g c = consumes_more _ _ _ _ _ _ c.blocks-2.invariant.0 c.in_ok-count.ensures.taken
@@ -31,7 +32,7 @@ blocks-2-preserved g c =
 pub returns-clause-first : goal.returns-clause-first
 returns-clause-first g c =
     let held = c.blocks-2.text.ok.0 in
-    let most = c.blocks-2.invariant.1 in first_of_most _ _ _ 4194305 c.blocks-2.invariant.0 (omega arith)
+    let most = c.blocks-2.invariant.1 in first_of_most _ _ _ (MAX_TEXT + 1) c.blocks-2.invariant.0 (omega arith)
 
 pub returns-clause-rest : goal.returns-clause-rest
 returns-clause-rest g c = c.blocks-2.invariant.0
