@@ -1,5 +1,4 @@
-pub mod Drivers
+pub mod Lists
 pub mod Moments
 pub mod Places
 pub mod Runs
-pub mod Zips

@@ -1,6 +1,7 @@
 //! The run of a design from scratch.
 
 ghost use Rattle.std.specs.Prelude.{◌≡◌, ◌+◌, IfOk, if◌then◌else◌};
+ghost use Rattle.design.specs.Keys.{netlist};
 ghost use Rattle.scratch.specs.Lost.{loses_a_worker};
 ghost use Rattle.scratch.specs.Run.{run_of};
 
@@ -20,7 +21,7 @@ pub fn simulate<S: Stepper>(
     design: &Design,
     stepper: &mut S,
 ) -> Result<Run, StepFault>
-    ensures run { IfOk result (λ run. run ≡ run_of S.answer design.now.netlist) }
+    ensures run { IfOk result (λ run. run ≡ run_of S.answer (netlist design.now)) }
     ensures lost { S.losses stepper.new ≡ S.losses stepper.old + (if loses_a_worker result then 1 else 0) }
 {
     design.lawful();

@@ -6,6 +6,7 @@ use Rattle.gatestep.specs.Step.{initial, due}
 use Rattle.gatestep.specs.Tasks.{PendingBefore}
 use Rattle.waveform.specs.Changes.{wave_changes_below, trace_below}
 use Rattle.waveform.specs.Entries.{same_state, standing}
+use Rattle.design.specs.Keys.{netlist}
 use Rattle.scratch.specs.Recordings.{pushed_each}
 use Rattle.scratch.specs.Run.{state_after, value}
 use Rattle.scratch.proofs.Moments.{map_twice}
@@ -14,11 +15,11 @@ use Rattle.scratch.proofs.run.simulate.Goals as goal
 
 pub pass-requires-clause-near : goal.pass-requires-clause-near
 pass-requires-clause-near g c =
-    rw c.in_ok-moment.ensures.states (all_map (PendingBefore (0 + MAX_DELAY)) (λ _. initial) (λ gate event none. absurd (cc)) c.args.design.now.netlist.gates)
+    rw c.in_ok-moment.ensures.states (all_map (PendingBefore (0 + MAX_DELAY)) (λ _. initial) (λ gate event none. absurd (cc)) (netlist c.args.design.now).gates)
 
 pub loop-t-init : goal.loop-t-init
 loop-t-init g c =
-    let d = c.args.design.now.netlist in
+    let d = netlist c.args.design.now in
     let answer = g.S.Stepper.answer in
     record {
       states = c.in_ok-pass.ensures.states;
@@ -30,17 +31,17 @@ loop-t-init g c =
     }
 
 pub add-requires-clause-later_waves : goal.add-requires-clause-later_waves
-add-requires-clause-later_waves g c = rw c.loop-t.invariant.waves (waves_early g.S.Stepper.answer c.args.design.now.netlist c.loop-t.t)
+add-requires-clause-later_waves g c = rw c.loop-t.invariant.waves (waves_early g.S.Stepper.answer (netlist c.args.design.now) c.loop-t.t)
 
 pub add-requires-clause-later_traces : goal.add-requires-clause-later_traces
-add-requires-clause-later_traces g c = rw c.loop-t.invariant.traces (traces_early g.S.Stepper.answer c.args.design.now.netlist c.loop-t.t)
+add-requires-clause-later_traces g c = rw c.loop-t.invariant.traces (traces_early g.S.Stepper.answer (netlist c.args.design.now) c.loop-t.t)
 
 pub add-requires-clause-storable : goal.add-requires-clause-storable
 add-requires-clause-storable g c = storable c.loop-t.t c.pass-in-loop-t.new.self.states.items c.in_ok-pass-2.ensures.ready c.in_ok-pass-2.ensures.near
 
 pub loop-t-preserved : goal.loop-t-preserved
 loop-t-preserved g c =
-    let d = c.args.design.now.netlist in
+    let d = netlist c.args.design.now in
     let answer = g.S.Stepper.answer in
     let waves : pushed_each same_value standing c.loop-t.recording.waves.items c.pass-in-loop-t.new.self.values.items c.loop-t.t ≡ map (λ n. wave_changes_below (value answer d n) (c.loop-t.t + 1)) d.nets =
     rw (c.loop-t.invariant.waves, c.in_ok-pass-2.ensures.values) (waves_more answer d c.loop-t.t) in
@@ -57,5 +58,5 @@ loop-t-preserved g c =
 
 pub returns-clause-run : goal.returns-clause-run
 returns-clause-run g c =
-    let at_end : c.loop-t.t ≡ suc c.args.design.now.netlist.horizon = grind (arith, common_steps) in
+    let at_end : c.loop-t.t ≡ suc (netlist c.args.design.now).horizon = grind (arith, common_steps) in
     rw (c.in_ok-finish.ensures, c.loop-t.invariant.waves, c.loop-t.invariant.traces, at_end, c.horizon-horizon.ensures.horizon) refl
