@@ -25,7 +25,7 @@ pub gate_named_is : (d : Keyed) (name : List ℕ) → gate_named (netlist d) nam
 unfolding netlist
 gate_named_is d name = ap (λ l. find (λ (g : GateEntry). same_name g.name name) l) (records_named d.nets d.gates) ∙ find_map (λ (g : GateEntry). same_name g.name name) (entry_in d.nets) (records_of d.gates)
 
-position_map : {X Y : Type 0} (p : Y → Bool) (f : X → Y) (k : ℕ) (xs : List X) → position_from p k (map f xs) ≡ position_from (λ x. p (f x)) k xs
+pub position_map : {X Y : Type 0} (p : Y → Bool) (f : X → Y) (k : ℕ) (xs : List X) → position_from p k (map f xs) ≡ position_from (λ x. p (f x)) k xs
 position_map p f k [] = refl
 position_map p f k (x ∷ xs) = ap (λ (o : Option ℕ). cond (p (f x)) (Some k) o) (position_map p f (k + 1) xs)
 

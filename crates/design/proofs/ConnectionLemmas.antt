@@ -96,7 +96,7 @@ reads_by_name nets key n g keys names there h =
     at (Net j) some = name_is_key nets key j n keys names there some
     at (Constant v) some = refl
 
-drives_by_name : (nets : List (ℕ × NetEntry)) (key : ℕ) (n : NetEntry) (g : KeyedGate) → Apart (λ e. e.0) nets → Apart (λ e. e.1.name) nets → record_at nets key ≡ Some n → IsConnected nets g → same_name (name_of nets g.output) n.name ≡ drives_key g key
+pub drives_by_name : (nets : List (ℕ × NetEntry)) (key : ℕ) (n : NetEntry) (g : KeyedGate) → Apart (λ e. e.0) nets → Apart (λ e. e.1.name) nets → record_at nets key ≡ Some n → IsConnected nets g → same_name (name_of nets g.output) n.name ≡ drives_key g key
 drives_by_name nets key n g keys names there h = name_is_key nets key g.output n keys names there (drivable_some nets g.output h.output)
 
 pub records_named : (nets : List (ℕ × NetEntry)) (gates : List (ℕ × KeyedGate)) → records_of (named_gates nets gates) ≡ map (entry_in nets) (records_of gates)

@@ -10,6 +10,7 @@ pub mod LookLemmas
 pub mod NameLemmas
 pub mod NetLemmas
 pub mod OrderLemmas
+pub mod PlaceByNameLemmas
 pub mod PlaceLemmas
 pub mod PointLemmas
 pub mod UseLemmas

@@ -6,6 +6,7 @@ pub mod Lawful
 pub mod Lists
 pub mod Names
 pub mod Netlist
+pub mod Places
 pub mod PointPlaces
 pub mod Records
 pub mod Shared

@@ -1,11 +1,13 @@
 //! Designs: what is read of them.
 
 ghost use Rattle.std.specs.Prelude.{◌≡◌, ◌≤◌, ◌<◌, ℕ, IsSome, length, map, slice_get, IfOk};
-ghost use Rattle.std.specs.List.{filter};
+ghost use Rattle.std.specs.List.{filter, position_from};
 ghost use Rattle.fourstate.specs.declared.limits.TheConstants.{MAX_TIME};
-ghost use Rattle.catalog.specs.Catalog.{keys_of, records_of};
-ghost use Rattle.design.specs.Keys.{AreKeys, IsConnected, drives_key, empty_design, entry_in, gate_by_key, name_of, net_by_key, netlist};
+ghost use Rattle.catalog.specs.Catalog.{keys_of, place_of, records_of};
+ghost use Rattle.design.specs.Keys.{AreKeys, IsConnected, driver_keys, drives_key, empty_design, entry_in, gate_by_key, name_of, net_by_key, netlist};
 ghost use Rattle.design.specs.Lawful.{IsDesign};
+ghost use Rattle.design.specs.Names.{same_name};
+ghost use Rattle.design.specs.Places.{driver_places};
 ghost use Rattle.design.specs.Netlist.{drivers_of, empty_netlist, net_named, point_total};
 
 use crate::gate::Gate;
@@ -184,6 +186,14 @@ impl Design {
     pub fn lawful(&self)
         ensures design { IsDesign (netlist self.now) }
         ensures keys { AreKeys self.now }
+    {
+        let _nets = &self.nets;
+    }
+
+    /// The law of places: those of a key are those of its name; nothing runs.
+    pub fn places_are_keys(&self)
+        ensures nets { (key : ℕ) → IsSome (net_by_key self.now key) → position_from (λ n. same_name n.name (name_of self.now.nets key)) 0 (netlist self.now).nets ≡ place_of self.now.nets key }
+        ensures drivers { (key : ℕ) → IsSome (net_by_key self.now key) → map (λ gate. place_of self.now.gates gate) (driver_keys self.now key) ≡ map (λ place. Some place) (driver_places (netlist self.now).gates (name_of self.now.nets key)) }
     {
         let _nets = &self.nets;
     }

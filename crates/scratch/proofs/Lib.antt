@@ -1,6 +1,5 @@
 pub mod Asked
-pub mod Drivers
+pub mod Lists
 pub mod Moments
 pub mod Places
 pub mod Runs
-pub mod Zips

@@ -7,17 +7,16 @@ use Rattle.fourstate.specs.declared.value.Value.{Value}
 use Rattle.fourstate.specs.declared.value.Value.TheVariants.{Unknown}
 use Rattle.fourstate.specs.Nets.{net_of}
 use Rattle.gatestep.specs.Step.{State, due}
-use Rattle.design.specs.declared.terminal.Terminal.{Terminal}
-use Rattle.design.specs.declared.terminal.Terminal.TheVariants.{Net, Constant}
+use Rattle.design.specs.Connections.{Connection, to_net, to_constant}
 use Rattle.design.specs.Names.{same_name}
 use Rattle.design.specs.Netlist.{NetEntry, GateEntry, Netlist, stimulus}
+use Rattle.design.specs.Places.{driver_places}
 use Rattle.scratch.specs.Cells.{CellRecord}
-use Rattle.scratch.specs.Kept.{cell_of, currents_of, driver_places, evaluation_from, evaluations_from, input_of, input_value, net_from, values_from}
+use Rattle.scratch.specs.Kept.{cell_of, currents_of, evaluation_from, evaluations_from, input_of, input_value, net_from, values_from}
 use Rattle.scratch.specs.Run.{net_at, terminal_at, evaluation_at}
 use Rattle.scratch.specs.declared.wiring.Input.TheVariants.{At, Fixed}
-use Rattle.scratch.proofs.Drivers.{map_alike}
+use Rattle.scratch.proofs.Lists.{map_alike, map_zip}
 use Rattle.scratch.proofs.Places.{at_place, by_places}
-use Rattle.scratch.proofs.Zips.{map_zip}
 
 pub map_twice : {A B C : Type 0} (f : A → B) (h : B → C) (xs : List A) → map h (map f xs) ≡ map (λ x. h (f x)) xs
 map_twice f h [] = refl
@@ -54,11 +53,11 @@ module _ (d : Netlist) (before : GateEntry → State) (t : ℕ) where
   read_by values (Some place) = refl
 
   -- the value that a gate input reads
-  pub input_is : (values : List Value) → values ≡ map (λ n. net_at d before n t) d.nets → (terminal : Terminal) → input_value values (input_of d terminal) ≡ terminal_at d before terminal t
-  input_is values are (Net name) =
+  pub input_is : (values : List Value) → values ≡ map (λ n. net_at d before n t) d.nets → (terminal : Connection) → input_value values (input_of d terminal) ≡ terminal_at d before terminal t
+  input_is values are (to_net name) =
       read_by values (position_from (λ n. same_name n.name name) 0 d.nets)
       ∙ at_place (λ n. same_name n.name name) (λ n. net_at d before n t) Unknown 0 d.nets values are
-  input_is values are (Constant v) = refl
+  input_is values are (to_constant v) = refl
 
   -- what is evaluated of a gate
   pub evaluation_is : (values : List Value) → values ≡ map (λ n. net_at d before n t) d.nets → (g : GateEntry) → evaluation_from values (cell_of d g) (before g) ≡ evaluation_at d before g t

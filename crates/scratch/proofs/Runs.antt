@@ -14,8 +14,7 @@ use Rattle.waveform.specs.Entries.{CanStore, same_state, standing}
 use Rattle.waveform.specs.Timelines.{IsAlwaysSettled, changes_below, pushed}
 use Rattle.scratch.specs.Recordings.{pushed_each}
 use Rattle.scratch.specs.Run.{evaluation_at, state_after, state_before, value}
-use Rattle.scratch.proofs.Drivers.{map_alike}
-use Rattle.scratch.proofs.Zips.{map_zip}
+use Rattle.scratch.proofs.Lists.{map_alike, map_zip}
 
 -- two maps agree on a list if they do on the elements of which P holds
 pub map_where : {A B : Type 0} (P : A → Type 0) (f g : A → B) → ((x : A) → P x → f x ≡ g x) → (xs : List A) → All P xs → map f xs ≡ map g xs

@@ -1,33 +1,29 @@
 -- One moment over what the simulator keeps: the state of each gate's driver in the order of the gates, the value of each
 -- net in the order of the nets, and places in these orders in place of names.
 use Rattle.std.specs.Prelude.{◌≡◌, ℕ, if◌then◌else◌, List, map, slice_get, unwrap_or}
-use Rattle.std.specs.List.{filter, zip, position_from, enumerate_from}
+use Rattle.std.specs.List.{zip, position_from}
 use Rattle.std.specs.Option.{option_map_or}
 use Rattle.fourstate.specs.declared.value.Value.{Value}
 use Rattle.fourstate.specs.declared.value.Value.TheVariants.{Unknown}
 use Rattle.fourstate.specs.Nets.{net_of}
 use Rattle.gatestep.specs.Step.{State, Evaluation, due}
-use Rattle.design.specs.declared.terminal.Terminal.{Terminal}
-use Rattle.design.specs.declared.terminal.Terminal.TheVariants.{Net, Constant}
+use Rattle.design.specs.Connections.{Connection, to_net, to_constant}
 use Rattle.design.specs.Names.{same_name}
 use Rattle.design.specs.Netlist.{NetEntry, GateEntry, Netlist, stimulus}
+use Rattle.design.specs.Places.{driver_places}
 use Rattle.scratch.specs.declared.wiring.Input.{Input}
 use Rattle.scratch.specs.declared.wiring.Input.TheVariants.{At, Fixed}
 use Rattle.scratch.specs.Cells.{CellRecord}
 use Rattle.scratch.specs.declared.wiring.Wiring.{Wiring}
 
--- where a terminal gets its value from
-abbrev pub input_of : Netlist → Terminal → Input
-input_of d (Net name) = option_map_or At (position_from (λ n. same_name n.name name) 0 d.nets) (Fixed Unknown)
-input_of d (Constant v) = Fixed v
+-- where an input gets its value from
+abbrev pub input_of : Netlist → Connection → Input
+input_of d (to_net name) = option_map_or At (position_from (λ n. same_name n.name name) 0 d.nets) (Fixed Unknown)
+input_of d (to_constant v) = Fixed v
 
 -- a gate of the design as it is evaluated
 abbrev pub cell_of : Netlist → GateEntry → CellRecord
 cell_of d g = record { kind = g.kind; delays = g.delays; inputs = map (input_of d) g.inputs }
-
--- the places of the gates that drive the net of this name
-abbrev pub driver_places : List GateEntry → List ℕ → List ℕ
-driver_places gates name = map (λ p. p.0) (filter (λ p. same_name p.1.output name) (enumerate_from 0 gates))
 
 -- these are the connections of the design
 pub record IsWiring (d : Netlist) (w : Wiring) : Type 0 where

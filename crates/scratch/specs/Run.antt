@@ -6,8 +6,7 @@ use Rattle.fourstate.specs.declared.value.Value.{Value}
 use Rattle.fourstate.specs.declared.value.Value.TheVariants.{Unknown}
 use Rattle.fourstate.specs.Nets.{net_of}
 use Rattle.gatestep.specs.Step.{State, Evaluation, initial, due}
-use Rattle.design.specs.declared.terminal.Terminal.{Terminal}
-use Rattle.design.specs.declared.terminal.Terminal.TheVariants.{Net, Constant}
+use Rattle.design.specs.Connections.{Connection, to_net, to_constant}
 use Rattle.design.specs.Netlist.{NetEntry, GateEntry, Netlist, net_named, drivers_of, stimulus}
 use Rattle.waveform.specs.Changes.{wave_changes_below, trace_below}
 use Rattle.waveform.specs.Runs.{RunRecord}
@@ -22,9 +21,9 @@ net_at d before n t =
     else net_of n.kind (map (λ g. (due (before g) t).current) (drivers_of d n.name))
 
 -- the value that a gate input reads at t
-abbrev pub terminal_at : Netlist → (GateEntry → State) → Terminal → ℕ → Value
-terminal_at d before (Net name) t = option_map_or (λ n. net_at d before n t) (net_named d name) Unknown
-terminal_at d before (Constant v) t = v
+abbrev pub terminal_at : Netlist → (GateEntry → State) → Connection → ℕ → Value
+terminal_at d before (to_net name) t = option_map_or (λ n. net_at d before n t) (net_named d name) Unknown
+terminal_at d before (to_constant v) t = v
 
 -- what is evaluated for a gate at t
 abbrev pub evaluation_at : Netlist → (GateEntry → State) → GateEntry → ℕ → Evaluation

@@ -6,6 +6,7 @@ ghost use Rattle.gatestep.specs.Faults.{is_lost};
 ghost use Rattle.gatestep.specs.Record.{at_moment};
 ghost use Rattle.gatestep.specs.Step.{initial};
 ghost use Rattle.gatestep.specs.Tasks.{IsReady, PendingFrom};
+ghost use Rattle.design.specs.Keys.{netlist};
 ghost use Rattle.scratch.specs.Kept.{IsWiring, currents_of, evaluation_from, evaluations_from, input_value, net_from, values_at, values_from};
 ghost use Rattle.scratch.specs.Run.{state_before, value};
 ghost use Rattle.scratch.specs.Work.{HasGrownOrNot, work_at};
@@ -34,7 +35,7 @@ pub struct Moment {
 impl Moment {
     /// What stands before moment 0: each driver holds x with nothing pending.
     pub fn before(alloc: Global, design: &Design) -> Result<Moment, AllocError>
-        ensures states { IfOk result (λ moment. moment.states.items ≡ map (λ _. initial) design.now.netlist.gates) }
+        ensures states { IfOk result (λ moment. moment.states.items ≡ map (λ _. initial) (netlist design.now).gates) }
     {
         let mut states = Vec::with_capacity(alloc, design.gate_count())?;
         for _ in 0..design.gate_count() {
@@ -59,16 +60,16 @@ impl Moment {
         stepper: &mut S,
         t: u64,
     ) -> Result<(), StepFault>
-        requires wired { IsWiring design.now.netlist wiring.now }
-        requires states { self.old.states.items ≡ map (state_before S.answer design.now.netlist t) design.now.netlist.gates }
+        requires wired { IsWiring (netlist design.now) wiring.now }
+        requires states { self.old.states.items ≡ map (state_before S.answer (netlist design.now) t) (netlist design.now).gates }
         requires ready { All (PendingFrom t) self.old.states.items }
         requires within { t ≤ MAX_TIME }
-        ensures values { OnOk result (self.new.values.items ≡ map (λ n. value S.answer design.now.netlist n t) design.now.netlist.nets) }
-        ensures states { OnOk result (self.new.states.items ≡ map (state_before S.answer design.now.netlist (t + 1)) design.now.netlist.gates) }
+        ensures values { OnOk result (self.new.values.items ≡ map (λ n. value S.answer (netlist design.now) n t) (netlist design.now).nets) }
+        ensures states { OnOk result (self.new.states.items ≡ map (state_before S.answer (netlist design.now) (t + 1)) (netlist design.now).gates) }
         ensures ready { OnOk result (All (PendingFrom (t + 1)) self.new.states.items) }
         ensures asked { MatchResult result
-            (λ _. S.asked stepper.new ≡ S.asked stepper.old ++ work_at S.answer design.now.netlist t)
-            (λ _. HasGrownOrNot (S.asked stepper.old) (S.asked stepper.new) (work_at S.answer design.now.netlist t)) }
+            (λ _. S.asked stepper.new ≡ S.asked stepper.old ++ work_at S.answer (netlist design.now) t)
+            (λ _. HasGrownOrNot (S.asked stepper.old) (S.asked stepper.new) (work_at S.answer (netlist design.now) t)) }
         ensures lost { S.losses stepper.new ≡ S.losses stepper.old + (if is_lost result then 1 else 0) }
     {
         find_currents(self.states.as_slice(), t, &mut self.currents)?;
@@ -164,8 +165,8 @@ fn find_values(
     driven: &mut Vec<Value>,
     out: &mut Vec<Value>,
 ) -> Result<(), AllocError>
-    requires { IsWiring design.now.netlist wiring.now }
-    ensures { OnOk result (out.new.items ≡ values_from design.now.netlist (map (λ places. places.items) wiring.now.drivers.items) currents.now t) }
+    requires { IsWiring (netlist design.now) wiring.now }
+    ensures { OnOk result (out.new.items ≡ values_from (netlist design.now) (map (λ places. places.items) wiring.now.drivers.items) currents.now t) }
 {
     out.clear();
     for place in 0..design.net_count() {

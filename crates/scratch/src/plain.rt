@@ -1,6 +1,7 @@
 //! The reference implementation of the run, kept as the value of each net at each moment, for tests: its contract is the definition.
 
 ghost use Rattle.std.specs.Prelude.{◌≡◌, ◌++◌, ◌∷◌, [], map, suc, IfOk, OnOk};
+ghost use Rattle.design.specs.Keys.{netlist};
 ghost use Rattle.scratch.specs.Plain.{values_at, moments};
 
 use crate::moment::Moment;
@@ -17,7 +18,7 @@ pub fn values<S: Stepper>(
     stepper: &mut S,
 ) -> Result<Vec<Vec<Value>>, StepFault>
     ensures { IfOk result (λ rows. map (λ row. row.items) rows.items
-        ≡ map (values_at S.answer design.now.netlist) (moments (suc design.now.netlist.horizon))) }
+        ≡ map (values_at S.answer (netlist design.now)) (moments (suc (netlist design.now).horizon))) }
 {
     let horizon = design.horizon();
     let wiring = wire(alloc, design)?;

@@ -1,6 +1,7 @@
 //! The run of a design from scratch.
 
 ghost use Rattle.std.specs.Prelude.{◌≡◌, ◌≤◌, ◌+◌, ◌++◌, ℕ, suc, IfOk, OnErr, OnOk, if◌then◌else◌};
+ghost use Rattle.design.specs.Keys.{netlist};
 ghost use Rattle.scratch.specs.Lost.{loses_a_worker};
 ghost use Rattle.scratch.specs.Run.{run_of};
 ghost use Rattle.scratch.specs.Work.{work_below};
@@ -22,10 +23,10 @@ pub fn simulate<S: Stepper>(
     design: &Design,
     stepper: &mut S,
 ) -> Result<Run, StepFault>
-    ensures run { IfOk result (λ run. run ≡ run_of S.answer design.now.netlist) }
-    ensures asked { OnOk result (S.asked stepper.new ≡ S.asked stepper.old ++ work_below S.answer design.now.netlist (suc design.now.netlist.horizon)) }
-    ensures part { OnErr result ((n : ℕ) × (n ≤ suc design.now.netlist.horizon)
-        × (S.asked stepper.new ≡ S.asked stepper.old ++ work_below S.answer design.now.netlist n)) }
+    ensures run { IfOk result (λ run. run ≡ run_of S.answer (netlist design.now)) }
+    ensures asked { OnOk result (S.asked stepper.new ≡ S.asked stepper.old ++ work_below S.answer (netlist design.now) (suc (netlist design.now).horizon)) }
+    ensures part { OnErr result ((n : ℕ) × (n ≤ suc (netlist design.now).horizon)
+        × (S.asked stepper.new ≡ S.asked stepper.old ++ work_below S.answer (netlist design.now) n)) }
     ensures lost { S.losses stepper.new ≡ S.losses stepper.old + (if loses_a_worker result then 1 else 0) }
 {
     design.lawful();

@@ -1,10 +1,12 @@
-//! The connections of a design, by places in place of names.
+//! The connections of a design, by places in place of keys.
 
-ghost use Rattle.std.specs.Prelude.{◌≡◌, ◌<◌, ◌+◌, map, take, [], IfOk, OnOk, IsTrue, length};
+ghost use Rattle.std.specs.Prelude.{◌≡◌, map, IfOk, IfSome, IsSome, IsTrue, length};
 ghost use Rattle.fourstate.specs.Gates.{takes_inputs};
-ghost use Rattle.scratch.specs.Kept.{IsWiring, cell_of, driver_places, input_of};
+ghost use Rattle.design.specs.Keys.{IsConnected, IsThere, connection_in, entry_in, net_by_key, netlist};
+ghost use Rattle.design.specs.Places.{driver_places};
+ghost use Rattle.scratch.specs.Kept.{IsWiring, cell_of, input_of};
 
-use design::{Design, Gate, Terminal};
+use design::{Design, Gate, NetKey, Terminal};
 use fourstate::{Delays, GateKind, Value};
 use std::alloc::{AllocError, Global};
 use std::marker::Model;
@@ -41,12 +43,13 @@ impl Model for Cell {
 impl Cell {
     /// The cell of a gate of this design.
     fn of(alloc: Global, design: &Design, gate: &Gate) -> Result<Cell, AllocError>
-        ensures { IfOk result (λ cell. cell ≡ cell_of design.now.netlist gate.now) }
+        requires { IsConnected design.now.nets gate.now }
+        ensures { IfOk result (λ cell. cell ≡ cell_of (netlist design.now) (entry_in design.now.nets gate.now)) }
     {
         let terminals = gate.inputs();
         let mut inputs = Vec::with_capacity(alloc, terminals.len())?;
         for terminal in terminals {
-            inputs.push(locate(design, terminal))?;
+            inputs.push(locate(design, *terminal))?;
         }
         Ok(Cell {
             kind: gate.kind(),
@@ -78,15 +81,18 @@ impl Cell {
     }
 }
 
-fn locate(design: &Design, terminal: &Terminal) -> Input
-    ensures { result ≡ input_of design.now.netlist terminal.now }
+/// Where a terminal, whose net is there, gets its value from.
+fn locate(design: &Design, terminal: Terminal) -> Input
+    requires { IsThere design.now.nets terminal }
+    ensures { result ≡ input_of (netlist design.now) (connection_in design.now.nets terminal) }
 {
+    design.places_are_keys();
     match terminal {
-        Terminal::Net(name) => match design.net_place(name.as_str()) {
+        Terminal::Net(net) => match design.net_place_of(net) {
             Some(place) => Input::At(place),
-            None => Input::Fixed(Value::Unknown),
+            None => unreachable!(),
         },
-        Terminal::Constant(value) => Input::Fixed(*value),
+        Terminal::Constant(value) => Input::Fixed(value),
     }
 }
 
@@ -101,7 +107,7 @@ pub struct Wiring {
 
 /// The connections of a design.
 pub fn wire(alloc: Global, design: &Design) -> Result<Wiring, AllocError>
-    ensures { IfOk result (IsWiring design.now.netlist) }
+    ensures { IfOk result (IsWiring (netlist design.now)) }
 {
     let cells = all_cells(alloc, design)?;
     let drivers = all_drivers(alloc, design)?;
@@ -109,7 +115,7 @@ pub fn wire(alloc: Global, design: &Design) -> Result<Wiring, AllocError>
 }
 
 fn all_cells(alloc: Global, design: &Design) -> Result<Vec<Cell>, AllocError>
-    ensures { IfOk result (λ cells. cells.items ≡ map (cell_of design.now.netlist) design.now.netlist.gates) }
+    ensures { IfOk result (λ cells. cells.items ≡ map (cell_of (netlist design.now)) (netlist design.now).gates) }
 {
     let mut cells = Vec::with_capacity(alloc, design.gate_count())?;
     for place in 0..design.gate_count() {
@@ -119,41 +125,30 @@ fn all_cells(alloc: Global, design: &Design) -> Result<Vec<Cell>, AllocError>
     Ok(cells)
 }
 
-/// A list without places for each net.
-fn no_drivers(alloc: Global, design: &Design) -> Result<Vec<Vec<usize>>, AllocError>
-    ensures { IfOk result (λ all. map (λ places. places.items) all.items ≡ map (λ n. driver_places [] n.name) design.now.netlist.nets) }
+fn all_drivers(alloc: Global, design: &Design) -> Result<Vec<Vec<usize>>, AllocError>
+    ensures { IfOk result (λ all. map (λ places. places.items) all.items ≡ map (λ n. driver_places (netlist design.now).gates n.name) (netlist design.now).nets) }
 {
     let mut all = Vec::with_capacity(alloc, design.net_count())?;
-    for _ in 0..design.net_count() {
-        all.push(Vec::new(alloc))?;
+    for place in 0..design.net_count() {
+        let places = drivers_of(alloc, design, design.net_key_at(place))?;
+        all.push(places)?;
     }
     Ok(all)
 }
 
-/// Adds the gate at a place to the drivers of its output, where the gates before it stand.
-fn add_driver(design: &Design, place: usize, all: &mut Vec<Vec<usize>>) -> Result<(), AllocError>
-    requires there { place < length design.now.netlist.gates }
-    requires before { map (λ places. places.items) all.old.items ≡ map (λ n. driver_places (take place design.now.netlist.gates) n.name) design.now.netlist.nets }
-    ensures { OnOk result (map (λ places. places.items) all.new.items ≡ map (λ n. driver_places (take (place + 1) design.now.netlist.gates) n.name) design.now.netlist.nets) }
+/// The places of the gates that drive a net.
+fn drivers_of(alloc: Global, design: &Design, net: NetKey) -> Result<Vec<usize>, AllocError>
+    requires { IsSome (net_by_key design.now net) }
+    ensures { IfOk result (λ places. IfSome (net_by_key design.now net) (λ n. places.items ≡ driver_places (netlist design.now).gates n.name)) }
 {
-    design.lawful();
-    let gate = design.gate_at(place);
-    match design.net_place(gate.output().as_str()) {
-        None => Ok(()),
-        Some(net) => {
-            let places = &mut all[net];
-            places.push(place)?;
-            Ok(())
-        }
+    design.places_are_keys();
+    let drivers = design.drivers(net);
+    let mut places = Vec::with_capacity(alloc, drivers.len())?;
+    for driver in drivers {
+        let Some(place) = design.gate_place_of(*driver) else {
+            unreachable!();
+        };
+        places.push(place)?;
     }
-}
-
-fn all_drivers(alloc: Global, design: &Design) -> Result<Vec<Vec<usize>>, AllocError>
-    ensures { IfOk result (λ all. map (λ places. places.items) all.items ≡ map (λ n. driver_places design.now.netlist.gates n.name) design.now.netlist.nets) }
-{
-    let mut all = no_drivers(alloc, design)?;
-    for place in 0..design.gate_count() {
-        add_driver(design, place, &mut all)?;
-    }
-    Ok(all)
+    Ok(places)
 }

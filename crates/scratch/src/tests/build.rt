@@ -1,6 +1,9 @@
 //! Designs by calls, for tests.
 
-use design::{Design, Gate, MAX_GATES, MAX_NETS, MAX_POINTS, Name, NameHasher, Terminal};
+ghost use Rattle.std.specs.Prelude.{All, IsSome};
+ghost use Rattle.design.specs.Keys.{IsThere, net_by_key};
+
+use design::{Design, Gate, MAX_GATES, MAX_NETS, MAX_POINTS, Name, NameHasher, NetKey, Terminal};
 use fourstate::{Delays, GateKind, MAX_TIME, NetKind, TimeUnit, Value, fits};
 use std::alloc::Global;
 use std::process::Abort;
@@ -33,20 +36,33 @@ pub fn net(rt: &impl Abort, alloc: Global, design: Design, name: &str, kind: Net
 }
 
 /// The terminal of a net name, or of a constant as a text writes it.
-fn terminal(rt: &impl Abort, alloc: Global, text: &str) -> Terminal {
+fn terminal(rt: &impl Abort, design: &Design, text: &str) -> Terminal
+    ensures { IsThere design.now.nets result }
+{
     match text {
         "1'b0" => Terminal::Constant(Value::Zero),
         "1'b1" => Terminal::Constant(Value::One),
         "1'bx" => Terminal::Constant(Value::Unknown),
         "1'bz" => Terminal::Constant(Value::HighZ),
-        _ => Terminal::Net(name_of(rt, alloc, text)),
+        _ => Terminal::Net(net_of(rt, design, text)),
     }
 }
 
-fn terminals(rt: &impl Abort, alloc: Global, texts: &[&str]) -> Vec<Terminal> {
+/// The key of the net of a name.
+fn net_of(rt: &impl Abort, design: &Design, name: &str) -> NetKey
+    ensures { IsSome (net_by_key design.now result) }
+{
+    let net = design.net(name).expect(rt, "a net of this name");
+    assert!(rt; design.net_place_of(net).is_some());
+    net
+}
+
+fn terminals(rt: &impl Abort, alloc: Global, design: &Design, texts: &[&str]) -> Vec<Terminal>
+    ensures { All (IsThere design.now.nets) result.items }
+{
     let mut terminals = Vec::new(alloc);
     for text in texts {
-        let terminal = terminal(rt, alloc, text);
+        let terminal = terminal(rt, design, text);
         terminals.push(terminal).expect(rt, "one terminal more");
     }
     terminals
@@ -62,25 +78,20 @@ pub fn gate(
     connected: (&str, &[&str]),
 ) -> Design {
     let delays = Delays::new(kind.1, kind.2).expect(rt, "lawful delays");
-    let inputs = terminals(rt, alloc, connected.1);
+    let inputs = terminals(rt, alloc, &design, connected.1);
     assert!(rt; fits(kind.0, inputs.as_slice().len()));
     let name = name_of(rt, alloc, name);
-    let output = name_of(rt, alloc, connected.0);
-    add(rt, design, Gate::new(name, kind.0, delays, output, inputs))
-}
-
-fn add(rt: &impl Abort, design: Design, gate: Gate) -> Design {
-    assert!(rt; !design.has_gate(gate.name().as_str()));
+    assert!(rt; !design.has_gate(name.as_str()));
     assert!(rt; design.gate_count() < MAX_GATES);
-    assert!(rt; design.is_drivable(gate.output().as_str()));
-    assert!(rt; design.are_readable(gate.inputs()));
+    let output = net_of(rt, &design, connected.0);
+    assert!(rt; !design.net_of(output).is_input());
+    let gate = Gate::new(name, kind.0, delays, output, inputs);
     design.add_gate(gate).expect(rt, "a gate").0
 }
 
 /// A stimulus point of an input.
 pub fn point(rt: &impl Abort, design: Design, name: &str, t: u64, value: Value) -> Design {
-    let net = design.net(name).expect(rt, "a net of this name");
-    assert!(rt; design.has_net_key(net));
+    let net = net_of(rt, &design, name);
     assert!(rt; design.net_of(net).is_input());
     assert!(rt; t <= MAX_TIME);
     assert!(rt; design.point_count() < MAX_POINTS);

@@ -2,7 +2,7 @@ use Rattle.std.proofs.Common.{◌<◌, ◌≤◌, ◌∙◌, ap, refl, map, leng
 use Rattle.std.proofs.lemmas.List.{map-append}
 use Rattle.std.proofs.lemmas.Option.{slice_get_read}
 use Rattle.scratch.specs.Kept.{evaluation_from}
-use Rattle.scratch.proofs.Zips.{zip_next, zip_whole}
+use Rattle.scratch.proofs.Lists.{zip_next, zip_whole}
 use Rattle.scratch.proofs.moment.find_tasks.Goals as goal
 
 pub loop-place-preserved : goal.loop-place-preserved

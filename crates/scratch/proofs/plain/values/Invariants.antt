@@ -1,5 +1,6 @@
 use Rattle.std.proofs.Common.{◌≡◌, map, All}
 use Rattle.gatestep.specs.Tasks.{PendingFrom}
+use Rattle.design.specs.Keys.{netlist}
 use Rattle.scratch.specs.Plain.{values_at, moments}
 use Rattle.scratch.specs.Run.{state_before}
 use Rattle.scratch.proofs.plain.values.Given as goal
@@ -8,7 +9,7 @@ use Rattle.scratch.proofs.plain.values.Given as goal
 abbrev pub invariant-loop-t : goal.invariant-loop-t
 invariant-loop-t g l =
     let answer = g.S.Stepper.answer in
-    let d = l.fn.design.netlist in
+    let d = netlist l.fn.design in
     record {
       states : l.moment.states.items ≡ map (state_before answer d l.t) d.gates;
       ready : All (PendingFrom l.t) l.moment.states.items;

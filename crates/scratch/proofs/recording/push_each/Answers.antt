@@ -1,7 +1,7 @@
 use Rattle.std.proofs.Common.{◌∙◌, arith}
 use Rattle.std.proofs.lemmas.Grind.{common_steps}
 use Rattle.waveform.specs.Timelines.{pushed}
-use Rattle.scratch.proofs.Zips.{set_beside, whole_beside}
+use Rattle.scratch.proofs.Lists.{set_beside, whole_beside}
 use Rattle.scratch.proofs.recording.push_each.Goals as goal
 
 pub loop-place-preserved : goal.loop-place-preserved

@@ -4,6 +4,7 @@ use Rattle.fourstate.specs.Values.{same_value}
 use Rattle.gatestep.specs.Step.{due}
 use Rattle.waveform.specs.Changes.{wave_changes_below, trace_below}
 use Rattle.waveform.specs.Entries.{same_state, standing}
+use Rattle.design.specs.Keys.{netlist}
 use Rattle.scratch.specs.Recordings.{pushed_each}
 use Rattle.scratch.specs.Run.{state_after, value}
 use Rattle.scratch.specs.Work.{work_below}
@@ -19,11 +20,11 @@ held (Err e) p = p
 pub open-requires : goal.open-requires
 open-requires g c =
     let laws = g.met.S.Stepper in
-    storable g.S.Stepper.answer c.args.design.now.netlist laws.answer_pending laws.answer_near c.lawful.ensures.design.gates 0 c.pass.new.self.states.items c.in_ok-pass.ensures.states
+    storable g.S.Stepper.answer (netlist c.args.design.now) laws.answer_pending laws.answer_near c.lawful.ensures.design.gates 0 c.pass.new.self.states.items c.in_ok-pass.ensures.states
 
 pub loop-t-init : goal.loop-t-init
 loop-t-init g c =
-    let d = c.args.design.now.netlist in
+    let d = netlist c.args.design.now in
     let answer = g.S.Stepper.answer in
     let old = g.S.Stepper.asked c.args.stepper.now in
     record {
@@ -36,19 +37,19 @@ loop-t-init g c =
     }
 
 pub add-requires-clause-later_waves : goal.add-requires-clause-later_waves
-add-requires-clause-later_waves g c = rw c.loop-t.invariant.waves (waves_early g.S.Stepper.answer c.args.design.now.netlist c.changes_lie_before.ensures c.loop-t.t)
+add-requires-clause-later_waves g c = rw c.loop-t.invariant.waves (waves_early g.S.Stepper.answer (netlist c.args.design.now) c.changes_lie_before.ensures c.loop-t.t)
 
 pub add-requires-clause-later_traces : goal.add-requires-clause-later_traces
-add-requires-clause-later_traces g c = rw c.loop-t.invariant.traces (traces_early g.S.Stepper.answer c.args.design.now.netlist c.changes_lie_before-2.ensures c.loop-t.t)
+add-requires-clause-later_traces g c = rw c.loop-t.invariant.traces (traces_early g.S.Stepper.answer (netlist c.args.design.now) c.changes_lie_before-2.ensures c.loop-t.t)
 
 pub add-requires-clause-storable : goal.add-requires-clause-storable
 add-requires-clause-storable g c =
     let laws = g.met.S.Stepper in
-    storable g.S.Stepper.answer c.args.design.now.netlist laws.answer_pending laws.answer_near c.lawful.ensures.design.gates c.loop-t.t c.pass-in-loop-t.new.self.states.items c.in_ok-pass-2.ensures.states
+    storable g.S.Stepper.answer (netlist c.args.design.now) laws.answer_pending laws.answer_near c.lawful.ensures.design.gates c.loop-t.t c.pass-in-loop-t.new.self.states.items c.in_ok-pass-2.ensures.states
 
 pub loop-t-preserved : goal.loop-t-preserved
 loop-t-preserved g c =
-    let d = c.args.design.now.netlist in
+    let d = netlist c.args.design.now in
     let answer = g.S.Stepper.answer in
     let waves : pushed_each same_value standing c.loop-t.recording.waves.items c.pass-in-loop-t.new.self.values.items c.loop-t.t ≡ map (λ n. wave_changes_below (value answer d n) (c.loop-t.t + 1)) d.nets =
     rw (c.loop-t.invariant.waves, c.in_ok-pass-2.ensures.values) (waves_more answer d c.push_to_changes.ensures c.loop-t.t) in
@@ -68,26 +69,26 @@ loop-t-preserved g c =
 
 pub returns-clause-run : goal.returns-clause-run
 returns-clause-run g c =
-    let at_end : c.loop-t.t ≡ suc c.args.design.now.netlist.horizon = grind (arith, common_steps) in
+    let at_end : c.loop-t.t ≡ suc (netlist c.args.design.now).horizon = grind (arith, common_steps) in
     rw (c.in_ok-finish.ensures, c.loop-t.invariant.waves, c.loop-t.invariant.traces, at_end, c.horizon-horizon.ensures.horizon) refl
 
 pub returns-in_err-pass-clause-part : goal.returns-in_err-pass-clause-part
 returns-in_err-pass-clause-part g c =
-    let d = c.args.design.now.netlist in
+    let d = (netlist c.args.design.now) in
     let answer = g.S.Stepper.answer in
     let old = g.S.Stepper.asked c.args.stepper.now in
     held c.from_residual-in_err-pass.result (part answer d old old (g.S.Stepper.asked c.pass.new.stepper) 0 d.horizon (omega arith) (nothing answer d old) c.in_err-pass.ensures.asked)
 
 pub returns-in_err-recording-clause-part : goal.returns-in_err-recording-clause-part
 returns-in_err-recording-clause-part g c =
-    let d = c.args.design.now.netlist in
+    let d = (netlist c.args.design.now) in
     let answer = g.S.Stepper.answer in
     let old = g.S.Stepper.asked c.args.stepper.now in
     held c.from_residual-in_err-recording.result (1, omega arith, more answer d old old (g.S.Stepper.asked c.pass.new.stepper) 0 (nothing answer d old) c.in_ok-pass.ensures.asked)
 
 pub returns-in_err-pass-2-clause-part : goal.returns-in_err-pass-2-clause-part
 returns-in_err-pass-2-clause-part g c =
-    let d = c.args.design.now.netlist in
+    let d = (netlist c.args.design.now) in
     let within : c.loop-t.t ≤ d.horizon = grind (arith, common_steps) in
     held c.from_residual-in_err-pass-2.result
     (part g.S.Stepper.answer d (g.S.Stepper.asked c.args.stepper.now) (g.S.Stepper.asked c.loop-t.stepper) (g.S.Stepper.asked c.pass-in-loop-t.new.stepper) c.loop-t.t d.horizon within
@@ -95,7 +96,7 @@ returns-in_err-pass-2-clause-part g c =
 
 pub returns-in_err-add-clause-part : goal.returns-in_err-add-clause-part
 returns-in_err-add-clause-part g c =
-    let d = c.args.design.now.netlist in
+    let d = (netlist c.args.design.now) in
     let within : c.loop-t.t ≤ d.horizon = grind (arith, common_steps) in
     held c.from_residual-in_err-add.result (
       suc c.loop-t.t,
@@ -106,11 +107,11 @@ returns-in_err-add-clause-part g c =
 
 pub returns-in_err-finish-clause-part : goal.returns-in_err-finish-clause-part
 returns-in_err-finish-clause-part g c =
-    let within : c.loop-t.t ≤ suc c.args.design.now.netlist.horizon = grind (arith, common_steps) in
+    let within : c.loop-t.t ≤ suc (netlist c.args.design.now).horizon = grind (arith, common_steps) in
     held c.from_residual-in_err-finish.result (c.loop-t.t, within, c.loop-t.invariant.asked)
 
 pub returns-clause-asked : goal.returns-clause-asked
 returns-clause-asked g c =
-    let d = c.args.design.now.netlist in
+    let d = (netlist c.args.design.now) in
     let at_end : c.loop-t.t ≡ suc d.horizon = grind (arith, common_steps) in
     subst (λ n. g.S.Stepper.asked c.loop-t.stepper ≡ g.S.Stepper.asked c.args.stepper.now ++ work_below g.S.Stepper.answer d n) at_end c.loop-t.invariant.asked

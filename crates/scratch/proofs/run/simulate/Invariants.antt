@@ -1,6 +1,7 @@
 use Rattle.std.proofs.Common.{◌≡◌, ◌++◌, map, All}
 use Rattle.gatestep.specs.Tasks.{PendingFrom}
 use Rattle.waveform.specs.Changes.{wave_changes_below, trace_below}
+use Rattle.design.specs.Keys.{netlist}
 use Rattle.scratch.specs.Run.{state_after, state_before, value}
 use Rattle.scratch.specs.Work.{work_below}
 use Rattle.scratch.proofs.run.simulate.Given as goal
@@ -9,7 +10,7 @@ use Rattle.scratch.proofs.run.simulate.Given as goal
 abbrev pub invariant-loop-t : goal.invariant-loop-t
 invariant-loop-t g l =
     let answer = g.S.Stepper.answer in
-    let d = l.fn.design.netlist in
+    let d = netlist l.fn.design in
     record {
       states : l.moment.states.items ≡ map (state_before answer d l.t) d.gates;
       ready : All (PendingFrom l.t) l.moment.states.items;

@@ -1,6 +1,7 @@
 use Rattle.std.proofs.Common.{◌≡◌, ◌++◌, ◌∙◌, ap, map, Result, Ok, Err, MatchResult, OnOk, add-one, inr}
 use Rattle.gatestep.specs.Record.{at_moment}
 use Rattle.gatestep.specs.Tasks.{PendingFrom}
+use Rattle.design.specs.Keys.{netlist}
 use Rattle.scratch.specs.Run.{evaluation_at, net_at, state_before}
 use Rattle.scratch.proofs.Moments.{evaluations_are, map_twice, task_states, values_are}
 use Rattle.scratch.proofs.moment.Moment.pass.Goals as goal
@@ -27,7 +28,7 @@ step-requires-clause-ready g c =
 
 pub returns-clause-values : goal.returns-clause-values
 returns-clause-values g c =
-    let d = c.args.design.now.netlist in
+    let d = netlist c.args.design.now in
     let before = state_before g.S.Stepper.answer d c.args.t in
     let values : c.find_values.new.out.items ≡ map (λ n. net_at d before n c.args.t) d.nets =
     rw (c.in_ok-find_values.ensures, c.as_slice-2.ensures.value, c.in_ok-find_currents.ensures, c.as_slice.ensures.value)
@@ -36,7 +37,7 @@ returns-clause-values g c =
 
 pub returns-clause-states : goal.returns-clause-states
 returns-clause-states g c =
-    let d = c.args.design.now.netlist in
+    let d = netlist c.args.design.now in
     let answer = g.S.Stepper.answer in
     let before = state_before answer d c.args.t in
     let values : c.as_slice-3.result.now ≡ map (λ n. net_at d before n c.args.t) d.nets =
@@ -50,7 +51,7 @@ returns-clause-states g c =
 
 pub returns-clause-asked : goal.returns-clause-asked
 returns-clause-asked g c =
-    let d = c.args.design.now.netlist in
+    let d = (netlist c.args.design.now) in
     let answer = g.S.Stepper.answer in
     let before = state_before answer d c.args.t in
     let values : c.as_slice-3.result.now ≡ map (λ n. net_at d before n c.args.t) d.nets =

@@ -1,4 +1,4 @@
--- Lists side by side, and a list to which one element is added.
+-- Lists: side by side, and as they grow.
 use Rattle.std.proofs.Common.{◌≡◌, ◌<◌, ◌≤◌, ap, refl, Bool, true, false, cond, ℕ, zero, suc, ◌+◌, List, [], ◌∷◌, ◌++◌, map, take, drop, length, get_or, Some, slice_get, add-one, arith}
 use Rattle.std.specs.List.{zip, enumerate_from, position_or_len}
 use Rattle.std.proofs.Math.ListN.{set}
@@ -23,50 +23,6 @@ zip_whole (w ∷ xs) (z ∷ ys) (suc i) past = ap (λ l. (w, z) ∷ l) (zip_whol
 pub map_zip : {A B C D : Type 0} (f : A → B) (h : A → C) (k : B → C → D) (xs : List A) → map (λ p. k p.0 p.1) (zip (map f xs) (map h xs)) ≡ map (λ x. k (f x) (h x)) xs
 map_zip f h k [] = refl
 map_zip f h k (x ∷ xs) = ap (λ l. k (f x) (h x) ∷ l) (map_zip f h k xs)
-
-pub enumerate_push : {A : Type 0} (k : ℕ) (xs : List A) (x : A) → enumerate_from k (xs ++ x ∷ []) ≡ enumerate_from k xs ++ (k + length xs, x) ∷ []
-enumerate_push k [] x = let e : k ≡ k + 0 = omega arith in rw (← e) refl
-enumerate_push k (w ∷ xs) x =
-    let e : k + 1 + length xs ≡ k + suc (length xs) = omega arith in
-    rw (← e) (ap (λ l. (k, w) ∷ l) (enumerate_push (k + 1) xs x))
-
--- no element passes
-abbrev pub NonePass : {A : Type 0} → (A → Bool) → List A → Type 0
-NonePass test [] = Unit {0}
-NonePass test (x ∷ xs) = (test x ≡ false) × NonePass test xs
-
--- at most one element passes
-abbrev pub OnePasses : {A : Type 0} → (A → Bool) → List A → Type 0
-OnePasses test [] = Unit {0}
-OnePasses test (x ∷ xs) = (test x ≡ true → NonePass test xs) × OnePasses test xs
-
--- a list with an element more where the test passes
-abbrev pub added : {A B : Type 0} → (A → Bool) → (A → List B) → B → A → List B
-added test F b x = cond (test x) (F x ++ b ∷ []) (F x)
-
-module _ {A B : Type 0} (test : A → Bool) (F : A → List B) (b : B) where
-  pub none_added : (xs : List A) → NonePass test xs → map F xs ≡ map (added test F b) xs
-  none_added [] none = refl
-  none_added (x ∷ xs) none = rw none.0 (ap (λ l. F x ∷ l) (none_added xs none.1))
-
-  add_by : (x : A) (xs : List A) (w : List B) (c : Bool) → test x ≡ c → OnePasses test (x ∷ xs) → position_or_len test (x ∷ xs) < suc (length xs) →
-      slice_get (map F (x ∷ xs)) (position_or_len test (x ∷ xs)) ≡ Some w →
-      (position_or_len test xs < length xs → slice_get (map F xs) (position_or_len test xs) ≡ Some w → set (map F xs) (position_or_len test xs) (w ++ b ∷ []) ≡ map (added test F b) xs) →
-      set (map F (x ∷ xs)) (position_or_len test (x ∷ xs)) (w ++ b ∷ []) ≡ map (added test F b) (x ∷ xs)
-  add_by x xs w true t one below at later =
-      let here : F x ≡ w = (let e : Some (F x) ≡ Some w = (rw t at at) in cc) in
-      rw (t, here) (ap (λ l. (w ++ b ∷ []) ∷ l) (none_added xs (one.0 t)))
-  add_by x xs w false t one below at later =
-      let next : 1 + position_or_len test xs ≡ suc (position_or_len test xs) = omega arith in
-      let within : position_or_len test xs < length xs = (let h = rw t at below in omega arith) in
-      let there : slice_get (map F xs) (position_or_len test xs) ≡ Some w = rw (t, next) at at in
-      rw (t, next) (ap (λ l. F x ∷ l) (later within there))
-
-  -- a push onto the list at the place of the one element that passes
-  pub add_at : (xs : List A) (w : List B) → OnePasses test xs → position_or_len test xs < length xs → slice_get (map F xs) (position_or_len test xs) ≡ Some w →
-      set (map F xs) (position_or_len test xs) (w ++ b ∷ []) ≡ map (added test F b) xs
-  add_at [] w one below at = absurd (omega arith)
-  add_at (x ∷ xs) w one below at = add_by x xs w (test x) refl one below at (add_at xs w one.1)
 
 -- One list is changed place by place by another that stands beside it.
 
@@ -101,3 +57,38 @@ zip_next [] ys i x y atx aty = absurd (cc)
 zip_next (w ∷ xs) [] i x y atx aty = absurd (cc)
 zip_next (w ∷ xs) (z ∷ ys) zero x y atx aty = cc
 zip_next (w ∷ xs) (z ∷ ys) (suc i) x y atx aty = rw add-one (ap (λ l. (w, z) ∷ l) (rw add-one at (zip_next xs ys i x y atx aty)))
+
+-- Lists as they grow.
+
+pub map_alike : {A B : Type 0} (f g : A → B) → ((x : A) → f x ≡ g x) → (xs : List A) → map f xs ≡ map g xs
+map_alike f g alike [] = refl
+map_alike f g alike (x ∷ xs) = rw (alike x) (ap (λ l. g x ∷ l) (map_alike f g alike xs))
+
+-- one element more
+pub take_next : {A : Type 0} (xs : List A) (i : ℕ) (x : A) → slice_get xs i ≡ Some x → take (i + 1) xs ≡ take i xs ++ x ∷ []
+take_next [] i x at = absurd (cc)
+take_next (w ∷ xs) zero x at = cc
+take_next (w ∷ xs) (suc i) x at = rw add-one (ap (λ l. w ∷ l) (rw add-one at (take_next xs i x at)))
+
+-- a list for each element so far
+pub same_for_each : {A B : Type 0} (b : B) (xs : List A) (i : ℕ) → i < length xs → map (λ _. b) (take (i + 1) xs) ≡ map (λ _. b) (take i xs) ++ b ∷ []
+same_for_each b [] i below = absurd (omega arith)
+same_for_each b (x ∷ xs) zero below = refl
+same_for_each b (x ∷ xs) (suc i) below = rw add-one (ap (λ l. b ∷ l) (rw add-one at (same_for_each b xs i (omega arith))))
+
+-- lists with the same elements, each put into an option
+pub same_put : {A : Type 0} (xs ys : List A) → map (λ x. Some x) xs ≡ map (λ y. Some y) ys → xs ≡ ys
+same_put [] [] e = refl
+same_put [] (y ∷ ys) e = cc
+same_put (x ∷ xs) [] e = cc
+same_put {A} (x ∷ xs) (y ∷ ys) e =
+    let first : x ≡ y = cc in
+    let rest : map (λ z. Some z) xs ≡ map (λ z. Some z) ys = cc in
+    let tails : xs ≡ ys = same_put xs ys rest in
+    λ i. first i ∷ tails i
+
+-- an element that is there
+pub some_at : {A : Type 0} (xs : List A) (i : ℕ) → i < length xs → (x : A) × (slice_get xs i ≡ Some x)
+some_at [] i below = absurd (omega arith)
+some_at (x ∷ xs) zero below = (x, refl)
+some_at (x ∷ xs) (suc i) below = some_at xs i (omega arith)
