@@ -1,11 +1,10 @@
 //! Records by name and by key.
 
-ghost use Rattle.std.specs.Prelude.{◌≡◌, ◌≢◌, ◌<◌, ◌∷◌, [], ◌++◌, ℕ, List, length, map, slice_get, option_map, IfOk, IfSome, IsSome, if◌then◌else◌};
+ghost use Rattle.std.specs.Prelude.{◌≡◌, ◌<◌, ◌∷◌, [], ◌++◌, length, map, slice_get, option_map, IfOk, IfSome, IsSome};
 ghost use Rattle.std.specs.Option.{option_copied};
-ghost use Rattle.catalog.specs.Catalog.{AreDistinct, key_named, keys_of, named, place_of, record_at, records_of, same_name, with_record, without_key};
-ghost use Rattle.catalog.specs.Found.{found};
-ghost use Rattle.catalog.specs.Slots.{slot_at};
+ghost use Rattle.catalog.specs.Catalog.{AreDistinct, key_named, keys_of, named, place_of, record_at, records_of, with_record, without_key};
 
+use crate::enter::enter;
 use crate::gather::ready_names;
 use crate::hasher::NameHasher;
 use crate::named::Named;
@@ -226,27 +225,6 @@ impl<R: Named> Catalog<R> {
     {
         let _order = &self.order;
     }
-}
-
-/// Puts a record last, under a key that had none, and the key under its name.
-fn enter<R: Named>(
-    alloc: Global,
-    hasher: NameHasher,
-    names: Names,
-    slots: &mut Slots,
-    order: &mut Order<R>,
-    item: Shared<R>,
-) -> Result<(Names, usize), AllocError>
-    ensures fresh { IfOk result (λ entered. slot_at slots.old entered.1 ≡ None) }
-    ensures there { IfOk result (λ entered. slot_at slots.new entered.1 ≡ Some (length order.old)) }
-    ensures others { IfOk result (λ entered. (key : ℕ) → key ≢ entered.1 → slot_at slots.new key ≡ slot_at slots.old key) }
-    ensures last { IfOk result (λ entered. order.new ≡ order.old ++ Some (entered.1, item) ∷ []) }
-    ensures named { IfOk result (λ entered. (name : List ℕ) → found entered.0 name ≡ (if same_name (R.name item) name then Some entered.1 else found names name)) }
-{
-    let key = slots.insert(order.len())?;
-    let names = names.with(alloc, hasher, item.value().name(), key)?;
-    order.push(Some((key, item)))?;
-    Ok((names, key))
 }
 
 impl<R: Named> fmt::Debug for Catalog<R> {

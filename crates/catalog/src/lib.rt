@@ -2,6 +2,7 @@
 #![tactic(auto)]
 
 mod catalog;
+mod enter;
 mod gather;
 mod hasher;
 mod named;

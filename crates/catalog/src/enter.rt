@@ -1,0 +1,35 @@
+//! A record more.
+
+ghost use Rattle.std.specs.Prelude.{◌≡◌, ◌≢◌, ◌∷◌, [], ◌++◌, ℕ, List, Some, None, IfOk, length, if◌then◌else◌};
+ghost use Rattle.catalog.specs.Catalog.{same_name};
+ghost use Rattle.catalog.specs.Found.{found};
+ghost use Rattle.catalog.specs.Slots.{slot_at};
+
+use crate::hasher::NameHasher;
+use crate::named::Named;
+use crate::names::Names;
+use crate::order::Order;
+use crate::slots::Slots;
+use chunked::Shared;
+use std::alloc::{AllocError, Global};
+
+/// Puts a record last, under a key that had none, and the key under its name.
+pub(crate) fn enter<R: Named>(
+    alloc: Global,
+    hasher: NameHasher,
+    names: Names,
+    slots: &mut Slots,
+    order: &mut Order<R>,
+    item: Shared<R>,
+) -> Result<(Names, usize), AllocError>
+    ensures fresh { IfOk result (λ entered. slot_at slots.old entered.1 ≡ None) }
+    ensures there { IfOk result (λ entered. slot_at slots.new entered.1 ≡ Some (length order.old)) }
+    ensures others { IfOk result (λ entered. (key : ℕ) → key ≢ entered.1 → slot_at slots.new key ≡ slot_at slots.old key) }
+    ensures last { IfOk result (λ entered. order.new ≡ order.old ++ Some (entered.1, item) ∷ []) }
+    ensures named { IfOk result (λ entered. (name : List ℕ) → found entered.0 name ≡ (if same_name (R.name item) name then Some entered.1 else found names name)) }
+{
+    let key = slots.insert(order.len())?;
+    let names = names.with(alloc, hasher, item.value().name(), key)?;
+    order.push(Some((key, item)))?;
+    Ok((names, key))
+}
