@@ -3,6 +3,7 @@
 ghost use Rattle.std.specs.Prelude.{◌≡◌, ◌<◌, ◌+◌, ◌-◌, ◌^◌, None, Ok, Err, IfErr, IfOk, OnOk, MatchResult, option_map};
 ghost use Rattle.std.specs.Option.{option_copied};
 ghost use Rattle.gatestep.specs.Step.{advance};
+ghost use Rattle.design.specs.Keys.{netlist};
 ghost use Rattle.design.specs.Netlist.{net_named};
 ghost use Rattle.edits.specs.Checks.{cause};
 ghost use Rattle.edits.specs.Edits.{edited};
@@ -36,21 +37,22 @@ pub struct Machine<S: Stepper + Drop> {
 impl<S: Stepper + Drop> Model for Machine<S> {
     ghost use Rattle.std.specs.Prelude.{◌≡◌};
     ghost use Rattle.gatestep.specs.Step.{advance};
+    ghost use Rattle.design.specs.Keys.{netlist};
     ghost use Rattle.scratch.specs.Run.{run_of};
     ghost use Rattle.session.specs.State.{SessionState};
 
     ghost Value = { SessionState };
 
-    ghost view = { λ m. record { version = m.version; netlist = m.design.netlist } };
+    ghost view = { λ m. record { version = m.version; netlist = netlist m.design } };
 
-    ghost invariant = { λ m. (m.run ≡ run_of S.answer m.design.netlist) × (S.answer ≡ advance) };
+    ghost invariant = { λ m. (m.run ≡ run_of S.answer (netlist m.design)) × (S.answer ≡ advance) };
 }
 
 impl<S: Stepper + Drop> Machine<S> {
     /// The design at version 0, with its run.
     pub fn open(alloc: Global, design: Design, stepper: S) -> Result<Machine<S>, StepFault>
         requires { S.answer ≡ advance }
-        ensures { IfOk result (λ machine. machine ≡ record { version = 0; netlist = design.netlist }) }
+        ensures { IfOk result (λ machine. machine ≡ record { version = 0; netlist = netlist design }) }
     {
         let mut stepper = stepper;
         let run = simulate(alloc, &design, &mut stepper)?;
@@ -120,7 +122,7 @@ impl<S: Stepper + Drop> Machine<S> {
     // The design with an edit.
     #[tactic(auto, using(crate::proofs::AnswerLemmas::one_taken, crate::proofs::AnswerLemmas::one_refused))]
     fn edited(&self, edit: &Edit) -> Result<Design, Refusal>
-        ensures taken { IfOk result (λ design. (cause self.now.netlist edit.now ≡ None) × (design.netlist ≡ edited self.now.netlist edit.now)) }
+        ensures taken { IfOk result (λ design. (cause self.now.netlist edit.now ≡ None) × (netlist design ≡ edited self.now.netlist edit.now)) }
         ensures room { OnOk result (self.now.version < 2 ^ 64 - 1) }
         ensures refused { IfErr result (λ refusal. MayRefuse self.now edit.now refusal) }
     {
@@ -138,7 +140,7 @@ impl<S: Stepper + Drop> Machine<S> {
     fn adopt(&mut self, design: Design) -> Result<(), Refusal>
         requires { self.old.version < 2 ^ 64 - 1 }
         ensures { MatchResult result
-            (λ _. self.new ≡ record { version = self.old.version + 1; netlist = design.netlist })
+            (λ _. self.new ≡ record { version = self.old.version + 1; netlist = netlist design })
             (λ refusal. (self.new ≡ self.old) × IsOfStepper refusal) }
     {
         match simulate(self.alloc, &design, &mut self.stepper) {
@@ -151,9 +153,9 @@ impl<S: Stepper + Drop> Machine<S> {
     }
 
     fn install(&mut self, design: Design, run: Run)
-        requires run { run ≡ run_of S.answer design.netlist }
+        requires run { run ≡ run_of S.answer (netlist design) }
         requires room { self.old.version < 2 ^ 64 - 1 }
-        ensures { self.new ≡ record { version = self.old.version + 1; netlist = design.netlist } }
+        ensures { self.new ≡ record { version = self.old.version + 1; netlist = netlist design } }
     {
         self.design = design;
         self.run = run;

@@ -3,6 +3,7 @@
 ghost use Rattle.std.specs.Prelude.{◌≡◌, ◌≤◌, ◌<◌, ◌+◌, [], IfErr, IfOk, IsErrOf, OnOk};
 ghost use Rattle.fourstate.specs.declared.limits.TheConstants.{MAX_TIME};
 ghost use Rattle.gatestep.specs.Step.{advance};
+ghost use Rattle.design.specs.Keys.{netlist};
 ghost use Rattle.design.specs.Netlist.{with_horizon};
 ghost use Rattle.vread.specs.Reads.{Spells};
 ghost use Rattle.session.specs.Held.{outcome_of};
@@ -101,7 +102,7 @@ fn opened(
     text: &[u8],
     options: &Options,
 ) -> Result<Design, SessionFault>
-    ensures state { IfOk result (λ design. Opens text.now options.now (record { version = 0; netlist = design.netlist })) }
+    ensures state { IfOk result (λ design. Opens text.now options.now (record { version = 0; netlist = netlist design })) }
     ensures refused { IfErr result (λ fault. IsOpeningFault fault × Refuses text.now options.now fault) }
 {
     let design = spelled(alloc, names, text, options.delay)?;
@@ -114,7 +115,7 @@ fn spelled(
     text: &[u8],
     delay: Option<u32>,
 ) -> Result<Design, SessionFault>
-    ensures design { IfOk result (λ design. Spells delay text.now design.netlist) }
+    ensures design { IfOk result (λ design. Spells delay text.now (netlist design)) }
     ensures refused { IfErr result (IsTextRefused delay text.now) }
 {
     match read(alloc, names, text, delay) {
@@ -134,7 +135,7 @@ fn text_fault(fault: ReadFault) -> SessionFault
 
 fn up_to(design: Design, horizon: u64) -> Result<Design, SessionFault>
     ensures within { OnOk result (horizon ≤ MAX_TIME) }
-    ensures design { IfOk result (λ made. made.netlist ≡ with_horizon design.netlist horizon) }
+    ensures design { IfOk result (λ made. netlist made ≡ with_horizon (netlist design) horizon) }
     ensures over { IfErr result (λ fault. (fault ≡ SessionFault.Edit EditFault.TimeTooLarge) × (MAX_TIME < horizon)) }
 {
     if horizon > MAX_TIME {
@@ -150,7 +151,7 @@ fn start<S: Stepper + Drop>(
     stepper: S,
 ) -> Result<Session<S>, StepFault>
     requires { S.answer ≡ advance }
-    ensures { IfOk result (λ session. (session.line ≡ []) × (session.machine ≡ record { version = 0; netlist = design.netlist })) }
+    ensures { IfOk result (λ session. (session.line ≡ []) × (session.machine ≡ record { version = 0; netlist = netlist design })) }
 {
     let line = Line::new(alloc)?;
     let machine = Machine::open(alloc, design, stepper)?;
