@@ -7,8 +7,8 @@ ghost use Rattle.session.specs.Replies.{change_or_none, value_line};
 
 use crate::commands::Query;
 use crate::replies::lines::{change_reply, wave};
-use fourstate::Value;
 use devices::{Sink, Writer};
+use fourstate::Value;
 use waveform::Wave;
 
 /// The lines that answer what is asked about a wave. Its changes are found by halving; only a search for a value walks
