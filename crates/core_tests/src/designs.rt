@@ -2,6 +2,9 @@
 //! is compared is read of a borrowed design. `drop` ends each test: a design that goes at the end of a body, or on a way
 //! out of it, costs its proof 10 seconds and more, and a call of `drop` none.
 
+ghost use Rattle.std.specs.Prelude.{All, IsSome};
+ghost use Rattle.design.specs.Keys.{IsConnected, IsDrivable, IsThere, net_by_key};
+
 mod changes;
 mod random;
 
@@ -42,11 +45,32 @@ fn add_input(rt: &impl Abort, alloc: Global, design: Design, text: &str) -> (Des
     design.add_input(name).expect(rt, "an input more")
 }
 
-fn nets_read(rt: &impl Abort, alloc: Global, names: &[&str]) -> Vec<Terminal> {
+/// The key of a net that is there.
+fn net_there(rt: &impl Abort, design: &Design, text: &str) -> NetKey
+    ensures { IsSome (net_by_key design.now result) }
+{
+    let net = net_key(rt, design, text);
+    assert!(rt; design.net_place_of(net).is_some(), "{text}");
+    net
+}
+
+/// The key of a net that gates may drive.
+fn net_driven(rt: &impl Abort, design: &Design, text: &str) -> NetKey
+    ensures { IsDrivable design.now.nets result }
+{
+    let net = net_there(rt, design, text);
+    assert!(rt; !design.net_of(net).is_input(), "{text}");
+    net
+}
+
+fn nets_read(rt: &impl Abort, alloc: Global, design: &Design, names: &[&str]) -> Vec<Terminal>
+    ensures { All (IsThere design.now.nets) result.items }
+{
     let mut inputs = Vec::new(alloc);
     for text in names {
+        let net = net_there(rt, design, text);
         inputs
-            .push(Terminal::Net(name(rt, alloc, text)))
+            .push(Terminal::Net(net))
             .expect(rt, "a terminal more");
     }
     inputs
@@ -56,28 +80,32 @@ fn nets_read(rt: &impl Abort, alloc: Global, names: &[&str]) -> Vec<Terminal> {
 fn gate(
     rt: &impl Abort,
     alloc: Global,
+    design: &Design,
     text: &str,
     kind: GateKind,
     output: &str,
     inputs: Vec<Terminal>,
-) -> Gate {
+) -> Gate
+    requires { All (IsThere design.now.nets) inputs.items }
+    ensures { IsConnected design.now.nets result }
+{
     let name = name(rt, alloc, text);
-    let output = self::name(rt, alloc, output);
+    let output = net_driven(rt, design, output);
     let delays = Delays::new(3, 4).expect(rt, "lawful delays");
     assert!(rt; fits(kind, inputs.len()), "{text}");
     Gate::new(name, kind, delays, output, inputs)
 }
 
-fn add_gate(rt: &impl Abort, design: Design, gate: Gate) -> (Design, GateKey) {
+fn add_gate(rt: &impl Abort, design: Design, gate: Gate) -> (Design, GateKey)
+    requires { IsConnected design.nets gate }
+{
     assert!(rt; !design.has_gate(gate.name().as_str()));
     assert!(rt; design.gate_count() < MAX_GATES);
-    assert!(rt; design.is_drivable(gate.output().as_str()));
-    assert!(rt; design.are_readable(gate.inputs()));
     design.add_gate(gate).expect(rt, "a gate more")
 }
 
 fn set_point(rt: &impl Abort, design: Design, net: NetKey, t: u64, value: Value) -> Design {
-    assert!(rt; design.has_net_key(net));
+    assert!(rt; design.net_place_of(net).is_some());
     assert!(rt; design.net_of(net).is_input());
     assert!(rt; t <= MAX_TIME);
     assert!(rt; design.point_count() < MAX_POINTS);
@@ -116,20 +144,20 @@ fn check_lists(
     drivers: &[GateKey],
 ) {
     let net = net_key(rt, design, net);
-    assert!(rt; design.has_net_key(net));
+    assert!(rt; design.net_place_of(net).is_some());
     assert_eq!(rt; design.fanout(net), readers);
     assert_eq!(rt; design.drivers(net), drivers);
 }
 
 fn check_stimulus(rt: &impl Abort, design: &Design, net: NetKey, values: &[(u64, Value)]) {
-    assert!(rt; design.has_net_key(net));
+    assert!(rt; design.net_place_of(net).is_some());
     for (t, value) in values {
         assert_eq!(rt; design.net_of(net).stimulus_at(*t), *value, "at {t}");
     }
 }
 
 fn check_points(rt: &impl Abort, design: &Design, net: NetKey, points: &[(u64, Value)]) {
-    assert!(rt; design.has_net_key(net));
+    assert!(rt; design.net_place_of(net).is_some());
     assert_eq!(rt; design.net_of(net).points(), points);
     assert_eq!(rt; design.point_count(), points.len());
 }
@@ -144,7 +172,7 @@ fn check_net(
     kind: NetKind,
 ) {
     check_net_at(rt, design, place, net, text);
-    assert!(rt; design.has_net_key(net));
+    assert!(rt; design.net_place_of(net).is_some());
     assert_eq!(rt; design.net_of(net).kind(), kind);
     assert_eq!(rt; design.net(text), Some(net));
     assert_eq!(rt; design.net_place(text), Some(place));
@@ -165,8 +193,8 @@ fn check_no_net(rt: &impl Abort, design: &Design, text: &str) {
 /// The gate at a place: what it is, and the look-ups of it.
 fn check_gate(rt: &impl Abort, design: &Design, place: usize, gate: GateKey, text: &str) {
     check_gate_at(rt, design, place, gate, text);
-    assert!(rt; design.has_gate_key(gate));
-    assert_eq!(rt; design.gate_of(gate).output().as_str(), "y");
+    assert!(rt; design.gate_place_of(gate).is_some());
+    assert_eq!(rt; Some(design.gate_of(gate).output()), design.net("y"));
     assert_eq!(rt; design.gate(text), Some(gate));
     assert_eq!(rt; design.gate_place(text), Some(place));
 }
@@ -178,7 +206,7 @@ fn check_gate_at(rt: &impl Abort, design: &Design, place: usize, gate: GateKey, 
 }
 
 fn check_no_gate(rt: &impl Abort, design: &Design, gate: GateKey, text: &str) {
-    assert!(rt; !design.has_gate_key(gate));
+    assert!(rt; !design.gate_place_of(gate).is_some());
     assert_eq!(rt; design.gate(text), None);
     assert_eq!(rt; design.gate_place(text), None);
 }
@@ -212,8 +240,8 @@ fn add_reader(
     text: &str,
     read: &str,
 ) -> (Design, GateKey) {
-    let inputs = nets_read(rt, alloc, &[read]);
-    let gate = gate(rt, alloc, text, GateKind::Buf, "y", inputs);
+    let inputs = nets_read(rt, alloc, &design, &[read]);
+    let gate = gate(rt, alloc, &design, text, GateKind::Buf, "y", inputs);
     add_gate(rt, design, gate)
 }
 
@@ -274,45 +302,29 @@ fn gates_by_place_and_name(rt: HostRuntime) {
     drop(design);
 }
 
-fn check_gate_parts(rt: &impl Abort, gate: &Gate) {
+fn check_gate_parts(rt: &impl Abort, gate: &Gate, a: NetKey, y: NetKey) {
     assert_eq!(rt; gate.kind(), GateKind::And);
     assert_eq!(rt; delay(&gate.delays(), Value::Zero), 4);
+    assert_eq!(rt; gate.output(), y);
     assert!(rt;
         matches!(
         gate.inputs(),
-        [Terminal::Net(read), Terminal::Constant(Value::One)] if read.as_str() == "a"
+        [Terminal::Net(read), Terminal::Constant(Value::One)] if *read == a
     )
     );
 }
 
 #[test]
 fn parts_of_a_gate(rt: HostRuntime) {
-    let mut inputs = nets_read(&rt, rt.alloc(), &["a"]);
+    let design = buffer(&rt, rt.alloc());
+    let mut inputs = nets_read(&rt, rt.alloc(), &design, &["a"]);
     inputs
         .push(Terminal::Constant(Value::One))
         .expect(&rt, "one more");
-    let gate = gate(&rt, rt.alloc(), "g", GateKind::And, "y", inputs);
-    check_gate_parts(&rt, &gate);
+    let gate = gate(&rt, rt.alloc(), &design, "h", GateKind::And, "y", inputs);
+    let (a, y) = (net_key(&rt, &design, "a"), net_key(&rt, &design, "y"));
+    check_gate_parts(&rt, &gate, a, y);
     drop(gate);
-}
-
-fn check_drivable(rt: &impl Abort, design: &Design) {
-    for (text, drivable) in [("a", false), ("y", true), ("b", false)] {
-        assert_eq!(rt; design.is_drivable(text), drivable, "{text}");
-    }
-}
-
-fn check_readable(rt: &impl Abort, alloc: Global, design: &Design, names: &[&str], readable: bool) {
-    let terminals = nets_read(rt, alloc, names);
-    assert_eq!(rt; design.are_readable(&terminals), readable);
-}
-
-#[test]
-fn what_gates_may_drive_and_read(rt: HostRuntime) {
-    let design = buffer(&rt, rt.alloc());
-    check_drivable(&rt, &design);
-    check_readable(&rt, rt.alloc(), &design, &["y", "a"], true);
-    check_readable(&rt, rt.alloc(), &design, &["y", "b"], false);
     drop(design);
 }
 
@@ -324,8 +336,8 @@ fn fan_out_of_two_gates(rt: HostRuntime) {
     let g = gate_key(&rt, &design, "g");
     check_lists(&rt, &design, "a", &[g], &[]);
     check_lists(&rt, &design, "y", &[], &[g]);
-    let twice = nets_read(&rt, alloc, &["a", "y", "a"]);
-    let gate = gate(&rt, alloc, "h", GateKind::Xor, "y", twice);
+    let twice = nets_read(&rt, alloc, &design, &["a", "y", "a"]);
+    let gate = gate(&rt, alloc, &design, "h", GateKind::Xor, "y", twice);
     let (design, h) = add_gate(&rt, design, gate);
     check_lists(&rt, &design, "a", &[g, h], &[]);
     check_lists(&rt, &design, "y", &[h], &[g, h]);
@@ -354,7 +366,7 @@ fn stimulus(rt: HostRuntime) {
 }
 
 fn check_has_point(rt: &impl Abort, design: &Design, net: NetKey, t: u64, there: bool) {
-    assert!(rt; design.has_net_key(net));
+    assert!(rt; design.net_place_of(net).is_some());
     assert_eq!(rt; design.has_point(net, t), there);
 }
 

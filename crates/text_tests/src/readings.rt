@@ -1,7 +1,7 @@
 //! Small texts, read by hand, and texts at the limits.
 
 use design::{
-    Design, Gate, MAX_GATES, MAX_NETS, Magnitude, NameHasher, Net, Terminal, TimeUnit, Unit,
+    Design, Gate, MAX_GATES, MAX_NETS, Magnitude, NameHasher, Net, NetKey, Terminal, TimeUnit, Unit,
 };
 use edits::EditFault;
 use fourstate::{Value, delay};
@@ -31,8 +31,21 @@ fn add_net(shown: &mut String, net: &Net) -> Result<(), AllocError> {
     shown.push_str(net.kind().keyword())
 }
 
+// The name of a net, a question mark where it is not there.
+fn add_name(shown: &mut String, design: &Design, net: NetKey) -> Result<(), AllocError> {
+    match design.net_place_of(net) {
+        Some(place) => shown.push_str(design.net_at(place).name().as_str()),
+        None => shown.push('?'),
+    }
+}
+
 // A gate as `NAME=KIND #(RISE,FALL) OUTPUT INPUTS`, a constant by its value.
-fn add_gate(alloc: Global, shown: &mut String, gate: &Gate) -> Result<(), AllocError> {
+fn add_gate(
+    alloc: Global,
+    shown: &mut String,
+    design: &Design,
+    gate: &Gate,
+) -> Result<(), AllocError> {
     shown.push_str(" / ")?;
     shown.push_str(gate.name().as_str())?;
     let delays = gate.delays();
@@ -40,11 +53,11 @@ fn add_gate(alloc: Global, shown: &mut String, gate: &Gate) -> Result<(), AllocE
     let kind = gate.kind().keyword();
     let delays = format!(in alloc; "={kind} #({rise},{fall}) ")?;
     shown.push_str(delays.as_str())?;
-    shown.push_str(gate.output().as_str())?;
+    add_name(shown, design, gate.output())?;
     for input in gate.inputs() {
         shown.push(' ')?;
         match input {
-            Terminal::Net(name) => shown.push_str(name.as_str())?,
+            Terminal::Net(net) => add_name(shown, design, *net)?,
             Terminal::Constant(value) => shown.push(char::from(value.symbol()))?,
         }
     }
@@ -58,7 +71,7 @@ fn add_design(alloc: Global, shown: &mut String, design: &Design) -> Result<(), 
         add_net(shown, design.net_at(place))?;
     }
     for place in 0..design.gate_count() {
-        add_gate(alloc, shown, design.gate_at(place))?;
+        add_gate(alloc, shown, design, design.gate_at(place))?;
     }
     Ok(())
 }

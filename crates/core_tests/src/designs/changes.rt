@@ -1,11 +1,14 @@
 //! Edits of small designs, worked out by hand.
 
+ghost use Rattle.std.specs.Prelude.{All};
+ghost use Rattle.design.specs.Keys.{IsThere};
+
 use super::{
     add_input, add_net, add_reader, check_counts, check_gate, check_lists, check_net,
-    check_no_gate, check_no_net, check_points, check_stimulus, copy_of, empty, name, net_key,
+    check_no_gate, check_no_net, check_points, check_stimulus, copy_of, empty, net_driven, net_key,
     nets_read, set_point,
 };
-use design::{Design, GateKey, Name, NetKey, Terminal};
+use design::{Design, GateKey, NetKey, Terminal};
 use fourstate::{Delays, GateKind, NetKind, Value, delay, fits};
 use std::alloc::Global;
 use std::process::Abort;
@@ -26,47 +29,48 @@ pub fn rewire(
     rt: &impl Abort,
     design: Design,
     gate: GateKey,
-    output: Name,
+    output: &str,
     inputs: Vec<Terminal>,
-) -> Design {
-    assert!(rt; design.has_gate_key(gate));
+) -> Design
+    requires { All (IsThere design.nets) inputs.items }
+{
+    let output = net_driven(rt, &design, output);
+    assert!(rt; design.gate_place_of(gate).is_some());
     assert!(rt; fits(design.gate_of(gate).kind(), inputs.len()));
-    assert!(rt; design.is_drivable(output.as_str()));
-    assert!(rt; design.are_readable(&inputs));
     design
         .rewire(gate, output, inputs)
         .expect(rt, "the gate at other nets")
 }
 
 pub fn remove_gate(rt: &impl Abort, design: Design, gate: GateKey) -> Design {
-    assert!(rt; design.has_gate_key(gate));
+    assert!(rt; design.gate_place_of(gate).is_some());
     design.remove_gate(gate).expect(rt, "a gate less")
 }
 
 pub fn remove_net(rt: &impl Abort, design: Design, net: NetKey) -> Design {
-    assert!(rt; design.has_net_key(net));
+    assert!(rt; design.net_place_of(net).is_some());
     assert!(rt; !design.is_used(net));
     design.remove_net(net).expect(rt, "a net less")
 }
 
 fn set_net_kind(rt: &impl Abort, design: Design, net: NetKey, kind: NetKind) -> Design {
-    assert!(rt; design.has_net_key(net));
+    assert!(rt; design.net_place_of(net).is_some());
     design.set_net_kind(net, kind).expect(rt, "another kind")
 }
 
 fn remove_point(rt: &impl Abort, design: Design, net: NetKey, t: u64) -> Design {
-    assert!(rt; design.has_net_key(net));
+    assert!(rt; design.net_place_of(net).is_some());
     assert!(rt; design.has_point(net, t));
     design.remove_point(net, t).expect(rt, "a point less")
 }
 
 fn set_delays(rt: &impl Abort, design: Design, gate: GateKey, delays: Delays) -> Design {
-    assert!(rt; design.has_gate_key(gate));
+    assert!(rt; design.gate_place_of(gate).is_some());
     design.set_delays(gate, delays).expect(rt, "other delays")
 }
 
 fn set_gate_kind(rt: &impl Abort, design: Design, gate: GateKey, kind: GateKind) -> Design {
-    assert!(rt; design.has_gate_key(gate));
+    assert!(rt; design.gate_place_of(gate).is_some());
     assert!(rt; fits(kind, design.gate_of(gate).inputs().len()));
     design.set_gate_kind(gate, kind).expect(rt, "another kind")
 }
@@ -76,12 +80,12 @@ fn close_up(rt: &impl Abort, design: Design) -> Design {
 }
 
 fn check_used(rt: &impl Abort, design: &Design, net: NetKey, used: bool) {
-    assert!(rt; design.has_net_key(net));
+    assert!(rt; design.net_place_of(net).is_some());
     assert_eq!(rt; design.is_used(net), used);
 }
 
 fn check_kind_and_fall(rt: &impl Abort, design: &Design, gate: GateKey, kind: GateKind, fall: u32) {
-    assert!(rt; design.has_gate_key(gate));
+    assert!(rt; design.gate_place_of(gate).is_some());
     assert_eq!(rt; design.gate_of(gate).kind(), kind);
     assert_eq!(rt; delay(&design.gate_of(gate).delays(), Value::Zero), fall);
 }
@@ -125,8 +129,7 @@ fn move_gate(
     output: &str,
     read: &str,
 ) -> Design {
-    let output = name(rt, alloc, output);
-    let inputs = nets_read(rt, alloc, &[read]);
+    let inputs = nets_read(rt, alloc, &design, &[read]);
     rewire(rt, design, gate, output, inputs)
 }
 

@@ -4,7 +4,7 @@ ghost use Rattle.std.specs.Prelude.{◌<◌};
 
 use super::changes::{remove_gate, remove_net, rewire};
 use super::{add_gate, empty, gate, name, nets_read, put_net};
-use design::{Design, Gate, GateKey, Name, NetKey, Terminal};
+use design::{Design, GateKey, Name, NetKey};
 use fourstate::GateKind;
 use std::alloc::Global;
 use std::process::Abort;
@@ -87,9 +87,9 @@ enum Step {
     Nothing,
     AddNet(Name),
     RemoveNet(NetKey),
-    AddGate(Gate),
+    AddGate(PlainGate),
     RemoveGate(GateKey),
-    Rewire(GateKey, Name, Vec<Terminal>),
+    Rewire(GateKey, PlainGate),
 }
 
 fn net_step(
@@ -104,7 +104,7 @@ fn net_step(
         return Step::AddNet(name(rt, alloc, text));
     }
     let net = design.net(text).expect(rt, "a net of this name");
-    assert!(rt; design.has_net_key(net));
+    assert!(rt; design.net_place_of(net).is_some());
     assert_eq!(rt; design.is_used(net), plain.uses(text));
     if plain.uses(text) {
         return Step::Nothing;
@@ -115,7 +115,6 @@ fn net_step(
 
 fn gate_step(
     rt: &impl Abort,
-    alloc: Global,
     design: &Design,
     plain: &mut Plain,
     wanted: PlainGate,
@@ -130,25 +129,26 @@ fn gate_step(
     if !plain.fits(&wanted) {
         return Step::Nothing;
     }
-    let inputs = nets_read(rt, alloc, &wanted.inputs);
     if !there {
         plain.gates.push(wanted).expect(rt, "one more");
-        let gate = gate(rt, alloc, wanted.name, GateKind::Xor, wanted.output, inputs);
-        return Step::AddGate(gate);
+        return Step::AddGate(wanted);
     }
     plain.put(wanted);
     let key = design.gate(wanted.name).expect(rt, "a gate of this name");
-    Step::Rewire(key, name(rt, alloc, wanted.output), inputs)
+    Step::Rewire(key, wanted)
 }
 
-fn take_step(rt: &impl Abort, design: Design, step: Step) -> Design {
+fn take_step(rt: &impl Abort, alloc: Global, design: Design, step: Step) -> Design {
     match step {
         Step::Nothing => design,
         Step::AddNet(name) => with_net(rt, design, name),
         Step::RemoveNet(net) => remove_net(rt, design, net),
-        Step::AddGate(gate) => with_gate(rt, design, gate),
+        Step::AddGate(gate) => with_gate(rt, alloc, design, gate),
         Step::RemoveGate(gate) => remove_gate(rt, design, gate),
-        Step::Rewire(gate, output, inputs) => rewire(rt, design, gate, output, inputs),
+        Step::Rewire(key, gate) => {
+            let inputs = nets_read(rt, alloc, &design, &gate.inputs);
+            rewire(rt, design, key, gate.output, inputs)
+        }
     }
 }
 
@@ -157,7 +157,10 @@ fn with_net(rt: &impl Abort, design: Design, name: Name) -> Design {
     design
 }
 
-fn with_gate(rt: &impl Abort, design: Design, gate: Gate) -> Design {
+fn with_gate(rt: &impl Abort, alloc: Global, design: Design, wanted: PlainGate) -> Design {
+    let inputs = nets_read(rt, alloc, &design, &wanted.inputs);
+    let (text, output) = (wanted.name, wanted.output);
+    let gate = gate(rt, alloc, &design, text, GateKind::Xor, output, inputs);
     let (design, _) = add_gate(rt, design, gate);
     design
 }
@@ -192,7 +195,7 @@ fn compare(rt: &impl Abort, alloc: Global, design: &Design, plain: &Plain) {
     for (place, name) in plain.nets.iter().enumerate() {
         assert_eq!(rt; design.net_place(name), Some(place));
         let net = design.net(name).expect(rt, "a net of this name");
-        assert!(rt; design.has_net_key(net));
+        assert!(rt; design.net_place_of(net).is_some());
         let readers = keys(rt, alloc, design, plain, name, false);
         assert_eq!(rt; design.fanout(net), readers.as_slice());
         let drivers = keys(rt, alloc, design, plain, name, true);
@@ -201,7 +204,10 @@ fn compare(rt: &impl Abort, alloc: Global, design: &Design, plain: &Plain) {
     for (place, gate) in plain.gates.iter().enumerate() {
         assert_eq!(rt; design.gate_place(gate.name), Some(place));
         assert!(rt; place < design.gate_count());
-        assert_eq!(rt; design.gate_at(place).output().as_str(), gate.output);
+        assert_eq!(rt;
+            Some(design.gate_at(place).output()),
+            design.net(gate.output)
+        );
     }
 }
 
@@ -220,8 +226,8 @@ fn next_step(
     };
     match dice.below(4) {
         0 => net_step(rt, alloc, design, plain, net),
-        1 => gate_step(rt, alloc, design, plain, wanted, true),
-        _ => gate_step(rt, alloc, design, plain, wanted, false),
+        1 => gate_step(rt, design, plain, wanted, true),
+        _ => gate_step(rt, design, plain, wanted, false),
     }
 }
 
@@ -236,7 +242,7 @@ fn turn(
     let before = design.try_clone().expect(rt, "a copy");
     let step = next_step(rt, alloc, dice, &before, plain);
     drop(before);
-    take_step(rt, design, step)
+    take_step(rt, alloc, design, step)
 }
 
 #[test]

@@ -1,6 +1,6 @@
 //! Designs as text, each net and each gate with all that is known of it.
 
-use design::{Design, Gate, Net, Terminal};
+use design::{Design, Gate, Net, NetKey, Terminal};
 use fourstate::{Value, delay};
 use std::alloc::Global;
 use std::process::Abort;
@@ -24,23 +24,28 @@ fn add_net(rt: &impl Abort, text: &mut String, net: &Net) {
     text.push('\n').expect(rt, "an end");
 }
 
-fn add_input(rt: &impl Abort, text: &mut String, terminal: &Terminal) {
+fn name_of<'a>(rt: &impl Abort, design: &'a Design, net: NetKey) -> &'a str {
+    assert!(rt; design.net_place_of(net).is_some());
+    design.name_of(net).as_str()
+}
+
+fn add_input(rt: &impl Abort, text: &mut String, design: &Design, terminal: Terminal) {
     match terminal {
-        Terminal::Net(name) => write!(text, " {}", name.as_str()).expect(rt, "a net"),
+        Terminal::Net(net) => write!(text, " {}", name_of(rt, design, net)).expect(rt, "a net"),
         Terminal::Constant(value) => {
-            write!(text, " 1'b{}", symbol(*value)).expect(rt, "a constant");
+            write!(text, " 1'b{}", symbol(value)).expect(rt, "a constant");
         }
     }
 }
 
-fn add_gate(rt: &impl Abort, text: &mut String, gate: &Gate) {
+fn add_gate(rt: &impl Abort, text: &mut String, design: &Design, gate: &Gate) {
     let (name, kind) = (gate.name().as_str(), gate.kind().keyword());
     let rise = delay(&gate.delays(), Value::One);
     let fall = delay(&gate.delays(), Value::Zero);
-    let output = gate.output().as_str();
+    let output = name_of(rt, design, gate.output());
     write!(text, "gate {name} {kind} {rise} {fall} {output}").expect(rt, "a gate");
     for terminal in gate.inputs() {
-        add_input(rt, text, terminal);
+        add_input(rt, text, design, *terminal);
     }
     text.push('\n').expect(rt, "an end");
 }
@@ -52,7 +57,7 @@ pub fn show(rt: &impl Abort, alloc: Global, design: &Design) -> String {
         add_net(rt, &mut text, design.net_at(place));
     }
     for place in 0..design.gate_count() {
-        add_gate(rt, &mut text, design.gate_at(place));
+        add_gate(rt, &mut text, design, design.gate_at(place));
     }
     write!(text, "horizon {}\n", design.horizon()).expect(rt, "a horizon");
     text
