@@ -1,9 +1,7 @@
 -- Checks, one after another.
-use Rattle.std.proofs.Common.{◌≡◌, ℕ, List, [], ◌∷◌, ◌++◌, Bool, true, false, Some, None, refl, sym, ◌∙◌}
-use Rattle.design.specs.Netlist.{Netlist, has_net, is_used}
+use Rattle.std.proofs.Common.{◌≡◌, List, [], ◌∷◌, ◌++◌, Bool, true, false, Some, None, refl, sym, ◌∙◌}
 use Rattle.edits.specs.declared.fault.EditFault.{EditFault}
-use Rattle.edits.specs.declared.fault.EditFault.TheVariants.{NetInUse}
-use Rattle.edits.specs.Checks.{first_fault, net_there}
+use Rattle.edits.specs.Checks.{first_fault}
 
 pub head_holds : (check : Bool × EditFault) (checks : List (Bool × EditFault)) → check.0 ≡ true → first_fault (check ∷ checks) ≡ Some check.1
 head_holds check checks e = rw e refl
@@ -30,11 +28,3 @@ front_by check xs ys fault false e rest some = head_fails check (xs ++ ys) e ∙
 pub first_of_front : (xs ys : List (Bool × EditFault)) (fault : EditFault) → Some fault ≡ first_fault xs → first_fault (xs ++ ys) ≡ Some fault
 first_of_front [] ys fault some = cc
 first_of_front (check ∷ xs) ys fault some = front_by check xs ys fault check.0 refl (first_of_front xs ys fault) some
-
--- Of a net that is there.
-
-pub in_use : (d : Netlist) (name : List ℕ) → has_net d name ≡ true → is_used d name ≡ true → Some NetInUse ≡ first_fault (net_there d name ∷ (is_used d name, NetInUse) ∷ [])
-in_use d name there used = rw there (rw used refl)
-
-pub not_in_use : (d : Netlist) (name : List ℕ) → has_net d name ≡ true → is_used d name ≡ false → None ≡ first_fault (net_there d name ∷ (is_used d name, NetInUse) ∷ [])
-not_in_use d name there unused = rw there (rw unused refl)

@@ -1,5 +1,5 @@
-pub mod AcceptedLemmas
 pub mod BatchLemmas
+pub mod ChangeLemmas
 pub mod CheckLemmas
 pub mod FoundLemmas
 pub mod KnownLemmas

@@ -1,5 +1,5 @@
-pub mod Accepted
 pub mod Batches
+pub mod Changes
 pub mod Checks
 pub mod EditFaults
 pub mod Edits

@@ -1,12 +1,12 @@
 //! Lists of edits, carried out as one.
 
-ghost use Rattle.std.specs.Prelude.{◌≡◌, ◌⊎◌, None, Some, IfErr, IfOk, MatchResult};
+ghost use Rattle.std.specs.Prelude.{◌≡◌, ◌<◌, ◌⊎◌, None, Some, IfErr, IfOk, OnOk, MatchResult};
 ghost use Rattle.edits.specs.Batches.{batch, refusal};
+ghost use Rattle.edits.specs.Changes.{Changes};
 ghost use Rattle.edits.specs.Edits.{edited};
 ghost use Rattle.design.specs.Keys.{netlist};
 
-use crate::changes::carry_out;
-use crate::checks::check;
+use crate::changes::{Change, carry_out, resolve};
 use crate::edit::Edit;
 use crate::fault::EditFault;
 use crate::limits::MAX_EDITS;
@@ -46,21 +46,23 @@ fn apply(alloc: Global, design: Design, place: usize, edit: &Edit) -> Result<Des
         (λ new. (refusal place (netlist design) edit.now ≡ None) × (netlist new ≡ edited (netlist design) edit.now))
         (λ fault. (refusal place (netlist design) edit.now ≡ Some fault) ⊎ (fault ≡ EditFault.OutOfMemory)) }
 {
-    match refusal(place, &design, edit) {
-        Some(fault) => Err(fault),
-        None => match carry_out(alloc, design, edit) {
+    match resolve_at(place, &design, edit) {
+        Err(fault) => Err(fault),
+        Ok(change) => match carry_out(alloc, design, change) {
             Ok(design) => Ok(design),
             Err(_) => Err(EditFault::OutOfMemory),
         },
     }
 }
 
-/// Why the edit that stands at a place of a list is refused, if it is.
-fn refusal(place: usize, design: &Design, edit: &Edit) -> Option<EditFault>
-    ensures { result ≡ refusal place (netlist design.now) edit.now }
+/// What the edit that stands at a place of a list changes.
+fn resolve_at<'e>(place: usize, design: &Design, edit: &'e Edit) -> Result<Change<'e>, EditFault>
+    ensures place { OnOk result (place < MAX_EDITS) }
+    ensures ok { IfOk result (Changes design.now edit.now) }
+    ensures err { IfErr result (λ fault. refusal place (netlist design.now) edit.now ≡ Some fault) }
 {
     if place >= MAX_EDITS {
-        return Some(EditFault::TooMany);
+        return Err(EditFault::TooMany);
     }
-    check(design, edit)
+    resolve(design, edit)
 }

@@ -3,7 +3,6 @@
 
 mod apply;
 mod changes;
-mod checks;
 mod edit;
 mod fault;
 pub mod laws;

@@ -1,125 +1,162 @@
-//! Changes of gates that were checked before.
+//! Edits of gates.
 
-ghost use Rattle.std.specs.Prelude.{◌≡◌, true, IfOk, map};
-ghost use Rattle.fourstate.specs.Delays.{AreDelays};
-ghost use Rattle.design.specs.Keys.{IsConnected, entry_in, netlist};
-ghost use Rattle.design.specs.Netlist.{has_gate, with_delays, with_gate, with_gate_kind, with_wiring, without_gate};
-ghost use Rattle.edits.specs.Accepted.{RetimesGate, RetypesGate, RewiresGate, TakesGate};
+ghost use Rattle.std.specs.Prelude.{◌≡◌, ◌∷◌, [], IfOk, length, map};
+ghost use Rattle.design.specs.Keys.{name_of, netlist};
+ghost use Rattle.design.specs.Netlist.{with_gate, with_wiring};
+ghost use Rattle.edits.specs.Changes.{FindsGate, Passes, Resolves, RewiresGate, TakesGate, TakesGateName, gate_name, gate_of_names};
+ghost use Rattle.edits.specs.Checks.{delay_checks, gate_there, new_gate_checks};
 ghost use Rattle.edits.specs.Edits.{connection_of};
+ghost use Rattle.edits.specs.declared.edit.Edit.TheVariants as edit;
 
-use crate::changes::terminals::{key_of_net, terminals};
+use crate::changes::change::Change;
+use crate::changes::wiring::{find_wiring, terminals};
+use crate::fault::EditFault;
 use crate::pin::Pin;
-use design::{Design, Gate, Name};
-use fourstate::{DelayTimes, Delays, GateKind};
+use design::{Design, Gate, GateKey, MAX_GATES, Name, NetKey};
+use fourstate::{DelayTimes, Delays, GateKind, fits};
 use std::alloc::{AllocError, Global};
+
+pub fn resolve_add_gate<'e>(
+    design: &Design,
+    name: &'e str,
+    kind: GateKind,
+    delays: DelayTimes,
+    output: &str,
+    inputs: &'e [Pin],
+) -> Result<Change<'e>, EditFault>
+    ensures { Resolves design.now (edit.AddGate name.now kind delays output.now inputs.now) result }
+{
+    check_new_gate(design, name)?;
+    let delays = delays_of(delays)?;
+    let output = find_wiring(design, fits(kind, inputs.len()), output, inputs)?;
+    Ok(Change::AddGate {
+        name,
+        kind,
+        delays,
+        output,
+        inputs,
+    })
+}
+
+/// Whether a gate of this name may be added.
+fn check_new_gate(design: &Design, name: &str) -> Result<(), EditFault>
+    ensures { Passes (new_gate_checks (netlist design.now) name.now) result (λ _. TakesGateName (netlist design.now) name.now) }
+{
+    if !Name::is_valid(name) {
+        Err(EditFault::BadName)
+    } else if design.has_gate(name) {
+        Err(EditFault::DuplicateName)
+    } else if design.gate_count() >= MAX_GATES {
+        Err(EditFault::TooMany)
+    } else {
+        Ok(())
+    }
+}
+
+/// The delays of these times.
+fn delays_of(times: DelayTimes) -> Result<Delays, EditFault>
+    ensures { Passes (delay_checks times) result (λ delays. delays ≡ times) }
+{
+    match Delays::from_times(times) {
+        Some(delays) => Ok(delays),
+        None if times.rise == 0 || times.fall == 0 => Err(EditFault::ZeroDelay),
+        None => Err(EditFault::DelayTooLarge),
+    }
+}
 
 pub fn add_gate(
     alloc: Global,
     design: Design,
     name: &str,
     kind: GateKind,
-    delays: DelayTimes,
-    output: &str,
+    delays: Delays,
+    output: NetKey,
     inputs: &[Pin],
 ) -> Result<Design, AllocError>
-    requires { TakesGate (netlist design) name.now kind delays output.now inputs.now }
-    ensures { IfOk result (λ new. netlist new ≡ with_gate (netlist design) (record {
-      name = name.now;
-      kind = kind;
-      delays = delays;
-      output = output.now;
-      inputs = map connection_of inputs.now;
-    })) }
+    requires { TakesGate design name.now kind output inputs.now }
+    ensures { IfOk result (λ new. netlist new ≡ with_gate (netlist design) (gate_of_names design name.now kind delays output inputs.now)) }
 {
-    let gate = gate_of(alloc, &design, name, kind, delays, output, inputs)?;
+    let name = Name::new(alloc, name)?;
+    let inputs = terminals(alloc, &design, inputs)?;
+    let gate = Gate::new(name, kind, delays, output, inputs);
     let (design, _key) = design.add_gate(gate)?;
     Ok(design)
 }
 
-/// The gate of these words.
-fn gate_of(
-    alloc: Global,
+pub fn resolve_drop_gate<'e>(design: &Design, name: &str) -> Result<Change<'e>, EditFault>
+    ensures { Resolves design.now (edit.DropGate name.now) result }
+{
+    let gate = find_gate(design, name)?;
+    Ok(Change::DropGate(gate))
+}
+
+pub fn resolve_delay<'e>(
+    design: &Design,
+    name: &str,
+    delays: DelayTimes,
+) -> Result<Change<'e>, EditFault>
+    ensures { Resolves design.now (edit.SetDelay name.now delays) result }
+{
+    let gate = find_gate(design, name)?;
+    let delays = delays_of(delays)?;
+    Ok(Change::SetDelays(gate, delays))
+}
+
+#[tactic(auto, using(crate::proofs::ChangeLemmas::kind_fits_of))]
+pub fn resolve_gate_kind<'e>(
     design: &Design,
     name: &str,
     kind: GateKind,
-    delays: DelayTimes,
+) -> Result<Change<'e>, EditFault>
+    ensures { Resolves design.now (edit.SetGateKind name.now kind) result }
+{
+    let gate = find_gate(design, name)?;
+    if fits(kind, design.gate_of(gate).inputs().len()) {
+        Ok(Change::SetGateKind(gate, kind))
+    } else {
+        Err(EditFault::WrongArity)
+    }
+}
+
+#[tactic(auto, using(crate::proofs::ChangeLemmas::gate_takes_of))]
+pub fn resolve_rewire<'e>(
+    design: &Design,
+    name: &str,
     output: &str,
-    inputs: &[Pin],
-) -> Result<Gate, AllocError>
-    requires { TakesGate (netlist design.now) name.now kind delays output.now inputs.now }
-    ensures entry { IfOk result (λ gate. entry_in design.now.nets gate ≡ record {
-      name = name.now;
-      kind = kind;
-      delays = delays;
-      output = output.now;
-      inputs = map connection_of inputs.now;
-    }) }
-    ensures connected { IfOk result (IsConnected design.now.nets) }
+    inputs: &'e [Pin],
+) -> Result<Change<'e>, EditFault>
+    ensures { Resolves design.now (edit.Rewire name.now output.now inputs.now) result }
 {
-    let name = Name::new(alloc, name)?;
-    let inputs = terminals(alloc, design, inputs)?;
-    let output = key_of_net(design, output);
-    Ok(Gate::new(name, kind, delays_of(delays), output, inputs))
+    let gate = find_gate(design, name)?;
+    let fit = fits(design.gate_of(gate).kind(), inputs.len());
+    let output = find_wiring(design, fit, output, inputs)?;
+    Ok(Change::Rewire {
+        gate,
+        output,
+        inputs,
+    })
 }
 
-#[tactic(auto, using(crate::proofs::FoundLemmas::gate_found))]
-pub fn remove_gate(design: Design, name: &str) -> Result<Design, AllocError>
-    requires { has_gate (netlist design) name.now ≡ true }
-    ensures { IfOk result (λ new. netlist new ≡ without_gate (netlist design) name.now) }
+/// The key of the gate of a name.
+fn find_gate(design: &Design, name: &str) -> Result<GateKey, EditFault>
+    ensures { Passes (gate_there (netlist design.now) name.now ∷ []) result (FindsGate design.now name.now) }
 {
     match design.gate(name) {
-        Some(key) => design.remove_gate(key),
-        None => unreachable!(),
-    }
-}
-
-#[tactic(auto, using(crate::proofs::FoundLemmas::gate_found))]
-pub fn retime(design: Design, name: &str, delays: DelayTimes) -> Result<Design, AllocError>
-    requires { RetimesGate (netlist design) name.now delays }
-    ensures { IfOk result (λ new. netlist new ≡ with_delays (netlist design) name.now delays) }
-{
-    let delays = delays_of(delays);
-    match design.gate(name) {
-        Some(key) => design.set_delays(key, delays),
-        None => unreachable!(),
-    }
-}
-
-#[tactic(auto, using(crate::proofs::FoundLemmas::gate_found, crate::proofs::FoundLemmas::kind_found))]
-pub fn retype(design: Design, name: &str, kind: GateKind) -> Result<Design, AllocError>
-    requires { RetypesGate (netlist design) name.now kind }
-    ensures { IfOk result (λ new. netlist new ≡ with_gate_kind (netlist design) name.now kind) }
-{
-    match design.gate(name) {
-        Some(key) => design.set_gate_kind(key, kind),
-        None => unreachable!(),
+        Some(gate) => Ok(gate),
+        None => Err(EditFault::UnknownGate),
     }
 }
 
 pub fn rewire(
     alloc: Global,
     design: Design,
-    name: &str,
-    output: &str,
+    gate: GateKey,
+    output: NetKey,
     inputs: &[Pin],
 ) -> Result<Design, AllocError>
-    requires { RewiresGate (netlist design) name.now output.now inputs.now }
-    ensures { IfOk result (λ new. netlist new ≡ with_wiring (netlist design) name.now output.now (map connection_of inputs.now)) }
+    requires { RewiresGate design gate output inputs.now }
+    ensures { IfOk result (λ new. netlist new ≡ with_wiring (netlist design) (gate_name design gate) (name_of design.nets output) (map connection_of inputs.now)) }
 {
     let inputs = terminals(alloc, &design, inputs)?;
-    let output = key_of_net(&design, output);
-    match design.gate(name) {
-        Some(key) => design.rewire(key, output, inputs),
-        None => unreachable!(),
-    }
-}
-
-fn delays_of(times: DelayTimes) -> Delays
-    requires { AreDelays times }
-    ensures { result ≡ times }
-{
-    match Delays::from_times(times) {
-        Some(delays) => delays,
-        None => unreachable!(),
-    }
+    design.rewire(gate, output, inputs)
 }

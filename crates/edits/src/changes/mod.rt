@@ -1,9 +1,14 @@
-//! What edits do to a design that accepts them. Where an allocation is refused the design is dropped.
+//! What edits change. An edit is resolved to keys where the design accepts it, and then carried out: only that takes
+//! memory, and where an allocation is refused the design is dropped.
 
-mod each;
+mod carry_out;
+mod change;
 mod gates;
 mod nets;
 mod points;
-mod terminals;
+mod resolve;
+mod wiring;
 
-pub(crate) use each::carry_out;
+pub(crate) use carry_out::carry_out;
+pub(crate) use change::Change;
+pub(crate) use resolve::resolve;

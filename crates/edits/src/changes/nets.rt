@@ -1,14 +1,51 @@
-//! Changes of nets that were checked before.
+//! Edits of nets.
 
-ghost use Rattle.std.specs.Prelude.{◌≡◌, true, false, IfOk};
+ghost use Rattle.std.specs.Prelude.{◌≡◌, ◌∷◌, [], true, false, IfOk};
 ghost use Rattle.fourstate.specs.declared.net.NetKind.TheVariants.{Wire};
 ghost use Rattle.design.specs.Keys.{netlist};
-ghost use Rattle.design.specs.Netlist.{has_net, new_net, with_net, with_net_kind, without_net};
-ghost use Rattle.edits.specs.Accepted.{FreesNet, TakesNet};
+ghost use Rattle.design.specs.Netlist.{new_net, with_net};
+ghost use Rattle.edits.specs.Changes.{FindsNet, Passes, Resolves, TakesNet};
+ghost use Rattle.edits.specs.Checks.{net_there, new_net_checks};
+ghost use Rattle.edits.specs.declared.edit.Edit.TheVariants as edit;
 
-use design::{Design, Name};
+use crate::changes::change::Change;
+use crate::fault::EditFault;
+use design::{Design, MAX_NETS, Name, NetKey};
 use fourstate::NetKind;
 use std::alloc::{AllocError, Global};
+
+pub fn resolve_add_net<'e>(
+    design: &Design,
+    name: &'e str,
+    kind: NetKind,
+) -> Result<Change<'e>, EditFault>
+    ensures { Resolves design.now (edit.AddNet name.now kind) result }
+{
+    check_new_net(design, name)?;
+    Ok(Change::AddNet { name, kind })
+}
+
+pub fn resolve_add_input<'e>(design: &Design, name: &'e str) -> Result<Change<'e>, EditFault>
+    ensures { Resolves design.now (edit.AddInput name.now) result }
+{
+    check_new_net(design, name)?;
+    Ok(Change::AddInput { name })
+}
+
+/// Whether a net of this name may be added.
+fn check_new_net(design: &Design, name: &str) -> Result<(), EditFault>
+    ensures { Passes (new_net_checks (netlist design.now) name.now) result (λ _. TakesNet (netlist design.now) name.now) }
+{
+    if !Name::is_valid(name) {
+        Err(EditFault::BadName)
+    } else if design.has_net(name) {
+        Err(EditFault::DuplicateName)
+    } else if design.net_count() >= MAX_NETS {
+        Err(EditFault::TooMany)
+    } else {
+        Ok(())
+    }
+}
 
 pub fn add_net(
     alloc: Global,
@@ -33,24 +70,36 @@ pub fn add_input(alloc: Global, design: Design, name: &str) -> Result<Design, Al
     Ok(design)
 }
 
-#[tactic(auto, using(crate::proofs::FoundLemmas::net_found))]
-pub fn remove_net(design: Design, name: &str) -> Result<Design, AllocError>
-    requires { FreesNet (netlist design) name.now }
-    ensures { IfOk result (λ new. netlist new ≡ without_net (netlist design) name.now) }
+#[tactic(auto, using(crate::proofs::ChangeLemmas::used_found, crate::proofs::ChangeLemmas::unused_found))]
+pub fn resolve_drop_net<'e>(design: &Design, name: &str) -> Result<Change<'e>, EditFault>
+    ensures { Resolves design.now (edit.DropNet name.now) result }
 {
-    match design.net(name) {
-        Some(key) => design.remove_net(key),
-        None => unreachable!(),
+    let net = find_net(design, name)?;
+    if design.is_used(net) {
+        Err(EditFault::NetInUse)
+    } else {
+        Ok(Change::DropNet(net))
     }
 }
 
+pub fn resolve_net_kind<'e>(
+    design: &Design,
+    name: &str,
+    kind: NetKind,
+) -> Result<Change<'e>, EditFault>
+    ensures { Resolves design.now (edit.SetNetKind name.now kind) result }
+{
+    let net = find_net(design, name)?;
+    Ok(Change::SetNetKind(net, kind))
+}
+
+/// The key of the net of a name.
 #[tactic(auto, using(crate::proofs::FoundLemmas::net_found))]
-pub fn set_net_kind(design: Design, name: &str, kind: NetKind) -> Result<Design, AllocError>
-    requires { has_net (netlist design) name.now ≡ true }
-    ensures { IfOk result (λ new. netlist new ≡ with_net_kind (netlist design) name.now kind) }
+pub fn find_net(design: &Design, name: &str) -> Result<NetKey, EditFault>
+    ensures { Passes (net_there (netlist design.now) name.now ∷ []) result (FindsNet design.now name.now) }
 {
     match design.net(name) {
-        Some(key) => design.set_net_kind(key, kind),
-        None => unreachable!(),
+        Some(net) => Ok(net),
+        None => Err(EditFault::UnknownNet),
     }
 }

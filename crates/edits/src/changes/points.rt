@@ -1,40 +1,52 @@
-//! Changes of the stimulus and the horizon that were checked before.
+//! Edits of the stimulus and the horizon.
 
-ghost use Rattle.std.specs.Prelude.{◌≡◌, ◌≤◌, IfOk};
-ghost use Rattle.fourstate.specs.declared.limits.TheConstants.{MAX_TIME};
-ghost use Rattle.design.specs.Keys.{netlist};
-ghost use Rattle.design.specs.Netlist.{with_horizon, with_point, without_point};
-ghost use Rattle.edits.specs.Accepted.{FreesPoint, TakesPoint};
+ghost use Rattle.edits.specs.Changes.{Resolves};
+ghost use Rattle.design.specs.Keys.{Keyed};
+ghost use Rattle.edits.specs.declared.edit.Edit.TheVariants as edit;
 
-use design::Design;
-use fourstate::Value;
-use std::alloc::AllocError;
+use crate::changes::change::Change;
+use crate::fault::EditFault;
+use design::{Design, MAX_POINTS};
+use fourstate::{MAX_TIME, Value};
 
-#[tactic(auto, using(crate::proofs::FoundLemmas::input_found, crate::proofs::FoundLemmas::room_found))]
-pub fn set_point(design: Design, net: &str, time: u64, value: Value) -> Result<Design, AllocError>
-    requires { TakesPoint (netlist design) net.now time }
-    ensures { IfOk result (λ new. netlist new ≡ with_point (netlist design) net.now time value) }
+#[tactic(auto, using(crate::proofs::FoundLemmas::net_found))]
+pub fn resolve_stim<'e>(
+    design: &Design,
+    net: &str,
+    time: u64,
+    value: Value,
+) -> Result<Change<'e>, EditFault>
+    ensures { Resolves design.now (edit.Stim net.now time value) result }
 {
     match design.net(net) {
-        Some(key) => design.set_point(key, time, value),
-        None => unreachable!(),
+        None => Err(EditFault::UnknownNet),
+        Some(net) if !design.net_of(net).is_input() => Err(EditFault::NotInput),
+        Some(_) if time > MAX_TIME => Err(EditFault::TimeTooLarge),
+        Some(net) if !design.has_point(net, time) && design.point_count() >= MAX_POINTS => {
+            Err(EditFault::TooMany)
+        }
+        Some(net) => Ok(Change::SetPoint { net, time, value }),
     }
 }
 
-#[tactic(auto, using(crate::proofs::FoundLemmas::point_found))]
-pub fn remove_point(design: Design, net: &str, time: u64) -> Result<Design, AllocError>
-    requires { FreesPoint (netlist design) net.now time }
-    ensures { IfOk result (λ new. netlist new ≡ without_point (netlist design) net.now time) }
+#[tactic(auto, using(crate::proofs::FoundLemmas::net_found))]
+pub fn resolve_unstim<'e>(design: &Design, net: &str, time: u64) -> Result<Change<'e>, EditFault>
+    ensures { Resolves design.now (edit.Unstim net.now time) result }
 {
     match design.net(net) {
-        Some(key) => design.remove_point(key, time),
-        None => unreachable!(),
+        None => Err(EditFault::UnknownNet),
+        Some(net) if !design.net_of(net).is_input() => Err(EditFault::NotInput),
+        Some(net) if !design.has_point(net, time) => Err(EditFault::NoSuchPoint),
+        Some(net) => Ok(Change::RemovePoint { net, time }),
     }
 }
 
-pub fn set_horizon(design: Design, time: u64) -> Design
-    requires { time ≤ MAX_TIME }
-    ensures { netlist result ≡ with_horizon (netlist design) time }
+pub fn resolve_horizon<'e>(time: u64) -> Result<Change<'e>, EditFault>
+    ensures { (d : Keyed) → Resolves d (edit.Horizon time) result }
 {
-    design.set_horizon(time)
+    if time > MAX_TIME {
+        Err(EditFault::TimeTooLarge)
+    } else {
+        Ok(Change::Horizon(time))
+    }
 }

@@ -1,7 +1,7 @@
 use Rattle.std.proofs.Common.{◌≡◌, All, length, map, take}
 use Rattle.design.specs.Keys.{IsThere, connection_in}
 use Rattle.edits.specs.Edits.{connection_of}
-use Rattle.edits.proofs.changes.terminals.terminals.Given as goal
+use Rattle.edits.proofs.changes.wiring.terminals.Given as goal
 
 abbrev pub invariant-loop-pin : goal.invariant-loop-pin
 invariant-loop-pin l = record {
