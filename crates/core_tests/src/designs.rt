@@ -308,7 +308,7 @@ fn check_gate_parts(rt: &impl Abort, gate: &Gate, a: NetKey, y: NetKey) {
     assert!(rt;
         matches!(
         gate.inputs(),
-        [Terminal::Net(read), Terminal::Constant(Value::One)] if *read == a
+        [Terminal::Net(first), Terminal::Net(second)] if *first == a && *second == y
     )
     );
 }
@@ -316,10 +316,7 @@ fn check_gate_parts(rt: &impl Abort, gate: &Gate, a: NetKey, y: NetKey) {
 #[test]
 fn parts_of_a_gate(rt: HostRuntime) {
     let design = buffer(&rt, rt.alloc());
-    let mut inputs = nets_read(&rt, rt.alloc(), &design, &["a"]);
-    inputs
-        .push(Terminal::Constant(Value::One))
-        .expect(&rt, "one more");
+    let inputs = nets_read(&rt, rt.alloc(), &design, &["a", "y"]);
     let gate = gate(&rt, rt.alloc(), &design, "h", GateKind::And, "y", inputs);
     let (a, y) = (net_key(&rt, &design, "a"), net_key(&rt, &design, "y"));
     check_gate_parts(&rt, &gate, a, y);
