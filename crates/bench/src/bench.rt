@@ -6,7 +6,7 @@ ghost use Rattle.gatestep.specs.Step.{advance};
 ghost use Rattle.design.specs.Keys.{netlist};
 ghost use Rattle.bench.specs.Benches.{snapshot_of};
 ghost use Rattle.bench.specs.Commits.{commit_of};
-ghost use Rattle.bench.specs.Refusals.{MayRefuse, loses_a_worker};
+ghost use Rattle.bench.specs.Refusals.{IsRefusal, MayRefuse, loses_a_worker};
 ghost use Rattle.bench.specs.Work.{AskedInPart, AskedInVain, work_of};
 
 use crate::fault::CommitFault;
@@ -60,6 +60,7 @@ impl<S: Stepper + Drop> Bench<S> {
     /// Carries out the edits, one after another, and makes the run of the design with them: all of it, or nothing. Gives the
     /// new version. The empty list is a commit. At the version 2^64 - 1 each commit is refused as `Edit(0, TooMany)`.
     /// Snapshots that are held stay as they are.
+    #[tactic(auto, using(crate::proofs::CommitLemmas::may_refuse, crate::proofs::CommitLemmas::no_loss, crate::proofs::CommitLemmas::asked_nothing, crate::proofs::CommitLemmas::asked_part))]
     pub fn commit(&mut self, edits: &[Edit]) -> Result<u64, CommitFault>
         ensures design { OnOk result (commit_of self.old.snapshot.version self.old.snapshot.design edits.now ≡ Ok self.new.snapshot.design) }
         ensures version { IfOk result (λ version. (version ≡ self.old.snapshot.version + 1) × (version ≡ self.new.snapshot.version)) }
@@ -114,8 +115,10 @@ impl<S: Stepper + Drop> Bench<S> {
     }
 }
 
-// The refusal for the fault of an edit.
-fn edit_refusal(place: usize, fault: EditFault) -> CommitFault {
+// The fault of a commit for the fault of the edit at a place.
+fn edit_refusal(place: usize, fault: EditFault) -> CommitFault
+    ensures { IsRefusal place fault result }
+{
     match fault {
         EditFault::OutOfMemory => CommitFault::OutOfMemory,
         _ => CommitFault::Edit(place, fault),

@@ -76,7 +76,8 @@ impl<'a> Cursor<'a> {
         ensures found { result ≡ first_after self.old.changes self.old.time }
         ensures moved { self.new ≡ moved self.old result }
     {
-        self.go(self.wave.next_after(self.time))
+        let change = self.wave.next_after(self.time);
+        self.go(change)
     }
 
     /// Goes to the last change before the moment.
@@ -84,7 +85,8 @@ impl<'a> Cursor<'a> {
         ensures found { result ≡ last_before self.old.changes self.old.time }
         ensures moved { self.new ≡ moved self.old result }
     {
-        self.go(self.wave.last_before(self.time))
+        let change = self.wave.last_before(self.time);
+        self.go(change)
     }
 
     /// Goes to the first change after the moment to this value.
@@ -92,7 +94,8 @@ impl<'a> Cursor<'a> {
         ensures found { result ≡ next_to same_value self.old.changes self.old.time value }
         ensures moved { self.new ≡ moved self.old result }
     {
-        self.go(self.wave.next_value(self.time, value))
+        let change = self.wave.next_value(self.time, value);
+        self.go(change)
     }
 
     // Goes to a change, if there is one.

@@ -7,6 +7,7 @@ ghost use Rattle.edits.specs.Batches.{batch};
 ghost use Rattle.bench.specs.Commits.{after, commit_of, committed};
 
 use edits::EditFault;
+use edits::laws::limits_of_edits;
 
 /// No commits leave a design as it is.
 pub fn no_commits()
@@ -25,7 +26,9 @@ pub fn last_version()
     ensures { (d : Netlist) (edits : List declared.Edit) → commit_of (2 ^ 64 - 1) d edits ≡ Err (0, EditFault.TooMany) }
 {}
 
-/// The fault of a refused edit is never that memory ran out.
+/// The fault of a refused commit is never that memory ran out.
 pub fn faults_of_commits()
     ensures { (version : ℕ) (d : Netlist) (edits : List declared.Edit) → IfErr (commit_of version d edits) (λ refused. refused.1 ≢ EditFault.OutOfMemory) }
-{}
+{
+    limits_of_edits();
+}
