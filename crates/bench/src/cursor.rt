@@ -37,7 +37,7 @@ impl<'a> Cursor<'a> {
         let wave = snapshot.wave(net)?;
         Some(Cursor {
             wave,
-            horizon: snapshot.design().horizon(),
+            horizon: snapshot.horizon(),
             time: 0,
         })
     }
