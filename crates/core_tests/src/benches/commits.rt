@@ -111,7 +111,7 @@ fn refused_edit(rt: HostRuntime) {
     check(&rt, rt.alloc(), &bench, "y", " 0:x 3:0");
     check(&rt, rt.alloc(), &bench, "a", " 0:0 10:1 12:0");
     assert_eq!(rt; bench.snapshot().version(), 3);
-    assert_eq!(rt; bench.snapshot().design().horizon(), 30);
+    assert_eq!(rt; bench.snapshot().horizon(), 30);
     drop(bench);
 }
 
