@@ -1,8 +1,8 @@
 -- Refused commits.
-use Rattle.std.proofs.Common.{◌≡◌, ◌≢◌, ◌⊎◌, ◌≤◌, ◌+◌, ◌++◌, ◌-◌, ◌^◌, ◌==◌, ℕ, suc, Bool, true, false, if◌then◌else◌, List, [], refl, sym, ap, ◌∙◌, inl, inr, arith}
+use Rattle.std.proofs.Common.{◌≡◌, ◌≢◌, ◌⊎◌, ◌+◌, ℕ, Bool, true, false, if◌then◌else◌, List, refl, sym, inl, inr, arith}
 use Rattle.std.proofs.lemmas.List.{append-nil}
-use Rattle.std.specs.Prelude.{Result, Ok, Err, IsOk, IfErr}
-use Rattle.gatestep.specs.Step.{Evaluation, advance}
+use Rattle.std.specs.Prelude.{Result, Ok, Err, IfErr}
+use Rattle.gatestep.specs.Step.{Evaluation}
 use Rattle.design.specs.Netlist.{Netlist}
 use Rattle.edits.specs.declared.edit.Edit.{Edit}
 use Rattle.edits.specs.declared.fault.EditFault.{EditFault}
@@ -12,14 +12,14 @@ use Rattle.bench.specs.declared.fault.CommitFault.TheVariants as commit
 use Rattle.bench.specs.Benches.{SnapshotRecord}
 use Rattle.bench.specs.Commits.{commit_of}
 use Rattle.bench.specs.Refusals.{IsRefusal, MayRefuse, loses_a_worker}
-use Rattle.bench.specs.Work.{AskedInPart, AskedInVain, work_of}
+use Rattle.bench.specs.Work.{AskedInPart, AskedInVain}
 
 -- A refused edit.
 
 pub may_refuse : (s : SnapshotRecord) (edits : List Edit) (place : ℕ) (fault : EditFault) (r : CommitFault) → IsRefusal place fault r
-    → (commit_of s.version s.design edits ≡ Err (place, fault)) ⊎ (fault ≡ OutOfMemory) → MayRefuse s edits r
-may_refuse s edits place fault (commit.Edit p f) is (inl refused) = rw (is.0, is.1) refused
-may_refuse s edits place fault (commit.Edit p f) is (inr memory) = absurd (is.2 memory)
+    → (fault ≡ OutOfMemory) ⊎ (commit_of s.version s.design edits ≡ Err (place, fault)) → MayRefuse s edits r
+may_refuse s edits place fault (commit.Edit p f) is (inl memory) = absurd (is.2 memory)
+may_refuse s edits place fault (commit.Edit p f) is (inr refused) = rw (is.0, is.1) refused
 may_refuse s edits place fault commit.OutOfMemory is from = tt
 may_refuse s edits place fault commit.WorkerLost is from = absurd is
 

@@ -1,5 +1,5 @@
 -- What commits make of a design (own).
-use Rattle.std.specs.Prelude.{ℕ, ◌-◌, ◌^◌, ◌==◌, if◌then◌else◌, fold, List, Result, Ok, Err}
+use Rattle.std.specs.Prelude.{ℕ, ◌-◌, ◌^◌, ◌==◌, if◌then◌else◌, fold, List, Result, Err}
 use Rattle.std.specs.Result.{result_unwrap_or}
 use Rattle.design.specs.Netlist.{Netlist}
 use Rattle.edits.specs.declared.edit.Edit.{Edit}

@@ -62,14 +62,17 @@ impl<S: Stepper + Drop> Bench<S> {
     /// Snapshots that are held stay as they are.
     #[tactic(auto, using(crate::proofs::CommitLemmas::may_refuse, crate::proofs::CommitLemmas::no_loss, crate::proofs::CommitLemmas::asked_nothing, crate::proofs::CommitLemmas::asked_part))]
     pub fn commit(&mut self, edits: &[Edit]) -> Result<u64, CommitFault>
-        ensures design { OnOk result (commit_of self.old.snapshot.version self.old.snapshot.design edits.now ≡ Ok self.new.snapshot.design) }
-        ensures version { IfOk result (λ version. (version ≡ self.old.snapshot.version + 1) × (version ≡ self.new.snapshot.version)) }
+        ensures design { OnOk result (commit_of self.old.snapshot.version self.old.snapshot.design edits.now
+            ≡ Ok self.new.snapshot.design) }
+        ensures version { IfOk result (λ version. (version ≡ self.old.snapshot.version + 1)
+            × (version ≡ self.new.snapshot.version)) }
         ensures refused { IfErr result (MayRefuse self.old.snapshot edits.now) }
         ensures unchanged { OnErr result (self.new.snapshot ≡ self.old.snapshot) }
 
         // What the stepper was asked.
         ensures asked { OnOk result (self.new.asked ≡ self.old.asked ++ work_of self.new.snapshot.design) }
-        ensures part { OnErr result (AskedInVain (commit_of self.old.snapshot.version self.old.snapshot.design edits.now) self.old.asked self.new.asked) }
+        ensures part { OnErr result (AskedInVain (commit_of self.old.snapshot.version self.old.snapshot.design edits.now)
+            self.old.asked self.new.asked) }
         ensures lost { self.new.losses ≡ self.old.losses + (if loses_a_worker result then 1 else 0) }
     {
         match self.edited(edits) {
@@ -87,10 +90,11 @@ impl<S: Stepper + Drop> Bench<S> {
 
     // The design with the edits.
     fn edited(&self, edits: &[Edit]) -> Result<Design, (usize, EditFault)>
-        ensures design { IfOk result (λ design. commit_of self.now.snapshot.version self.now.snapshot.design edits.now ≡ Ok (netlist design)) }
+        ensures design { IfOk result (λ design. commit_of self.now.snapshot.version self.now.snapshot.design edits.now
+            ≡ Ok (netlist design)) }
         ensures room { OnOk result (self.now.snapshot.version < 2 ^ 64 - 1) }
-        ensures refused { IfErr result (λ refused. (commit_of self.now.snapshot.version self.now.snapshot.design edits.now ≡ Err refused)
-            ⊎ (refused.1 ≡ EditFault.OutOfMemory)) }
+        ensures refused { IfErr result (λ refused. (refused.1 ≡ EditFault.OutOfMemory)
+            ⊎ (commit_of self.now.snapshot.version self.now.snapshot.design edits.now ≡ Err refused)) }
     {
         if self.present.version() == u64::MAX {
             return Err((0, EditFault::TooMany));
