@@ -12,7 +12,7 @@ use Rattle.bench.specs.declared.fault.CommitFault.TheVariants as commit
 use Rattle.bench.specs.Benches.{SnapshotRecord}
 use Rattle.bench.specs.Commits.{commit_of}
 use Rattle.bench.specs.Refusals.{IsRefusal, MayRefuse, loses_a_worker}
-use Rattle.bench.specs.Work.{AskedInPart, AskedInVain}
+use Rattle.bench.specs.Work.{AskedInPart, AskedByRefused}
 
 -- A refused edit.
 
@@ -31,11 +31,11 @@ no_loss place fault commit.WorkerLost losses is = absurd is
 
 -- What was asked in vain.
 
-pub asked_nothing : (made : Result Netlist (ℕ × EditFault)) (asked : List (Evaluation × ℕ)) → AskedInVain made asked asked
+pub asked_nothing : (made : Result Netlist (ℕ × EditFault)) (asked : List (Evaluation × ℕ)) → AskedByRefused made asked asked
 asked_nothing (Ok d) asked = (0, omega arith, sym (append-nil asked))
 asked_nothing (Err refused) asked = refl
 
-pub asked_part : (made : Result Netlist (ℕ × EditFault)) (d : Netlist) (old new : List (Evaluation × ℕ)) → made ≡ Ok d → AskedInPart d old new → AskedInVain made old new
+pub asked_part : (made : Result Netlist (ℕ × EditFault)) (d : Netlist) (old new : List (Evaluation × ℕ)) → made ≡ Ok d → AskedInPart d old new → AskedByRefused made old new
 asked_part made d old new is part = rw is part
 
 -- A commit's refusal is never that memory ran out.

@@ -14,6 +14,6 @@ abbrev pub AskedInPart : Netlist → (old new : List (Evaluation × ℕ)) → Ty
 AskedInPart d old new = (n : ℕ) × (n ≤ suc d.horizon) × (new ≡ old ++ work_below advance d n)
 
 -- a stepper was asked for the design that a commit would have made, up to some moment, and nothing where an edit is refused
-abbrev pub AskedInVain : Result Netlist (ℕ × EditFault) → (old new : List (Evaluation × ℕ)) → Type 0
-AskedInVain (Ok d) old new = AskedInPart d old new
-AskedInVain (Err refused) old new = new ≡ old
+abbrev pub AskedByRefused : Result Netlist (ℕ × EditFault) → (old new : List (Evaluation × ℕ)) → Type 0
+AskedByRefused (Ok d) old new = AskedInPart d old new
+AskedByRefused (Err refused) old new = new ≡ old

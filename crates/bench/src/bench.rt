@@ -7,7 +7,7 @@ ghost use Rattle.design.specs.Keys.{netlist};
 ghost use Rattle.bench.specs.Benches.{snapshot_of};
 ghost use Rattle.bench.specs.Commits.{commit_of};
 ghost use Rattle.bench.specs.Refusals.{IsRefusal, MayRefuse, loses_a_worker};
-ghost use Rattle.bench.specs.Work.{AskedInPart, AskedInVain, work_of};
+ghost use Rattle.bench.specs.Work.{AskedInPart, AskedByRefused, work_of};
 
 use crate::fault::CommitFault;
 use crate::snapshot::Snapshot;
@@ -71,7 +71,7 @@ impl<S: Stepper + Drop> Bench<S> {
 
         // What the stepper was asked.
         ensures asked { OnOk result (self.new.asked ≡ self.old.asked ++ work_of self.new.snapshot.design) }
-        ensures part { OnErr result (AskedInVain (commit_of self.old.snapshot.version self.old.snapshot.design edits.now)
+        ensures part { OnErr result (AskedByRefused (commit_of self.old.snapshot.version self.old.snapshot.design edits.now)
             self.old.asked self.new.asked) }
         ensures lost { self.new.losses ≡ self.old.losses + (if loses_a_worker result then 1 else 0) }
     {
