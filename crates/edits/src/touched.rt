@@ -8,12 +8,13 @@ use design::{GateKey, NetKey};
 use std::alloc::{AllocError, Global};
 
 /// The nets and the gates that a list of edits touched, in the order of the edits. A key stands as often as it was
-/// touched; a net or a gate that came and went in the list is among them too.
+/// touched, and that of a net or a gate that came and went in the list is there too. A gate that begins or ends to read a
+/// net touches itself and not that net.
 #[derive(Debug, Drop)]
 pub struct Touched {
-    /// Nets that came, went or were changed, and those that such gates drive or drove as came, went or were rewired.
+    /// Nets that came, went or changed, and nets that a gate drives or drove that came, went or was rewired.
     pub nets: Vec<NetKey>,
-    /// Gates that came, went or were changed.
+    /// Gates that came, went or changed.
     pub gates: Vec<GateKey>,
 }
 
