@@ -3,3 +3,4 @@ pub mod Changes
 pub mod Checks
 pub mod EditFaults
 pub mod Edits
+pub mod Touched

@@ -1,11 +1,13 @@
 //! Laws of lists of edits: each function does nothing, and its contract is the law.
 
-ghost use Rattle.std.specs.Prelude.{◌≡◌, ◌≢◌, ◌<◌, ◌≤◌, [], ◌∷◌, ◌++◌, List, None, Some, Ok, Err, length, IfErr, IfOk, IfSome, MatchResult};
+ghost use Rattle.std.specs.Prelude.{◌≡◌, ◌≢◌, ◌<◌, ◌≤◌, [], ◌∷◌, ◌++◌, ℕ, List, None, Some, Ok, Err, length, IfErr, IfOk, IfSome, MatchResult};
+ghost use Rattle.design.specs.Keys.{Keyed};
 ghost use Rattle.design.specs.Netlist.{Netlist};
 ghost use Rattle.edits.specs.declared.edit.Edit as edits;
 ghost use Rattle.edits.specs.Batches.{batch, batch_from};
 ghost use Rattle.edits.specs.Checks.{cause};
 ghost use Rattle.edits.specs.Edits.{edited};
+ghost use Rattle.edits.specs.Touched.{IsTouched};
 
 use crate::fault::EditFault;
 use crate::limits::MAX_EDITS;
@@ -38,6 +40,14 @@ pub fn limits_of_edits()
     ensures limit { (d : Netlist) (edits : List edits.Edit) → IfErr (batch d edits) (λ refused. refused.0 ≤ MAX_EDITS) }
     ensures fault { (d : Netlist) (edits : List edits.Edit) → IfErr (batch d edits) (λ refused. refused.1 ≢ EditFault.OutOfMemory) }
     ensures accepted { (d : Netlist) (edits : List edits.Edit) → IfOk (batch d edits) (λ _. length edits ≤ MAX_EDITS) }
+{}
+
+/// Outside of no nets and no gates a design is itself. Outside of what two lists of edits touched one after the other, the
+/// design after both is the first one.
+#[tactic(auto, using(crate::proofs::TouchLemmas::nothing_touched, crate::proofs::TouchLemmas::touched_on))]
+pub fn touched_keys_join()
+    ensures none { (d : Keyed) → IsTouched d d [] [] }
+    ensures joined { (a b c : Keyed) (nets gates more_nets more_gates : List ℕ) → IsTouched a b nets gates → IsTouched b c more_nets more_gates → IsTouched a c (nets ++ more_nets) (gates ++ more_gates) }
 {}
 
 /// The limit of a list of edits has this number.

@@ -8,11 +8,13 @@ mod fault;
 pub mod laws;
 mod limits;
 mod pin;
+mod touched;
 mod word;
 
-pub use apply::apply_all;
+pub use apply::{apply_all, apply_all_with_touched};
 pub use edit::Edit;
 pub use fault::EditFault;
 pub use limits::MAX_EDITS;
 pub use pin::{Pin, Pins};
+pub use touched::Touched;
 pub use word::Word;

@@ -1,14 +1,17 @@
 //! Edits of gates.
 
-ghost use Rattle.std.specs.Prelude.{◌≡◌, ◌∷◌, [], IfOk, length, map};
-ghost use Rattle.design.specs.Keys.{name_of, netlist};
-ghost use Rattle.design.specs.Netlist.{with_gate, with_wiring};
+ghost use Rattle.std.specs.Prelude.{◌≡◌, ◌∷◌, [], IfOk, IsSome, IsSomeAnd, IsTrue, length, map};
+ghost use Rattle.fourstate.specs.Gates.{takes_inputs};
+ghost use Rattle.design.specs.Keys.{gate_by_key, name_of, netlist};
+ghost use Rattle.design.specs.Netlist.{with_delays, with_gate, with_gate_kind, with_wiring, without_gate};
 ghost use Rattle.edits.specs.Changes.{FindsGate, Passes, Resolves, RewiresGate, TakesGate, TakesGateName, gate_name, gate_of_names};
 ghost use Rattle.edits.specs.Checks.{delay_checks, gate_there, new_gate_checks};
 ghost use Rattle.edits.specs.Edits.{connection_of};
+ghost use Rattle.edits.specs.Touched.{Touches};
 ghost use Rattle.edits.specs.declared.edit.Edit.TheVariants as edit;
 
 use crate::changes::change::Change;
+use crate::changes::touch::Touch;
 use crate::changes::wiring::{find_wiring, terminals};
 use crate::fault::EditFault;
 use crate::pin::Pin;
@@ -72,15 +75,16 @@ pub fn add_gate(
     delays: Delays,
     output: NetKey,
     inputs: &[Pin],
-) -> Result<Design, AllocError>
+) -> Result<(Design, Touch), AllocError>
     requires { TakesGate design name.now kind output inputs.now }
-    ensures { IfOk result (λ new. netlist new ≡ with_gate (netlist design) (gate_of_names design name.now kind delays output inputs.now)) }
+    ensures by_name { IfOk result (λ made. netlist made.0 ≡ with_gate (netlist design) (gate_of_names design name.now kind delays output inputs.now)) }
+    ensures touched { IfOk result (Touches design) }
 {
     let name = Name::new(alloc, name)?;
     let inputs = terminals(alloc, &design, inputs)?;
     let gate = Gate::new(name, kind, delays, output, inputs);
-    let (design, _key) = design.add_gate(gate)?;
-    Ok(design)
+    let (new, key) = design.add_gate(gate)?;
+    Ok((new, Touch::Driver { gate: key, output }))
 }
 
 pub fn resolve_drop_gate<'e>(design: &Design, name: &str) -> Result<Change<'e>, EditFault>
@@ -88,6 +92,17 @@ pub fn resolve_drop_gate<'e>(design: &Design, name: &str) -> Result<Change<'e>, 
 {
     let gate = find_gate(design, name)?;
     Ok(Change::DropGate(gate))
+}
+
+pub fn drop_gate(design: Design, gate: GateKey) -> Result<(Design, Touch), AllocError>
+    requires { IsSome (gate_by_key design gate) }
+    ensures by_name { IfOk result (λ made. netlist made.0 ≡ without_gate (netlist design) (gate_name design gate)) }
+    ensures touched { IfOk result (Touches design) }
+{
+    design.lawful();
+    let output = design.gate_of(gate).output();
+    let new = design.remove_gate(gate)?;
+    Ok((new, Touch::Driver { gate, output }))
 }
 
 pub fn resolve_delay<'e>(
@@ -100,6 +115,20 @@ pub fn resolve_delay<'e>(
     let gate = find_gate(design, name)?;
     let delays = delays_of(delays)?;
     Ok(Change::SetDelays(gate, delays))
+}
+
+pub fn set_delays(
+    design: Design,
+    gate: GateKey,
+    delays: Delays,
+) -> Result<(Design, Touch), AllocError>
+    requires { IsSome (gate_by_key design gate) }
+    ensures by_name { IfOk result (λ made. netlist made.0 ≡ with_delays (netlist design) (gate_name design gate) delays) }
+    ensures touched { IfOk result (Touches design) }
+{
+    design.lawful();
+    let new = design.set_delays(gate, delays)?;
+    Ok((new, Touch::Gate(gate)))
 }
 
 #[tactic(auto, using(crate::proofs::ChangeLemmas::kind_fits_of))]
@@ -116,6 +145,20 @@ pub fn resolve_gate_kind<'e>(
     } else {
         Err(EditFault::WrongArity)
     }
+}
+
+pub fn set_gate_kind(
+    design: Design,
+    gate: GateKey,
+    kind: GateKind,
+) -> Result<(Design, Touch), AllocError>
+    requires { IsSomeAnd (gate_by_key design gate) (λ g. IsTrue (takes_inputs kind (length g.inputs))) }
+    ensures by_name { IfOk result (λ made. netlist made.0 ≡ with_gate_kind (netlist design) (gate_name design gate) kind) }
+    ensures touched { IfOk result (Touches design) }
+{
+    design.lawful();
+    let new = design.set_gate_kind(gate, kind)?;
+    Ok((new, Touch::Gate(gate)))
 }
 
 #[tactic(auto, using(crate::proofs::ChangeLemmas::gate_takes_of))]
@@ -153,10 +196,15 @@ pub fn rewire(
     gate: GateKey,
     output: NetKey,
     inputs: &[Pin],
-) -> Result<Design, AllocError>
+) -> Result<(Design, Touch), AllocError>
     requires { RewiresGate design gate output inputs.now }
-    ensures { IfOk result (λ new. netlist new ≡ with_wiring (netlist design) (gate_name design gate) (name_of design.nets output) (map connection_of inputs.now)) }
+    ensures by_name { IfOk result (λ made. netlist made.0 ≡ with_wiring (netlist design) (gate_name design gate) (name_of design.nets output) (map connection_of inputs.now)) }
+    ensures touched { IfOk result (Touches design) }
 {
+    design.lawful();
+    let from = design.gate_of(gate).output();
     let inputs = terminals(alloc, &design, inputs)?;
-    design.rewire(gate, output, inputs)
+    let new = design.rewire(gate, output, inputs)?;
+    let to = output;
+    Ok((new, Touch::Rewired { gate, from, to }))
 }

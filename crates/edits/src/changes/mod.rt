@@ -7,8 +7,10 @@ mod gates;
 mod nets;
 mod points;
 mod resolve;
+mod touch;
 mod wiring;
 
 pub(crate) use carry_out::carry_out;
 pub(crate) use change::Change;
 pub(crate) use resolve::resolve;
+pub(crate) use touch::Touch;

@@ -1,14 +1,16 @@
 //! Edits of nets.
 
-ghost use Rattle.std.specs.Prelude.{◌≡◌, ◌∷◌, [], true, false, IfOk};
+ghost use Rattle.std.specs.Prelude.{◌≡◌, ◌∷◌, [], true, false, IfOk, IsSome, IsSomeAnd};
 ghost use Rattle.fourstate.specs.declared.net.NetKind.TheVariants.{Wire};
-ghost use Rattle.design.specs.Keys.{netlist};
-ghost use Rattle.design.specs.Netlist.{new_net, with_net};
+ghost use Rattle.design.specs.Keys.{name_of, net_by_key, netlist};
+ghost use Rattle.design.specs.Netlist.{is_used, new_net, with_net, with_net_kind, without_net};
 ghost use Rattle.edits.specs.Changes.{FindsNet, Passes, Resolves, TakesNet};
 ghost use Rattle.edits.specs.Checks.{net_there, new_net_checks};
+ghost use Rattle.edits.specs.Touched.{Touches};
 ghost use Rattle.edits.specs.declared.edit.Edit.TheVariants as edit;
 
 use crate::changes::change::Change;
+use crate::changes::touch::Touch;
 use crate::fault::EditFault;
 use design::{Design, MAX_NETS, Name, NetKey};
 use fourstate::NetKind;
@@ -52,22 +54,24 @@ pub fn add_net(
     design: Design,
     name: &str,
     kind: NetKind,
-) -> Result<Design, AllocError>
+) -> Result<(Design, Touch), AllocError>
     requires { TakesNet (netlist design) name.now }
-    ensures { IfOk result (λ new. netlist new ≡ with_net (netlist design) (new_net name.now kind false)) }
+    ensures by_name { IfOk result (λ made. netlist made.0 ≡ with_net (netlist design) (new_net name.now kind false)) }
+    ensures touched { IfOk result (Touches design) }
 {
     let name = Name::new(alloc, name)?;
-    let (design, _key) = design.add_net(name, kind)?;
-    Ok(design)
+    let (new, key) = design.add_net(name, kind)?;
+    Ok((new, Touch::Net(key)))
 }
 
-pub fn add_input(alloc: Global, design: Design, name: &str) -> Result<Design, AllocError>
+pub fn add_input(alloc: Global, design: Design, name: &str) -> Result<(Design, Touch), AllocError>
     requires { TakesNet (netlist design) name.now }
-    ensures { IfOk result (λ new. netlist new ≡ with_net (netlist design) (new_net name.now Wire true)) }
+    ensures by_name { IfOk result (λ made. netlist made.0 ≡ with_net (netlist design) (new_net name.now Wire true)) }
+    ensures touched { IfOk result (Touches design) }
 {
     let name = Name::new(alloc, name)?;
-    let (design, _key) = design.add_input(name)?;
-    Ok(design)
+    let (new, key) = design.add_input(name)?;
+    Ok((new, Touch::Net(key)))
 }
 
 #[tactic(auto, using(crate::proofs::ChangeLemmas::used_found, crate::proofs::ChangeLemmas::unused_found))]
@@ -82,6 +86,15 @@ pub fn resolve_drop_net<'e>(design: &Design, name: &str) -> Result<Change<'e>, E
     }
 }
 
+pub fn drop_net(design: Design, net: NetKey) -> Result<(Design, Touch), AllocError>
+    requires { IsSomeAnd (net_by_key design net) (λ n. is_used (netlist design) n.name ≡ false) }
+    ensures by_name { IfOk result (λ made. netlist made.0 ≡ without_net (netlist design) (name_of design.nets net)) }
+    ensures touched { IfOk result (Touches design) }
+{
+    let new = design.remove_net(net)?;
+    Ok((new, Touch::Net(net)))
+}
+
 pub fn resolve_net_kind<'e>(
     design: &Design,
     name: &str,
@@ -91,6 +104,19 @@ pub fn resolve_net_kind<'e>(
 {
     let net = find_net(design, name)?;
     Ok(Change::SetNetKind(net, kind))
+}
+
+pub fn set_net_kind(
+    design: Design,
+    net: NetKey,
+    kind: NetKind,
+) -> Result<(Design, Touch), AllocError>
+    requires { IsSome (net_by_key design net) }
+    ensures by_name { IfOk result (λ made. netlist made.0 ≡ with_net_kind (netlist design) (name_of design.nets net) kind) }
+    ensures touched { IfOk result (Touches design) }
+{
+    let new = design.set_net_kind(net, kind)?;
+    Ok((new, Touch::Net(net)))
 }
 
 /// The key of the net of a name.

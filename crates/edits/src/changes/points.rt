@@ -1,13 +1,18 @@
 //! Edits of the stimulus and the horizon.
 
-ghost use Rattle.edits.specs.Changes.{Resolves};
-ghost use Rattle.design.specs.Keys.{Keyed};
+ghost use Rattle.std.specs.Prelude.{◌≡◌, ◌≤◌, true, IfOk, IsSomeAnd};
+ghost use Rattle.design.specs.Keys.{Keyed, name_of, net_by_key, netlist};
+ghost use Rattle.design.specs.Netlist.{has_point, with_horizon, with_point, without_point};
+ghost use Rattle.edits.specs.Changes.{Resolves, TakesPoint};
+ghost use Rattle.edits.specs.Touched.{Touches};
 ghost use Rattle.edits.specs.declared.edit.Edit.TheVariants as edit;
 
 use crate::changes::change::Change;
+use crate::changes::touch::Touch;
 use crate::fault::EditFault;
-use design::{Design, MAX_POINTS};
+use design::{Design, MAX_POINTS, NetKey};
 use fourstate::{MAX_TIME, Value};
+use std::alloc::AllocError;
 
 #[tactic(auto, using(crate::proofs::FoundLemmas::net_found))]
 pub fn resolve_stim<'e>(
@@ -29,6 +34,20 @@ pub fn resolve_stim<'e>(
     }
 }
 
+pub fn set_point(
+    design: Design,
+    net: NetKey,
+    time: u64,
+    value: Value,
+) -> Result<(Design, Touch), AllocError>
+    requires { TakesPoint design net time }
+    ensures by_name { IfOk result (λ made. netlist made.0 ≡ with_point (netlist design) (name_of design.nets net) time value) }
+    ensures touched { IfOk result (Touches design) }
+{
+    let new = design.set_point(net, time, value)?;
+    Ok((new, Touch::Net(net)))
+}
+
 #[tactic(auto, using(crate::proofs::FoundLemmas::net_found))]
 pub fn resolve_unstim<'e>(design: &Design, net: &str, time: u64) -> Result<Change<'e>, EditFault>
     ensures { Resolves design.now (edit.Unstim net.now time) result }
@@ -41,6 +60,15 @@ pub fn resolve_unstim<'e>(design: &Design, net: &str, time: u64) -> Result<Chang
     }
 }
 
+pub fn remove_point(design: Design, net: NetKey, time: u64) -> Result<(Design, Touch), AllocError>
+    requires { IsSomeAnd (net_by_key design net) (λ n. has_point n.points time ≡ true) }
+    ensures by_name { IfOk result (λ made. netlist made.0 ≡ without_point (netlist design) (name_of design.nets net) time) }
+    ensures touched { IfOk result (Touches design) }
+{
+    let new = design.remove_point(net, time)?;
+    Ok((new, Touch::Net(net)))
+}
+
 pub fn resolve_horizon<'e>(time: u64) -> Result<Change<'e>, EditFault>
     ensures { (d : Keyed) → Resolves d (edit.Horizon time) result }
 {
@@ -49,4 +77,12 @@ pub fn resolve_horizon<'e>(time: u64) -> Result<Change<'e>, EditFault>
     } else {
         Ok(Change::Horizon(time))
     }
+}
+
+pub fn set_horizon(design: Design, time: u64) -> (Design, Touch)
+    requires { time ≤ MAX_TIME }
+    ensures by_name { netlist result.0 ≡ with_horizon (netlist design) time }
+    ensures touched { Touches design result }
+{
+    (design.set_horizon(time), Touch::Nothing)
 }
