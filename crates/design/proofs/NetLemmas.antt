@@ -24,25 +24,25 @@ use Rattle.design.proofs.EntryLemmas.{Each, absent, any_none, apart_filter, apar
 use Rattle.design.proofs.LookLemmas.{not_missing}
 use Rattle.design.proofs.PointLemmas.{count_removed, count_set, rising_set, timely_set}
 
-each_net : (d : Keyed) (points : ℕ) (read driven : List (List (List ℕ))) → IsKept d points read driven → Each (λ e. IsNet e.1) d.nets
+each_net : (d : Keyed) (points : ℕ) (read driven : List (List ℕ)) → IsKept d points read driven → Each (λ e. IsNet e.1) d.nets
 unfolding netlist
 each_net d points read driven h = each_from IsNet (λ e. e.1) d.nets h.lawful.nets
 
-net_at_key : (d : Keyed) (points : ℕ) (read driven : List (List (List ℕ))) (key : ℕ) (x : NetEntry) → IsKept d points read driven → record_at d.nets key ≡ Some x → IsNet x
+net_at_key : (d : Keyed) (points : ℕ) (read driven : List (List ℕ)) (key : ℕ) (x : NetEntry) → IsKept d points read driven → record_at d.nets key ≡ Some x → IsNet x
 net_at_key d points read driven key x h there = found (λ k (n : NetEntry). IsNet n) d.nets key x (each_net d points read driven h) there
 
-net_count : (d : Keyed) (points : ℕ) (read driven : List (List (List ℕ))) → IsKept d points read driven → length (records_of d.nets) ≤ MAX_NETS
+net_count : (d : Keyed) (points : ℕ) (read driven : List (List ℕ)) → IsKept d points read driven → length (records_of d.nets) ≤ MAX_NETS
 unfolding netlist
 net_count d points read driven h = h.lawful.net_count
 
-pub points_within : (d : Keyed) (points : ℕ) (read driven : List (List (List ℕ))) → IsKept d points read driven → points ≤ MAX_POINTS
+pub points_within : (d : Keyed) (points : ℕ) (read driven : List (List ℕ)) → IsKept d points read driven → points ≤ MAX_POINTS
 unfolding netlist
 points_within d points read driven h = omega (arith, h.points_counted, h.lawful.point_count)
 
 -- A net put in place of one of the same name.
 
 -- each net looks as before
-alike_put : (d : Keyed) (points : ℕ) (read driven : List (List (List ℕ))) (key : ℕ) (x y : NetEntry) → IsKept d points read driven → record_at d.nets key ≡ Some x → y.name ≡ x.name → y.is_input ≡ x.is_input → Each (λ e. IsAlike d.nets (with_record d.nets key y) e.1) d.gates
+alike_put : (d : Keyed) (points : ℕ) (read driven : List (List ℕ)) (key : ℕ) (x y : NetEntry) → IsKept d points read driven → record_at d.nets key ≡ Some x → y.name ≡ x.name → y.is_input ≡ x.is_input → Each (λ e. IsAlike d.nets (with_record d.nets key y) e.1) d.gates
 alike_put d points read driven key x y h there named input =
     each_weaker (λ e. IsConnected d.nets e.1) (λ e. IsAlike d.nets (with_record d.nets key y) e.1) (λ e w. alike_there d.nets (with_record d.nets key y) e.1 (λ k some. same k) w) d.gates (each_connected d points read driven h)
   where
@@ -62,7 +62,7 @@ alike_put d points read driven key x y h there named input =
                 ap (λ (z : List ℕ × Bool). Some z) (λ i. (p i, q i))
             two false on = refl
 
-kept_net_put : (d : Keyed) (points after : ℕ) (read driven : List (List (List ℕ))) (key : ℕ) (x y : NetEntry) → IsKept d points read driven → record_at d.nets key ≡ Some x → y.name ≡ x.name → y.is_input ≡ x.is_input → IsNet y → after + length x.points ≡ points + length y.points → after ≤ MAX_POINTS →
+kept_net_put : (d : Keyed) (points after : ℕ) (read driven : List (List ℕ)) (key : ℕ) (x y : NetEntry) → IsKept d points read driven → record_at d.nets key ≡ Some x → y.name ≡ x.name → y.is_input ≡ x.is_input → IsNet y → after + length x.points ≡ points + length y.points → after ≤ MAX_POINTS →
     IsKept (with_net_at d key y) after read driven
 kept_net_put d points after read driven key x y h there named input net counted room =
     let keys = net_keys_apart d points read driven h in
@@ -75,7 +75,7 @@ kept_net_put d points after read driven key x y h there named input net counted 
     (omega (arith, count, length-map new (λ e. e.1), length-map {B = ℕ × NetEntry} d.nets (λ e. (e.0, cond (e.0 == key) y e.1)), length-map d.nets (λ e. e.1)))
     (omega (arith, sum_with (λ (n : NetEntry). length n.points) d.nets key x y keys there, counted, h.points_counted)) room
 
-pub kept_net_kind : (d : Keyed) (points : ℕ) (read driven : List (List (List ℕ))) (key : ℕ) (x : NetEntry) (kind : NetKind) → IsKept d points read driven → record_at d.nets key ≡ Some x → IsKept (with_net_at d key (net_with_kind x kind)) points read driven
+pub kept_net_kind : (d : Keyed) (points : ℕ) (read driven : List (List ℕ)) (key : ℕ) (x : NetEntry) (kind : NetKind) → IsKept d points read driven → record_at d.nets key ≡ Some x → IsKept (with_net_at d key (net_with_kind x kind)) points read driven
 kept_net_kind d points read driven key x kind h there =
     let was = net_at_key d points read driven key x h there in
     kept_net_put d points points read driven key x (net_with_kind x kind) h there refl refl (record { named = was.named; rising = was.rising; timely = was.timely; only_inputs = was.only_inputs }) refl (points_within d points read driven h)
@@ -84,7 +84,7 @@ room_for : (b : Bool) (n most : ℕ) → n ≤ most → (b ≡ false → n < mos
 room_for true n most h room = omega arith
 room_for false n most h room = let below = room refl in omega arith
 
-pub kept_net_pointed : (d : Keyed) (points : ℕ) (read driven : List (List (List ℕ))) (key : ℕ) (x : NetEntry) (t : ℕ) (v : Value) → IsKept d points read driven → record_at d.nets key ≡ Some x → x.is_input ≡ true → t ≤ MAX_TIME → (has_point x.points t ≡ false → point_total (netlist d).nets < MAX_POINTS) →
+pub kept_net_pointed : (d : Keyed) (points : ℕ) (read driven : List (List ℕ)) (key : ℕ) (x : NetEntry) (t : ℕ) (v : Value) → IsKept d points read driven → record_at d.nets key ≡ Some x → x.is_input ≡ true → t ≤ MAX_TIME → (has_point x.points t ≡ false → point_total (netlist d).nets < MAX_POINTS) →
     IsKept (with_net_at d key (net_with_point x t v)) (points + cond (has_point x.points t) 0 1) read driven
 unfolding netlist
 kept_net_pointed d points read driven key x t v h there input moment room =
@@ -99,12 +99,12 @@ kept_net_pointed d points read driven key x t v h there input moment room =
     })
     (omega (arith, longer)) (room_for (has_point x.points t) points MAX_POINTS (points_within d points read driven h) (λ free. let low = room free in omega (arith, low, h.points_counted)))
 
-pub point_counted : (d : Keyed) (points : ℕ) (read driven : List (List (List ℕ))) (key : ℕ) (x : NetEntry) (t : ℕ) → IsKept d points read driven → record_at d.nets key ≡ Some x → has_point x.points t ≡ true → 1 ≤ points
+pub point_counted : (d : Keyed) (points : ℕ) (read driven : List (List ℕ)) (key : ℕ) (x : NetEntry) (t : ℕ) → IsKept d points read driven → record_at d.nets key ≡ Some x → has_point x.points t ≡ true → 1 ≤ points
 point_counted d points read driven key x t h there on =
     let was = net_at_key d points read driven key x h there in
     omega (arith, count_removed x.points t was.rising on, sum_without (λ (n : NetEntry). length n.points) d.nets key x (net_keys_apart d points read driven h) there, h.points_counted)
 
-pub kept_net_unpointed : (d : Keyed) (points : ℕ) (read driven : List (List (List ℕ))) (key : ℕ) (x : NetEntry) (t : ℕ) → IsKept d points read driven → record_at d.nets key ≡ Some x → has_point x.points t ≡ true →
+pub kept_net_unpointed : (d : Keyed) (points : ℕ) (read driven : List (List ℕ)) (key : ℕ) (x : NetEntry) (t : ℕ) → IsKept d points read driven → record_at d.nets key ≡ Some x → has_point x.points t ≡ true →
     IsKept (with_net_at d key (net_without_point x t)) (points - 1) read driven
 kept_net_unpointed d points read driven key x t h there on =
     let was = net_at_key d points read driven key x h there in
@@ -122,7 +122,7 @@ kept_net_unpointed d points read driven key x t h there on =
 
 -- A net added.
 
-alike_added : (d : Keyed) (points : ℕ) (read driven : List (List (List ℕ))) (key : ℕ) (n : NetEntry) → IsKept d points read driven → record_at d.nets key ≡ None → Each (λ e. IsAlike d.nets (d.nets ++ (key, n) ∷ []) e.1) d.gates
+alike_added : (d : Keyed) (points : ℕ) (read driven : List (List ℕ)) (key : ℕ) (n : NetEntry) → IsKept d points read driven → record_at d.nets key ≡ None → Each (λ e. IsAlike d.nets (d.nets ++ (key, n) ∷ []) e.1) d.gates
 alike_added d points read driven key n h free =
     each_weaker (λ e. IsConnected d.nets e.1) (λ e. IsAlike d.nets (d.nets ++ (key, n) ∷ []) e.1) (λ e w. alike_there d.nets (d.nets ++ (key, n) ∷ []) e.1 same w) d.gates (each_connected d points read driven h)
   where
@@ -131,7 +131,7 @@ alike_added d points read driven key n h free =
         let off : (k == key) ≡ false = ne_eqb k key (λ on. not_missing (record_at d.nets k) (record_at d.nets key) some free (ap (λ (j : ℕ). record_at d.nets j) on)) in
         ap (λ (o : Option NetEntry). option_map look o) (record_added d.nets key n k free ∙ ap (λ (b : Bool). cond b (Some n) (record_at d.nets k)) off)
 
-pub kept_net_added : (d : Keyed) (points : ℕ) (read driven : List (List (List ℕ))) (key : ℕ) (n : NetEntry) → IsKept d points read driven → IsNet n → n.points ≡ [] → has_net (netlist d) n.name ≡ false → length (netlist d).nets < MAX_NETS → record_at d.nets key ≡ None →
+pub kept_net_added : (d : Keyed) (points : ℕ) (read driven : List (List ℕ)) (key : ℕ) (n : NetEntry) → IsKept d points read driven → IsNet n → n.points ≡ [] → has_net (netlist d) n.name ≡ false → length (netlist d).nets < MAX_NETS → record_at d.nets key ≡ None →
     IsKept (with_keyed_net d n key) points read driven
 unfolding netlist
 kept_net_added d points read driven key n h net bare absent_name room free =
@@ -150,7 +150,7 @@ kept_net_added d points read driven key n h net bare absent_name room free =
 -- A net removed.
 
 -- no gate has a net that is not used
-each_unused : (d : Keyed) (points : ℕ) (read driven : List (List (List ℕ))) (key : ℕ) (x : NetEntry) → IsKept d points read driven → record_at d.nets key ≡ Some x → is_used (netlist d) x.name ≡ false → Each (λ e. (reads_key e.1 key ≡ false) × (drives_key e.1 key ≡ false)) d.gates
+each_unused : (d : Keyed) (points : ℕ) (read driven : List (List ℕ)) (key : ℕ) (x : NetEntry) → IsKept d points read driven → record_at d.nets key ≡ Some x → is_used (netlist d) x.name ≡ false → Each (λ e. (reads_key e.1 key ≡ false) × (drives_key e.1 key ≡ false)) d.gates
 unfolding netlist
 each_unused d points read driven key x h there unused =
     each_weaker (λ e. (reads_key e.1 key || drives_key e.1 key) ≡ false) (λ e. (reads_key e.1 key ≡ false) × (drives_key e.1 key ≡ false)) (λ e none. none_parts (reads_key e.1 key) (drives_key e.1 key) none) d.gates
@@ -162,7 +162,7 @@ each_unused d points read driven key x h there unused =
     none_parts true b e = cc
     none_parts false b e = (refl, e)
 
-alike_removed : (d : Keyed) (points : ℕ) (read driven : List (List (List ℕ))) (key : ℕ) (x : NetEntry) → IsKept d points read driven → record_at d.nets key ≡ Some x → is_used (netlist d) x.name ≡ false → Each (λ e. IsAlike d.nets (without_key d.nets key) e.1) d.gates
+alike_removed : (d : Keyed) (points : ℕ) (read driven : List (List ℕ)) (key : ℕ) (x : NetEntry) → IsKept d points read driven → record_at d.nets key ≡ Some x → is_used (netlist d) x.name ≡ false → Each (λ e. IsAlike d.nets (without_key d.nets key) e.1) d.gates
 alike_removed d points read driven key x h there unused =
     each_weaker (λ e. (reads_key e.1 key ≡ false) × (drives_key e.1 key ≡ false)) (λ e. IsAlike d.nets (without_key d.nets key) e.1) (λ e off. alike_unused d.nets (without_key d.nets key) key e.1 same off.0 off.1) d.gates
     (each_unused d points read driven key x h there unused)
@@ -172,7 +172,7 @@ alike_removed d points read driven key x h there unused =
         let apart : (k == key) ≡ false = ne_eqb k key (λ on. eqb-false key k off (sym on)) in
         ap (λ (o : Option NetEntry). option_map look o) (record_without d.nets key k ∙ ap (λ (b : Bool). cond b None (record_at d.nets k)) apart)
 
-pub kept_net_removed : (d : Keyed) (points after : ℕ) (read driven : List (List (List ℕ))) (key : ℕ) (x : NetEntry) → IsKept d points read driven → record_at d.nets key ≡ Some x → is_used (netlist d) x.name ≡ false → after + length x.points ≡ points →
+pub kept_net_removed : (d : Keyed) (points after : ℕ) (read driven : List (List ℕ)) (key : ℕ) (x : NetEntry) → IsKept d points read driven → record_at d.nets key ≡ Some x → is_used (netlist d) x.name ≡ false → after + length x.points ≡ points →
     IsKept (without_keyed_net d key) after read driven
 kept_net_removed d points after read driven key x h there unused counted =
     let keys = net_keys_apart d points read driven h in
@@ -195,18 +195,18 @@ netlist_nets : (d : Keyed) (nets : List (ℕ × NetEntry)) → Each (λ e. IsAli
 unfolding netlist
 netlist_nets d nets alike = ap (λ (l : List (ℕ × GateEntry)). record (netlist d) { nets = records_of nets; gates = records_of l }) (gates_alike d.nets nets d.gates alike)
 
-pub netlist_net_put : (d : Keyed) (points : ℕ) (read driven : List (List (List ℕ))) (key : ℕ) (x : NetEntry) (change : NetEntry → NetEntry) → IsKept d points read driven → record_at d.nets key ≡ Some x → (change x).name ≡ x.name → (change x).is_input ≡ x.is_input → netlist (with_net_at d key (change x)) ≡ with_net_changed (netlist d) x.name change
+pub netlist_net_put : (d : Keyed) (points : ℕ) (read driven : List (List ℕ)) (key : ℕ) (x : NetEntry) (change : NetEntry → NetEntry) → IsKept d points read driven → record_at d.nets key ≡ Some x → (change x).name ≡ x.name → (change x).is_input ≡ x.is_input → netlist (with_net_at d key (change x)) ≡ with_net_changed (netlist d) x.name change
 unfolding netlist
 netlist_net_put d points read driven key x change h there named input =
     netlist_nets d (with_record d.nets key (change x)) (alike_put d points read driven key x (change x) h there named input)
     ∙ ap (λ (l : List NetEntry). record (netlist d) { nets = l }) (records_with (λ (n : NetEntry). n.name) change d.nets key x (net_keys_apart d points read driven h) (nets_apart d points read driven h) there)
 
-pub netlist_net_added : (d : Keyed) (points : ℕ) (read driven : List (List (List ℕ))) (key : ℕ) (n : NetEntry) → IsKept d points read driven → record_at d.nets key ≡ None → netlist (with_keyed_net d n key) ≡ with_net (netlist d) n
+pub netlist_net_added : (d : Keyed) (points : ℕ) (read driven : List (List ℕ)) (key : ℕ) (n : NetEntry) → IsKept d points read driven → record_at d.nets key ≡ None → netlist (with_keyed_net d n key) ≡ with_net (netlist d) n
 unfolding netlist
 netlist_net_added d points read driven key n h free =
     netlist_nets d (d.nets ++ (key, n) ∷ []) (alike_added d points read driven key n h free) ∙ ap (λ (l : List NetEntry). record (netlist d) { nets = l }) (map_push (λ (e : ℕ × NetEntry). e.1) d.nets (key, n))
 
-pub netlist_net_removed : (d : Keyed) (points : ℕ) (read driven : List (List (List ℕ))) (key : ℕ) (x : NetEntry) → IsKept d points read driven → record_at d.nets key ≡ Some x → is_used (netlist d) x.name ≡ false → netlist (without_keyed_net d key) ≡ without_net (netlist d) x.name
+pub netlist_net_removed : (d : Keyed) (points : ℕ) (read driven : List (List ℕ)) (key : ℕ) (x : NetEntry) → IsKept d points read driven → record_at d.nets key ≡ Some x → is_used (netlist d) x.name ≡ false → netlist (without_keyed_net d key) ≡ without_net (netlist d) x.name
 unfolding netlist
 netlist_net_removed d points read driven key x h there unused =
     netlist_nets d (without_key d.nets key) (alike_removed d points read driven key x h there unused)

@@ -1,6 +1,6 @@
-pub mod Blocks
 pub mod Connections
 pub mod Kept
+pub mod KeyLists
 pub mod Keys
 pub mod Lawful
 pub mod Lists
