@@ -8,6 +8,7 @@ pub mod LookLemmas
 pub mod NameLemmas
 pub mod NetLemmas
 pub mod OrderLemmas
+pub mod PieceLemmas
 pub mod PlaceByNameLemmas
 pub mod PlaceLemmas
 pub mod PointLemmas

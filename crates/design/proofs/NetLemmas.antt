@@ -8,21 +8,22 @@ use Rattle.std.proofs.lemmas.List.Quantifiers.{all_pairs_push}
 use Rattle.std.proofs.lemmas.List.Sums.{count_by-le-length, length-filter, sum_by-append}
 use Rattle.std.specs.List.{filter}
 use Rattle.fourstate.specs.declared.limits.TheConstants.{MAX_TIME}
-use Rattle.fourstate.specs.declared.net.NetKind.{NetKind}
 use Rattle.fourstate.specs.declared.value.Value.{Value}
 use Rattle.catalog.specs.Catalog.{keys_of, record_at, records_of, with_record, without_key}
 use Rattle.design.specs.declared.limits.TheConstants.{MAX_NETS, MAX_POINTS}
 use Rattle.design.specs.Keys.{IsConnected, Keyed, KeyedGate, drives_key, netlist, reads_key, with_keyed_net, with_net_at, without_keyed_net}
 use Rattle.design.specs.Kept.{IsKept}
 use Rattle.design.specs.Lawful.{IsNet}
-use Rattle.design.specs.Netlist.{GateEntry, NetEntry, has_net, has_point, is_used, net_with_point, point_total, with_net, with_net_changed, without_net}
-use Rattle.design.specs.Records.{net_with_kind, net_without_point}
+use Rattle.design.specs.Netlist.{GateEntry, NetEntry, has_net, has_point, is_used, point_total, with_net, with_net_changed, without_net}
+use Rattle.design.specs.declared.net_change.NetChange.{NetChange}
+use Rattle.design.specs.declared.net_change.NetChange.TheVariants.{Kind, Point, NoPoint}
+use Rattle.design.specs.Records.{HasRoom, IsNetChange, net_changed}
 use Rattle.design.proofs.ChangeLemmas.{each_with, keys_with, keys_without, record_added, record_with, record_without, records_with, records_without, sum_with, sum_without}
 use Rattle.design.proofs.ConnectionLemmas.{IsAlike, alike_there, alike_unused, gates_alike, look, seen, used_by_name}
 use Rattle.design.proofs.DesignLemmas.{apart_with, each_connected, kept_nets, net_keys_apart, nets_apart}
 use Rattle.design.proofs.EntryLemmas.{Each, absent, any_none, apart_filter, apart_push, each_filter, each_from, each_push, each_to, each_unmap, each_weaker, found, here, unnamed}
 use Rattle.design.proofs.LookLemmas.{not_missing}
-use Rattle.design.proofs.PointLemmas.{count_removed, count_set, rising_set, timely_set}
+use Rattle.design.proofs.PointLemmas.{count_set, count_without, rising_set, timely_set}
 
 each_net : (d : Keyed) (points : ℕ) (read driven : List (List ℕ)) → IsKept d points read driven → Each (λ e. IsNet e.1) d.nets
 unfolding netlist
@@ -75,50 +76,63 @@ kept_net_put d points after read driven key x y h there named input net counted 
     (omega (arith, count, length-map new (λ e. e.1), length-map {B = ℕ × NetEntry} d.nets (λ e. (e.0, cond (e.0 == key) y e.1)), length-map d.nets (λ e. e.1)))
     (omega (arith, sum_with (λ (n : NetEntry). length n.points) d.nets key x y keys there, counted, h.points_counted)) room
 
-pub kept_net_kind : (d : Keyed) (points : ℕ) (read driven : List (List ℕ)) (key : ℕ) (x : NetEntry) (kind : NetKind) → IsKept d points read driven → record_at d.nets key ≡ Some x → IsKept (with_net_at d key (net_with_kind x kind)) points read driven
-kept_net_kind d points read driven key x kind h there =
-    let was = net_at_key d points read driven key x h there in
-    kept_net_put d points points read driven key x (net_with_kind x kind) h there refl refl (record { named = was.named; rising = was.rising; timely = was.timely; only_inputs = was.only_inputs }) refl (points_within d points read driven h)
+-- A net changed.
+
+pub change_keeps_name : (change : NetChange) (n : NetEntry) → (net_changed change n).name ≡ n.name
+change_keeps_name (Kind kind) n = refl
+change_keeps_name (Point t v) n = refl
+change_keeps_name (NoPoint t) n = refl
+
+pub change_keeps_input : (change : NetChange) (n : NetEntry) → (net_changed change n).is_input ≡ n.is_input
+change_keeps_input (Kind kind) n = refl
+change_keeps_input (Point t v) n = refl
+change_keeps_input (NoPoint t) n = refl
+
+changed_is_net : (change : NetChange) (n : NetEntry) → IsNet n → IsNetChange change n → IsNet (net_changed change n)
+changed_is_net (Kind kind) n h allowed = record { named = h.named; rising = h.rising; timely = h.timely; only_inputs = h.only_inputs }
+changed_is_net (Point t v) n h allowed = record {
+  named = h.named;
+  rising = rising_set n.points t v h.rising;
+  timely = timely_set n.points t MAX_TIME v h.timely allowed.1;
+  only_inputs = λ none. absurd (both_ways n.is_input none allowed.0);
+}
+changed_is_net (NoPoint t) n h allowed =
+    let test = λ (point : ℕ × Value). not (point.0 == t) in
+    record {
+      named = h.named;
+      rising = AllPairs-filter (λ (p : ℕ × Value) (q : ℕ × Value). p.0 < q.0) test n.points h.rising;
+      timely = All-filter test (λ (p : ℕ × Value). p.0 ≤ MAX_TIME) n.points h.timely;
+      only_inputs = λ no. ap (λ l. filter test l) (h.only_inputs no);
+    }
+
+-- the points of a net are among all points
+pub points_counted_in : (d : Keyed) (points : ℕ) (read driven : List (List ℕ)) (key : ℕ) (x : NetEntry) → IsKept d points read driven → record_at d.nets key ≡ Some x → length x.points ≤ points
+points_counted_in d points read driven key x h there =
+    omega (arith, sum_without (λ (n : NetEntry). length n.points) d.nets key x (net_keys_apart d points read driven h) there, h.points_counted)
 
 room_for : (b : Bool) (n most : ℕ) → n ≤ most → (b ≡ false → n < most) → n + cond b 0 1 ≤ most
 room_for true n most h room = omega arith
 room_for false n most h room = let below = room refl in omega arith
 
-pub kept_net_pointed : (d : Keyed) (points : ℕ) (read driven : List (List ℕ)) (key : ℕ) (x : NetEntry) (t : ℕ) (v : Value) → IsKept d points read driven → record_at d.nets key ≡ Some x → x.is_input ≡ true → t ≤ MAX_TIME → (has_point x.points t ≡ false → point_total (netlist d).nets < MAX_POINTS) →
-    IsKept (with_net_at d key (net_with_point x t v)) (points + cond (has_point x.points t) 0 1) read driven
+count_changed : (change : NetChange) (n : NetEntry) (total : ℕ) → IsNet n → total ≤ MAX_POINTS → length n.points ≤ total → HasRoom change n total → total - length n.points + length (net_changed change n).points ≤ MAX_POINTS
+count_changed (Kind kind) n total h most within room = omega arith
+count_changed (Point t v) n total h most within room = omega (arith, count_set n.points t v h.rising, room_for (has_point n.points t) total MAX_POINTS most room)
+count_changed (NoPoint t) n total h most within room = omega (arith, count_without n.points t h.rising)
+
+pub changed_count : (d : Keyed) (points : ℕ) (read driven : List (List ℕ)) (key : ℕ) (x : NetEntry) (change : NetChange) → IsKept d points read driven → record_at d.nets key ≡ Some x → HasRoom change x (point_total (netlist d).nets) → points - length x.points + length (net_changed change x).points ≤ MAX_POINTS
 unfolding netlist
-kept_net_pointed d points read driven key x t v h there input moment room =
-    let was = net_at_key d points read driven key x h there in
-    let longer : length (net_with_point x t v).points ≡ length x.points + cond (has_point x.points t) 0 1 = count_set x.points t v was.rising in
-    kept_net_put d points (points + cond (has_point x.points t) 0 1) read driven key x (net_with_point x t v) h there refl refl
-    (record {
-      named = was.named;
-      rising = rising_set x.points t v was.rising;
-      timely = timely_set x.points t MAX_TIME v was.timely moment;
-      only_inputs = λ none. absurd (both_ways x.is_input none input);
-    })
-    (omega (arith, longer)) (room_for (has_point x.points t) points MAX_POINTS (points_within d points read driven h) (λ free. let low = room free in omega (arith, low, h.points_counted)))
+changed_count d points read driven key x change h there room =
+    let Room : ℕ → Type 0 = λ n. HasRoom change x n in
+    count_changed change x points (net_at_key d points read driven key x h there) (points_within d points read driven h) (points_counted_in d points read driven key x h there) (subst Room (sym h.points_counted) room)
 
-pub point_counted : (d : Keyed) (points : ℕ) (read driven : List (List ℕ)) (key : ℕ) (x : NetEntry) (t : ℕ) → IsKept d points read driven → record_at d.nets key ≡ Some x → has_point x.points t ≡ true → 1 ≤ points
-point_counted d points read driven key x t h there on =
+pub kept_net_changed : (d : Keyed) (points : ℕ) (read driven : List (List ℕ)) (key : ℕ) (x : NetEntry) (change : NetChange) → IsKept d points read driven → record_at d.nets key ≡ Some x → IsNetChange change x → HasRoom change x (point_total (netlist d).nets) →
+    IsKept (with_net_at d key (net_changed change x)) (points - length x.points + length (net_changed change x).points) read driven
+unfolding netlist
+kept_net_changed d points read driven key x change h there allowed room =
     let was = net_at_key d points read driven key x h there in
-    omega (arith, count_removed x.points t was.rising on, sum_without (λ (n : NetEntry). length n.points) d.nets key x (net_keys_apart d points read driven h) there, h.points_counted)
-
-pub kept_net_unpointed : (d : Keyed) (points : ℕ) (read driven : List (List ℕ)) (key : ℕ) (x : NetEntry) (t : ℕ) → IsKept d points read driven → record_at d.nets key ≡ Some x → has_point x.points t ≡ true →
-    IsKept (with_net_at d key (net_without_point x t)) (points - 1) read driven
-kept_net_unpointed d points read driven key x t h there on =
-    let was = net_at_key d points read driven key x h there in
-    let some : 1 ≤ points = point_counted d points read driven key x t h there on in
-    let within = points_within d points read driven h in
-    let test = λ (point : ℕ × Value). not (point.0 == t) in
-    kept_net_put d points (points - 1) read driven key x (net_without_point x t) h there refl refl
-    (record {
-      named = was.named;
-      rising = AllPairs-filter (λ (p : ℕ × Value) (q : ℕ × Value). p.0 < q.0) test x.points was.rising;
-      timely = All-filter test (λ (p : ℕ × Value). p.0 ≤ MAX_TIME) x.points was.timely;
-      only_inputs = λ no. ap (λ l. filter test l) (was.only_inputs no);
-    })
-    (omega (arith, some, count_removed x.points t was.rising on)) (omega (arith, within))
+    let within = points_counted_in d points read driven key x h there in
+    let most = changed_count d points read driven key x change h there room in
+    kept_net_put d points (points - length x.points + length (net_changed change x).points) read driven key x (net_changed change x) h there (change_keeps_name change x) (change_keeps_input change x) (changed_is_net change x was allowed) (omega (arith, within)) most
 
 -- A net added.
 

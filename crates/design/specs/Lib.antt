@@ -7,7 +7,7 @@ pub mod Lists
 pub mod Names
 pub mod Netlist
 pub mod Places
+pub mod Pieces
 pub mod PointPlaces
 pub mod Records
-pub mod Shared
 pub mod Shown
