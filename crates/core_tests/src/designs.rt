@@ -6,6 +6,7 @@ ghost use Rattle.std.specs.Prelude.{All, IsSome};
 ghost use Rattle.design.specs.Keys.{IsConnected, IsDrivable, IsThere, net_by_key};
 
 mod changes;
+mod many_points;
 mod random;
 
 use catalog::NameHasher;
@@ -157,8 +158,12 @@ fn check_stimulus(rt: &impl Abort, design: &Design, net: NetKey, values: &[(u64,
 
 fn check_points(rt: &impl Abort, design: &Design, net: NetKey, points: &[(u64, Value)]) {
     assert!(rt; design.net_place_of(net).is_some());
-    assert_eq!(rt; design.net_of(net).points(), points);
+    assert_eq!(rt; design.net_of(net).point_count(), points.len());
     assert_eq!(rt; design.point_count(), points.len());
+    for (t, value) in points {
+        assert!(rt; design.has_point(net, *t), "at {t}");
+        assert_eq!(rt; design.net_of(net).stimulus_at(*t), *value, "at {t}");
+    }
 }
 
 /// The net at a place: what it is, and the look-ups of it.

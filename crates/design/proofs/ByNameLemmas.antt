@@ -58,7 +58,7 @@ no_name (e ∷ es) h = step (same_name e.1.name []) (unnamed e.1.name h.0.named)
     step true at rest = cc
     step false at rest = rest
 
-pub named_by_key : (d : Keyed) (points : ℕ) (read driven : List (List (List ℕ))) (key : ℕ) → IsKept d points read driven → net_named (netlist d) (name_of d.nets key) ≡ record_at d.nets key
+pub named_by_key : (d : Keyed) (points : ℕ) (read driven : List (List ℕ)) (key : ℕ) → IsKept d points read driven → net_named (netlist d) (name_of d.nets key) ≡ record_at d.nets key
 unfolding netlist
 named_by_key d points read driven key h = step (record_at d.nets key) refl
   where
@@ -66,6 +66,6 @@ named_by_key d points read driven key h = step (record_at d.nets key) refl
     step None at = no_name d.nets (each_from IsNet (λ e. e.1) d.nets h.lawful.nets)
     step (Some n) at = named_at d.nets key n (net_keys_apart d points read driven h) (nets_apart d points read driven h) at
 
-pub drivers_by_key : (d : Keyed) (points : ℕ) (read driven : List (List (List ℕ))) (key : ℕ) → IsKept d points read driven → IsSome (record_at d.nets key) → drivers_of (netlist d) (name_of d.nets key) ≡ map (entry_in d.nets) (filter (λ g. drives_key g key) (records_of d.gates))
+pub drivers_by_key : (d : Keyed) (points : ℕ) (read driven : List (List ℕ)) (key : ℕ) → IsKept d points read driven → IsSome (record_at d.nets key) → drivers_of (netlist d) (name_of d.nets key) ≡ map (entry_in d.nets) (filter (λ g. drives_key g key) (records_of d.gates))
 unfolding netlist
 drivers_by_key d points read driven key h there = drivers_by_name d.nets d.gates key (net_keys_apart d points read driven h) (nets_apart d points read driven h) there h.keys.connected

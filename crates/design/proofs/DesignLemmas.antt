@@ -47,22 +47,22 @@ empty_is_kept top unit named =
 
 -- What a design says of its nets and its gates.
 
-pub net_keys_apart : (d : Keyed) (points : ℕ) (read driven : List (List (List ℕ))) → IsKept d points read driven → Apart (λ e. e.0) d.nets
+pub net_keys_apart : (d : Keyed) (points : ℕ) (read driven : List (List ℕ)) → IsKept d points read driven → Apart (λ e. e.0) d.nets
 net_keys_apart d points read driven h = keys_apart d.nets h.keys.distinct_nets
 
-pub gate_keys_apart : (d : Keyed) (points : ℕ) (read driven : List (List (List ℕ))) → IsKept d points read driven → Apart (λ e. e.0) d.gates
+pub gate_keys_apart : (d : Keyed) (points : ℕ) (read driven : List (List ℕ)) → IsKept d points read driven → Apart (λ e. e.0) d.gates
 gate_keys_apart d points read driven h = keys_apart d.gates h.keys.distinct_gates
 
-pub nets_apart : (d : Keyed) (points : ℕ) (read driven : List (List (List ℕ))) → IsKept d points read driven → Apart (λ e. e.1.name) d.nets
+pub nets_apart : (d : Keyed) (points : ℕ) (read driven : List (List ℕ)) → IsKept d points read driven → Apart (λ e. e.1.name) d.nets
 unfolding netlist
 nets_apart d points read driven h = apart_from (λ e. e.1) (λ (n : NetEntry). n.name) d.nets h.lawful.distinct_nets
 
-pub gates_apart : (d : Keyed) (points : ℕ) (read driven : List (List (List ℕ))) → IsKept d points read driven → Apart (λ e. e.1.name) d.gates
+pub gates_apart : (d : Keyed) (points : ℕ) (read driven : List (List ℕ)) → IsKept d points read driven → Apart (λ e. e.1.name) d.gates
 unfolding netlist
 gates_apart d points read driven h =
     apart_unmap (λ (e : ℕ × GateEntry). e.1.name) (λ e. (e.0, entry_in d.nets e.1)) d.gates (apart_from (λ e. e.1) (λ (g : GateEntry). g.name) (named_gates d.nets d.gates) h.lawful.distinct_gates)
 
-pub each_connected : (d : Keyed) (points : ℕ) (read driven : List (List (List ℕ))) → IsKept d points read driven → Each (λ e. IsConnected d.nets e.1) d.gates
+pub each_connected : (d : Keyed) (points : ℕ) (read driven : List (List ℕ)) → IsKept d points read driven → Each (λ e. IsConnected d.nets e.1) d.gates
 each_connected d points read driven h = each_from (IsConnected d.nets) (λ e. e.1) d.gates h.keys.connected
 
 entry_is_gate : (nets : List (ℕ × NetEntry)) (g : KeyedGate) → IsKeyedGate g → IsGate (entry_in nets g)
@@ -75,7 +75,7 @@ gate_is_entry nets g h =
     let P : ℕ → Type 0 = λ n. IsTrue (takes_inputs g.kind n) in
     record { named = h.named; inputs_fit = subst P (length-map g.inputs (connection_in nets)) h.inputs_fit; delays_in_range = h.delays_in_range }
 
-pub each_gate : (d : Keyed) (points : ℕ) (read driven : List (List (List ℕ))) → IsKept d points read driven → Each (λ e. IsKeyedGate e.1) d.gates
+pub each_gate : (d : Keyed) (points : ℕ) (read driven : List (List ℕ)) → IsKept d points read driven → Each (λ e. IsKeyedGate e.1) d.gates
 unfolding netlist
 each_gate d points read driven h =
     each_weaker (λ e. IsGate (entry_in d.nets e.1)) (λ e. IsKeyedGate e.1) (λ e w. gate_is_entry d.nets e.1 w) d.gates
@@ -94,7 +94,7 @@ gate_count_is d = count_named d.nets d.gates
 
 -- Other nets, which look to the gates as before.
 
-pub kept_nets : (d : Keyed) (points after : ℕ) (read driven : List (List (List ℕ))) (nets : List (ℕ × NetEntry)) → IsKept d points read driven → Each (λ e. IsAlike d.nets nets e.1) d.gates →
+pub kept_nets : (d : Keyed) (points after : ℕ) (read driven : List (List ℕ)) (nets : List (ℕ × NetEntry)) → IsKept d points read driven → Each (λ e. IsAlike d.nets nets e.1) d.gates →
     AllPairs (λ a b. a ≢ b) (keys_of nets) → All IsNet (records_of nets) → Apart (λ e. e.1.name) nets → length (records_of nets) ≤ MAX_NETS → after ≡ point_total (records_of nets) → after ≤ MAX_POINTS →
     IsKept (record d { nets = nets }) after read driven
 unfolding netlist
@@ -125,7 +125,7 @@ kept_nets d points after read driven nets h alike distinct all names count count
 
 -- Other gates.
 
-pub kept_gates : (d : Keyed) (points : ℕ) (read driven new_read new_driven : List (List (List ℕ))) (gates : List (ℕ × KeyedGate)) → IsKept d points read driven → Each (λ e. IsKeyedGate e.1) gates → Each (λ e. IsConnected d.nets e.1) gates →
+pub kept_gates : (d : Keyed) (points : ℕ) (read driven new_read new_driven : List (List ℕ)) (gates : List (ℕ × KeyedGate)) → IsKept d points read driven → Each (λ e. IsKeyedGate e.1) gates → Each (λ e. IsConnected d.nets e.1) gates →
     AllPairs (λ a b. a ≢ b) (keys_of gates) → Apart (λ e. e.1.name) gates → length gates ≤ MAX_GATES →
     ((k : ℕ) → list_of new_read k ≡ keys_where (λ e. reads_key e.1 k) gates) → ((k : ℕ) → list_of new_driven k ≡ keys_where (λ e. drives_key e.1 k) gates) →
     IsKept (record d { gates = gates }) points new_read new_driven
@@ -170,7 +170,7 @@ apart_with {X} name (e ∷ es) key x y at same h = (rest es at.1 h.0, apart_with
 
 -- Another horizon.
 
-pub kept_with_horizon : (d : Keyed) (points : ℕ) (read driven : List (List (List ℕ))) (t : ℕ) → IsKept d points read driven → t ≤ MAX_TIME → IsKept (record d { horizon = t }) points read driven
+pub kept_with_horizon : (d : Keyed) (points : ℕ) (read driven : List (List ℕ)) (t : ℕ) → IsKept d points read driven → t ≤ MAX_TIME → IsKept (record d { horizon = t }) points read driven
 unfolding netlist
 kept_with_horizon d points read driven t h moment =
     let lawful = h.lawful in

@@ -4,7 +4,7 @@ use Rattle.std.proofs.lemmas.Bool.{both_ways, eqb-true, ne_eqb}
 use Rattle.std.proofs.lemmas.List.Elements.{All-cons, All-head, All-tail}
 use Rattle.std.proofs.lemmas.List.Kept.{AllPairs-cons}
 use Rattle.std.specs.List.{filter, find, list_all, list_any}
-use Rattle.catalog.specs.Catalog.{keys_of, names_of, record_at}
+use Rattle.catalog.specs.Catalog.{keys_of, record_at}
 use Rattle.design.specs.Names.{same_name}
 use Rattle.design.proofs.NameLemmas.{name_differs, name_same}
 
@@ -197,10 +197,6 @@ absent {X} (e ∷ es) key h = step (e.0 == key) refl (absent es key) h
     step true at later g = cc
     step false at later g = (at, later g)
 
-pub missing : {X : Type 0} (es : List (ℕ × X)) (key : ℕ) → Each (λ e. (e.0 == key) ≡ false) es → record_at es key ≡ None
-missing [] key h = refl
-missing (e ∷ es) key h = ap (λ b. option_map (λ f. f.1) (cond b (Some e) (find (λ f. f.0 == key) es))) h.0 ∙ missing es key h.1
-
 -- the entry of a key is the one that has its record, and the one that has its record's name
 pub alone : {X : Type 0} (name : X → List ℕ) (es : List (ℕ × X)) (key : ℕ) (x : X) → Apart (λ e. e.0) es → Apart (λ e. name e.1) es → record_at es key ≡ Some x → Each (λ e. ((e.0 == key) ≡ same_name (name e.1) (name x)) × ((e.0 == key) ≡ true → e.1 ≡ x)) es
 alone name [] key x keys names h = tt
@@ -236,6 +232,3 @@ here {X} (e ∷ es) key x keys h = step (e.0 == key) refl (here es key x keys.1)
 -- as a catalog says it
 pub keys_apart : {X : Type 0} (es : List (ℕ × X)) → AllPairs (λ a b. a ≢ b) (keys_of es) → Apart (λ e. e.0) es
 keys_apart es h = apart_from (λ e. e.0) (λ k. k) es h
-
-pub names_apart : {X : Type 0} (name : X → List ℕ) (es : List (ℕ × X)) → AllPairs (λ a b. a ≢ b) (names_of name es) → Apart (λ e. name e.1) es
-names_apart name es h = apart_from (λ e. name e.1) (λ n. n) es h

@@ -31,7 +31,7 @@ the_one : (gates : List (ℕ × KeyedGate)) (key : ℕ) (g : KeyedGate) (q : Key
 the_one gates key g q b one at = each_weaker (λ e. (e.0 == key) ≡ true → e.1 ≡ g) (λ e. (e.0 == key) ≡ true → q e.1 ≡ b) (λ e h on. ap q (h on) ∙ at) gates one
 
 -- a gate's key taken out of the lists that have it
-left_out : (gates : List (ℕ × KeyedGate)) (p : KeyedGate → ℕ → Bool) (key : ℕ) (g : KeyedGate) (lists new : List (List (List ℕ))) → Apart (λ e. e.0) gates → record_at gates key ≡ Some g →
+left_out : (gates : List (ℕ × KeyedGate)) (p : KeyedGate → ℕ → Bool) (key : ℕ) (g : KeyedGate) (lists new : List (List ℕ)) → Apart (λ e. e.0) gates → record_at gates key ≡ Some g →
     ((k : ℕ) → list_of lists k ≡ keys_where (λ e. p e.1 k) gates) → AreChanged (p g) (λ list. Lists.without_key list key) lists new → (k : ℕ) → list_of new k ≡ others p gates key k
 left_out gates p key g lists new keys there was changed k = changed k ∙ ap (λ (l : List ℕ). cond (p g k) (Lists.without_key l key) l) (was k) ∙ two (p g k) refl
   where
@@ -40,7 +40,7 @@ left_out gates p key g lists new keys there was changed k = changed k ∙ ap (λ
     two false at = others_same (λ e. p e.1 k) gates key (the_one gates key g (λ h. p h k) false (here gates key g keys there) at)
 
 -- and put into the lists that are to have it
-put_in : (gates : List (ℕ × KeyedGate)) (p : KeyedGate → ℕ → Bool) (key : ℕ) (g : KeyedGate) (keys : List ℕ) (lists new : List (List (List ℕ))) → keys ≡ keys_of gates → Apart (λ e. e.0) gates → record_at gates key ≡ Some g →
+put_in : (gates : List (ℕ × KeyedGate)) (p : KeyedGate → ℕ → Bool) (key : ℕ) (g : KeyedGate) (keys : List ℕ) (lists new : List (List ℕ)) → keys ≡ keys_of gates → Apart (λ e. e.0) gates → record_at gates key ≡ Some g →
     ((k : ℕ) → list_of lists k ≡ others p gates key k) → AreChanged (p g) (with_key_in keys key) lists new → (k : ℕ) → list_of new k ≡ keys_where (λ e. p e.1 k) gates
 put_in gates p key g keys lists new same apart there was changed k =
     changed k ∙ ap (λ (l : List ℕ). cond (p g k) (with_key_in keys key l) l) (was k)
@@ -51,7 +51,7 @@ put_in gates p key g keys lists new same apart there was changed k =
     two false at = sym (others_same (λ e. p e.1 k) gates key (the_one gates key g (λ h. p h k) false (here gates key g apart there) at))
 
 -- the lists of a design are in order
-pub kept_in_order : (d : Keyed) (points : ℕ) (read driven : List (List (List ℕ))) → IsKept d points read driven → (k : ℕ) → IsInOrder (keys_of d.gates) (list_of read k) × IsInOrder (keys_of d.gates) (list_of driven k)
+pub kept_in_order : (d : Keyed) (points : ℕ) (read driven : List (List ℕ)) → IsKept d points read driven → (k : ℕ) → IsInOrder (keys_of d.gates) (list_of read k) × IsInOrder (keys_of d.gates) (list_of driven k)
 kept_in_order d points read driven h k =
     let keys = gate_keys_apart d points read driven h in
     (subst (IsInOrder (keys_of d.gates)) (sym (h.readers_listed k)) (where_in_order (λ e. reads_key e.1 k) d.gates keys), subst (IsInOrder (keys_of d.gates)) (sym (h.drivers_listed k)) (where_in_order (λ e. drives_key e.1 k) d.gates keys))
@@ -61,7 +61,7 @@ kept_in_order d points read driven h k =
 distinct_put : (d : Keyed) (key : ℕ) (y : KeyedGate) → AllPairs (λ a b. a ≢ b) (keys_of d.gates) → AllPairs (λ a b. a ≢ b) (keys_of (with_record d.gates key y))
 distinct_put d key y h = let Q : List ℕ → Type 0 = λ l. AllPairs (λ a b. a ≢ b) l in subst Q (sym (keys_with d.gates key y)) h
 
-gate_put : (d : Keyed) (points : ℕ) (read driven new_read new_driven : List (List (List ℕ))) (key : ℕ) (x y : KeyedGate) → IsKept d points read driven → record_at d.gates key ≡ Some x → y.name ≡ x.name → IsKeyedGate y → IsConnected d.nets y →
+gate_put : (d : Keyed) (points : ℕ) (read driven new_read new_driven : List (List ℕ)) (key : ℕ) (x y : KeyedGate) → IsKept d points read driven → record_at d.gates key ≡ Some x → y.name ≡ x.name → IsKeyedGate y → IsConnected d.nets y →
     ((k : ℕ) → list_of new_read k ≡ keys_where (λ e. reads_key e.1 k) (with_record d.gates key y)) → ((k : ℕ) → list_of new_driven k ≡ keys_where (λ e. drives_key e.1 k) (with_record d.gates key y)) →
     IsKept (with_gate_at d key y) points new_read new_driven
 gate_put d points read driven new_read new_driven key x y h there named gate connected readers drivers =
@@ -73,7 +73,7 @@ gate_put d points read driven new_read new_driven key x y h there named gate con
     (omega (arith, count, h.lawful.gate_count, length-map {B = ℕ × KeyedGate} d.gates (λ e. (e.0, cond (e.0 == key) y e.1)))) readers drivers
 
 -- a gate that keeps its connections
-pub kept_gate_put : (d : Keyed) (points : ℕ) (read driven : List (List (List ℕ))) (key : ℕ) (x y : KeyedGate) → IsKept d points read driven → record_at d.gates key ≡ Some x → IsInPlaceOf x y → IsKeyedGate y → IsKept (with_gate_at d key y) points read driven
+pub kept_gate_put : (d : Keyed) (points : ℕ) (read driven : List (List ℕ)) (key : ℕ) (x y : KeyedGate) → IsKept d points read driven → record_at d.gates key ≡ Some x → IsInPlaceOf x y → IsKeyedGate y → IsKept (with_gate_at d key y) points read driven
 kept_gate_put d points read driven key x y h there place gate =
     let one = here d.gates key x (gate_keys_apart d points read driven h) there in
     let was : IsConnected d.nets x = found (λ k (g : KeyedGate). IsConnected d.nets g) d.gates key x (each_connected d points read driven h) there in
@@ -85,7 +85,7 @@ kept_gate_put d points read driven key x y h there place gate =
 
 -- A gate added.
 
-pub kept_gate_added : (d : Keyed) (points : ℕ) (read driven more_read more_driven : List (List (List ℕ))) (key : ℕ) (g : KeyedGate) (keys : List ℕ) → IsKept d points read driven → IsKeyedGate g → IsConnected d.nets g → has_gate (netlist d) g.name ≡ false → length (netlist d).gates < MAX_GATES → record_at d.gates key ≡ None →
+pub kept_gate_added : (d : Keyed) (points : ℕ) (read driven more_read more_driven : List (List ℕ)) (key : ℕ) (g : KeyedGate) (keys : List ℕ) → IsKept d points read driven → IsKeyedGate g → IsConnected d.nets g → has_gate (netlist d) g.name ≡ false → length (netlist d).gates < MAX_GATES → record_at d.gates key ≡ None →
     keys ≡ keys_of (d.gates ++ (key, g) ∷ []) → AreChanged (reads_key g) (with_key_in keys key) read more_read → AreChanged (drives_key g) (with_key_in keys key) driven more_driven →
     IsKept (with_keyed_gate d g key) points more_read more_driven
 unfolding netlist
@@ -108,7 +108,7 @@ kept_gate_added d points read driven more_read more_driven key g keys h gate con
 
 -- A gate removed.
 
-pub kept_gate_removed : (d : Keyed) (points : ℕ) (read driven less_read less_driven : List (List (List ℕ))) (key : ℕ) (x : KeyedGate) → IsKept d points read driven → record_at d.gates key ≡ Some x →
+pub kept_gate_removed : (d : Keyed) (points : ℕ) (read driven less_read less_driven : List (List ℕ)) (key : ℕ) (x : KeyedGate) → IsKept d points read driven → record_at d.gates key ≡ Some x →
     AreChanged (reads_key x) (λ list. Lists.without_key list key) read less_read → AreChanged (drives_key x) (λ list. Lists.without_key list key) driven less_driven →
     IsKept (without_keyed_gate d key) points less_read less_driven
 kept_gate_removed d points read driven less_read less_driven key x h there readers drivers =
@@ -126,10 +126,10 @@ kept_gate_removed d points read driven less_read less_driven key x h there reade
 
 -- A gate at other nets.
 
-pub kept_gate_rewired : (d : Keyed) (points : ℕ) (read driven new_read new_driven : List (List (List ℕ))) (key : ℕ) (x : KeyedGate) (output : ℕ) (inputs : List Terminal) → IsKept d points read driven → record_at d.gates key ≡ Some x → IsTrue (takes_inputs x.kind (length inputs)) →
+pub kept_gate_rewired : (d : Keyed) (points : ℕ) (read driven new_read new_driven : List (List ℕ)) (key : ℕ) (x : KeyedGate) (output : ℕ) (inputs : List Terminal) → IsKept d points read driven → record_at d.gates key ≡ Some x → IsTrue (takes_inputs x.kind (length inputs)) →
     IsDrivable d.nets output → All (IsThere d.nets) inputs →
-    ((less : List (List (List ℕ))) × AreChanged (reads_key x) (λ list. Lists.without_key list key) read less × AreChanged (reads_key (gate_with_wiring x output inputs)) (with_key_in (keys_of d.gates) key) less new_read) →
-    ((less : List (List (List ℕ))) × AreChanged (drives_key x) (λ list. Lists.without_key list key) driven less × AreChanged (drives_key (gate_with_wiring x output inputs)) (with_key_in (keys_of d.gates) key) less new_driven) →
+    ((less : List (List ℕ)) × AreChanged (reads_key x) (λ list. Lists.without_key list key) read less × AreChanged (reads_key (gate_with_wiring x output inputs)) (with_key_in (keys_of d.gates) key) less new_read) →
+    ((less : List (List ℕ)) × AreChanged (drives_key x) (λ list. Lists.without_key list key) driven less × AreChanged (drives_key (gate_with_wiring x output inputs)) (with_key_in (keys_of d.gates) key) less new_driven) →
     IsKept (with_gate_at d key (gate_with_wiring x output inputs)) points new_read new_driven
 kept_gate_rewired d points read driven new_read new_driven key x output inputs h there fit drivable readable readers drivers =
     let y = gate_with_wiring x output inputs in
@@ -156,7 +156,7 @@ named_with d key y = from d.gates
         step true = refl
         step false = refl
 
-pub netlist_gate_put : (d : Keyed) (points : ℕ) (read driven : List (List (List ℕ))) (key : ℕ) (x y : KeyedGate) (change : GateEntry → GateEntry) → IsKept d points read driven → record_at d.gates key ≡ Some x → entry_in d.nets y ≡ change (entry_in d.nets x) → netlist (with_gate_at d key y) ≡ with_gate_changed (netlist d) x.name change
+pub netlist_gate_put : (d : Keyed) (points : ℕ) (read driven : List (List ℕ)) (key : ℕ) (x y : KeyedGate) (change : GateEntry → GateEntry) → IsKept d points read driven → record_at d.gates key ≡ Some x → entry_in d.nets y ≡ change (entry_in d.nets x) → netlist (with_gate_at d key y) ≡ with_gate_changed (netlist d) x.name change
 unfolding netlist
 netlist_gate_put d points read driven key x y change h there changed =
     let es : List (ℕ × GateEntry) = named_gates d.nets d.gates in
@@ -173,7 +173,7 @@ netlist_gate_added d g key =
     ap (λ (l : List GateEntry). record (netlist d) { gates = l })
     (ap (λ (l : List (ℕ × GateEntry)). records_of l) (map_push (λ e. (e.0, entry_in d.nets e.1)) d.gates (key, g)) ∙ map_push (λ (e : ℕ × GateEntry). e.1) (named_gates d.nets d.gates) (key, entry_in d.nets g))
 
-pub netlist_gate_removed : (d : Keyed) (points : ℕ) (read driven : List (List (List ℕ))) (key : ℕ) (x : KeyedGate) → IsKept d points read driven → record_at d.gates key ≡ Some x → netlist (without_keyed_gate d key) ≡ without_gate (netlist d) x.name
+pub netlist_gate_removed : (d : Keyed) (points : ℕ) (read driven : List (List ℕ)) (key : ℕ) (x : KeyedGate) → IsKept d points read driven → record_at d.gates key ≡ Some x → netlist (without_keyed_gate d key) ≡ without_gate (netlist d) x.name
 unfolding netlist
 netlist_gate_removed d points read driven key x h there =
     let es : List (ℕ × GateEntry) = named_gates d.nets d.gates in

@@ -1,15 +1,14 @@
-pub mod BlockLemmas
 pub mod ByNameLemmas
 pub mod ChangeLemmas
 pub mod ConnectionLemmas
 pub mod DesignLemmas
 pub mod EntryLemmas
 pub mod GateLemmas
-pub mod ListLemmas
 pub mod LookLemmas
 pub mod NameLemmas
 pub mod NetLemmas
 pub mod OrderLemmas
+pub mod PieceLemmas
 pub mod PlaceByNameLemmas
 pub mod PlaceLemmas
 pub mod PointLemmas

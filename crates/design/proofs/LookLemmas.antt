@@ -1,5 +1,5 @@
 -- Look-ups by name and by key: of entries, and of the records with their keys beside them.
-use Rattle.std.proofs.Common.{◌≡◌, ◌≢◌, ℕ, suc, ◌+◌, Bool, true, false, cond, ◌==◌, ◌||◌, List, [], ◌∷◌, length, map, Option, Some, None, option_map, is_some, IsSome, IsSomeAnd, IfSome, IfNone, All, sym, refl, ap, subst, ◌∙◌, arith}
+use Rattle.std.proofs.Common.{◌≡◌, ◌≢◌, ℕ, suc, ◌+◌, Bool, true, false, cond, ◌==◌, ◌||◌, List, [], ◌∷◌, length, map, Option, Some, None, option_map, is_some, IsSome, IsSomeAnd, IfNone, All, sym, refl, ap, ◌∙◌, arith}
 use Rattle.std.proofs.lemmas.Bool.{eq-eqb, eqb-true, ne_eqb}
 use Rattle.std.specs.List.{filter, find, list_any, position_from}
 use Rattle.std.specs.Option.{option_map_or}
@@ -122,9 +122,6 @@ pub not_missing : {X : Type 0} (o p : Option X) → IsSome o → p ≡ None → 
 not_missing None p h e g = cc
 not_missing (Some x) p h e g = cc
 
-pub some_kept : {X Y : Type 0} (f : X → Y) (o : Option X) (p : Option Y) → option_map f o ≡ p → is_some o ≡ is_some p
-some_kept f o p e = sym (some_map f o) ∙ ap (λ q. is_some q) e
-
 pub some_of : {X : Type 0} (o : Option X) (P : X → Type 0) → IsSomeAnd o P → (x : X) × (o ≡ Some x) × P x
 some_of None P h = absurd h
 some_of (Some x) P h = (x, refl, h)
@@ -139,10 +136,6 @@ none_or_some (Some y) x e g = cc
 pub some_is : {X : Type 0} (o : Option X) → IsSome o → (x : X) × (o ≡ Some x)
 some_is None h = cc
 some_is (Some x) h = (x, refl)
-
-pub if_at : {X : Type 0} (o : Option X) (P : X → Type 0) (x : X) → IfSome o P → o ≡ Some x → P x
-if_at None P x h e = cc
-if_at (Some y) P x h e = let same : y ≡ x = cc in subst P same h
 
 -- The lists beside the nets.
 

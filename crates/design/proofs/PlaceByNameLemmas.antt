@@ -19,7 +19,7 @@ position_within : {X : Type 0} (p q : X → Bool) (k : ℕ) (xs : List X) → Ea
 position_within p q k [] h = refl
 position_within p q k (x ∷ xs) h = ap (λ (b : Bool). cond b (Some k) (position_from p (k + 1) xs)) h.0 ∙ ap (λ (o : Option ℕ). cond (q x) (Some k) o) (position_within p q (k + 1) xs h.1)
 
-pub net_place_by_key : (d : Keyed) (points : ℕ) (read driven : List (List (List ℕ))) (key : ℕ) → IsKept d points read driven → IsSome (record_at d.nets key) → position_from (λ n. same_name n.name (name_of d.nets key)) 0 (netlist d).nets ≡ place_of d.nets key
+pub net_place_by_key : (d : Keyed) (points : ℕ) (read driven : List (List ℕ)) (key : ℕ) → IsKept d points read driven → IsSome (record_at d.nets key) → position_from (λ n. same_name n.name (name_of d.nets key)) 0 (netlist d).nets ≡ place_of d.nets key
 unfolding netlist
 net_place_by_key d points read driven key h some =
     let it = some_is (record_at d.nets key) some in
@@ -60,7 +60,7 @@ places_told {X} {Y} q r f k (x ∷ xs) h = ap (λ (b : Bool). map (λ (p : ℕ �
     step true rest = ap (λ (l : List (Option ℕ)). Some k ∷ l) rest
     step false rest = rest
 
-pub driver_places_by_key : (d : Keyed) (points : ℕ) (read driven : List (List (List ℕ))) (key : ℕ) → IsKept d points read driven → IsSome (record_at d.nets key) →
+pub driver_places_by_key : (d : Keyed) (points : ℕ) (read driven : List (List ℕ)) (key : ℕ) → IsKept d points read driven → IsSome (record_at d.nets key) →
     map (λ gate. place_of d.gates gate) (driver_keys d key) ≡ map (λ place. Some place) (driver_places (netlist d).gates (name_of d.nets key))
 unfolding netlist
 driver_places_by_key d points read driven key h some =

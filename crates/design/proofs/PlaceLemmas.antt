@@ -1,14 +1,13 @@
 -- Keys in the order of all keys: which stand before a place, and where the key of the place belongs in a list.
 use Rattle.std.proofs.Common.{◌≡◌, ◌≢◌, ℕ, zero, suc, ◌+◌, ◌<◌, ◌≤◌, Bool, true, false, cond, ◌==◌, ◌||◌, List, [], ◌∷◌, length, get_or, Option, Some, None, IsSome, IfSome, option_map, nat_lt, insert, sym, refl, ap, subst, ◌∙◌, arith}
 use Rattle.std.proofs.lemmas.Bool.{both_ways, eq-eqb, eqb-true, le-ltb, lt-ltb, ne_eqb}
-use Rattle.std.proofs.lemmas.List.Folds.{list_any_at}
 use Rattle.std.specs.List.{AllWithin, filter, find, position_from}
 use Rattle.std.specs.List.Sorted.{IsPartitionPoint, IsPartitionedBy}
 use Rattle.std.specs.Option.{option_map_or}
 use Rattle.catalog.specs.Catalog.{keys_of, place_of, record_at}
 use Rattle.design.specs.Keys.{keys_where}
 use Rattle.design.specs.Lists.{IsInOrder, contains, with_key_in}
-use Rattle.design.proofs.EntryLemmas.{Apart, Each, each_both, each_here, each_weaker, filter_map, filter_within}
+use Rattle.design.proofs.EntryLemmas.{Apart, Each, each_both, each_weaker, filter_map, filter_within}
 
 -- the first p keys pass, and the others don't
 abbrev pub Splits : {X : Type 0} → (ℕ → Bool) → ℕ → List (ℕ × X) → Type 0
@@ -170,16 +169,6 @@ put_in_order {X} es list key place n apart ordered at front back within free =
     let ready : Ready (keys_where t es) = subst Ready is (front, back, within, free) in
     ap (λ l. insert l n key) is ∙ put_at before t place es key n (splits es place apart) (key_at es place key at) apart ready.0 ready.1 ready.2 ready.3
     ∙ sym (filter_map (λ k. k == key || contains list k) (λ e. e.0) es)
-
--- a key that is there already
-pub there_in_order : (keys list : List ℕ) (key n d : ℕ) → IsInOrder keys list → n < length list → get_or list n d ≡ key → list ≡ with_key_in keys key list
-there_in_order keys list key n d ordered within at =
-    let on : contains list key ≡ true = list_any_at (λ k. k == key) list n d within (eq-eqb (get_or list n d) key at) in
-    ordered ∙ filter_within (contains list) (λ k. k == key || contains list k) keys (each_here (λ k. contains list k ≡ (k == key || contains list k)) (λ k. step k (k == key) refl on) keys)
-  where
-    step : (k : ℕ) (b : Bool) → (k == key) ≡ b → contains list key ≡ true → contains list k ≡ (b || contains list k)
-    step k true at on = ap (λ (j : ℕ). contains list j) (eqb-true k key at) ∙ on
-    step k false at on = refl
 
 -- a record has a place
 no_place : {X : Type 0} (es : List (ℕ × X)) (key : ℕ) → place_of es key ≡ None → record_at es key ≡ None

@@ -18,10 +18,10 @@ use Rattle.design.specs.Netlist.{has_point, stimulus}
 
 -- Points in order of time.
 
-rising_head : (p : ℕ × Value) (ps : List (ℕ × Value)) → AreRising (p ∷ ps) → All (λ q. p.0 < q.0) ps
+pub rising_head : (p : ℕ × Value) (ps : List (ℕ × Value)) → AreRising (p ∷ ps) → All (λ q. p.0 < q.0) ps
 rising_head p ps h = λ k d within. h zero (suc k) d (omega arith) (omega arith)
 
-rising_tail : (p : ℕ × Value) (ps : List (ℕ × Value)) → AreRising (p ∷ ps) → AreRising ps
+pub rising_tail : (p : ℕ × Value) (ps : List (ℕ × Value)) → AreRising (p ∷ ps) → AreRising ps
 rising_tail p ps h = λ i j d below within. h (suc i) (suc j) d (omega arith) (omega arith)
 
 -- as a search asks
@@ -81,15 +81,15 @@ has_point_past ps t n split past =
 
 -- A point set.
 
-set_less : (e : ℕ × Value) (es : List (ℕ × Value)) (t : ℕ) (v : Value) → t < e.0 → insert_entry nat_cmp (e ∷ es) t v ≡ (t, v) ∷ (e ∷ es)
+pub set_less : (e : ℕ × Value) (es : List (ℕ × Value)) (t : ℕ) (v : Value) → t < e.0 → insert_entry nat_cmp (e ∷ es) t v ≡ (t, v) ∷ (e ∷ es)
 set_less e es t v h =
     ap (λ o. match_ordering o ((t, v) ∷ (e ∷ es)) ((e.0, v) ∷ es) (e ∷ insert_entry nat_cmp es t v)) (sym (nat_cmp_is t e.0 Less h))
 
-set_equal : (e : ℕ × Value) (es : List (ℕ × Value)) (t : ℕ) (v : Value) → t ≡ e.0 → insert_entry nat_cmp (e ∷ es) t v ≡ (e.0, v) ∷ es
+pub set_equal : (e : ℕ × Value) (es : List (ℕ × Value)) (t : ℕ) (v : Value) → t ≡ e.0 → insert_entry nat_cmp (e ∷ es) t v ≡ (e.0, v) ∷ es
 set_equal e es t v h =
     ap (λ o. match_ordering o ((t, v) ∷ (e ∷ es)) ((e.0, v) ∷ es) (e ∷ insert_entry nat_cmp es t v)) (sym (nat_cmp_is t e.0 Equal h))
 
-set_greater : (e : ℕ × Value) (es : List (ℕ × Value)) (t : ℕ) (v : Value) → e.0 < t → insert_entry nat_cmp (e ∷ es) t v ≡ e ∷ insert_entry nat_cmp es t v
+pub set_greater : (e : ℕ × Value) (es : List (ℕ × Value)) (t : ℕ) (v : Value) → e.0 < t → insert_entry nat_cmp (e ∷ es) t v ≡ e ∷ insert_entry nat_cmp es t v
 set_greater e es t v h =
     ap (λ o. match_ordering o ((t, v) ∷ (e ∷ es)) ((e.0, v) ∷ es) (e ∷ insert_entry nat_cmp es t v)) (sym (nat_cmp_is t e.0 Greater h))
 
@@ -180,3 +180,19 @@ count_removed (q ∷ ps) t rising h = step (q.0 == t) refl h (λ g. count_remove
         let kept : filter (λ p. not (p.0 == t)) ps ≡ ps = later_kept ps t (All-weaker (λ r. q.0 < r.0) (λ r. t < r.0) (λ r later. omega arith) ps (rising_head q ps rising)) in
         omega (arith, ap length kept)
     step false at on rest = let more = rest on in omega (arith, more)
+
+absent_kept : (ps : List (ℕ × Value)) (t : ℕ) → has_point ps t ≡ false → filter (λ p. not (p.0 == t)) ps ≡ ps
+absent_kept [] t h = refl
+absent_kept (q ∷ ps) t h = step (q.0 == t) h (λ g. absent_kept ps t g)
+  where
+    step : (b : Bool) → (b || has_point ps t) ≡ false → (has_point ps t ≡ false → filter (λ p. not (p.0 == t)) ps ≡ ps) → cond (not b) (q ∷ filter (λ p. not (p.0 == t)) ps) (filter (λ p. not (p.0 == t)) ps) ≡ q ∷ ps
+    step true on rest = cc
+    step false off rest = ap (λ l. q ∷ l) (rest off)
+
+-- whether or not there is one
+pub count_without : (ps : List (ℕ × Value)) (t : ℕ) → AreRising ps → length (filter (λ p. not (p.0 == t)) ps) + cond (has_point ps t) 1 0 ≡ length ps
+count_without ps t rising = step (has_point ps t) refl
+  where
+    step : (b : Bool) → has_point ps t ≡ b → length (filter (λ p. not (p.0 == t)) ps) + cond b 1 0 ≡ length ps
+    step true on = count_removed ps t rising on
+    step false off = omega (arith, ap length (absent_kept ps t off))

@@ -26,7 +26,7 @@ among_more inputs i k terminal within here =
     or_none false = refl
 
 -- one terminal more, where the change once more is the change
-pub among_turn : (inputs : List Terminal) (i : ℕ) (terminal : Terminal) (change : List ℕ → List ℕ) (lists before after : List (List (List ℕ))) → ((list : List ℕ) → change (change list) ≡ change list) → i < length inputs → terminal ≡ get_or inputs i terminal →
+pub among_turn : (inputs : List Terminal) (i : ℕ) (terminal : Terminal) (change : List ℕ → List ℕ) (lists before after : List (List ℕ)) → ((list : List ℕ) → change (change list) ≡ change list) → i < length inputs → terminal ≡ get_or inputs i terminal →
     AreChanged (is_among (take i inputs)) change lists before → AreChanged (is_at terminal) change before after → AreChanged (is_among (take (i + 1) inputs)) change lists after
 among_turn inputs i terminal change lists before after twice within here so_far now k =
     now k ∙ ap (λ (l : List ℕ). cond (is_at terminal k) (change l) l) (so_far k) ∙ step (is_among (take i inputs) k) (is_at terminal k) (list_of lists k)
@@ -45,7 +45,7 @@ without_twice key list = filter_filter (λ k. not (k == key)) (λ k. not (k == k
     and_twice true = refl
     and_twice false = refl
 
-pub changed_in_order : {X : Type 0} (es : List (ℕ × X)) (test : ℕ → Bool) (key : ℕ) (lists new : List (List (List ℕ))) → Apart (λ e. e.0) es → ((k : ℕ) → IsInOrder (keys_of es) (list_of lists k)) → AreChanged test (with_key_in (keys_of es) key) lists new → (k : ℕ) → IsInOrder (keys_of es) (list_of new k)
+pub changed_in_order : {X : Type 0} (es : List (ℕ × X)) (test : ℕ → Bool) (key : ℕ) (lists new : List (List ℕ)) → Apart (λ e. e.0) es → ((k : ℕ) → IsInOrder (keys_of es) (list_of lists k)) → AreChanged test (with_key_in (keys_of es) key) lists new → (k : ℕ) → IsInOrder (keys_of es) (list_of new k)
 changed_in_order es test key lists new apart ordered changed k = subst (IsInOrder (keys_of es)) (sym (changed k)) (step (test k))
   where
     step : (b : Bool) → IsInOrder (keys_of es) (cond b (with_key_in (keys_of es) key (list_of lists k)) (list_of lists k))
@@ -53,7 +53,7 @@ changed_in_order es test key lists new apart ordered changed k = subst (IsInOrde
     step false = ordered k
 
 -- lists without a key are in order, as an addition asks
-pub left_in_order : (keys : List ℕ) (test : ℕ → Bool) (key : ℕ) (lists less : List (List (List ℕ))) → ((k : ℕ) → IsInOrder keys (list_of lists k)) → AreChanged test (λ list. Lists.without_key list key) lists less → (k : ℕ) → IsInOrder keys (list_of less k)
+pub left_in_order : (keys : List ℕ) (test : ℕ → Bool) (key : ℕ) (lists less : List (List ℕ)) → ((k : ℕ) → IsInOrder keys (list_of lists k)) → AreChanged test (λ list. Lists.without_key list key) lists less → (k : ℕ) → IsInOrder keys (list_of less k)
 left_in_order keys test key lists less was changed k = subst (IsInOrder keys) (sym (changed k)) (step (test k))
   where
     step : (b : Bool) → IsInOrder keys (cond b (Lists.without_key (list_of lists k) key) (list_of lists k))
@@ -61,7 +61,7 @@ left_in_order keys test key lists less was changed k = subst (IsInOrder keys) (s
     step false = was k
 
 -- the same change of the one list whose key is asked for
-pub changed_there : (net k : ℕ) (f g : List ℕ → List ℕ) (lists : List (List (List ℕ))) → f (list_of lists net) ≡ g (list_of lists net) → cond (k == net) (f (list_of lists k)) (list_of lists k) ≡ cond (k == net) (g (list_of lists k)) (list_of lists k)
+pub changed_there : (net k : ℕ) (f g : List ℕ → List ℕ) (lists : List (List ℕ)) → f (list_of lists net) ≡ g (list_of lists net) → cond (k == net) (f (list_of lists k)) (list_of lists k) ≡ cond (k == net) (g (list_of lists k)) (list_of lists k)
 changed_there net k f g lists same = step (k == net) refl
   where
     step : (b : Bool) → (k == net) ≡ b → cond b (f (list_of lists k)) (list_of lists k) ≡ cond b (g (list_of lists k)) (list_of lists k)

@@ -9,7 +9,7 @@ use Rattle.design.specs.Lists.{list_of}
 use Rattle.design.specs.Netlist.{point_total}
 
 -- what is kept beside a design
-pub record IsKept (d : Keyed) (points : ℕ) (read driven : List (List (List ℕ))) : Type 0 where
+pub record IsKept (d : Keyed) (points : ℕ) (read driven : List (List ℕ)) : Type 0 where
   pub lawful : IsDesign (netlist d)
   pub keys : AreKeys d
   pub points_counted : points ≡ point_total (records_of d.nets)

@@ -1,19 +1,10 @@
--- Lists of gate keys by net key, in blocks.
-use Rattle.std.specs.Prelude.{◌≡◌, Bool, ℕ, ◌/◌, ◌%◌, ◌==◌, ◌||◌, not, if◌then◌else◌, List, []}
+-- Lists of gate keys by net key.
+use Rattle.std.specs.Prelude.{◌≡◌, Bool, ℕ, ◌==◌, ◌||◌, not, if◌then◌else◌, List, []}
 use Rattle.std.specs.List.{filter, list_any, slice_index_or}
-use Rattle.design.specs.declared.key_lists.TheConstants.{BLOCK}
 
--- the list at a place of a block, empty where none is kept
-abbrev pub list_at : List (List ℕ) → ℕ → List ℕ
-list_at lists place = slice_index_or lists place []
-
--- the lists of a block, none where the block is not kept
-abbrev pub block_at : List (List (List ℕ)) → ℕ → List (List ℕ)
-block_at blocks index = slice_index_or blocks index []
-
--- the list of a key
-abbrev pub list_of : List (List (List ℕ)) → ℕ → List ℕ
-list_of blocks key = list_at (block_at blocks (key / BLOCK)) (key % BLOCK)
+-- the list of a key, empty where none is kept
+abbrev pub list_of : List (List ℕ) → ℕ → List ℕ
+list_of lists key = slice_index_or lists key []
 
 -- the keys without this one
 abbrev pub without_key : List ℕ → ℕ → List ℕ
@@ -32,5 +23,5 @@ abbrev pub with_key_in : List ℕ → ℕ → List ℕ → List ℕ
 with_key_in keys key list = filter (λ k. k == key || contains list k) keys
 
 -- the lists after a change of those whose keys pass
-abbrev pub AreChanged : (ℕ → Bool) → (List ℕ → List ℕ) → List (List (List ℕ)) → List (List (List ℕ)) → Type 0
+abbrev pub AreChanged : (ℕ → Bool) → (List ℕ → List ℕ) → List (List ℕ) → List (List ℕ) → Type 0
 AreChanged test change lists new = (k : ℕ) → list_of new k ≡ (if test k then change (list_of lists k) else list_of lists k)

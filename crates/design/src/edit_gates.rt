@@ -160,8 +160,8 @@ fn with_wiring_at(
     requires readers { (k : ℕ) → IsInOrder (keys_of gates) (list_of wires.fanout k) }
     requires drivers { (k : ℕ) → IsInOrder (keys_of gates) (list_of wires.drivers k) }
     ensures gates { IfOk result (λ made. IfSome (record_at gates key) (λ g. made.0 ≡ with_record gates key (gate_with_wiring g output inputs.items))) }
-    ensures readers { IfOk result (λ made. IfSome (record_at gates key) (λ g. (less : List (List (List ℕ))) × AreChanged (reads_key g) (λ list. Lists.without_key list key) wires.fanout less × AreChanged (reads_key (gate_with_wiring g output inputs.items)) (with_key_in (keys_of gates) key) less made.1.fanout)) }
-    ensures drivers { IfOk result (λ made. IfSome (record_at gates key) (λ g. (less : List (List (List ℕ))) × AreChanged (drives_key g) (λ list. Lists.without_key list key) wires.drivers less × AreChanged (drives_key (gate_with_wiring g output inputs.items)) (with_key_in (keys_of gates) key) less made.1.drivers)) }
+    ensures readers { IfOk result (λ made. IfSome (record_at gates key) (λ g. (less : List (List ℕ)) × AreChanged (reads_key g) (λ list. Lists.without_key list key) wires.fanout less × AreChanged (reads_key (gate_with_wiring g output inputs.items)) (with_key_in (keys_of gates) key) less made.1.fanout)) }
+    ensures drivers { IfOk result (λ made. IfSome (record_at gates key) (λ g. (less : List (List ℕ)) × AreChanged (drives_key g) (λ list. Lists.without_key list key) wires.drivers less × AreChanged (drives_key (gate_with_wiring g output inputs.items)) (with_key_in (keys_of gates) key) less made.1.drivers)) }
 {
     let Some(old) = gates.get(key.number) else {
         unreachable!();

@@ -5,16 +5,17 @@ ghost use Rattle.fourstate.specs.declared.limits.TheConstants.{MAX_TIME};
 ghost use Rattle.catalog.specs.Catalog.{record_at, with_record};
 ghost use Rattle.design.specs.declared.limits.TheConstants.{MAX_NETS, MAX_POINTS};
 ghost use Rattle.design.specs.Keys.{net_by_key, netlist, with_keyed_net, with_net_at, without_keyed_net};
-ghost use Rattle.design.specs.Records.{net_with_kind, net_without_point};
-ghost use Rattle.design.specs.Netlist.{has_net, has_point, is_used, net_with_point, new_net, point_total, with_net, with_net_kind, with_point, without_net, without_point};
+ghost use Rattle.design.specs.Records.{HasRoom, IsNetChange, net_changed, net_with_kind, net_without_point};
+ghost use Rattle.design.specs.Netlist.{has_net, has_point, is_used, net_with_point, new_net, point_total, with_net, with_net_changed, with_net_kind, with_point, without_net, without_point};
 
 use crate::design::Design;
 use crate::key::NetKey;
 use crate::name::Name;
 use crate::net::Net;
+use crate::net_change::NetChange;
 use catalog::Catalog;
 use fourstate::{NetKind, Value};
-use std::alloc::{AllocError, Global};
+use std::alloc::AllocError;
 
 impl Design {
     /// Adds a net that is no input, and gives its key.
@@ -25,7 +26,8 @@ impl Design {
         ensures by_name { IfOk result (λ made. netlist made.0 ≡ with_net (netlist self) (new_net name kind false)) }
         ensures there { IfOk result (λ made. net_by_key made.0 made.1 ≡ Some (new_net name kind false)) }
     {
-        self.push_net(Net::new(name, kind, false))
+        let alloc = self.wires.allocator();
+        self.push_net(Net::new(alloc, name, kind, false))
     }
 
     /// Adds an input, a net of the kind `wire` with no stimulus points, and gives its key.
@@ -36,7 +38,8 @@ impl Design {
         ensures by_name { IfOk result (λ made. netlist made.0 ≡ with_net (netlist self) (new_net name NetKind.Wire true)) }
         ensures there { IfOk result (λ made. net_by_key made.0 made.1 ≡ Some (new_net name NetKind.Wire true)) }
     {
-        self.push_net(Net::new(name, NetKind::Wire, true))
+        let alloc = self.wires.allocator();
+        self.push_net(Net::new(alloc, name, NetKind::Wire, true))
     }
 
     fn push_net(self, net: Net) -> Result<(Design, NetKey), AllocError>
@@ -58,7 +61,7 @@ impl Design {
         ensures by_key { IfOk result (λ made. made ≡ without_keyed_net self net) }
         ensures by_name { IfOk result (λ made. IfSome (net_by_key self net) (λ n. netlist made ≡ without_net (netlist self) n.name)) }
     {
-        let points = self.points - self.net_of(net).points().len();
+        let points = self.points - self.net_of(net).point_count();
         let nets = self.nets.remove(net.number)?;
         Ok(Design {
             nets,
@@ -73,8 +76,7 @@ impl Design {
         ensures by_key { IfOk result (λ made. IfSome (net_by_key self net) (λ n. made ≡ with_net_at self net (net_with_kind n kind))) }
         ensures by_name { IfOk result (λ made. IfSome (net_by_key self net) (λ n. netlist made ≡ with_net_kind (netlist self) n.name kind)) }
     {
-        let nets = with_kind_at(self.nets, net.number, kind)?;
-        Ok(Design { nets, ..self })
+        self.change_net(net, NetChange::Kind(kind))
     }
 
     /// Sets the stimulus of an input from the moment `t` on, until its next point.
@@ -85,14 +87,7 @@ impl Design {
         ensures by_key { IfOk result (λ made. IfSome (net_by_key self net) (λ n. made ≡ with_net_at self net (net_with_point n t value))) }
         ensures by_name { IfOk result (λ made. IfSome (net_by_key self net) (λ n. netlist made ≡ with_point (netlist self) n.name t value)) }
     {
-        let points = self.points + usize::from(!self.has_point(net, t));
-        let alloc = self.wires.allocator();
-        let nets = with_point_at(alloc, self.nets, net.number, t, value)?;
-        Ok(Design {
-            nets,
-            points,
-            ..self
-        })
+        self.change_net(net, NetChange::Point(t, value))
     }
 
     /// Takes the stimulus point of a net at the moment `t` away.
@@ -101,61 +96,41 @@ impl Design {
         ensures by_key { IfOk result (λ made. IfSome (net_by_key self net) (λ n. made ≡ with_net_at self net (net_without_point n t))) }
         ensures by_name { IfOk result (λ made. IfSome (net_by_key self net) (λ n. netlist made ≡ without_point (netlist self) n.name t)) }
     {
-        let points = self.points - 1;
-        let alloc = self.wires.allocator();
-        let nets = without_point_at(alloc, self.nets, net.number, t)?;
+        self.change_net(net, NetChange::NoPoint(t))
+    }
+
+    /// Puts a net with a change back in its place.
+    fn change_net(self, net: NetKey, change: NetChange) -> Result<Design, AllocError>
+        requires change { IsSomeAnd (net_by_key self net) (λ n. IsNetChange change n) }
+        requires room { IsSomeAnd (net_by_key self net) (λ n. HasRoom change n (point_total (netlist self).nets)) }
+        ensures by_key { IfOk result (λ made. IfSome (net_by_key self net) (λ n. made ≡ with_net_at self net (net_changed change n))) }
+        ensures by_name { IfOk result (λ made. IfSome (net_by_key self net) (λ n. netlist made ≡ with_net_changed (netlist self) n.name (net_changed change))) }
+    {
+        let others = self.points - self.net_of(net).point_count();
+        let (nets, count) = with_change_at(self.nets, net.number, change)?;
         Ok(Design {
             nets,
-            points,
+            points: others + count,
             ..self
         })
     }
 }
 
-/// The nets with the kind of one changed.
-fn with_kind_at(nets: Catalog<Net>, key: usize, kind: NetKind) -> Result<Catalog<Net>, AllocError>
-    requires { IsSome (record_at nets key) }
-    ensures { IfOk result (λ made. IfSome (record_at nets key) (λ n. made ≡ with_record nets key (net_with_kind n kind))) }
-{
-    let Some(old) = nets.get(key) else {
-        unreachable!();
-    };
-    let new = old.clone()?.with_kind(kind);
-    nets.replace(key, new)
-}
-
-/// The nets with the stimulus of an input set from the moment `t` on, until its next point.
-fn with_point_at(
-    alloc: Global,
+/// The nets with one changed, and how many points that one has.
+fn with_change_at(
     nets: Catalog<Net>,
     key: usize,
-    t: u64,
-    value: Value,
-) -> Result<Catalog<Net>, AllocError>
-    requires input { IsSomeAnd (record_at nets key) (λ n. n.is_input ≡ true) }
-    requires moment { t ≤ MAX_TIME }
-    ensures { IfOk result (λ made. IfSome (record_at nets key) (λ n. made ≡ with_record nets key (net_with_point n t value))) }
+    change: NetChange,
+) -> Result<(Catalog<Net>, usize), AllocError>
+    requires { IsSomeAnd (record_at nets key) (λ n. IsNetChange change n) }
+    ensures nets { IfOk result (λ made. IfSome (record_at nets key) (λ n. made.0 ≡ with_record nets key (net_changed change n))) }
+    ensures count { IfOk result (λ made. IfSome (record_at nets key) (λ n. made.1 ≡ length (net_changed change n).points)) }
 {
     let (nets, old) = take(nets, key)?;
-    let new = old.with_point(alloc, t, value)?;
+    let new = old.changed(change)?;
+    let count = new.point_count();
     let nets = nets.replace(key, new)?;
-    Ok(nets)
-}
-
-/// The nets without the stimulus point of one at the moment `t`.
-fn without_point_at(
-    alloc: Global,
-    nets: Catalog<Net>,
-    key: usize,
-    t: u64,
-) -> Result<Catalog<Net>, AllocError>
-    requires { IsSome (record_at nets key) }
-    ensures { IfOk result (λ made. IfSome (record_at nets key) (λ n. made ≡ with_record nets key (net_without_point n t))) }
-{
-    let (nets, old) = take(nets, key)?;
-    let new = old.without_point(alloc, t)?;
-    let nets = nets.replace(key, new)?;
-    Ok(nets)
+    Ok((nets, count))
 }
 
 /// The net of a key, and the nets with one without points in its place: so its points are changed where they are, unless

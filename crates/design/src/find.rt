@@ -7,6 +7,7 @@ ghost use Rattle.design.specs.Keys.{IsConnected, driver_keys, entry_in, gate_by_
 ghost use Rattle.design.specs.Names.{same_name};
 ghost use Rattle.design.specs.Netlist.{gate_named, has_gate, has_net, has_point, is_used, net_named};
 
+use crate::by_net::list_at;
 use crate::design::Design;
 use crate::gate::Gate;
 use crate::key::{GateKey, NetKey};
@@ -127,7 +128,7 @@ impl Design {
         ensures readers { result.now ≡ reader_keys self.now net }
         ensures gates { All (λ key. IsSome (gate_by_key self.now key)) result.now }
     {
-        self.wires.fanout.at(net)
+        list_at(&self.wires.fanout, net)
     }
 
     /// The keys of the gates that drive a net, in the order of the gates.
@@ -135,7 +136,7 @@ impl Design {
         ensures drivers { result.now ≡ driver_keys self.now net }
         ensures gates { All (λ key. IsSome (gate_by_key self.now key)) result.now }
     {
-        self.wires.drivers.at(net)
+        list_at(&self.wires.drivers, net)
     }
 
     /// Whether a gate reads or drives a net.
@@ -143,10 +144,10 @@ impl Design {
         requires { IsSome (net_by_key self.now net) }
         ensures { IfSome (net_by_key self.now net) (λ n. result ≡ is_used (netlist self.now) n.name) }
     {
-        if !self.wires.fanout.at(net).is_empty() {
+        if !list_at(&self.wires.fanout, net).is_empty() {
             return true;
         }
-        !self.wires.drivers.at(net).is_empty()
+        !list_at(&self.wires.drivers, net).is_empty()
     }
 
     /// Whether a net has a stimulus point at the moment `t`.

@@ -1,19 +1,23 @@
 //! Designs: nets and gates by name, with the stimulus of the inputs (IEEE 1364-2005, 12).
 #![tactic(auto)]
 
-mod block;
+mod by_net;
 mod design;
 mod edit_gates;
 mod edit_nets;
+mod few;
 mod find;
 mod gate;
 mod horizon;
 mod key;
-mod key_lists;
+mod key_list;
 pub mod laws;
 mod limits;
 mod name;
 mod net;
+mod net_change;
+mod piece;
+mod pieces;
 mod points;
 mod stimulus;
 mod terminal;

@@ -1,13 +1,13 @@
 //! Nets with their names and the stimulus of inputs.
 
-ghost use Rattle.std.specs.Prelude.{◌≡◌, ◌≤◌, true, IfOk};
+ghost use Rattle.std.specs.Prelude.{◌≡◌, ◌≤◌, true, IfOk, length};
 ghost use Rattle.fourstate.specs.declared.limits.TheConstants.{MAX_TIME};
 ghost use Rattle.design.specs.Lawful.{IsNet};
 ghost use Rattle.design.specs.Netlist.{has_point, net_with_point, new_net, stimulus};
-ghost use Rattle.design.specs.Records.{net_with_kind, net_without_point};
+ghost use Rattle.design.specs.Records.{IsNetChange, net_changed, net_with_kind, net_without_point};
 
 use crate::name::Name;
-use crate::points::{is_set, value_at};
+use crate::net_change::NetChange;
 use crate::stimulus::Stimulus;
 use catalog::Named;
 use fourstate::{NetKind, Value};
@@ -36,7 +36,7 @@ impl Model for Net {
 
 impl Net {
     /// A net with no points.
-    pub(crate) fn new(name: Name, kind: NetKind, is_input: bool) -> Net
+    pub(crate) fn new(alloc: Global, name: Name, kind: NetKind, is_input: bool) -> Net
         ensures { result ≡ new_net name kind is_input }
     {
         name.lawful();
@@ -44,7 +44,7 @@ impl Net {
             name,
             kind,
             is_input,
-            stimulus: Stimulus::none(),
+            stimulus: Stimulus::new(alloc),
         }
     }
 
@@ -55,7 +55,8 @@ impl Net {
     {
         let name = self.name.clone()?;
         let net = self.clone()?;
-        Ok((net, Net::new(name, self.kind, self.is_input)))
+        let bare = Net::new(self.stimulus.allocator(), name, self.kind, self.is_input);
+        Ok((net, bare))
     }
 
     /// The net's name.
@@ -79,11 +80,11 @@ impl Net {
         self.is_input
     }
 
-    /// The stimulus points, each a moment, in time units, and the value from then on.
-    pub fn points(&self) -> &[(u64, Value)]
-        ensures { result.now ≡ self.now.points }
+    /// How many stimulus points there are.
+    pub fn point_count(&self) -> usize
+        ensures { result ≡ length self.now.points }
     {
-        self.stimulus.points()
+        self.stimulus.len()
     }
 
     /// The value that the stimulus gives at the moment `t`: that of the latest point at or before it, x without one
@@ -91,38 +92,50 @@ impl Net {
     pub fn stimulus_at(&self, t: u64) -> Value
         ensures { result ≡ stimulus self.now.points t }
     {
-        value_at(self.stimulus.points(), t)
+        self.stimulus.value_at(t)
     }
 
     /// Whether a stimulus point is at the moment `t`.
     pub fn has_point(&self, t: u64) -> bool
         ensures { result ≡ has_point self.now.points t }
     {
-        is_set(self.stimulus.points(), t)
+        self.stimulus.has_point(t)
+    }
+
+    /// The net with a change.
+    pub(crate) fn changed(self, change: NetChange) -> Result<Net, AllocError>
+        requires { IsNetChange change self }
+        ensures { IfOk result (λ net. net ≡ net_changed change self) }
+    {
+        match change {
+            NetChange::Kind(kind) => Ok(self.with_kind(kind)),
+            NetChange::Point(t, value) => self.with_point(t, value),
+            NetChange::NoPoint(t) => self.without_point(t),
+        }
     }
 
     /// The net with another kind.
-    pub(crate) fn with_kind(self, kind: NetKind) -> Net
+    fn with_kind(self, kind: NetKind) -> Net
         ensures { result ≡ net_with_kind self kind }
     {
         Net { kind, ..self }
     }
 
     /// The net with its stimulus set from the moment `t` on, until the next point.
-    pub(crate) fn with_point(self, alloc: Global, t: u64, value: Value) -> Result<Net, AllocError>
+    fn with_point(self, t: u64, value: Value) -> Result<Net, AllocError>
         requires input { self.is_input ≡ true }
         requires moment { t ≤ MAX_TIME }
         ensures { IfOk result (λ net. net ≡ net_with_point self t value) }
     {
-        let stimulus = self.stimulus.with_point(alloc, t, value)?;
+        let stimulus = self.stimulus.with_point(t, value)?;
         Ok(Net { stimulus, ..self })
     }
 
     /// The net without its point at the moment `t`.
-    pub(crate) fn without_point(self, alloc: Global, t: u64) -> Result<Net, AllocError>
+    fn without_point(self, t: u64) -> Result<Net, AllocError>
         ensures { IfOk result (λ net. net ≡ net_without_point self t) }
     {
-        let stimulus = self.stimulus.without_point(alloc, t)?;
+        let stimulus = self.stimulus.without_point(t)?;
         Ok(Net { stimulus, ..self })
     }
 

@@ -1,84 +1,107 @@
-//! Stimulus points that copies of a net share.
+//! The stimulus of a net.
 
-ghost use Rattle.std.specs.Prelude.{◌≡◌, ◌==◌, [], not, IfOk};
+ghost use Rattle.std.specs.Prelude.{◌≡◌, ◌==◌, [], not, IfOk, length};
 ghost use Rattle.std.specs.Ordering.{nat_cmp};
 ghost use Rattle.std.specs.BTreeMap.{insert_entry};
 ghost use Rattle.std.specs.List.{filter};
 ghost use Rattle.design.specs.Lawful.{AreRising};
+ghost use Rattle.design.specs.Netlist.{has_point, stimulus};
 
-use crate::points::{remove_at, set_in_order};
+use crate::piece::Piece;
+use crate::pieces::{self, home_of};
+use crate::points::{is_set, value_at};
 use fourstate::Value;
 use std::alloc::{AllocError, Global};
 use std::marker::Model;
-use std::sync::Arc;
 
-/// Stimulus points in order of time.
+/// Stimulus points in order of time. A copy shares them in pieces; a change of one point copies its piece, where another
+/// stimulus shares it, and the pointers to the others. Contracts see the list.
 #[derive(Debug, Drop)]
 pub struct Stimulus {
-    points: Option<Arc<Vec<(u64, Value)>>>,
+    pieces: Vec<Piece>,
+    len: usize,
 }
 
 impl Model for Stimulus {
-    ghost use Rattle.std.specs.Prelude.{ℕ, List};
+    ghost use Rattle.std.specs.Prelude.{◌≡◌, ℕ, List, length};
     ghost use Rattle.fourstate.specs.declared.value.Value.{Value as Level};
-    ghost use Rattle.design.specs.Shared.{points_in};
+    ghost use Rattle.design.specs.Pieces.{AreFilled, points_in, points_of};
 
     ghost Value = { List (ℕ × Level) };
 
-    ghost view = { λ a. points_in a.points };
+    ghost view = { λ a. points_of a.pieces.items };
+
+    ghost invariant = { λ a. AreFilled points_in a.pieces.items × (a.len ≡ length (points_of a.pieces.items)) };
 }
 
 impl Stimulus {
-    /// No points.
-    pub fn none() -> Stimulus
+    /// No points. It takes no memory.
+    pub fn new(alloc: Global) -> Stimulus
         ensures { result ≡ [] }
     {
-        Stimulus { points: None }
+        Stimulus {
+            pieces: Vec::new(alloc),
+            len: 0,
+        }
     }
 
-    /// The points.
-    pub fn points(&self) -> &[(u64, Value)]
-        ensures { result.now ≡ self.now }
+    /// Where the points take their memory.
+    pub fn allocator(&self) -> Global {
+        *self.pieces.allocator()
+    }
+
+    /// How many points there are.
+    pub fn len(&self) -> usize
+        ensures { result ≡ length self.now }
     {
-        match &self.points {
-            Some(points) => points.as_slice(),
-            None => &[],
+        self.len
+    }
+
+    /// The value from the latest point at or before the moment `t`, x without one.
+    pub fn value_at(&self, t: u64) -> Value
+        requires { AreRising self.now }
+        ensures { result ≡ stimulus self.now t }
+    {
+        if self.pieces.is_empty() {
+            return Value::Unknown;
         }
+        let home = home_of(&self.pieces, t);
+        value_at(&self.pieces[home], t)
+    }
+
+    /// Whether a point is at the moment `t`.
+    pub fn has_point(&self, t: u64) -> bool
+        requires { AreRising self.now }
+        ensures { result ≡ has_point self.now t }
+    {
+        if self.pieces.is_empty() {
+            return false;
+        }
+        let home = home_of(&self.pieces, t);
+        is_set(&self.pieces[home], t)
     }
 
     /// The points with the value from the moment `t` on, until the next point.
-    pub fn with_point(self, alloc: Global, t: u64, value: Value) -> Result<Stimulus, AllocError>
+    pub fn with_point(self, t: u64, value: Value) -> Result<Stimulus, AllocError>
         requires { AreRising self }
         ensures { IfOk result (λ stimulus. stimulus ≡ insert_entry nat_cmp self t value) }
     {
-        let mut points = self.into_points(alloc)?;
-        set_in_order(&mut points, t, value)?;
-        let points = Arc::new(alloc, points)?;
-        Ok(Stimulus {
-            points: Some(points),
-        })
+        let added = usize::from(!self.has_point(t));
+        let len = self.len.checked_add(added).ok_or(AllocError)?;
+        let mut pieces = self.pieces;
+        pieces::set(&mut pieces, t, value)?;
+        Ok(Stimulus { pieces, len })
     }
 
     /// The points without the one at the moment `t`.
-    pub fn without_point(self, alloc: Global, t: u64) -> Result<Stimulus, AllocError>
+    pub fn without_point(self, t: u64) -> Result<Stimulus, AllocError>
+        requires { AreRising self }
         ensures { IfOk result (λ stimulus. stimulus ≡ filter (λ point. not (point.0 == t)) self) }
     {
-        let mut points = self.into_points(alloc)?;
-        remove_at(&mut points, t);
-        let points = Arc::new(alloc, points)?;
-        Ok(Stimulus {
-            points: Some(points),
-        })
-    }
-
-    /// The points, copied where another net shares them.
-    fn into_points(self, alloc: Global) -> Result<Vec<(u64, Value)>, AllocError>
-        ensures { IfOk result (λ points. points.items ≡ self) }
-    {
-        match self.points {
-            Some(points) => Arc::unwrap_or_clone(points),
-            None => Ok(Vec::new(alloc)),
-        }
+        let len = self.len - usize::from(self.has_point(t));
+        let mut pieces = self.pieces;
+        pieces::remove(&mut pieces, t)?;
+        Ok(Stimulus { pieces, len })
     }
 }
 
@@ -88,14 +111,10 @@ impl Clone for Stimulus {
     ghost is_clone = { λ old new. new ≡ old };
 
     fn clone(&self) -> Result<Stimulus, AllocError> {
-        match &self.points {
-            Some(points) => {
-                let points = points.clone()?;
-                Ok(Stimulus {
-                    points: Some(points),
-                })
-            }
-            None => Ok(Stimulus { points: None }),
-        }
+        let pieces = self.pieces.clone()?;
+        Ok(Stimulus {
+            pieces,
+            len: self.len,
+        })
     }
 }

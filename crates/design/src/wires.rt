@@ -5,18 +5,20 @@ ghost use Rattle.catalog.specs.Catalog.{keys_of, record_at};
 ghost use Rattle.design.specs.Keys.{drives_key, reads_key};
 ghost use Rattle.design.specs.Lists.{AreChanged, IsInOrder, list_of, with_key_in, without_key};
 
+use crate::by_net::remove;
 use crate::gate::Gate;
 use crate::key::GateKey;
-use crate::key_lists::KeyLists;
+use crate::key_list::KeyList;
 use crate::wiring::{add, add_among, remove_among};
 use catalog::Catalog;
+use chunked::Chunked;
 use std::alloc::{AllocError, Global};
 
 /// The keys of the gates that read each net, and of those that drive it.
 #[derive(Debug, Drop)]
 pub struct Wires {
-    pub fanout: KeyLists,
-    pub drivers: KeyLists,
+    pub fanout: Chunked<KeyList>,
+    pub drivers: Chunked<KeyList>,
 }
 
 impl Wires {
@@ -25,8 +27,8 @@ impl Wires {
         ensures { result ≡ record { fanout = []; drivers = [] } }
     {
         Wires {
-            fanout: KeyLists::new(alloc),
-            drivers: KeyLists::new(alloc),
+            fanout: Chunked::new(alloc),
+            drivers: Chunked::new(alloc),
         }
     }
 
@@ -56,7 +58,7 @@ impl Wires {
     {
         let Wires { fanout, drivers } = self;
         let fanout = remove_among(fanout, gate.inputs(), key)?;
-        let drivers = drivers.remove(gate.output(), key)?;
+        let drivers = remove(drivers, gate.output(), key)?;
         Ok(Wires { fanout, drivers })
     }
 
@@ -71,8 +73,8 @@ impl Wires {
         requires there { IsSome (record_at gates.now key) }
         requires readers { (k : ℕ) → IsInOrder (keys_of gates.now) (list_of self.fanout k) }
         requires drivers { (k : ℕ) → IsInOrder (keys_of gates.now) (list_of self.drivers k) }
-        ensures readers { IfOk result (λ wires. (less : List (List (List ℕ))) × AreChanged (reads_key old.now) (λ list. without_key list key) self.fanout less × AreChanged (reads_key new.now) (with_key_in (keys_of gates.now) key) less wires.fanout) }
-        ensures drivers { IfOk result (λ wires. (less : List (List (List ℕ))) × AreChanged (drives_key old.now) (λ list. without_key list key) self.drivers less × AreChanged (drives_key new.now) (with_key_in (keys_of gates.now) key) less wires.drivers) }
+        ensures readers { IfOk result (λ wires. (less : List (List ℕ)) × AreChanged (reads_key old.now) (λ list. without_key list key) self.fanout less × AreChanged (reads_key new.now) (with_key_in (keys_of gates.now) key) less wires.fanout) }
+        ensures drivers { IfOk result (λ wires. (less : List (List ℕ)) × AreChanged (drives_key old.now) (λ list. without_key list key) self.drivers less × AreChanged (drives_key new.now) (with_key_in (keys_of gates.now) key) less wires.drivers) }
     {
         let less = self.remove(old, key)?;
         let wires = less.add(gates, new, key)?;
@@ -86,8 +88,8 @@ impl Clone for Wires {
     ghost is_clone = { λ old new. new ≡ old };
 
     fn clone(&self) -> Result<Wires, AllocError> {
-        let fanout = self.fanout.clone()?;
-        let drivers = self.drivers.clone()?;
+        let fanout = self.fanout.try_clone()?;
+        let drivers = self.drivers.try_clone()?;
         Ok(Wires { fanout, drivers })
     }
 }

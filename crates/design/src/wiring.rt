@@ -7,20 +7,22 @@ ghost use Rattle.design.specs.Keys.{is_among, is_at};
 ghost use Rattle.design.specs.Kept.{stands_before};
 ghost use Rattle.design.specs.Lists.{AreChanged, IsInOrder, list_of, with_key_in, without_key};
 
+use crate::by_net::{insert, list_at, remove};
 use crate::gate::Gate;
 use crate::key::{GateKey, NetKey};
-use crate::key_lists::KeyLists;
+use crate::key_list::KeyList;
 use crate::terminal::Terminal;
 use catalog::Catalog;
+use chunked::Chunked;
 use std::alloc::AllocError;
 
 /// Puts the key of a gate into the list of each net among these terminals.
 pub fn add_among(
-    lists: KeyLists,
+    lists: Chunked<KeyList>,
     gates: &Catalog<Gate>,
     inputs: &[Terminal],
     key: GateKey,
-) -> Result<KeyLists, AllocError>
+) -> Result<Chunked<KeyList>, AllocError>
     requires there { IsSome (record_at gates.now key) }
     requires ordered { (k : ℕ) → IsInOrder (keys_of gates.now) (list_of lists k) }
     ensures { IfOk result (λ new. AreChanged (is_among inputs.now) (with_key_in (keys_of gates.now) key) lists new) }
@@ -35,11 +37,11 @@ pub fn add_among(
 
 /// Puts the key of a gate into the list of the net at a terminal.
 fn add_terminal(
-    lists: KeyLists,
+    lists: Chunked<KeyList>,
     gates: &Catalog<Gate>,
     terminal: Terminal,
     key: GateKey,
-) -> Result<KeyLists, AllocError>
+) -> Result<Chunked<KeyList>, AllocError>
     requires there { IsSome (record_at gates.now key) }
     requires ordered { (k : ℕ) → IsInOrder (keys_of gates.now) (list_of lists k) }
     ensures { IfOk result (λ new. AreChanged (is_at terminal) (with_key_in (keys_of gates.now) key) lists new) }
@@ -52,22 +54,22 @@ fn add_terminal(
 
 /// Puts the key of a gate into the list of a net, in the order of the gates, unless it is there.
 pub fn add(
-    lists: KeyLists,
+    lists: Chunked<KeyList>,
     gates: &Catalog<Gate>,
     net: NetKey,
     key: GateKey,
-) -> Result<KeyLists, AllocError>
+) -> Result<Chunked<KeyList>, AllocError>
     requires there { IsSome (record_at gates.now key) }
     requires ordered { IsInOrder (keys_of gates.now) (list_of lists net) }
     ensures { IfOk result (λ new. AreChanged (λ k. k == net) (with_key_in (keys_of gates.now) key) lists new) }
 {
     gates.lawful();
-    let list = lists.at(net);
+    let list = list_at(&lists, net);
     let at = place_among(list, gates, key);
     if at < list.len() && list[at] == key {
         return Ok(lists);
     }
-    let lists = lists.insert(net, at, key)?;
+    let lists = insert(lists, net, at, key)?;
     Ok(lists)
 }
 
@@ -97,10 +99,10 @@ fn stands_before(gates: &Catalog<Gate>, gate: GateKey, place: usize) -> bool
 
 /// Takes the key of a gate out of the list of each net among these terminals.
 pub fn remove_among(
-    lists: KeyLists,
+    lists: Chunked<KeyList>,
     inputs: &[Terminal],
     key: GateKey,
-) -> Result<KeyLists, AllocError>
+) -> Result<Chunked<KeyList>, AllocError>
     ensures { IfOk result (λ new. AreChanged (is_among inputs.now) (λ list. without_key list key) lists new) }
 {
     let mut lists = lists;
@@ -112,14 +114,14 @@ pub fn remove_among(
 
 /// Takes the key of a gate out of the list of the net at a terminal.
 fn remove_terminal(
-    lists: KeyLists,
+    lists: Chunked<KeyList>,
     terminal: Terminal,
     key: GateKey,
-) -> Result<KeyLists, AllocError>
+) -> Result<Chunked<KeyList>, AllocError>
     ensures { IfOk result (λ new. AreChanged (is_at terminal) (λ list. without_key list key) lists new) }
 {
     match terminal {
-        Terminal::Net(net) => lists.remove(net, key),
+        Terminal::Net(net) => remove(lists, net, key),
         Terminal::Constant(_) => Ok(lists),
     }
 }

@@ -58,7 +58,7 @@ fn set_net_kind(rt: &impl Abort, design: Design, net: NetKey, kind: NetKind) -> 
     design.set_net_kind(net, kind).expect(rt, "another kind")
 }
 
-fn remove_point(rt: &impl Abort, design: Design, net: NetKey, t: u64) -> Design {
+pub fn remove_point(rt: &impl Abort, design: Design, net: NetKey, t: u64) -> Design {
     assert!(rt; design.net_place_of(net).is_some());
     assert!(rt; design.has_point(net, t));
     design.remove_point(net, t).expect(rt, "a point less")

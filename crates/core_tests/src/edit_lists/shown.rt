@@ -5,6 +5,9 @@ use fourstate::{Value, delay};
 use std::alloc::Global;
 use std::process::Abort;
 
+/// Points before this moment are shown.
+const SHOWN: u64 = 100;
+
 fn symbol(value: Value) -> char {
     match value {
         Value::Zero => '0',
@@ -18,8 +21,10 @@ fn add_net(rt: &impl Abort, text: &mut String, net: &Net) {
     let word = if net.is_input() { "input" } else { "net" };
     let (name, kind) = (net.name().as_str(), net.kind().keyword());
     write!(text, "{word} {name} {kind}").expect(rt, "a net");
-    for (time, value) in net.points() {
-        write!(text, " {time}:{}", symbol(*value)).expect(rt, "a point");
+    for time in 0..SHOWN {
+        if net.has_point(time) {
+            write!(text, " {time}:{}", symbol(net.stimulus_at(time))).expect(rt, "a point");
+        }
     }
     text.push('\n').expect(rt, "an end");
 }

@@ -17,12 +17,12 @@ returns c =
     let free : at < length list → (d : ℕ) → get_or list at d ≢ c.args.key = λ within d same.
     elim c.else-at-list.branch [
       | else-at-list-via-then-at-list+else-eq w ↦
-          let here : w.index-list-at.result ≡ get_or list at w.index-list-at.result = w.index-list-at.is ∙ ap (λ l. get_or l at w.index-list-at.result) c.at-list.ensures in
+          let here : w.index-list-at.result ≡ get_or list at w.index-list-at.result = w.index-list-at.is ∙ ap (λ l. get_or l at w.index-list-at.result) c.list_at-list.ensures in
           eqb-false w.index-list-at.result c.args.key (sym w.if-eq.ensures) (here ∙ get_or_default list at w.index-list-at.result d within ∙ same)
       | else-at-list-via-else-at-list w ↦
-          let past : length list ≤ at = omega (arith, w.if-at-list.false, ap length c.at-list.ensures) in
+          let past : length list ≤ at = omega (arith, w.if-at-list.false, ap length c.list_at-list.ensures) in
           absurd (omega arith)
     ] in
     let put : insert list at c.args.key ≡ with_key_in (keys_of gates) c.args.key list =
-    put_where gates list c.args.key at (keys_apart gates c.lawful.ensures.keys) c.requires.ordered c.requires.there (rw (← c.at-list.ensures) c.place_among-at.ensures.split) (rw (← c.at-list.ensures) c.place_among-at.ensures.within) free in
+    put_where gates list c.args.key at (keys_apart gates c.lawful.ensures.keys) c.requires.ordered c.requires.there (rw (← c.list_at-list.ensures) c.place_among-at.ensures.split) (rw (← c.list_at-list.ensures) c.place_among-at.ensures.within) free in
     λ k. c.in_ok-lists.ensures k ∙ changed_there c.args.net k (λ (l : List ℕ). insert l at c.args.key) (λ (l : List ℕ). with_key_in (keys_of gates) c.args.key l) c.args.lists put

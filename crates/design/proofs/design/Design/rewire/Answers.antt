@@ -30,8 +30,8 @@ invariant_of-result c =
     let x = found.0 in
     let there : record_at a.gates key ≡ Some x = found.1 in
     let made : c.in_ok-gates.gates ≡ with_record a.gates key (gate_with_wiring x output inputs) = rw there at c.in_ok-gates.ensures.gates in
-    let readers : (less : List (List (List ℕ))) × AreChanged (reads_key x) (λ list. without_key list key) a.wires.fanout less × AreChanged (reads_key (gate_with_wiring x output inputs)) (with_key_in (keys_of a.gates) key) less c.in_ok-gates.wires.fanout = rw there at c.in_ok-gates.ensures.readers in
-    let drivers : (less : List (List (List ℕ))) × AreChanged (drives_key x) (λ list. without_key list key) a.wires.drivers less × AreChanged (drives_key (gate_with_wiring x output inputs)) (with_key_in (keys_of a.gates) key) less c.in_ok-gates.wires.drivers = rw there at c.in_ok-gates.ensures.drivers in
+    let readers : (less : List (List ℕ)) × AreChanged (reads_key x) (λ list. without_key list key) a.wires.fanout less × AreChanged (reads_key (gate_with_wiring x output inputs)) (with_key_in (keys_of a.gates) key) less c.in_ok-gates.wires.fanout = rw there at c.in_ok-gates.ensures.readers in
+    let drivers : (less : List (List ℕ)) × AreChanged (drives_key x) (λ list. without_key list key) a.wires.drivers less × AreChanged (drives_key (gate_with_wiring x output inputs)) (with_key_in (keys_of a.gates) key) less c.in_ok-gates.wires.drivers = rw there at c.in_ok-gates.ensures.drivers in
     rw made (kept_gate_rewired (design_of a) a.points a.wires.fanout a.wires.drivers c.in_ok-gates.wires.fanout c.in_ok-gates.wires.drivers key x output inputs c.self.invariant there found.2 (rw (← c.self.view_is) at c.requires.output) (rw (← c.self.view_is) at c.requires.inputs) readers drivers)
 
 pub returns-clause-by_key : goal.returns-clause-by_key

@@ -1,0 +1,104 @@
+//! A net with more points than stand in one piece.
+
+use super::changes::remove_point;
+use super::{add_input, check_stimulus, copy_of, empty, set_point};
+use design::{Design, NetKey};
+use fourstate::Value;
+use std::process::Abort;
+
+/// The moment of the point of a number, where the points are four units apart.
+fn moment(first: u64, number: u64) -> u64 {
+    number.saturating_mul(4).saturating_add(first)
+}
+
+/// The design with so many points more, four units apart.
+fn spread(
+    rt: &impl Abort,
+    mut design: Design,
+    net: NetKey,
+    count: u64,
+    first: u64,
+    value: Value,
+) -> Design {
+    for number in 0..count {
+        design = set_point(rt, design, net, moment(first, number), value);
+    }
+    design
+}
+
+/// The design with so many points less, four units apart.
+fn thinned(rt: &impl Abort, mut design: Design, net: NetKey, count: u64) -> Design {
+    for number in 0..count {
+        design = remove_point(rt, design, net, moment(0, number));
+    }
+    design
+}
+
+fn check_set(rt: &impl Abort, design: &Design, net: NetKey, points: &[(u64, bool)]) {
+    assert!(rt; design.net_place_of(net).is_some());
+    for (t, is_set) in points {
+        assert_eq!(rt; design.has_point(net, *t), *is_set, "at {t}");
+    }
+}
+
+fn check_count(rt: &impl Abort, design: &Design, net: NetKey, count: usize) {
+    assert!(rt; design.net_place_of(net).is_some());
+    assert_eq!(rt; design.net_of(net).point_count(), count);
+    assert_eq!(rt; design.point_count(), count);
+}
+
+// 1 at 0, 4, .. 19,996.
+fn check_first(rt: &impl Abort, design: &Design, a: NetKey) {
+    check_count(rt, design, a, 5_000);
+    check_set(rt, design, a, &[(0, true), (2, false), (19_996, true)]);
+    check_stimulus(rt, design, a, &[(0, Value::One), (19_999, Value::One)]);
+}
+
+// 0 at 2, 6, .. 19,998, and 1 at 19,600, 19,604, .. 19,996.
+fn check_last(rt: &impl Abort, design: &Design, a: NetKey) {
+    check_count(rt, design, a, 5_100);
+    check_set(
+        rt,
+        design,
+        a,
+        &[(0, false), (2, true), (9_000, false), (9_002, true)],
+    );
+    check_set(
+        rt,
+        design,
+        a,
+        &[(19_596, false), (19_600, true), (19_996, true)],
+    );
+    check_stimulus(
+        rt,
+        design,
+        a,
+        &[(1, Value::Unknown), (2, Value::Zero), (4, Value::Zero)],
+    );
+    check_stimulus(
+        rt,
+        design,
+        a,
+        &[(19_599, Value::Zero), (19_601, Value::One)],
+    );
+    check_stimulus(
+        rt,
+        design,
+        a,
+        &[(19_997, Value::One), (19_998, Value::Zero)],
+    );
+}
+
+// Points behind the last one and between others, and points that go; the copy stays as it was.
+#[test]
+fn points_in_many_pieces(rt: HostRuntime) {
+    let (design, a) = add_input(&rt, rt.alloc(), empty(&rt, rt.alloc()), "a");
+    let design = spread(&rt, design, a, 5_000, 0, Value::One);
+    let copy = copy_of(&rt, &design);
+    let design = spread(&rt, design, a, 5_000, 2, Value::Zero);
+    let design = thinned(&rt, design, a, 4_900);
+    check_first(&rt, &copy, a);
+    check_last(&rt, &design, a);
+    drop(copy);
+    drop(design);
+}

@@ -1,0 +1,75 @@
+//! A list of gate keys for each net.
+
+ghost use Rattle.std.specs.Prelude.{◌≡◌, ◌≤◌, ◌<◌, ◌==◌, ℕ, [], if◌then◌else◌, insert, IfOk, OnOk, length};
+ghost use Rattle.design.specs.Lists.{AreChanged, list_of, without_key};
+
+use crate::key::{GateKey, NetKey};
+use crate::key_list::KeyList;
+use chunked::Chunked;
+use std::alloc::AllocError;
+
+/// The list of a net, empty where none is kept.
+pub fn list_at(lists: &Chunked<KeyList>, net: NetKey) -> &[GateKey]
+    ensures { result.now ≡ list_of lists.now net }
+{
+    match lists.get(net.number) {
+        Some(list) => list.as_slice(),
+        None => &[],
+    }
+}
+
+/// Puts a key into the list of a net, before the one that is at `at`.
+pub fn insert(
+    mut lists: Chunked<KeyList>,
+    net: NetKey,
+    at: usize,
+    key: GateKey,
+) -> Result<Chunked<KeyList>, AllocError>
+    requires { at ≤ length (list_of lists net) }
+    ensures { IfOk result (λ new. AreChanged (λ k. k == net) (λ list. insert list at key) lists new) }
+{
+    let list = take(&mut lists, net.number)?;
+    let list = list.insert(lists.allocator(), at, key)?;
+    lists.set(net.number, list)?;
+    Ok(lists)
+}
+
+/// Takes a key out of the list of a net.
+pub fn remove(
+    mut lists: Chunked<KeyList>,
+    net: NetKey,
+    key: GateKey,
+) -> Result<Chunked<KeyList>, AllocError>
+    ensures { IfOk result (λ new. AreChanged (λ k. k == net) (λ list. without_key list key) lists new) }
+{
+    let list = take(&mut lists, net.number)?;
+    let list = list.remove(key)?;
+    lists.set(net.number, list)?;
+    Ok(lists)
+}
+
+/// Takes the list of a net out, so that it is changed where it is, unless a copy shares it.
+fn take(lists: &mut Chunked<KeyList>, net: usize) -> Result<KeyList, AllocError>
+    ensures list { IfOk result (λ list. list ≡ list_of lists.old net) }
+    ensures there { OnOk result (net < length lists.new) }
+    ensures others { OnOk result ((k : ℕ) → list_of lists.new k ≡ (if k == net then [] else list_of lists.old k)) }
+{
+    grow(lists, net)?;
+    let Some(list) = lists.get(net) else {
+        unreachable!();
+    };
+    let list = list.clone()?;
+    lists.set(net, KeyList::new())?;
+    Ok(list)
+}
+
+/// Adds empty lists until the net has one.
+fn grow(lists: &mut Chunked<KeyList>, net: usize) -> Result<(), AllocError>
+    ensures there { OnOk result (net < length lists.new) }
+    ensures same { OnOk result ((k : ℕ) → list_of lists.new k ≡ list_of lists.old k) }
+{
+    while lists.len() <= net {
+        lists.push(KeyList::new())?;
+    }
+    Ok(())
+}
