@@ -4,3 +4,4 @@ mod accepted;
 mod lines;
 mod refused;
 mod shown;
+mod touched;
