@@ -4,3 +4,4 @@ mod accepted;
 pub mod lines;
 mod refused;
 mod shown;
+mod touched;

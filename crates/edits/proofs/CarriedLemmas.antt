@@ -1,13 +1,10 @@
 -- Lists of edits that are carried out edit by edit, with what they touched.
-use Rattle.std.proofs.Common.{◌≡◌, ◌<◌, ◌≤◌, ◌+◌, ◌*◌, ℕ, List, ◌∷◌, ◌++◌, length, drop, get_or, Option, None, refl, sym, ap, subst, ◌∙◌, add-one, suc, arith, drop-cons, length-append}
-use Rattle.std.specs.Prelude.{Result, Err}
-use Rattle.std.specs.Option.{option_map_or}
+use Rattle.std.proofs.Common.{◌≡◌, ◌<◌, ◌≤◌, ◌+◌, ◌*◌, ℕ, List, ◌∷◌, ◌++◌, length, drop, get_or, None, sym, ap, subst, ◌∙◌, add-one, suc, arith, drop-cons, length-append}
 use Rattle.design.specs.Keys.{Keyed, netlist}
 use Rattle.design.specs.Netlist.{Netlist}
 use Rattle.edits.specs.declared.changes.touch.Touch.{Touch}
 use Rattle.edits.specs.declared.changes.touch.Touch.TheVariants.{Nothing, Net, Gate, Driver, Rewired}
 use Rattle.edits.specs.declared.edit.Edit.{Edit}
-use Rattle.edits.specs.declared.fault.EditFault.{EditFault}
 use Rattle.edits.specs.Batches.{batch, batch_from, refusal}
 use Rattle.edits.specs.Edits.{edited}
 use Rattle.edits.specs.Touched.{IsTouched, Touches, touched_gates, touched_nets}

@@ -1,13 +1,13 @@
 -- What single changes touch, and what two lists of changes touch together.
-use Rattle.std.proofs.Common.{◌≡◌, ◌≢◌, ℕ, Bool, true, false, ◌==◌, ◌||◌, List, [], ◌∷◌, ◌++◌, Option, Some, None, option_map, IfSome, IsSome, sym, refl, ap, subst, ◌∙◌, arith}
+use Rattle.std.proofs.Common.{◌≡◌, ℕ, Bool, true, false, ◌==◌, ◌||◌, List, [], ◌∷◌, ◌++◌, Option, Some, None, option_map, IfSome, IsSome, sym, refl, ap, ◌∙◌}
 use Rattle.std.specs.Prelude.{IsSomeAnd}
-use Rattle.std.proofs.lemmas.Bool.{eq-eqb, eqb-true, ne_eqb, both_ways}
+use Rattle.std.proofs.lemmas.Bool.{eq-eqb, ne_eqb, both_ways}
 use Rattle.std.proofs.lemmas.List.Folds.{list_any-append}
-use Rattle.catalog.specs.Catalog.{keys_of, record_at, records_of, with_record, without_key}
+use Rattle.catalog.specs.Catalog.{record_at, records_of}
 use Rattle.design.specs.Keys.{AreKeys, Keyed, KeyedGate, driver_keys, drives_key, entry_in, gate_by_key, named_gates, net_by_key, netlist, with_gate_at, with_keyed_gate, with_keyed_net, with_net_at, without_keyed_gate, without_keyed_net}
 use Rattle.design.specs.Netlist.{NetEntry, Netlist}
 use Rattle.edits.specs.Touched.{IsTouched, is_touched}
-use Rattle.edits.proofs.KeyLemmas.{Each, each_weaker, only, passing_push, passing_with, passing_without, readings_alike, record_push, record_with, record_without}
+use Rattle.edits.proofs.KeyLemmas.{each_weaker, only, passing_push, passing_with, passing_without, readings_alike, record_push, record_with, record_without}
 
 -- Lists of keys.
 
