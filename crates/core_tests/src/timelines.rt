@@ -10,7 +10,7 @@ use fourstate::Value;
 use gatestep::Driver;
 use std::alloc::Global;
 use std::process::Abort;
-use waveform::{Change, Run, Table, Trace, TraceEntry, Wave, laws};
+use waveform::{Change, Run, Trace, TraceEntry, Wave, laws};
 
 /// The value at a moment, which is that of the function whose changes the wave keeps.
 fn value_at(wave: &Wave, t: u64) -> Value
@@ -192,50 +192,75 @@ fn a_spliced_trace_takes_over_what_is_pending(rt: HostRuntime) {
     drop(other);
 }
 
-#[test]
-fn a_run_keeps_waves_and_traces(rt: HostRuntime) {
-    let mut run = Run::new(rt.alloc(), 20);
-    run.push_wave(pulse(&rt, rt.alloc())).expect(&rt, "room");
-    run.push_wave(Wave::open(rt.alloc(), Value::HighZ).expect(&rt, "room"))
-        .expect(&rt, "room");
-    run.push_trace(Trace::open(rt.alloc(), Driver::start()).expect(&rt, "room"))
-        .expect(&rt, "room");
-    assert_eq!(rt; run.wave_count(), 2);
-    assert_eq!(rt; run.trace_count(), 1);
+/// A net that has z all the time.
+fn floating(rt: &impl Abort, alloc: Global) -> Wave {
+    Wave::open(alloc, Value::HighZ).expect(rt, "room")
+}
+
+/// A driver that stays as it is before moment 0.
+fn idle(rt: &impl Abort, alloc: Global) -> Trace {
+    Trace::open(alloc, Driver::start()).expect(rt, "room")
+}
+
+/// A run up to 20 with a pulse under the key 300 and z under the key 2, and a trace under the key 300.
+fn run_by_keys(rt: &impl Abort, alloc: Global) -> Run {
+    let mut run = Run::new(alloc, 20);
+    run.put_wave(300, pulse(rt, alloc)).expect(rt, "room");
+    run.put_wave(2, floating(rt, alloc)).expect(rt, "room");
+    run.put_trace(300, idle(rt, alloc)).expect(rt, "room");
+    run
+}
+
+/// What the wave under a key has at 13.
+fn value_under(run: &Run, key: usize) -> Option<Value> {
+    Some(run.wave(key)?.at(13))
+}
+
+/// What the driver whose trace stands under a key gives at 13.
+fn driven_under(run: &Run, key: usize) -> Option<Value> {
+    Some(run.trace(key)?.at(13).cur)
+}
+
+fn check_whole(rt: &impl Abort, run: &Run) {
+    assert_eq!(rt; value_under(run, 300), Some(Value::One));
+    assert_eq!(rt; value_under(run, 2), Some(Value::HighZ));
+    assert_eq!(rt; value_under(run, 0), None);
+    assert_eq!(rt; value_under(run, 3), None);
+    assert_eq!(rt; value_under(run, 1_000), None);
+    assert_eq!(rt; driven_under(run, 300), Some(Value::Unknown));
+    assert_eq!(rt; driven_under(run, 2), None);
     assert_eq!(rt; run.horizon(), 20);
-    assert_eq!(rt; run.wave(0).expect(&rt, "a wave").at(13), Value::One);
-    assert_eq!(rt;
-        run.wave(1).expect(&rt, "a wave").changes(),
-        [change(0, Value::HighZ)].as_slice()
-    );
-    assert_eq!(rt; run.trace(0).expect(&rt, "a trace").at(5), Driver::start());
-    assert!(rt; run.wave(2).is_none());
-    assert!(rt; run.trace(1).is_none());
+}
+
+#[test]
+fn a_run_keeps_waves_and_traces_by_key(rt: HostRuntime) {
+    let empty = Run::new(rt.alloc(), 20);
+    assert_eq!(rt; value_under(&empty, 0), None);
+    assert_eq!(rt; driven_under(&empty, 0), None);
+    drop(empty);
+    let run = run_by_keys(&rt, rt.alloc());
+    check_whole(&rt, &run);
     drop(run);
 }
 
-fn value_under(table: &Table<Value>, key: usize) -> Option<Value> {
-    Some(table.get(key)?.at(13))
-}
-
 #[test]
-fn copies_of_a_table_keep_what_they_had(rt: HostRuntime) {
-    let mut table = Table::new(rt.alloc());
-    assert_eq!(rt; value_under(&table, 0), None);
-    table.put(300, pulse(&rt, rt.alloc())).expect(&rt, "room");
-    let line = Wave::open(rt.alloc(), Value::HighZ).expect(&rt, "room");
-    table.put(2, line).expect(&rt, "room");
-    let copy = table.try_clone().expect(&rt, "a copy");
-    table.clear(300).expect(&rt, "room");
-    let line = Wave::open(rt.alloc(), Value::Zero).expect(&rt, "room");
-    table.put(2, line).expect(&rt, "room");
-    table.clear(1_000).expect(&rt, "room");
-    assert_eq!(rt; value_under(&table, 300), None);
-    assert_eq!(rt; value_under(&table, 2), Some(Value::Zero));
-    assert_eq!(rt; value_under(&copy, 300), Some(Value::One));
-    assert_eq!(rt; value_under(&copy, 2), Some(Value::HighZ));
-    assert_eq!(rt; value_under(&copy, 3), None);
-    assert_eq!(rt; value_under(&copy, 1_000), None);
-    drop(table);
+fn what_changes_in_a_copy_of_a_run_stays_in_it(rt: HostRuntime) {
+    let run = run_by_keys(&rt, rt.alloc());
+    let mut copy = run.try_clone().expect(&rt, "a copy");
+    check_whole(&rt, &copy);
+    copy.put_wave(2, pulse(&rt, rt.alloc())).expect(&rt, "room");
+    copy.clear_wave(300).expect(&rt, "room");
+    copy.clear_wave(1_000).expect(&rt, "room");
+    copy.put_trace(2, idle(&rt, rt.alloc())).expect(&rt, "room");
+    copy.clear_trace(300).expect(&rt, "room");
+    copy.set_horizon(30);
+    check_whole(&rt, &run);
+    assert_eq!(rt; value_under(&copy, 2), Some(Value::One));
+    assert_eq!(rt; value_under(&copy, 300), None);
+    assert_eq!(rt; driven_under(&copy, 2), Some(Value::Unknown));
+    assert_eq!(rt; driven_under(&copy, 300), None);
+    assert_eq!(rt; copy.horizon(), 30);
     drop(copy);
+    check_whole(&rt, &run);
+    drop(run);
 }

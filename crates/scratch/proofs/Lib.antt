@@ -1,4 +1,5 @@
 pub mod Asked
+pub mod Keyed
 pub mod Lists
 pub mod Moments
 pub mod Places

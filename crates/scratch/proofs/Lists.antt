@@ -1,6 +1,6 @@
 -- Lists: side by side, and as they grow.
-use Rattle.std.proofs.Common.{◌≡◌, ◌<◌, ◌≤◌, ap, refl, Bool, true, false, cond, ℕ, zero, suc, ◌+◌, List, [], ◌∷◌, ◌++◌, map, take, drop, length, get_or, Some, slice_get, add-one, arith}
-use Rattle.std.specs.List.{zip, enumerate_from, position_or_len}
+use Rattle.std.proofs.Common.{◌≡◌, ◌<◌, ◌≤◌, ap, refl, ℕ, zero, suc, ◌+◌, List, [], ◌∷◌, ◌++◌, map, take, drop, length, get_or, Some, slice_get, add-one, arith}
+use Rattle.std.specs.List.{zip}
 use Rattle.std.proofs.Math.ListN.{set}
 
 pub zip_take_more : {A B : Type 0} (xs : List A) (ys : List B) (i : ℕ) (x : A) (y : B) → length xs ≡ length ys → i < length xs →

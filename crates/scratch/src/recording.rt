@@ -4,9 +4,12 @@ ghost use Rattle.std.specs.Prelude.{◌≡◌, ◌<◌, ◌∷◌, [], map, All,
 ghost use Rattle.fourstate.specs.Values.{same_value};
 ghost use Rattle.gatestep.specs.Step.{due};
 ghost use Rattle.waveform.specs.Entries.{CanStore, same_state, standing};
-ghost use Rattle.scratch.specs.Recordings.{pushed_each};
+ghost use Rattle.catalog.specs.Catalog.{keys_of};
+ghost use Rattle.design.specs.Keys.{netlist};
+ghost use Rattle.scratch.specs.Recordings.{AreUnder, pushed_each};
 
 use crate::moment::Moment;
+use design::Design;
 use std::alloc::{AllocError, Global};
 use waveform::{Run, Sample, Timeline, Trace, Wave};
 
@@ -46,20 +49,54 @@ impl Recording {
         push_each(&mut self.traces, moment.states.as_slice(), t)
     }
 
-    /// The run up to the horizon, in time units.
-    pub fn finish(self, alloc: Global, horizon: u64) -> Result<Run, AllocError>
-        ensures { IfOk result (λ run. run ≡ record { waves = self.waves.items; traces = self.traces.items; horizon = horizon }) }
+    /// The run of this design: the waves under the keys of its nets, the traces under the keys of its gates.
+    pub fn finish(self, alloc: Global, design: &Design) -> Result<Run, AllocError>
+        requires nets { length self.waves.items ≡ length (netlist design.now).nets }
+        requires gates { length self.traces.items ≡ length (netlist design.now).gates }
+        ensures waves { IfOk result (λ run. AreUnder (keys_of design.now.nets) self.waves.items run.waves) }
+        ensures traces { IfOk result (λ run. AreUnder (keys_of design.now.gates) self.traces.items run.traces) }
+        ensures horizon { IfOk result (λ run. run.horizon ≡ (netlist design.now).horizon) }
     {
         let Recording { waves, traces } = self;
-        let mut run = Run::new(alloc, horizon);
-        for wave in waves {
-            run.push_wave(wave)?;
-        }
-        for trace in traces {
-            run.push_trace(trace)?;
-        }
+        let mut run = Run::new(alloc, design.horizon());
+        put_waves(&mut run, design, waves)?;
+        put_traces(&mut run, design, traces)?;
         Ok(run)
     }
+}
+
+/// Puts each wave under the key of the net at its place, from the last one on. Where an allocation was refused, which waves
+/// the run has is not known.
+fn put_waves(run: &mut Run, design: &Design, waves: Vec<Wave>) -> Result<(), AllocError>
+    requires nets { length waves.items ≡ length (netlist design.now).nets }
+    requires none { run.old.waves ≡ [] }
+    ensures waves { OnOk result (AreUnder (keys_of design.now.nets) waves.items run.new.waves) }
+    ensures traces { run.new.traces ≡ run.old.traces }
+    ensures horizon { run.new.horizon ≡ run.old.horizon }
+{
+    let mut waves = waves;
+    while let Some(wave) = waves.pop() {
+        let net = design.net_key_at(waves.len());
+        run.put_wave(net.number(), wave)?;
+    }
+    Ok(())
+}
+
+/// Puts each trace under the key of the gate at its place, from the last one on. Where an allocation was refused, which traces
+/// the run has is not known.
+fn put_traces(run: &mut Run, design: &Design, traces: Vec<Trace>) -> Result<(), AllocError>
+    requires gates { length traces.items ≡ length (netlist design.now).gates }
+    requires none { run.old.traces ≡ [] }
+    ensures traces { OnOk result (AreUnder (keys_of design.now.gates) traces.items run.new.traces) }
+    ensures waves { run.new.waves ≡ run.old.waves }
+    ensures horizon { run.new.horizon ≡ run.old.horizon }
+{
+    let mut traces = traces;
+    while let Some(trace) = traces.pop() {
+        let gate = design.gate_key_at(traces.len());
+        run.put_trace(gate.number(), trace)?;
+    }
+    Ok(())
 }
 
 /// A timeline for each of some values, which hold from moment 0 on.

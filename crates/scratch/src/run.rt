@@ -44,5 +44,5 @@ pub fn simulate<S: Stepper>(
         moment.pass(design, &wiring, stepper, t)?;
         recording.add(&moment, t)?;
     }
-    Ok(recording.finish(alloc, horizon)?)
+    Ok(recording.finish(alloc, design)?)
 }

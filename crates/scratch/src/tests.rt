@@ -2,5 +2,6 @@
 
 mod build;
 mod count;
+mod keyed;
 mod reference;
 mod runs;

@@ -15,8 +15,8 @@ pub fn wave_named<'a>(design: &Design, run: &'a Run, net: &str) -> Option<&'a Wa
     ensures { (answer : Evaluation → ℕ → State) → IsRun answer design.now run.now →
         option_copied result ≡ option_map (wave_of answer (netlist design.now)) (net_named (netlist design.now) net.now) }
 {
-    let place = design.net_place(net)?;
-    run.wave(place)
+    let key = design.net(net)?;
+    run.wave(key.number())
 }
 
 /// The wave of the net at a place in the order of the design's nets, in the run of the design.
@@ -26,7 +26,8 @@ pub fn wave_at<'a>(design: &Design, run: &'a Run, place: usize) -> &'a Wave
     ensures { (answer : Evaluation → ℕ → State) → IsRun answer design.now run.now →
         option_map (wave_of answer (netlist design.now)) (slice_get (netlist design.now).nets place) ≡ Some result.now }
 {
-    match run.wave(place) {
+    let key = design.net_key_at(place);
+    match run.wave(key.number()) {
         Some(wave) => wave,
         None => unreachable!(),
     }

@@ -1,12 +1,14 @@
 -- Answers of a session.
-use Rattle.std.proofs.Common.{◌≡◌, ℕ, List, [], ◌∷◌, refl, sym, ap, ◌∙◌, inl, inr, Option, None, Some, Result, Ok, Err, slice_get}
+use Rattle.std.proofs.Common.{◌≡◌, ℕ, List, [], ◌∷◌, refl, sym, ap, ◌∙◌, inl, inr, Option, None, Some, Result, Ok, Err}
 use Rattle.std.specs.Prelude.{option_map}
 use Rattle.std.specs.Option.{option_map_or}
-use Rattle.std.proofs.lemmas.Option.{slice_get-map}
+use Rattle.fourstate.specs.declared.value.Value.{Value}
 use Rattle.gatestep.specs.Step.{Evaluation, State, advance}
+use Rattle.design.specs.Keys.{Keyed, netlist}
 use Rattle.design.specs.Netlist.{Netlist, net_named}
 use Rattle.waveform.specs.Runs.{RunRecord}
-use Rattle.scratch.specs.Run.{run_of}
+use Rattle.scratch.specs.Run.{IsRun}
+use Rattle.scratch.specs.Run as runs
 use Rattle.edits.specs.declared.edit.Edit.{Edit}
 use Rattle.session.specs.declared.replies.refusal.Refusal.{Refusal}
 use Rattle.edits.specs.declared.fault.EditFault.{EditFault}
@@ -45,12 +47,11 @@ refused old new line refusal.WorkerLost same may = inr (inr (may, record { reply
 refused old new line refusal.BadCommand same may = absurd may
 refused old new line refusal.LongLine same may = absurd may
 
--- the wave of a net in a run of the design
-pub wave_found : (d : Netlist) (answer : Evaluation → ℕ → State) (run : RunRecord) (place : ℕ) (name : List ℕ) → run ≡ run_of answer d → answer ≡ advance
-    → slice_get d.nets place ≡ net_named d name → slice_get run.waves place ≡ option_map (wave_of d) (net_named d name)
-wave_found d answer run place name is same found =
-    ap (λ (r : RunRecord). slice_get r.waves place) (is ∙ ap (λ a. run_of a d) same)
-    ∙ slice_get-map (wave_of d) d.nets place ∙ ap (option_map (wave_of d)) found
+-- the wave that is found in the run of the design
+pub wave_found : (d : Keyed) (run : RunRecord) (answer : Evaluation → ℕ → State) (name : List ℕ) (found : Option (List (ℕ × Value))) → IsRun answer d run → answer ≡ advance
+    → ((a : Evaluation → ℕ → State) → IsRun a d run → found ≡ option_map (runs.wave_of a (netlist d)) (net_named (netlist d) name))
+    → found ≡ option_map (wave_of (netlist d)) (net_named (netlist d) name)
+wave_found d run answer name found is same by_answer = by_answer answer is ∙ ap (λ a. option_map (runs.wave_of a (netlist d)) (net_named (netlist d) name)) same
 
 -- An edit by itself is a list of one.
 

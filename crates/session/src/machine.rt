@@ -7,7 +7,7 @@ ghost use Rattle.design.specs.Keys.{netlist};
 ghost use Rattle.design.specs.Netlist.{net_named};
 ghost use Rattle.edits.specs.Checks.{cause};
 ghost use Rattle.edits.specs.Edits.{edited};
-ghost use Rattle.scratch.specs.Run.{run_of};
+ghost use Rattle.scratch.specs.Run.{IsRun};
 ghost use Rattle.session.specs.EditLines.{edit_of};
 ghost use Rattle.session.specs.Questions.{changes_asked, wave_of};
 ghost use Rattle.session.specs.Refused.{IsOfStepper, MayRefuse, refusal_of};
@@ -20,7 +20,7 @@ use design::Design;
 use devices::{Sink, Writer};
 use edits::{Edit, EditFault, apply_all};
 use gatestep::{StepFault, Stepper};
-use scratch::simulate;
+use scratch::{simulate, wave_named};
 use std::alloc::Global;
 use std::marker::Model;
 use std::slice;
@@ -40,14 +40,14 @@ impl<S: Stepper + Drop> Model for Machine<S> {
     ghost use Rattle.std.specs.Prelude.{◌≡◌};
     ghost use Rattle.gatestep.specs.Step.{advance};
     ghost use Rattle.design.specs.Keys.{netlist};
-    ghost use Rattle.scratch.specs.Run.{run_of};
+    ghost use Rattle.scratch.specs.Run.{IsRun};
     ghost use Rattle.session.specs.State.{SessionState};
 
     ghost Value = { SessionState };
 
     ghost view = { λ m. record { version = m.version; netlist = netlist m.design } };
 
-    ghost invariant = { λ m. (m.run ≡ run_of S.answer (netlist m.design)) × (S.answer ≡ advance) };
+    ghost invariant = { λ m. IsRun S.answer m.design m.run × (S.answer ≡ advance) };
 }
 
 impl<S: Stepper + Drop> Machine<S> {
@@ -162,7 +162,7 @@ impl<S: Stepper + Drop> Machine<S> {
     }
 
     fn install(&mut self, design: Design, run: Run)
-        requires run { run ≡ run_of S.answer (netlist design) }
+        requires run { IsRun S.answer design run }
         requires room { self.old.version < 2 ^ 64 - 1 }
         ensures { self.new ≡ record { version = self.old.version + 1; netlist = netlist design } }
     {
@@ -199,12 +199,10 @@ impl<S: Stepper + Drop> Machine<S> {
     }
 
     // The wave of the net of this name.
-    #[tactic(auto, using(crate::proofs::AnswerLemmas::wave_found))]
     fn wave(&self, net: &str) -> Option<&Wave>
         ensures { option_copied result ≡ option_map (wave_of self.now.netlist) (net_named self.now.netlist net.now) }
     {
-        let place = self.design.net_place(net)?;
-        self.run.wave(place)
+        wave_named(&self.design, &self.run, net)
     }
 }
 

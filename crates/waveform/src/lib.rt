@@ -16,7 +16,6 @@ pub use change::Change;
 pub use entry::TraceEntry;
 pub use run::Run;
 pub use sample::Sample;
-pub use table::Table;
 pub use timeline::Timeline;
 pub use trace::Trace;
 pub use wave::Wave;

@@ -1,19 +1,24 @@
 //! What a run leaves.
 
-ghost use Rattle.std.specs.Prelude.{◌≡◌, [], ◌∷◌, ◌++◌, length, slice_get, OnOk, OnErr};
+ghost use Rattle.std.specs.Prelude.{◌≡◌, [], Some, None, IfOk, OnErr, OnOk};
 ghost use Rattle.std.specs.Option.{option_copied};
+ghost use Rattle.waveform.specs.Tables.{IsChangedAt, IsUnchanged, line_at};
 
+use crate::table::Table;
 use crate::trace::Trace;
 use crate::wave::Wave;
+use fourstate::Value;
+use gatestep::Driver;
 use std::alloc::{AllocError, Global};
 use std::marker::Model;
 
-/// What a run leaves: the wave of each net and the trace of each gate's driver, up to the last moment of the run, the
-/// horizon. How it keeps them is its own matter.
+/// What a run leaves: under the key of each net its wave, under the key of each gate the trace of its driver, up to the last
+/// moment of the run, the horizon. Keys are numbers, best small ones. A copy shares all waves and traces; one that is then
+/// put or taken away in one of the copies is as it was in the other.
 #[derive(Drop)]
 pub struct Run {
-    waves: Vec<Wave>,
-    traces: Vec<Trace>,
+    waves: Table<Value>,
+    traces: Table<Driver>,
     horizon: u64,
 }
 
@@ -22,7 +27,7 @@ impl Model for Run {
 
     ghost Value = { RunRecord };
 
-    ghost view = { λ a. record { waves = a.waves.items; traces = a.traces.items; horizon = a.horizon } };
+    ghost view = { λ a. record { waves = a.waves; traces = a.traces; horizon = a.horizon } };
 }
 
 impl Run {
@@ -31,56 +36,37 @@ impl Run {
         ensures { result ≡ record { waves = []; traces = []; horizon = horizon } }
     {
         Run {
-            waves: Vec::new(alloc),
-            traces: Vec::new(alloc),
+            waves: Table::new(alloc),
+            traces: Table::new(alloc),
             horizon,
         }
     }
 
-    /// Adds a wave behind the others. It fails where memory runs out, and then nothing has changed.
-    pub fn push_wave(&mut self, wave: Wave) -> Result<(), AllocError>
-        ensures ok { OnOk result (self.new ≡ record self.old { waves = self.old.waves ++ wave ∷ [] }) }
-        ensures err { OnErr result (self.new ≡ self.old) }
+    /// A copy, which shares the waves and traces. It takes a pointer for some hundred keys, and fails where memory runs out.
+    pub fn try_clone(&self) -> Result<Run, AllocError>
+        ensures { IfOk result (λ copy. copy ≡ self.now) }
     {
-        self.waves.push(wave)?;
-        Ok(())
+        let waves = self.waves.try_clone()?;
+        let traces = self.traces.try_clone()?;
+        Ok(Run {
+            waves,
+            traces,
+            horizon: self.horizon,
+        })
     }
 
-    /// Adds a trace behind the others. It fails where memory runs out, and then nothing has changed.
-    pub fn push_trace(&mut self, trace: Trace) -> Result<(), AllocError>
-        ensures ok { OnOk result (self.new ≡ record self.old { traces = self.old.traces ++ trace ∷ [] }) }
-        ensures err { OnErr result (self.new ≡ self.old) }
+    /// The wave under a net's key.
+    pub fn wave(&self, key: usize) -> Option<&Wave>
+        ensures { option_copied result ≡ line_at self.now.waves key }
     {
-        self.traces.push(trace)?;
-        Ok(())
+        self.waves.get(key)
     }
 
-    /// The wave at this place, counted from 0.
-    pub fn wave(&self, place: usize) -> Option<&Wave>
-        ensures { option_copied result ≡ slice_get self.now.waves place }
+    /// The trace under a gate's key.
+    pub fn trace(&self, key: usize) -> Option<&Trace>
+        ensures { option_copied result ≡ line_at self.now.traces key }
     {
-        self.waves.get(place)
-    }
-
-    /// The trace at this place, counted from 0.
-    pub fn trace(&self, place: usize) -> Option<&Trace>
-        ensures { option_copied result ≡ slice_get self.now.traces place }
-    {
-        self.traces.get(place)
-    }
-
-    /// How many waves there are.
-    pub fn wave_count(&self) -> usize
-        ensures { result ≡ length self.now.waves }
-    {
-        self.waves.len()
-    }
-
-    /// How many traces there are.
-    pub fn trace_count(&self) -> usize
-        ensures { result ≡ length self.now.traces }
-    {
-        self.traces.len()
+        self.traces.get(key)
     }
 
     /// The last moment of the run, in time units.
@@ -88,5 +74,52 @@ impl Run {
         ensures { result ≡ self.now.horizon }
     {
         self.horizon
+    }
+
+    /// Puts a wave under a net's key. It fails where memory runs out, and then each key has what it had.
+    pub fn put_wave(&mut self, key: usize, wave: Wave) -> Result<(), AllocError>
+        ensures ok { OnOk result (IsChangedAt key (Some wave) self.old.waves self.new.waves) }
+        ensures err { OnErr result (IsUnchanged self.old.waves self.new.waves) }
+        ensures traces { self.new.traces ≡ self.old.traces }
+        ensures horizon { self.new.horizon ≡ self.old.horizon }
+    {
+        self.waves.put(key, wave)
+    }
+
+    /// Puts a trace under a gate's key. It fails where memory runs out, and then each key has what it had.
+    pub fn put_trace(&mut self, key: usize, trace: Trace) -> Result<(), AllocError>
+        ensures ok { OnOk result (IsChangedAt key (Some trace) self.old.traces self.new.traces) }
+        ensures err { OnErr result (IsUnchanged self.old.traces self.new.traces) }
+        ensures waves { self.new.waves ≡ self.old.waves }
+        ensures horizon { self.new.horizon ≡ self.old.horizon }
+    {
+        self.traces.put(key, trace)
+    }
+
+    /// Takes the wave under a net's key away. It fails where memory runs out, and then each key has what it had.
+    pub fn clear_wave(&mut self, key: usize) -> Result<(), AllocError>
+        ensures ok { OnOk result (IsChangedAt key None self.old.waves self.new.waves) }
+        ensures err { OnErr result (IsUnchanged self.old.waves self.new.waves) }
+        ensures traces { self.new.traces ≡ self.old.traces }
+        ensures horizon { self.new.horizon ≡ self.old.horizon }
+    {
+        self.waves.clear(key)
+    }
+
+    /// Takes the trace under a gate's key away. It fails where memory runs out, and then each key has what it had.
+    pub fn clear_trace(&mut self, key: usize) -> Result<(), AllocError>
+        ensures ok { OnOk result (IsChangedAt key None self.old.traces self.new.traces) }
+        ensures err { OnErr result (IsUnchanged self.old.traces self.new.traces) }
+        ensures waves { self.new.waves ≡ self.old.waves }
+        ensures horizon { self.new.horizon ≡ self.old.horizon }
+    {
+        self.traces.clear(key)
+    }
+
+    /// Gives the run another last moment, in time units. Its waves and traces stay as they are.
+    pub fn set_horizon(&mut self, horizon: u64)
+        ensures { self.new ≡ record self.old { horizon = horizon } }
+    {
+        self.horizon = horizon;
     }
 }

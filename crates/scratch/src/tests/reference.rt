@@ -3,7 +3,7 @@
 ghost use Rattle.std.specs.Prelude.{◌<◌};
 
 use super::build::{empty, gate, input, net, point};
-use crate::{plain, simulate};
+use crate::{plain, simulate, wave_named};
 use design::Design;
 use fourstate::{GateKind, NetKind, Value};
 use gatestep::Serial;
@@ -87,10 +87,11 @@ fn random_design(rt: &impl Abort, alloc: Global, seed: u64) -> Design {
 }
 
 /// The values at a moment are those of the run's waves.
-fn check_row(rt: &impl Abort, run: &Run, row: &[Value], t: u64, seed: u64) {
-    for (place, value) in row.iter().enumerate() {
-        let wave = run.wave(place).expect(rt, "a wave for each net");
-        assert_eq!(rt; wave.at(t), *value, "net {place} at {t} of seed {seed}");
+fn check_row(rt: &impl Abort, design: &Design, run: &Run, row: &[Value], t: u64, seed: u64) {
+    assert_eq!(rt; row.len(), NAMES.len());
+    for (name, value) in NAMES.iter().zip(row) {
+        let wave = wave_named(design, run, name).expect(rt, "a wave for each net");
+        assert_eq!(rt; wave.at(t), *value, "net {name} at {t} of seed {seed}");
     }
 }
 
@@ -99,8 +100,7 @@ fn check_design(rt: &impl Abort, alloc: Global, design: &Design, seed: u64) {
     let rows = plain::values(alloc, design, &mut Serial::new()).expect(rt, "the values");
     assert_eq!(rt; rows.len(), 61);
     for (t, row) in rows.iter().enumerate() {
-        assert_eq!(rt; row.len(), design.net_count());
-        check_row(rt, &run, row, t as u64, seed);
+        check_row(rt, design, &run, row, t as u64, seed);
     }
     drop(rows);
     drop(run);

@@ -1,7 +1,7 @@
 //! Runs of small designs, net by net, worked out by hand.
 
 use super::build::{Plan, build, empty, gate, net, stimulated};
-use crate::simulate;
+use crate::{simulate, wave_named};
 use design::Design;
 use fourstate::Value::{HighZ, One, Unknown, Zero};
 use fourstate::{GateKind, NetKind, Value};
@@ -10,7 +10,7 @@ use std::alloc::Global;
 use std::process::Abort;
 use waveform::{Change, Wave};
 
-fn check_wave(rt: &impl Abort, wave: &Wave, wanted: &[(u64, Value)]) {
+pub fn check_wave(rt: &impl Abort, wave: &Wave, wanted: &[(u64, Value)]) {
     let changes = wave.changes();
     assert_eq!(rt; changes.len(), wanted.len());
     for (change, wanted) in changes.iter().zip(wanted) {
@@ -29,12 +29,10 @@ type Named<'a> = (&'a str, &'a [(u64, Value)]);
 /// The waves of the named nets are these.
 fn check(rt: &impl Abort, alloc: Global, design: &Design, wanted: &[Named<'_>]) {
     let run = simulate(alloc, design, &mut Serial::new()).expect(rt, "a run");
-    assert_eq!(rt; run.wave_count(), design.net_count());
-    assert_eq!(rt; run.trace_count(), design.gate_count());
     assert_eq!(rt; run.horizon(), design.horizon());
-    for (name, wave) in wanted {
-        let place = design.net_place(name).expect(rt, "a net of this name");
-        check_wave(rt, run.wave(place).expect(rt, "its wave"), wave);
+    for (name, changes) in wanted {
+        let wave = wave_named(design, &run, name).expect(rt, "a net of this name");
+        check_wave(rt, wave, changes);
     }
     drop(run);
 }

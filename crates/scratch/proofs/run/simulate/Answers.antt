@@ -1,14 +1,16 @@
-use Rattle.std.proofs.Common.{◌≡◌, ◌≤◌, ◌+◌, ◌++◌, ◌∙◌, ap, map, subst, suc, [], ◌∷◌, Result, Ok, Err, OnErr, add-one, refl, arith}
+use Rattle.std.proofs.Common.{◌≡◌, ◌≤◌, ◌+◌, ◌++◌, ◌∙◌, ap, map, subst, suc, [], ◌∷◌, Result, Ok, Err, OnErr, add-one, arith}
 use Rattle.std.proofs.lemmas.Grind.{common_steps}
 use Rattle.fourstate.specs.Values.{same_value}
 use Rattle.gatestep.specs.Step.{due}
 use Rattle.waveform.specs.Changes.{wave_changes_below, trace_below}
 use Rattle.waveform.specs.Entries.{same_state, standing}
+use Rattle.catalog.specs.Catalog.{keys_of}
 use Rattle.design.specs.Keys.{netlist}
-use Rattle.scratch.specs.Recordings.{pushed_each}
-use Rattle.scratch.specs.Run.{state_after, value}
+use Rattle.scratch.specs.Recordings.{AreUnder, pushed_each}
+use Rattle.scratch.specs.Run.{state_after, trace_of, value, wave_of}
 use Rattle.scratch.specs.Work.{work_below}
 use Rattle.scratch.proofs.Asked.{more, nothing, part}
+use Rattle.scratch.proofs.Keyed.{traces_under, waves_under}
 use Rattle.scratch.proofs.Moments.{map_twice}
 use Rattle.scratch.proofs.Runs.{storable, traces_early, traces_more, waves_early, waves_more}
 use Rattle.scratch.proofs.run.simulate.Goals as goal
@@ -69,8 +71,19 @@ loop-t-preserved g c =
 
 pub returns-clause-run : goal.returns-clause-run
 returns-clause-run g c =
-    let at_end : c.loop-t.t ≡ suc (netlist c.args.design.now).horizon = grind (arith, common_steps) in
-    rw (c.in_ok-finish.ensures, c.loop-t.invariant.waves, c.loop-t.invariant.traces, at_end, c.horizon-horizon.ensures.horizon) refl
+    let design = c.args.design.now in
+    let d = netlist design in
+    let answer = g.S.Stepper.answer in
+    let at_end : c.loop-t.t ≡ suc d.horizon = grind (arith, common_steps) in
+    let waves : c.loop-t.recording.waves.items ≡ map (wave_of answer d) d.nets =
+    c.loop-t.invariant.waves ∙ ap (λ n. map (λ net. wave_changes_below (value answer d net) n) d.nets) at_end in
+    let traces : c.loop-t.recording.traces.items ≡ map (trace_of answer d) d.gates =
+    c.loop-t.invariant.traces ∙ ap (λ n. map (λ gate. trace_below (state_after answer d gate) n) d.gates) at_end in
+    record {
+      waves = waves_under answer design c.in_ok-finish.field-0.waves (subst (λ lines. AreUnder (keys_of design.nets) lines c.in_ok-finish.field-0.waves) waves c.in_ok-finish.ensures.waves);
+      traces = traces_under answer design c.in_ok-finish.field-0.traces (subst (λ lines. AreUnder (keys_of design.gates) lines c.in_ok-finish.field-0.traces) traces c.in_ok-finish.ensures.traces);
+      horizon = c.in_ok-finish.ensures.horizon;
+    }
 
 pub returns-in_err-pass-clause-part : goal.returns-in_err-pass-clause-part
 returns-in_err-pass-clause-part g c =

@@ -1,4 +1,4 @@
-use Rattle.std.proofs.Common.{◌≡◌, ◌<◌, Some, slice_get, length, is_some, refl, ap, ◌∙◌, arith}
+use Rattle.std.proofs.Common.{◌<◌, length, is_some, refl, ap, ◌∙◌, arith}
 use Rattle.std.proofs.lemmas.List.{map-append}
 use Rattle.design.specs.Keys.{netlist}
 use Rattle.scratch.proofs.Lists.{some_at, take_next}
