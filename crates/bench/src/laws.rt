@@ -16,8 +16,9 @@ pub fn no_commits()
 
 /// The design after one commit more is that commit on the design before it.
 pub fn one_commit_more()
-    ensures step { (d : Netlist) (log : List (List declared.Edit)) (edits : List declared.Edit) → after d (log ++ edits ∷ []) ≡ committed (after d log) edits }
-    ensures accepted { (d new : Netlist) (log : List (List declared.Edit)) (edits : List declared.Edit) → (version : ℕ)
+    ensures step { (d : Netlist) (log : List (List declared.Edit)) (edits : List declared.Edit)
+        → after d (log ++ edits ∷ []) ≡ committed (after d log) edits }
+    ensures accepted { (d new : Netlist) (log : List (List declared.Edit)) (edits : List declared.Edit) (version : ℕ)
         → commit_of version (after d log) edits ≡ Ok new → after d (log ++ edits ∷ []) ≡ new }
 {}
 
@@ -28,7 +29,8 @@ pub fn last_version()
 
 /// The fault of a refused commit is never that memory ran out.
 pub fn faults_of_commits()
-    ensures { (version : ℕ) (d : Netlist) (edits : List declared.Edit) → IfErr (commit_of version d edits) (λ refused. refused.1 ≢ EditFault.OutOfMemory) }
+    ensures { (version : ℕ) (d : Netlist) (edits : List declared.Edit)
+        → IfErr (commit_of version d edits) (λ refused. refused.1 ≢ EditFault.OutOfMemory) }
 {
     limits_of_edits();
 }
