@@ -1,0 +1,3 @@
+pub mod CodeLemmas
+mod Rows
+pub mod Ways

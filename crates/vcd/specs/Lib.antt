@@ -1,0 +1,4 @@
+pub mod Codes
+pub mod Changes
+pub mod Head
+pub mod Scopes
