@@ -1,3 +1,5 @@
 pub mod CodeLemmas
+pub mod ListLemmas
 mod Rows
+pub mod ScopeLemmas
 pub mod Ways

@@ -21,3 +21,9 @@ pub arrived : (old now then : Outgoing) (left all : List ℕ) → IsOnWay old no
 arrived old now then left all way adds =
     let whole : then.text ≡ old.text ++ all = ap (λ w. w.text) adds ∙ way.text in
     cc (way.same, adds)
+
+-- two pieces
+pub both : (a b c : Outgoing) (x y : List ℕ) → Adds a b x → Adds b c y → Adds a c (x ++ y)
+both a b c x y first second =
+    let texts : c.text ≡ a.text ++ (x ++ y) = ap (λ w. w.text) second ∙ (ap (λ t. t ++ y) (ap (λ w. w.text) first) ∙ append_assoc a.text x y) in
+    cc (first, second)

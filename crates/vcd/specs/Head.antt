@@ -8,7 +8,7 @@ use Rattle.fourstate.specs.declared.unit.TimeUnit.{TimeUnit}
 use Rattle.fourstate.specs.Keywords.{net_keyword}
 use Rattle.design.specs.Netlist.{NetEntry, Netlist}
 use Rattle.vcd.specs.Codes.{code_of}
-use Rattle.vcd.specs.Scopes.{scopes_of, reference_of, open_line, close_line, close_lines, turn_lines}
+use Rattle.vcd.specs.Scopes.{scopes_of, reference_of, open_line, close_line, close_lines, scope_lines}
 
 abbrev pub magnitude_text : Magnitude → List ℕ
 magnitude_text One = codes "1"
@@ -36,7 +36,7 @@ var_line n net =
 abbrev pub var_lines : ℕ → List (List ℕ) → List NetEntry → List ℕ
 var_lines n scopes [] = close_lines scopes
 var_lines n scopes (net ∷ nets) =
-    turn_lines scopes (scopes_of net.name) ++ var_line n net ++ var_lines (suc n) (scopes_of net.name) nets
+    scope_lines scopes (scopes_of net.name) ++ var_line n net ++ var_lines (suc n) (scopes_of net.name) nets
 
 abbrev pub head_lines : Netlist → List ℕ
 head_lines d =

@@ -43,7 +43,7 @@ close_lines scopes = flat_map (λ scope. close_line) scopes
 
 -- from some scopes to others: those that they share stay open; of the rest the first ones are closed, from the innermost,
 -- and the other ones opened
-abbrev pub turn_lines : List (List ℕ) → List (List ℕ) → List ℕ
-turn_lines (from ∷ froms) (to ∷ tos) =
-    if same_name from to then turn_lines froms tos else close_lines (from ∷ froms) ++ open_lines (to ∷ tos)
-turn_lines froms tos = close_lines froms ++ open_lines tos
+abbrev pub scope_lines : List (List ℕ) → List (List ℕ) → List ℕ
+scope_lines (from ∷ froms) (to ∷ tos) =
+    if same_name from to then scope_lines froms tos else close_lines (from ∷ froms) ++ open_lines (to ∷ tos)
+scope_lines froms tos = close_lines froms ++ open_lines tos

@@ -1,7 +1,13 @@
-//! Dumps of runs for viewers (IEEE 1364-2005, 18): the header, and the changes of all nets, moment by moment. Nothing here
+//! Dumps of runs for viewers (IEEE 1364-2005, 18): the head, and the changes of all nets, moment by moment. Nothing here
 //! takes memory.
 #![tactic(auto)]
 
 mod codes;
+mod head;
+mod lines;
+mod scopes;
+mod upcoming;
+mod waves;
 
 pub use codes::code;
+pub use scopes::change_scopes;
