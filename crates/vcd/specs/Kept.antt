@@ -2,6 +2,7 @@
 use Rattle.std.specs.Prelude.{◌≡◌, ◌<◌, ◌≤◌, ◌+◌, ◌*◌, ◌/◌, ℕ, zero, suc, true, false, nat_lt, if◌then◌else◌, List, [], ◌++◌, length, slice_index}
 use Rattle.std.specs.List.{slice_index_or}
 use Rattle.fourstate.specs.declared.value.Value.{Value}
+use Rattle.devices.specs.Outgoing.{Adds, Outgoing}
 use Rattle.vcd.specs.declared.upcoming.TheConstants.{NEVER, NETS_IN_BLOCK}
 use Rattle.vcd.specs.declared.upcoming.Upcoming.{Upcoming}
 use Rattle.vcd.specs.Changes.{change_line, changes_at, some_changes_at}
@@ -30,3 +31,13 @@ pub record IsAhead (waves : List (List (ℕ × Value))) (t passed : ℕ) (upcomi
   pub later : (block : ℕ) → block * NETS_IN_BLOCK < length waves → since t passed block ≤ slice_index upcoming.least block
   pub change : (block : ℕ) → block * NETS_IN_BLOCK < length waves → slice_index upcoming.least block < NEVER →
       some_changes_at waves (slice_index upcoming.least block) ≡ true
+
+-- of the nets from net `first` on the first n are past the moment t, and none of the others was touched
+pub record IsPassing (waves : List (List (ℕ × Value))) (first t n : ℕ) (before times : List ℕ) (least : ℕ) (old now : Outgoing) : Type 0 where
+  pub passed : (k : ℕ) → k < n → IsNext (wave_in waves (first + k)) (t + 1) (slice_index times (first + k))
+  pub under : (k : ℕ) → k < first → slice_index times k ≡ slice_index before k
+  pub over : (k : ℕ) → first + n ≤ k → slice_index times k ≡ slice_index before k
+  pub below : (k : ℕ) → k < n → least ≤ slice_index times (first + k)
+  pub later : t + 1 ≤ least
+  pub change : least < NEVER → some_changes_at waves least ≡ true
+  pub text : Adds old now (lines_from waves t first n)

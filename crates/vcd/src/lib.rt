@@ -5,6 +5,7 @@
 mod codes;
 mod head;
 mod lines;
+mod moments;
 mod scopes;
 mod upcoming;
 mod waves;

@@ -79,9 +79,11 @@ impl<'a> Waves<'a> {
 
     /// The law of waves; nothing runs.
     pub(crate) fn lawful(&self)
-        ensures { (k : ℕ) → k < length self.now.waves → IsTimeline same_value standing (wave_in self.now.waves k) }
+        ensures timelines { (k : ℕ) → k < length self.now.waves → IsTimeline same_value standing (wave_in self.now.waves k) }
+        ensures few { length self.now.waves ≤ MAX_NETS }
+        ensures horizon { self.now.horizon ≤ MAX_TIME }
     {
         laws::timeline_of_changes::<Value>();
-        let _run = self.run;
+        self.design.lawful();
     }
 }

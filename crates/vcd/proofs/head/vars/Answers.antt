@@ -10,5 +10,5 @@ loop-n-init g c = record { same = refl; text = refl }
 
 pub loop-n-preserved : goal.loop-n-preserved
 loop-n-preserved g c =
-    let named = c.as_bytes-name.ensures.value in
-    ?
+    rw (c.as_bytes-name.ensures.value, c.as_str.ensures, c.name.ensures, add-one)
+    (on _ _ _ _ _ _ (rw (drop_at _ c.loop-n.n c.net_at-net.result.now c.net_at-net.ensures) at c.loop-n.invariant) c.net_lines.ensures)
