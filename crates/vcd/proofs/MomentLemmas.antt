@@ -78,3 +78,26 @@ lines_to waves last t u upcoming ahead less within each change =
 pub is_later : (waves : List (List (ℕ × Value))) (t : ℕ) (upcoming : Upcoming) → IsAhead waves t 0 upcoming → (block : ℕ) → block * 256 < length waves →
     t ≤ slice_index upcoming.least block
 is_later waves t upcoming ahead block inside = rw (since_left t 0 block (omega arith)) at (ahead.later block inside)
+
+-- the tables at the next moment that is written
+pub ahead_later : (waves : List (List (ℕ × Value))) (t u : ℕ) (upcoming : Upcoming) → IsAhead waves t 0 upcoming → t ≤ u →
+    ((block : ℕ) → block * 256 < length waves → u ≤ slice_index upcoming.least block) → IsAhead waves u 0 upcoming
+ahead_later waves t u upcoming ahead le each = record {
+  next = λ k below.
+  let next : IsNext (wave_in waves k) t (slice_index upcoming.times k) = rw (since_left t 0 (k / 256) (omega arith)) at (ahead.next k below) in
+  let least : slice_index upcoming.least (k / 256) ≤ slice_index upcoming.times k = ahead.least k below in
+  let first : u ≤ slice_index upcoming.least (k / 256) = each (k / 256) (omega arith) in
+  rw (since_left u 0 (k / 256) (omega arith))
+  (record {
+    later = omega arith;
+    none = λ s from to. next.none s (omega arith) to;
+    change = next.change;
+  });
+  least = ahead.least;
+  later = λ block inside. rw (since_left u 0 block (omega arith)) (each block inside);
+  change = ahead.change;
+}
+
+-- the lines of moment 0
+pub first_lines : (waves : List (List (ℕ × Value))) (last : ℕ) → lines_below waves last 1 ≡ moment_lines waves last 0
+first_lines waves last = append-nil (moment_lines waves last 0)

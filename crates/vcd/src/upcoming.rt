@@ -141,6 +141,7 @@ impl Upcoming {
             some_changes_at waves.now.waves (slice_index self.now.least block) ≡ true }
         ensures within { result ≤ last }
         ensures each { (block : ℕ) → block * NETS_IN_BLOCK < length waves.now.waves → result ≤ slice_index self.now.least block }
+        ensures no_earlier { (t : ℕ) → t ≤ last → ((block : ℕ) → block * NETS_IN_BLOCK < length waves.now.waves → t ≤ slice_index self.now.least block) → t ≤ result }
         ensures change { result < last → some_changes_at waves.now.waves result ≡ true }
     {
         let mut first = last;
