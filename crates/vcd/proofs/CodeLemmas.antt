@@ -1,8 +1,7 @@
 -- Identifier codes, byte by byte.
-use Rattle.std.proofs.Common.{◌≡◌, ◌<◌, ◌≤◌, ℕ, zero, suc, ◌+◌, ◌-◌, ◌/◌, ◌%◌, Bool, true, false, refl, ap, ◌∙◌, List, [], ◌∷◌, ◌++◌, arith}
+use Rattle.std.proofs.Common.{◌≡◌, ◌<◌, ◌≤◌, ℕ, zero, suc, ◌+◌, ◌-◌, ◌/◌, ◌%◌, true, false, refl, ap, [], ◌∷◌, ◌++◌, arith}
 use Rattle.std.specs.Prelude.{nat_lt}
 use Rattle.std.proofs.lemmas.Bool.{ltb-false, lt-ltb, le-ltb}
-use Rattle.devices.specs.Outgoing.{Outgoing, Adds}
 use Rattle.vcd.specs.Codes.{code_of, code_within}
 
 -- any two bounds above n give the same code
@@ -13,10 +12,10 @@ same_within (suc f) (suc g) n a b =
     elim (nat_lt n 94) as
     (λ t. (nat_lt n 94 ≡ t) → ((33 + n % 94) ∷ elim t [ true ↦ [] | false ↦ code_within f (n / 94 - 1) ]) ≡
     ((33 + n % 94) ∷ elim t [ true ↦ [] | false ↦ code_within g (n / 94 - 1) ])) [
-        true ↦ λ e. refl
-        | false ↦ λ e.
-        let least : 94 ≤ n = ltb-false n 94 e in
-        ap (λ l. (33 + n % 94) ∷ l) (same_within f g (n / 94 - 1) (omega arith) (omega arith))
+      | true ↦ λ e. refl
+      | false ↦ λ e.
+          let least : 94 ≤ n = ltb-false n 94 e in
+          ap (λ l. (33 + n % 94) ∷ l) (same_within f g (n / 94 - 1) (omega arith) (omega arith))
     ] refl
 
 -- a code of more than one byte

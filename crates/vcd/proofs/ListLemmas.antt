@@ -1,5 +1,5 @@
 -- Lists.
-use Rattle.std.proofs.Common.{◌≡◌, ◌<◌, ℕ, zero, suc, ◌+◌, refl, List, [], ◌∷◌, length, map, drop, Option, Some, None, slice_get, arith}
+use Rattle.std.proofs.Common.{◌≡◌, ◌<◌, ℕ, zero, suc, List, [], ◌∷◌, length, map, drop, Some, slice_get, arith}
 use Rattle.std.specs.List.{slice_index_or}
 
 -- the list from a place on

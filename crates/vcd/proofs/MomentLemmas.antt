@@ -1,14 +1,13 @@
 -- The lines of moments, one after another.
-use Rattle.std.proofs.Common.{◌≡◌, ◌≢◌, ◌<◌, ◌≤◌, ℕ, zero, suc, ◌+◌, ◌/◌, ◌*◌, Bool, true, false, cond, refl, ap, sym, ◌∙◌, List, [], ◌∷◌, ◌++◌, length, append-nil, arith}
+use Rattle.std.proofs.Common.{◌≡◌, ◌≢◌, ◌<◌, ◌≤◌, ℕ, zero, suc, ◌+◌, ◌/◌, ◌*◌, true, false, refl, ap, ◌∙◌, List, [], ◌∷◌, ◌++◌, length, append-nil, arith}
 use Rattle.std.specs.Prelude.{◌==◌, ◌||◌, nat_lt, slice_index}
-use Rattle.std.specs.List.{flat_map}
 use Rattle.std.proofs.lemmas.Bool.{eqb-false, ltb-true, ltb-false}
 use Rattle.std.proofs.lemmas.Grind.{common_steps, flat_map-append}
 use Rattle.fourstate.specs.declared.value.Value.{Value}
 use Rattle.waveform.specs.Timelines.{moments}
-use Rattle.vcd.specs.Changes.{change_lines, changes_at, lines_below, moment_lines, some_changes_at, time_line}
+use Rattle.vcd.specs.Changes.{change_lines, lines_below, moment_lines, some_changes_at, time_line}
 use Rattle.vcd.specs.declared.upcoming.Upcoming.{Upcoming}
-use Rattle.vcd.specs.Kept.{IsAhead, IsNext, since}
+use Rattle.vcd.specs.Kept.{IsAhead, IsNext}
 use Rattle.vcd.specs.Waves.{wave_in}
 use Rattle.vcd.proofs.UpcomingLemmas.{since_left}
 use Rattle.vcd.proofs.WaveLemmas.{no_change}
@@ -36,15 +35,15 @@ skipped : (waves : List (List (ℕ × Value))) (last t n : ℕ) → 0 < t → t 
 skipped waves last t zero after le end none = absurd (omega arith)
 skipped waves last t (suc n) after le end none =
     elim (nat_lt n t) as (λ b. nat_lt n t ≡ b → lines_below waves last (suc n) ≡ lines_below waves last t) [
-        true ↦ λ is.
-        let less : n < t = ltb-true n t is in
-        let same : suc n ≡ t = omega arith in
-        ap (λ m. lines_below waves last m) same
-        | false ↦ λ is.
-        let least : t ≤ n = ltb-false n t is in
-        let here : moment_lines waves last n ≡ [] = moment_none waves last n (omega arith) (omega arith) (none n least (omega arith)) in
-        below_suc waves last n ∙ (ap (λ lines. lines_below waves last n ++ lines) here ∙ (append-nil (lines_below waves last n) ∙
-        skipped waves last t n after least (omega arith) (λ s from to. none s from (omega arith))))
+      | true ↦ λ is.
+          let less : n < t = ltb-true n t is in
+          let same : suc n ≡ t = omega arith in
+          ap (λ m. lines_below waves last m) same
+      | false ↦ λ is.
+          let least : t ≤ n = ltb-false n t is in
+          let here : moment_lines waves last n ≡ [] = moment_none waves last n (omega arith) (omega arith) (none n least (omega arith)) in
+          below_suc waves last n ∙ (ap (λ lines. lines_below waves last n ++ lines) here ∙ (append-nil (lines_below waves last n) ∙
+          skipped waves last t n after least (omega arith) (λ s from to. none s from (omega arith))))
     ] refl
 
 none_between : (waves : List (List (ℕ × Value))) (t u s : ℕ) (upcoming : Upcoming) → IsAhead waves t 0 upcoming →
@@ -60,8 +59,8 @@ none_between waves t u s upcoming ahead each from to =
 is_written : (waves : List (List (ℕ × Value))) (last u : ℕ) → u ≤ last → (u < last → some_changes_at waves u ≡ true) → (u == last || some_changes_at waves u) ≡ true
 is_written waves last u within change =
     elim (u == last) as (λ b. (u == last) ≡ b → (b || some_changes_at waves u) ≡ true) [
-        true ↦ λ is. refl
-        | false ↦ λ is. let other : u ≢ last = eqb-false u last is in change (omega arith)
+      | true ↦ λ is. refl
+      | false ↦ λ is. let other : u ≢ last = eqb-false u last is in change (omega arith)
     ] refl
 
 -- the next moment that is written
@@ -70,7 +69,7 @@ pub lines_to : (waves : List (List (ℕ × Value))) (last t u : ℕ) (upcoming :
     lines_below waves last (suc u) ≡ lines_below waves last (suc t) ++ (time_line u ++ change_lines waves u)
 lines_to waves last t u upcoming ahead less within each change =
     let empty : lines_below waves last u ≡ lines_below waves last (suc t) =
-        skipped waves last (suc t) u (omega arith) (omega arith) within (λ s from to. none_between waves (t + 1) u s upcoming ahead each (omega arith) to) in
+    skipped waves last (suc t) u (omega arith) (omega arith) within (λ s from to. none_between waves (t + 1) u s upcoming ahead each (omega arith) to) in
     let here : moment_lines waves last u ≡ time_line u ++ change_lines waves u = moment_some waves last u (omega arith) (is_written waves last u within change) in
     below_suc waves last u ∙ (ap (λ lines. lines ++ moment_lines waves last u) empty ∙ ap (λ lines. lines_below waves last (suc t) ++ lines) here)
 
@@ -84,15 +83,15 @@ pub ahead_later : (waves : List (List (ℕ × Value))) (t u : ℕ) (upcoming : U
     ((block : ℕ) → block * 256 < length waves → u ≤ slice_index upcoming.least block) → IsAhead waves u 0 upcoming
 ahead_later waves t u upcoming ahead le each = record {
   next = λ k below.
-  let next : IsNext (wave_in waves k) t (slice_index upcoming.times k) = rw (since_left t 0 (k / 256) (omega arith)) at (ahead.next k below) in
-  let least : slice_index upcoming.least (k / 256) ≤ slice_index upcoming.times k = ahead.least k below in
-  let first : u ≤ slice_index upcoming.least (k / 256) = each (k / 256) (omega arith) in
-  rw (since_left u 0 (k / 256) (omega arith))
-  (record {
-    later = omega arith;
-    none = λ s from to. next.none s (omega arith) to;
-    change = next.change;
-  });
+      let next : IsNext (wave_in waves k) t (slice_index upcoming.times k) = rw (since_left t 0 (k / 256) (omega arith)) at (ahead.next k below) in
+      let least : slice_index upcoming.least (k / 256) ≤ slice_index upcoming.times k = ahead.least k below in
+      let first : u ≤ slice_index upcoming.least (k / 256) = each (k / 256) (omega arith) in
+      rw (since_left u 0 (k / 256) (omega arith))
+      (record {
+        later = omega arith;
+        none = λ s from to. next.none s (omega arith) to;
+        change = next.change;
+      });
   least = ahead.least;
   later = λ block inside. rw (since_left u 0 block (omega arith)) (each block inside);
   change = ahead.change;

@@ -1,10 +1,10 @@
 -- The definition at texts that were written by hand.
-use Rattle.std.proofs.Common.{◌≡◌, ℕ, true, false, refl, List, [], ◌∷◌, ◌++◌}
+use Rattle.std.proofs.Common.{◌≡◌, ℕ, false, refl, List, [], ◌∷◌}
 use Rattle.std.specs.Prelude.{codes}
 use Rattle.std.specs.Fmt.{digits}
-use Rattle.fourstate.specs.declared.net.NetKind.TheVariants.{Wire, Wand}
-use Rattle.fourstate.specs.declared.unit.Magnitude.TheVariants.{One, Hundred}
-use Rattle.fourstate.specs.declared.unit.Unit.TheVariants.{Nanosecond, Femtosecond}
+use Rattle.fourstate.specs.declared.net.NetKind.TheVariants.{Wire}
+use Rattle.fourstate.specs.declared.unit.Magnitude.TheVariants.{One}
+use Rattle.fourstate.specs.declared.unit.Unit.TheVariants.{Nanosecond}
 use Rattle.fourstate.specs.declared.value.Value.{Value}
 use Rattle.fourstate.specs.declared.value.Value.TheVariants as value
 use Rattle.design.specs.Netlist.{NetEntry, Netlist}

@@ -1,5 +1,5 @@
 -- Names, scope by scope.
-use Rattle.std.proofs.Common.{◌≡◌, ◌<◌, ◌≤◌, ℕ, zero, suc, ◌+◌, Bool, true, false, cond, refl, ap, sym, ◌∙◌, List, [], ◌∷◌, ◌++◌, length, take, drop, get_or, append_assoc, append-nil, add-one, Option, Some, None, arith}
+use Rattle.std.proofs.Common.{◌≡◌, ◌<◌, ◌≤◌, ℕ, zero, suc, Bool, true, false, cond, refl, ap, ◌∙◌, List, [], ◌∷◌, ◌++◌, length, take, drop, get_or, append_assoc, append-nil, Some, None, arith}
 use Rattle.std.specs.Prelude.{◌==◌, not, nat_lt, position}
 use Rattle.std.specs.List.{position_or_len}
 use Rattle.std.proofs.lemmas.Bool.{ltb-false}
@@ -32,8 +32,8 @@ scopes_in-after scope part (x ∷ xs) =
     elim (x == 46) as
     (λ t. scopes_in (scope ∷ cond t (part ∷ parts_after [] xs) (parts_after (part ++ x ∷ []) xs)) ≡
     scope ∷ scopes_in (cond t (part ∷ parts_after [] xs) (parts_after (part ++ x ∷ []) xs))) [
-        true ↦ refl
-        | false ↦ scopes_in-after scope (part ++ x ∷ []) xs
+      | true ↦ refl
+      | false ↦ scopes_in-after scope (part ++ x ∷ []) xs
     ]
 
 last_in-after : (scope part xs : List ℕ) → last_in (scope ∷ parts_after part xs) ≡ last_in (parts_after part xs)
@@ -42,14 +42,14 @@ last_in-after scope part (x ∷ xs) =
     elim (x == 46) as
     (λ t. last_in (scope ∷ cond t (part ∷ parts_after [] xs) (parts_after (part ++ x ∷ []) xs)) ≡
     last_in (cond t (part ∷ parts_after [] xs) (parts_after (part ++ x ∷ []) xs))) [
-        true ↦ refl
-        | false ↦ last_in-after scope (part ++ x ∷ []) xs
+      | true ↦ refl
+      | false ↦ last_in-after scope (part ++ x ∷ []) xs
     ]
 
 parts_by : (name : List ℕ) (i : ℕ) → position (λ byte. byte == 46) name ≡ Some i → parts_after [] name ≡ take i name ∷ parts_after [] (drop (suc i) name)
 parts_by name i at =
     let found : (i < length name) × ((get_or name i 0 == 46) ≡ true) × ((k : ℕ) → k < i → (get_or name k 0 == 46) ≡ false) =
-        position-Some (λ byte. byte == 46) name i 0 at in
+    position-Some (λ byte. byte == 46) name i 0 at in
     parts_at [] name i found.0 found.1 found.2
 
 -- a name with a dot

@@ -1,5 +1,5 @@
 -- Tables of the changes to come.
-use Rattle.std.proofs.Common.{◌≡◌, ◌≢◌, ◌<◌, ◌≤◌, ℕ, zero, suc, ◌+◌, Bool, true, false, refl, ap, sym, subst, ◌∙◌, List, [], ◌∷◌, ◌++◌, length, get_or, get_or-set_other, get_or-set_same, below_more, append-nil, append_assoc, add-one, add-zero, add-suc, zero-add, ◌-◌, ◌*◌, ◌/◌, arith}
+use Rattle.std.proofs.Common.{◌≡◌, ◌≢◌, ◌<◌, ◌≤◌, ℕ, zero, suc, ◌+◌, true, false, refl, ap, sym, subst, ◌∙◌, List, [], ◌∷◌, ◌++◌, length, get_or-set_other, get_or-set_same, below_more, append-nil, append_assoc, add-one, add-zero, add-suc, zero-add, ◌-◌, ◌*◌, ◌/◌, arith}
 use Rattle.std.specs.Prelude.{◌==◌, min, nat_lt, slice_index, slice_set}
 use Rattle.std.specs.List.{enumerate_from, flat_map}
 use Rattle.std.proofs.lemmas.List.{get_or-replicate}
@@ -22,8 +22,8 @@ use Rattle.vcd.proofs.Ways.{both}
 pub of_lesser : (P : ℕ → Type 0) (a b : ℕ) → P a → P b → P (min a b)
 of_lesser P a b first second =
     elim (nat_lt a b) as (λ t. nat_lt a b ≡ t → P (min a b)) [
-        true ↦ λ is. let less : a < b = ltb-true a b is in let e : min a b ≡ a = omega arith in subst P (sym e) first
-        | false ↦ λ is. let least : b ≤ a = ltb-false a b is in let e : min a b ≡ b = omega arith in subst P (sym e) second
+      | true ↦ λ is. let less : a < b = ltb-true a b is in let e : min a b ≡ a = omega arith in subst P (sym e) first
+      | false ↦ λ is. let least : b ≤ a = ltb-false a b is in let e : min a b ≡ b = omega arith in subst P (sym e) second
     ] refl
 
 -- the next net is past the moment
@@ -33,21 +33,21 @@ pub passed_more : (waves : List (List (ℕ × Value))) (first t i : ℕ) (before
     IsPassing waves first t (i + 1) before (slice_set times (first + i) next) (min least next) old then
 passed_more waves first t i before times least next old now then passing inside below is adds = record {
   passed =
-    below_more _ _
-    (λ k h. let other : first + k ≢ first + i = omega arith in rw get_or-set_other (passing.passed k h))
-    (rw get_or-set_same is);
+      below_more _ _
+      (λ k h. let other : first + k ≢ first + i = omega arith in rw get_or-set_other (passing.passed k h))
+      (rw get_or-set_same is);
   under = λ k h. let other : k ≢ first + i = omega arith in rw get_or-set_other (passing.under k h);
   over = λ k h. let other : k ≢ first + i = omega arith in rw get_or-set_other (passing.over k (omega arith));
   below =
-    below_more _ _
-    (λ k h.
-    let other : first + k ≢ first + i = omega arith in
-    rw get_or-set_other (let le : least ≤ slice_index times (first + k) = passing.below k h in omega arith))
-    (rw get_or-set_same (omega arith));
+      below_more _ _
+      (λ k h.
+      let other : first + k ≢ first + i = omega arith in
+      rw get_or-set_other (let le : least ≤ slice_index times (first + k) = passing.below k h in omega arith))
+      (rw get_or-set_same (omega arith));
   later = let a : t + 1 ≤ least = passing.later in let b : t + 1 ≤ next = is.later in omega arith;
   change =
-    of_lesser (λ s. s < NEVER → some_changes_at waves s ≡ true) least next passing.change
-    (λ moment. some_change waves (first + i) next below (is.change moment));
+      of_lesser (λ s. s < NEVER → some_changes_at waves s ≡ true) least next passing.change
+      (λ moment. some_change waves (first + i) next below (is.change moment));
   text = rw add-one (both old now then (lines_from waves t first i) (change_line (first + i) (wave_in waves (first + i)) t) passing.text adds);
 }
 
@@ -63,12 +63,12 @@ since_left t passed block le = rw (le-ltb block passed le) refl
 since_other : (t passed block : ℕ) → block ≢ passed → since t (passed + 1) block ≡ since t passed block
 since_other t passed block other =
     elim (nat_lt block passed) as (λ b. nat_lt block passed ≡ b → since t (passed + 1) block ≡ since t passed block) [
-        true ↦ λ is.
-        let less : block < passed = ltb-true block passed is in
-        since_passed t (passed + 1) block (omega arith) ∙ sym (since_passed t passed block less)
-        | false ↦ λ is.
-        let least : passed ≤ block = ltb-false block passed is in
-        since_left t (passed + 1) block (omega arith) ∙ sym (since_left t passed block least)
+      | true ↦ λ is.
+          let less : block < passed = ltb-true block passed is in
+          since_passed t (passed + 1) block (omega arith) ∙ sym (since_passed t passed block less)
+      | false ↦ λ is.
+          let least : passed ≤ block = ltb-false block passed is in
+          since_left t (passed + 1) block (omega arith) ∙ sym (since_left t passed block least)
     ] refl
 
 none_from : (waves : List (List (ℕ × Value))) (t first n : ℕ) → ((k : ℕ) → k < n → changes_at (wave_in waves (first + k)) t ≡ false) →
@@ -90,7 +90,7 @@ nothing_added waves t block upcoming now ahead other inside =
     let least : slice_index upcoming.least ((block * 256 + k) / 256) ≤ slice_index upcoming.times (block * 256 + k) = ahead.least (block * 256 + k) (omega arith) in
     let least' : slice_index upcoming.least block ≤ slice_index upcoming.times (block * 256 + k) = rw same at least in
     let next : IsNext (wave_in waves (block * 256 + k)) t (slice_index upcoming.times (block * 256 + k)) =
-        rw (same, here) at (ahead.next (block * 256 + k) (omega arith)) in
+    rw (same, here) at (ahead.next (block * 256 + k) (omega arith)) in
     next.none t (omega arith) (omega arith)))
     (rw append-nil refl)
 
@@ -98,24 +98,24 @@ nothing_added waves t block upcoming now ahead other inside =
 in_stretch : (P : ℕ → Type 0) (first count k : ℕ) → (k < first → P k) → ((j : ℕ) → j < count → P (first + j)) → (first + count ≤ k → P k) → P k
 in_stretch P first count k under within over =
     elim (nat_lt k first) as (λ b. nat_lt k first ≡ b → P k) [
-        true ↦ λ is. under (ltb-true k first is)
-        | false ↦ λ is.
-        let from : first ≤ k = ltb-false k first is in
-        elim (nat_lt k (first + count)) as (λ b. nat_lt k (first + count) ≡ b → P k) [
-            true ↦ λ to.
-            let less : k < first + count = ltb-true k (first + count) to in
-            let back : first + (k - first) ≡ k = omega arith in
-            subst P back (within (k - first) (omega arith))
+      | true ↦ λ is. under (ltb-true k first is)
+      | false ↦ λ is.
+          let from : first ≤ k = ltb-false k first is in
+          elim (nat_lt k (first + count)) as (λ b. nat_lt k (first + count) ≡ b → P k) [
+            | true ↦ λ to.
+                let less : k < first + count = ltb-true k (first + count) to in
+                let back : first + (k - first) ≡ k = omega arith in
+                subst P back (within (k - first) (omega arith))
             | false ↦ λ to. over (ltb-false k (first + count) to)
-        ] refl
+          ] refl
     ] refl
 
 -- one number, and each other
 one_or_other : (P : ℕ → Type 0) (a b : ℕ) → P b → (a ≢ b → P a) → P a
 one_or_other P a b one other =
     elim (a == b) as (λ t. (a == b) ≡ t → P a) [
-        true ↦ λ is. subst P (sym (eqb-true a b is)) one
-        | false ↦ λ is. other (eqb-false a b is)
+      | true ↦ λ is. subst P (sym (eqb-true a b is)) one
+      | false ↦ λ is. other (eqb-false a b is)
     ] refl
 
 -- the tables after a block
@@ -125,37 +125,25 @@ pub block_passed : (waves : List (List (ℕ × Value))) (t block count : ℕ) (u
     IsAhead waves t (block + 1) (record { times = times; least = slice_set upcoming.least block least })
 block_passed waves t block count upcoming times least old now ahead inside room all passing = record {
   next = λ k.
-  in_stretch (λ k. k < length waves → IsNext (wave_in waves k) (since t (block + 1) (k / 256)) (slice_index times k)) (block * 256) count k
-  (λ less h. let other : k / 256 ≢ block = omega arith in rw (since_other t block (k / 256) other, passing.under k less) (ahead.next k h))
-  (λ j less h. rw (since_passed t (block + 1) ((block * 256 + j) / 256) (omega arith)) (passing.passed j less))
-  (λ le h. let other : k / 256 ≢ block = omega arith in rw (since_other t block (k / 256) other, passing.over k le) (ahead.next k h));
+      in_stretch (λ k. k < length waves → IsNext (wave_in waves k) (since t (block + 1) (k / 256)) (slice_index times k)) (block * 256) count k
+      (λ less h. let other : k / 256 ≢ block = omega arith in rw (since_other t block (k / 256) other, passing.under k less) (ahead.next k h))
+      (λ j less h. rw (since_passed t (block + 1) ((block * 256 + j) / 256) (omega arith)) (passing.passed j less))
+      (λ le h. let other : k / 256 ≢ block = omega arith in rw (since_other t block (k / 256) other, passing.over k le) (ahead.next k h));
   least = λ k.
-  in_stretch (λ k. k < length waves → slice_index (slice_set upcoming.least block least) (k / 256) ≤ slice_index times k) (block * 256) count k
-  (λ less h. let other : k / 256 ≢ block = omega arith in rw (get_or-set_other, passing.under k less) (ahead.least k h))
-  (λ j less h. let same : (block * 256 + j) / 256 ≡ block = omega arith in rw (same, get_or-set_same) (passing.below j less))
-  (λ le h. let other : k / 256 ≢ block = omega arith in rw (get_or-set_other, passing.over k le) (ahead.least k h));
+      in_stretch (λ k. k < length waves → slice_index (slice_set upcoming.least block least) (k / 256) ≤ slice_index times k) (block * 256) count k
+      (λ less h. let other : k / 256 ≢ block = omega arith in rw (get_or-set_other, passing.under k less) (ahead.least k h))
+      (λ j less h. let same : (block * 256 + j) / 256 ≡ block = omega arith in rw (same, get_or-set_same) (passing.below j less))
+      (λ le h. let other : k / 256 ≢ block = omega arith in rw (get_or-set_other, passing.over k le) (ahead.least k h));
   later = λ at.
-  one_or_other (λ at. at * 256 < length waves → since t (block + 1) at ≤ slice_index (slice_set upcoming.least block least) at) at block
-  (λ h. rw (since_passed t (block + 1) block (omega arith), get_or-set_same) passing.later)
-  (λ other h. rw (since_other t block at other, get_or-set_other) (ahead.later at h));
+      one_or_other (λ at. at * 256 < length waves → since t (block + 1) at ≤ slice_index (slice_set upcoming.least block least) at) at block
+      (λ h. rw (since_passed t (block + 1) block (omega arith), get_or-set_same) passing.later)
+      (λ other h. rw (since_other t block at other, get_or-set_other) (ahead.later at h));
   change = λ at.
-  one_or_other
-  (λ at. at * 256 < length waves → slice_index (slice_set upcoming.least block least) at < NEVER →
-  some_changes_at waves (slice_index (slice_set upcoming.least block least) at) ≡ true) at block
-  (λ h. rw get_or-set_same passing.change)
-  (λ other h. rw get_or-set_other (ahead.change at h));
-}
-
--- all blocks are past the moment
-pub all_passed : (waves : List (List (ℕ × Value))) (t blocks : ℕ) (upcoming : Upcoming) → length waves ≤ blocks * 256 →
-    IsAhead waves t blocks upcoming → IsAhead waves (t + 1) 0 upcoming
-all_passed waves t blocks upcoming all ahead = record {
-  next = λ k h.
-  rw (since_left (t + 1) 0 (k / 256) (omega arith)) (rw (since_passed t blocks (k / 256) (omega arith)) at (ahead.next k h));
-  least = ahead.least;
-  later = λ block h.
-  rw (since_left (t + 1) 0 block (omega arith)) (rw (since_passed t blocks block (omega arith)) at (ahead.later block h));
-  change = ahead.change;
+      one_or_other
+      (λ at. at * 256 < length waves → slice_index (slice_set upcoming.least block least) at < NEVER →
+      some_changes_at waves (slice_index (slice_set upcoming.least block least) at) ≡ true) at block
+      (λ h. rw get_or-set_same passing.change)
+      (λ other h. rw get_or-set_other (ahead.change at h));
 }
 
 -- before moment 0
@@ -167,8 +155,8 @@ ahead_at_start waves m n nets blocks lines = record {
   least = λ k h. rw (get_or-replicate {A = ℕ} n (k / 256) 0 0 (omega arith)) (omega arith);
   later = λ block h. rw (since_left 0 0 block (omega arith)) (omega arith);
   change = λ block h moment.
-  let first : IsNext (wave_in waves 0) 0 0 = next_at_start (wave_in waves 0) (lines 0 (omega arith)) in
-  rw (get_or-replicate {A = ℕ} n block 0 0 (omega arith)) (some_change waves 0 0 (omega arith) (first.change (omega arith)));
+      let first : IsNext (wave_in waves 0) 0 0 = next_at_start (wave_in waves 0) (lines 0 (omega arith)) in
+      rw (get_or-replicate {A = ℕ} n block 0 0 (omega arith)) (some_change waves 0 0 (omega arith) (first.change (omega arith)));
 }
 
 -- Lines.
@@ -196,7 +184,7 @@ lines_enumerated all (wave ∷ waves) t n each =
     let first : wave_in all (n + 0) ≡ wave = each 0 (omega arith) in
     let count : length (wave ∷ waves) ≡ 1 + length waves = omega arith in
     let rest : lines_from all t (n + 1) (length waves) ≡ flat_map (λ e. change_line e.0 e.1 t) (enumerate_from (n + 1) waves) =
-        lines_enumerated all waves t (n + 1) (λ k h. let place : n + 1 + k ≡ n + suc k = omega arith in rw place (each (suc k) (omega arith))) in
+    lines_enumerated all waves t (n + 1) (λ k h. let place : n + 1 + k ≡ n + suc k = omega arith in rw place (each (suc k) (omega arith))) in
     ap (λ m. lines_from all t n m) count ∙ (lines_add all t n 1 (length waves) ∙ rw (rest, first, add-zero) refl)
 
 -- the lines of all nets

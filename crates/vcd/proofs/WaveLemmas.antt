@@ -1,16 +1,14 @@
 -- Waves: when they change next.
-use Rattle.std.proofs.Common.{◌≡◌, ◌<◌, ◌≤◌, ℕ, zero, suc, ◌+◌, Bool, true, false, cond, refl, ap, sym, ◌∙◌, List, [], ◌∷◌, length, Option, Some, None, arith}
+use Rattle.std.proofs.Common.{◌≡◌, ◌<◌, ◌≤◌, ℕ, zero, suc, ◌+◌, true, false, cond, refl, ap, List, [], ◌∷◌, length, Option, Some, None, arith}
 use Rattle.std.specs.Prelude.{◌==◌, ◌||◌, nat_lt}
-use Rattle.std.specs.List.{find, list_any}
-use Rattle.std.proofs.lemmas.Bool.{ltb-true, ltb-false, eqb-true, eq-eqb}
+use Rattle.std.proofs.lemmas.Bool.{ltb-true, ltb-false, eq-eqb}
 use Rattle.std.proofs.lemmas.Grind.{common_steps}
 use Rattle.fourstate.specs.declared.value.Value.{Value}
 use Rattle.fourstate.specs.Values.{same_value}
-use Rattle.waveform.specs.Changes.{wave_at}
 use Rattle.waveform.specs.Entries.{standing}
 use Rattle.waveform.specs.Timelines.{AreInTurn, IsTimeline, first_after}
 use Rattle.vcd.specs.declared.upcoming.TheConstants.{NEVER}
-use Rattle.vcd.specs.Changes.{change_line, changes_at, some_changes_at, value_line}
+use Rattle.vcd.specs.Changes.{changes_at, some_changes_at}
 use Rattle.vcd.specs.Kept.{IsNext}
 use Rattle.vcd.specs.Waves.{wave_in}
 
@@ -56,16 +54,16 @@ first_by : (before : Option (ℕ × Value)) (es : List (ℕ × Value)) (t u : �
 first_by before [] t u v turn at = absurd (cc)
 first_by before (e ∷ es) t u v turn at =
     elim (nat_lt t e.0) as (λ b. nat_lt t e.0 ≡ b → cond b (Some e) (first_after es t) ≡ Some (u, v) → IsFirst (e ∷ es) t u) [
-        true ↦ λ is at. first_found before e es t u v turn (ltb-true t e.0 is) (cc)
-        | false ↦ λ is at. first_later before e es t u (ltb-false t e.0 is) (first_by (Some e) es t u v turn.2 at)
+      | true ↦ λ is at. first_found before e es t u v turn (ltb-true t e.0 is) (cc)
+      | false ↦ λ is at. first_later before e es t u (ltb-false t e.0 is) (first_by (Some e) es t u v turn.2 at)
     ] refl at
 
 none_by : (es : List (ℕ × Value)) (t s : ℕ) → first_after es t ≡ None → t < s → changes_at es s ≡ false
 none_by [] t s at less = refl
 none_by (e ∷ es) t s at less =
     elim (nat_lt t e.0) as (λ b. nat_lt t e.0 ≡ b → cond b (Some e) (first_after es t) ≡ None → changes_at (e ∷ es) s ≡ false) [
-        true ↦ λ is at. absurd (cc)
-        | false ↦ λ is at. let le : e.0 ≤ t = ltb-false t e.0 is in rw (apart_below e.0 s (omega arith)) (none_by es t s at less)
+      | true ↦ λ is at. absurd (cc)
+      | false ↦ λ is at. let le : e.0 ≤ t = ltb-false t e.0 is in rw (apart_below e.0 s (omega arith)) (none_by es t s at less)
     ] refl at
 
 -- the first change after t is the next one from t + 1 on
@@ -85,14 +83,6 @@ next_none wave t moment at = record {
   change = λ never. absurd (omega arith);
 }
 
--- a next change is still to come after the moments before it
-pub moved : (wave : List (ℕ × Value)) (t time : ℕ) → IsNext wave t time → t < time → IsNext wave (t + 1) time
-moved wave t time next less = record {
-  later = omega arith;
-  none = λ s from to. next.none s (omega arith) to;
-  change = next.change;
-}
-
 -- each wave has a change at 0
 at_start : (wave : List (ℕ × Value)) → IsTimeline same_value standing wave → changes_at wave 0 ≡ true
 at_start [] line = absurd (let begins : 0 < 0 = line.begins in omega arith)
@@ -107,14 +97,6 @@ next_at_start wave line = record {
   change = λ moment. at_start wave line;
 }
 
--- Lines.
-
-pub line_of_change : (n : ℕ) (wave : List (ℕ × Value)) (t : ℕ) → changes_at wave t ≡ true → change_line n wave t ≡ value_line n (wave_at wave t)
-line_of_change n wave t is = rw is refl
-
-pub line_of_none : (n : ℕ) (wave : List (ℕ × Value)) (t : ℕ) → changes_at wave t ≡ false → change_line n wave t ≡ []
-line_of_none n wave t is = rw is refl
-
 -- Waves together.
 
 pub some_change : (waves : List (List (ℕ × Value))) (k s : ℕ) → k < length waves → changes_at (wave_in waves k) s ≡ true → some_changes_at waves s ≡ true
@@ -122,8 +104,8 @@ some_change [] k s below is = absurd (omega arith)
 some_change (wave ∷ waves) zero s below is = rw is refl
 some_change (wave ∷ waves) (suc k) s below is =
     elim (changes_at wave s) as (λ b. (b || some_changes_at waves s) ≡ true) [
-        true ↦ refl
-        | false ↦ some_change waves k s (omega arith) is
+      | true ↦ refl
+      | false ↦ some_change waves k s (omega arith) is
     ]
 
 pub no_change : (waves : List (List (ℕ × Value))) (s : ℕ) → ((k : ℕ) → k < length waves → changes_at (wave_in waves k) s ≡ false) → some_changes_at waves s ≡ false

@@ -1,5 +1,5 @@
 -- Writing the pieces of a text one after another.
-use Rattle.std.proofs.Common.{◌≡◌, ℕ, List, ◌++◌, append_assoc, refl, ap, sym, ◌∙◌}
+use Rattle.std.proofs.Common.{◌≡◌, ℕ, List, ◌++◌, append_assoc, ap, ◌∙◌}
 use Rattle.devices.specs.Outgoing.{Outgoing, Adds}
 
 -- What was written since `old`, with what is left to write, is all of it.
@@ -12,8 +12,8 @@ pub on : (old now then : Outgoing) (piece left all : List ℕ) → IsOnWay old n
 on old now then piece left all way adds = record {
   same = cc (way.same, adds);
   text =
-    let pieces : then.text ≡ now.text ++ piece = ap (λ w. w.text) adds in
-    rw (pieces, append_assoc) way.text;
+      let pieces : then.text ≡ now.text ++ piece = ap (λ w. w.text) adds in
+      rw (pieces, append_assoc) way.text;
 }
 
 -- the last piece

@@ -1,6 +1,5 @@
 -- What is kept of the changes to come.
 use Rattle.std.specs.Prelude.{◌≡◌, ◌<◌, ◌≤◌, ◌+◌, ◌*◌, ◌/◌, ℕ, zero, suc, true, false, nat_lt, if◌then◌else◌, List, [], ◌++◌, length, slice_index}
-use Rattle.std.specs.List.{slice_index_or}
 use Rattle.fourstate.specs.declared.value.Value.{Value}
 use Rattle.devices.specs.Outgoing.{Adds, Outgoing}
 use Rattle.vcd.specs.declared.upcoming.TheConstants.{NEVER, NETS_IN_BLOCK}

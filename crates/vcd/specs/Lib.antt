@@ -5,3 +5,4 @@ pub mod Kept
 pub mod Scopes
 pub mod Text
 pub mod Waves
+pub mod Written

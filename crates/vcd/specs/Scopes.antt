@@ -1,5 +1,5 @@
 -- The scopes that names stand in (IEEE 1364-2005, 18.2.3: $scope and $upscope).
-use Rattle.std.specs.Prelude.{ℕ, Bool, ◌==◌, if◌then◌else◌, List, [], ◌∷◌, ◌++◌, codes}
+use Rattle.std.specs.Prelude.{ℕ, ◌==◌, if◌then◌else◌, List, [], ◌∷◌, ◌++◌, codes}
 use Rattle.std.specs.List.{flat_map}
 use Rattle.design.specs.Names.{same_name}
 

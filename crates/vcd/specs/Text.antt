@@ -17,5 +17,5 @@ abbrev pub dump_of : Netlist → List (List (ℕ × Value)) → List ℕ
 dump_of d waves = head_lines d ++ lines_below waves d.horizon (suc d.horizon)
 
 -- the dump of a design's run
-abbrev pub vcd_of : Netlist → List ℕ
+unfoldable pub vcd_of : Netlist → List ℕ
 vcd_of d = dump_of d (waves_of d)

@@ -8,6 +8,7 @@ use devices::{Sink, Writer};
 
 /// How many printable characters a code is made of, and the first of them (IEEE 1364-2005, 18.2.1).
 const CHARACTERS: usize = 94;
+
 const FIRST: u8 = b'!';
 
 /// Writes the code of net `n`, counted from 0.

@@ -1,8 +1,10 @@
-//! Dumps of runs for viewers (IEEE 1364-2005, 18): the head, and the changes of all nets, moment by moment. Nothing here
+//! Dumps of snapshots for viewers (IEEE 1364-2005, 18): the head, and the changes of all nets, moment by moment. Nothing here
 //! takes memory.
 #![tactic(auto)]
 
 mod codes;
+mod dump;
+mod fault;
 mod head;
 mod lines;
 mod moments;
@@ -11,4 +13,6 @@ mod upcoming;
 mod waves;
 
 pub use codes::code;
+pub use dump::{text, write};
+pub use fault::VcdFault;
 pub use scopes::change_scopes;

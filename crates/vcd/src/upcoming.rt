@@ -119,12 +119,7 @@ impl Upcoming {
     }
 
     /// Writes the lines at `t` of all nets, and moves them on.
-    pub(crate) fn pass<W: Sink>(
-        &mut self,
-        waves: &Waves<'_>,
-        t: u64,
-        writer: &mut Writer<'_, W>,
-    )
+    pub(crate) fn pass<W: Sink>(&mut self, waves: &Waves<'_>, t: u64, writer: &mut Writer<'_, W>)
         requires moment { t < NEVER }
         requires ahead { IsAhead waves.now.waves t 0 self.old }
         ensures ahead { IsAhead waves.now.waves (t + 1) 0 self.new }
@@ -144,6 +139,7 @@ impl Upcoming {
         ensures no_earlier { (t : ℕ) → t ≤ last → ((block : ℕ) → block * NETS_IN_BLOCK < length waves.now.waves → t ≤ slice_index self.now.least block) → t ≤ result }
         ensures change { result < last → some_changes_at waves.now.waves result ≡ true }
     {
+        waves.lawful();
         let mut first = last;
         for block in 0..waves.count().div_ceil(NETS_IN_BLOCK) {
             first = first.min(self.least[block]);

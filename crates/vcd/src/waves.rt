@@ -1,69 +1,54 @@
-//! The waves of a design's nets.
+//! The waves of a snapshot.
 
 ghost use Rattle.std.specs.Prelude.{◌≡◌, ◌≤◌, ◌<◌, ℕ, length};
 ghost use Rattle.fourstate.specs.Values.{same_value};
 ghost use Rattle.fourstate.specs.declared.limits.TheConstants.{MAX_TIME};
-ghost use Rattle.gatestep.specs.Step.{advance};
 ghost use Rattle.design.specs.declared.limits.TheConstants.{MAX_NETS};
-ghost use Rattle.design.specs.Keys.{netlist};
 ghost use Rattle.waveform.specs.Entries.{standing};
 ghost use Rattle.waveform.specs.Timelines.{IsTimeline};
-ghost use Rattle.scratch.specs.Run.{run_of};
 ghost use Rattle.vcd.specs.Text.{waves_of};
 ghost use Rattle.vcd.specs.Waves.{wave_in};
 
-use design::Design;
+use bench::Snapshot;
 use fourstate::Value;
 use std::marker::Model;
-use waveform::{Run, Wave, laws};
+use waveform::{Wave, laws};
 
-/// The waves of a design's nets. Contracts see them as the changes of each net, and the horizon.
+/// The waves of a snapshot's nets, in the nets' order. Contracts see them as the changes of each net, and the horizon.
 #[derive(Drop)]
 pub(crate) struct Waves<'a> {
-    design: &'a Design,
-    run: &'a Run,
+    snapshot: &'a Snapshot,
 }
 
 impl<'a> Model for Waves<'a> {
-    ghost use Rattle.std.specs.Prelude.{◌≡◌};
-    ghost use Rattle.gatestep.specs.Step.{advance};
-    ghost use Rattle.design.specs.Keys.{netlist};
-    ghost use Rattle.scratch.specs.Run.{run_of};
     ghost use Rattle.vcd.specs.Text.{waves_of};
     ghost use Rattle.vcd.specs.Waves.{Recorded};
 
     ghost Value = { Recorded };
 
-    ghost view = { λ a. record { waves = waves_of (netlist a.design.now); horizon = (netlist a.design.now).horizon } };
-
-    ghost invariant = { λ a. a.run.now ≡ run_of advance (netlist a.design.now) };
+    ghost view = { λ a. record { waves = waves_of a.snapshot.now.design; horizon = a.snapshot.now.design.horizon } };
 }
 
 impl<'a> Waves<'a> {
-    /// The waves of a design's own run.
-    pub(crate) fn of(design: &'a Design, run: &'a Run) -> Waves<'a>
-        requires { run.now ≡ run_of advance (netlist design.now) }
-        ensures waves { result.waves ≡ waves_of (netlist design.now) }
-        ensures horizon { result.horizon ≡ (netlist design.now).horizon }
+    pub(crate) fn of(snapshot: &'a Snapshot) -> Waves<'a>
+        ensures waves { result.waves ≡ waves_of snapshot.now.design }
+        ensures horizon { result.horizon ≡ snapshot.now.design.horizon }
     {
-        Waves { design, run }
+        Waves { snapshot }
     }
 
     /// How many nets there are.
     pub(crate) fn count(&self) -> usize
-        ensures count { result ≡ length self.now.waves }
-        ensures within { result ≤ MAX_NETS }
+        ensures { result ≡ length self.now.waves }
     {
-        self.design.lawful();
-        self.design.net_count()
+        self.snapshot.design().net_count()
     }
 
     /// The last moment.
     pub(crate) fn horizon(&self) -> u64
-        ensures horizon { result ≡ self.now.horizon }
-        ensures within { result ≤ MAX_TIME }
+        ensures { result ≡ self.now.horizon }
     {
-        self.design.horizon()
+        self.snapshot.horizon()
     }
 
     /// The wave of the net at this place.
@@ -71,10 +56,7 @@ impl<'a> Waves<'a> {
         requires { place < length self.now.waves }
         ensures { result.now ≡ wave_in self.now.waves place }
     {
-        match self.run.wave(place) {
-            Some(wave) => wave,
-            None => unreachable!(),
-        }
+        self.snapshot.wave_at(place)
     }
 
     /// The law of waves; nothing runs.
@@ -84,6 +66,6 @@ impl<'a> Waves<'a> {
         ensures horizon { self.now.horizon ≤ MAX_TIME }
     {
         laws::timeline_of_changes::<Value>();
-        self.design.lawful();
+        self.snapshot.design().lawful();
     }
 }

@@ -1,4 +1,3 @@
-use Rattle.std.proofs.Common.{◌<◌, ◌≤◌}
 use Rattle.vcd.proofs.CodeLemmas.{code_of-long, code_of-short}
 use Rattle.vcd.proofs.Ways.{arrived, on}
 use Rattle.vcd.proofs.codes.code.Goals as goal

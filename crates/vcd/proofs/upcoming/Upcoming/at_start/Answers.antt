@@ -1,4 +1,4 @@
-use Rattle.std.proofs.Common.{◌≤◌, length, arith}
+use Rattle.std.proofs.Common.{◌≤◌, length}
 use Rattle.vcd.proofs.UpcomingLemmas.{ahead_at_start}
 use Rattle.vcd.proofs.upcoming.Upcoming.at_start.Goals as goal
 

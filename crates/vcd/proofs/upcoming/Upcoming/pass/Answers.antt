@@ -9,11 +9,12 @@ pub loop-block-preserved : goal.loop-block-preserved
 loop-block-preserved g c =
     let count : ℕ = length c.args.waves.now.waves in
     let first : ℕ = c.loop-block.block * 256 in
-    let inside : first < count = omega arith in
-    (c.pass_block.ensures.ahead,
-    rw (← lines_of_block c.args.waves.now.waves c.args.t c.loop-block.block inside)
-    (both c.args.writer.now c.loop-block.writer c.pass_block.new.writer (lines_from c.args.waves.now.waves c.args.t 0 (min first count))
-    (lines_from c.args.waves.now.waves c.args.t first (min 256 (count - first))) c.loop-block.invariant.1 c.pass_block.ensures.text))
+    let inside : first < count = omega arith in (
+      c.pass_block.ensures.ahead,
+      rw (← lines_of_block c.args.waves.now.waves c.args.t c.loop-block.block inside)
+          (both c.args.writer.now c.loop-block.writer c.pass_block.new.writer (lines_from c.args.waves.now.waves c.args.t 0 (min first count))
+          (lines_from c.args.waves.now.waves c.args.t first (min 256 (count - first))) c.loop-block.invariant.1 c.pass_block.ensures.text),
+    )
 
 pub returns-clause-text : goal.returns-clause-text
 returns-clause-text g c =

@@ -1,7 +1,6 @@
 use Rattle.std.proofs.Common.{refl, []}
 use Rattle.fourstate.specs.Values.{same_value}
 use Rattle.gatestep.specs.Step.{advance}
-use Rattle.design.specs.Keys.{netlist}
 use Rattle.design.specs.Netlist.{Netlist}
 use Rattle.waveform.specs.Entries.{standing}
 use Rattle.waveform.specs.Timelines.{IsTimeline}
@@ -11,7 +10,7 @@ use Rattle.vcd.proofs.waves.Waves.lawful.Goals as goal
 
 pub returns-clause-timelines : goal.returns-clause-timelines
 returns-clause-timelines c =
-    let d : Netlist = netlist c.self.inside.design.now in
+    let d : Netlist = c.self.inside.snapshot.now.design in
     rw (← c.self.view_is)
     (λ k below. each_mapped (IsTimeline same_value standing) _ d.nets k []
     (λ n. c.timeline_of_changes.ensures (value advance d n) (λ t. refl) d.horizon) below)
