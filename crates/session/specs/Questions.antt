@@ -9,7 +9,7 @@ use Rattle.waveform.specs.Timelines.{first_after, last_before, next_to}
 use Rattle.scratch.specs.Run.{value}
 use Rattle.session.specs.declared.commands.question.Query.{Query}
 use Rattle.session.specs.declared.commands.question.Query.TheVariants as query
-use Rattle.session.specs.declared.commands.question.Question.{Question}
+use Rattle.session.specs.declared.commands.question.NetQuestion.{NetQuestion}
 use Rattle.edits.specs.declared.fault.EditFault.{EditFault}
 use Rattle.edits.specs.declared.fault.EditFault.TheVariants.{UnknownNet, TimeTooLarge}
 use Rattle.session.specs.Replies.{change_or_none, value_line, wave_lines}
@@ -32,7 +32,7 @@ abbrev pub changes_within : Netlist → Query → Option NetEntry → Result (Li
 changes_within d asked None = Err UnknownNet
 changes_within d asked (Some n) = if is_past d.horizon asked then Err TimeTooLarge else Ok (wave_of d n)
 
-abbrev pub changes_asked : Netlist → Question → Result (List (ℕ × Value)) EditFault
+abbrev pub changes_asked : Netlist → NetQuestion → Result (List (ℕ × Value)) EditFault
 changes_asked d question = changes_within d question.query (net_named d question.net)
 
 -- the lines that answer what is asked about these changes

@@ -5,7 +5,8 @@ use Rattle.design.specs.Netlist.{Netlist}
 use Rattle.session.specs.declared.commands.command.Command.{Command}
 use Rattle.session.specs.declared.commands.command.Command.TheVariants as command
 use Rattle.session.specs.declared.commands.question.Query.{Query}
-use Rattle.session.specs.declared.commands.question.Question.{Question}
+use Rattle.session.specs.declared.commands.question.NetQuestion.{NetQuestion}
+use Rattle.session.specs.declared.commands.question.Question.TheVariants as question
 use Rattle.edits.specs.declared.edit.Edit.{Edit}
 use Rattle.edits.specs.declared.fault.EditFault.{EditFault}
 use Rattle.edits.specs.declared.fault.EditFault.TheVariants.{TooMany, OutOfMemory}
@@ -42,7 +43,7 @@ query_reply version query (Err fault) = refusal_line (refusal.Edit fault)
 query_reply version query (Ok changes) = query_lines changes query ++ ok_line version
 
 -- the one reply to a question
-abbrev pub question_reply : SessionState → Question → List ℕ
+abbrev pub question_reply : SessionState → NetQuestion → List ℕ
 question_reply s question = query_reply s.version question.query (changes_asked s.netlist question)
 
 -- this reply, and the state after it
@@ -62,8 +63,15 @@ EditReplies old e reply new =
 abbrev pub Replies : SessionState → Command → List ℕ → SessionState → Type 0
 Replies old command.Skip reply new = Gives reply new [] old
 Replies old (command.Change line) reply new = EditReplies old (edit_of line) reply new
-Replies old (command.Ask question) reply new = Gives reply new (question_reply old question) old
+Replies old (command.Ask (question.Net asked)) reply new = Gives reply new (question_reply old asked) old
 Replies old command.Quit reply new = Gives reply new (ok_line old.version) old
+Replies old command.Begin reply new = Gives reply new (refusal_line refusal.BadCommand) old
+Replies old command.Commit reply new = Gives reply new (refusal_line refusal.BadCommand) old
+Replies old command.Abort reply new = Gives reply new (refusal_line refusal.BadCommand) old
+Replies old (command.Ask question.Vcd) reply new = Gives reply new (refusal_line refusal.BadCommand) old
+Replies old (command.Hold name) reply new = Gives reply new (refusal_line refusal.BadCommand) old
+Replies old (command.Free name) reply new = Gives reply new (refusal_line refusal.BadCommand) old
+Replies old (command.At name asked) reply new = Gives reply new (refusal_line refusal.BadCommand) old
 Replies old command.Unreadable reply new = Gives reply new (refusal_line refusal.BadCommand) old
 Replies old command.TooLong reply new = Gives reply new (refusal_line refusal.LongLine) old
 

@@ -14,7 +14,7 @@ ghost use Rattle.session.specs.Refused.{IsOfStepper, MayRefuse, refusal_of};
 ghost use Rattle.session.specs.State.{after_edit, ends, fault_of, is_quit};
 ghost use Rattle.session.specs.Talk.{Answered, CarriedOut};
 
-use crate::commands::{Command, EditLine, Question, read};
+use crate::commands::{Command, EditLine, NetQuestion, Question, read};
 use crate::replies::{Refusal, no, ok, tell};
 use design::Design;
 use devices::{Sink, Writer};
@@ -83,12 +83,19 @@ impl<S: Stepper + Drop> Machine<S> {
         match command {
             Command::Skip => return false,
             Command::Change(line) => self.change(&line, writer),
-            Command::Ask(question) => self.ask(&question, writer),
+            Command::Ask(Question::Net(question)) => self.ask(&question, writer),
             Command::Quit => {
                 ok(writer, self.version);
                 return true;
             }
-            Command::Unreadable => no(writer, Refusal::BadCommand),
+            Command::Begin
+            | Command::Commit
+            | Command::Abort
+            | Command::Ask(Question::Vcd)
+            | Command::Hold(_)
+            | Command::Free(_)
+            | Command::At { .. }
+            | Command::Unreadable => no(writer, Refusal::BadCommand),
             Command::TooLong => no(writer, Refusal::LongLine),
         }
         false
@@ -171,8 +178,8 @@ impl<S: Stepper + Drop> Machine<S> {
         self.version += 1;
     }
 
-    fn ask<W: Sink>(&self, question: &Question<'_>, writer: &mut Writer<'_, W>)
-        ensures { CarriedOut self.now self.now (Command.Ask question.now) writer.old writer.new }
+    fn ask<W: Sink>(&self, question: &NetQuestion<'_>, writer: &mut Writer<'_, W>)
+        ensures { CarriedOut self.now self.now (Command.Ask (Question.Net question.now)) writer.old writer.new }
     {
         match self.wave_asked(question) {
             Ok(wave) => {
@@ -184,7 +191,7 @@ impl<S: Stepper + Drop> Machine<S> {
     }
 
     // The wave that a question is about, or why the question is refused.
-    fn wave_asked(&self, question: &Question<'_>) -> Result<&Wave, EditFault>
+    fn wave_asked(&self, question: &NetQuestion<'_>) -> Result<&Wave, EditFault>
         ensures { MatchResult result
             (λ wave. changes_asked self.now.netlist question.now ≡ Ok wave.now)
             (λ fault. changes_asked self.now.netlist question.now ≡ Err fault) }
