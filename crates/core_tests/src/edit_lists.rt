@@ -1,6 +1,6 @@
 //! Lists of edits, worked out by hand.
 
 mod accepted;
-mod lines;
+pub mod lines;
 mod refused;
 mod shown;

@@ -1,6 +1,8 @@
-//! Tests of the crates from values to lists of edits: what they answer, worked out by hand.
+//! Tests of the crates from values to commits: what they answer, worked out by hand.
 #![tactic(auto)]
 
+#[cfg(test)]
+mod benches;
 #[cfg(test)]
 mod bytes;
 #[cfg(test)]

@@ -1,12 +1,13 @@
 -- The run of a design: the state of each gate and the value of each net at each moment, by the answer of a stepper
 -- (IEEE 1364-2005, 11; the order within a moment is this project's: due events, then nets, then gates).
-use Rattle.std.specs.Prelude.{ℕ, zero, suc, if◌then◌else◌, map}
+use Rattle.std.specs.Prelude.{◌≡◌, ℕ, zero, suc, if◌then◌else◌, List, map}
 use Rattle.std.specs.Option.{option_map_or}
 use Rattle.fourstate.specs.declared.value.Value.{Value}
 use Rattle.fourstate.specs.declared.value.Value.TheVariants.{Unknown}
 use Rattle.fourstate.specs.Nets.{net_of}
 use Rattle.gatestep.specs.Step.{State, Evaluation, initial, due}
 use Rattle.design.specs.Connections.{Connection, to_net, to_constant}
+use Rattle.design.specs.Keys.{Keyed, netlist}
 use Rattle.design.specs.Netlist.{NetEntry, GateEntry, Netlist, net_named, drivers_of, stimulus}
 use Rattle.waveform.specs.Changes.{wave_changes_below, trace_below}
 use Rattle.waveform.specs.Runs.{RunRecord}
@@ -43,10 +44,26 @@ state_after answer d g t = state_before answer d (suc t) g
 abbrev pub value : (Evaluation → ℕ → State) → Netlist → NetEntry → ℕ → Value
 value answer d n t = net_at d (state_before answer d t) n t
 
--- the run up to the horizon: the changes of each net's value, and the trace of each gate's state
+-- the changes of a net's value up to the horizon
+abbrev pub wave_of : (Evaluation → ℕ → State) → Netlist → NetEntry → List (ℕ × Value)
+wave_of answer d n = wave_changes_below (value answer d n) (suc d.horizon)
+
+-- the trace of a gate's state up to the horizon
+abbrev pub trace_of : (Evaluation → ℕ → State) → Netlist → GateEntry → List (ℕ × State)
+trace_of answer d g = trace_below (state_after answer d g) (suc d.horizon)
+
+-- the run up to the horizon: the wave of each net, and the trace of each gate
 abbrev pub run_of : (Evaluation → ℕ → State) → Netlist → RunRecord
 run_of answer d = record {
-  waves = map (λ n. wave_changes_below (value answer d n) (suc d.horizon)) d.nets;
-  traces = map (λ g. trace_below (state_after answer d g) (suc d.horizon)) d.gates;
+  waves = map (wave_of answer d) d.nets;
+  traces = map (trace_of answer d) d.gates;
   horizon = d.horizon;
 }
+
+-- this is the run of the design by this answer
+abbrev pub IsRun : (Evaluation → ℕ → State) → Keyed → RunRecord → Type 0
+IsRun answer d run = run ≡ run_of answer (netlist d)
+
+-- this is the run of the design by some answer
+abbrev pub IsSomeRun : Keyed → RunRecord → Type 0
+IsSomeRun d run = (answer : Evaluation → ℕ → State) × IsRun answer d run

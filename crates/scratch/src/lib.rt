@@ -8,6 +8,8 @@ mod recording;
 mod run;
 #[cfg(test)]
 mod tests;
+mod waves;
 mod wiring;
 
 pub use run::simulate;
+pub use waves::{wave_at, wave_named};

@@ -3,7 +3,7 @@
 ghost use Rattle.std.specs.Prelude.{◌≡◌, ◌≤◌, ◌+◌, ◌++◌, ℕ, suc, IfOk, OnErr, OnOk, if◌then◌else◌};
 ghost use Rattle.design.specs.Keys.{netlist};
 ghost use Rattle.scratch.specs.Lost.{loses_a_worker};
-ghost use Rattle.scratch.specs.Run.{run_of};
+ghost use Rattle.scratch.specs.Run.{IsRun};
 ghost use Rattle.scratch.specs.Work.{work_below};
 
 use crate::moment::Moment;
@@ -23,7 +23,7 @@ pub fn simulate<S: Stepper>(
     design: &Design,
     stepper: &mut S,
 ) -> Result<Run, StepFault>
-    ensures run { IfOk result (λ run. run ≡ run_of S.answer (netlist design.now)) }
+    ensures run { IfOk result (IsRun S.answer design.now) }
     ensures asked { OnOk result (S.asked stepper.new ≡ S.asked stepper.old ++ work_below S.answer (netlist design.now) (suc (netlist design.now).horizon)) }
     ensures part { OnErr result ((n : ℕ) × (n ≤ suc (netlist design.now).horizon)
         × (S.asked stepper.new ≡ S.asked stepper.old ++ work_below S.answer (netlist design.now) n)) }

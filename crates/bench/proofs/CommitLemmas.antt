@@ -1,0 +1,45 @@
+-- Refused commits.
+use Rattle.std.proofs.Common.{◌≡◌, ◌≢◌, ◌⊎◌, ◌+◌, ℕ, Bool, true, false, if◌then◌else◌, List, refl, sym, inl, inr, arith}
+use Rattle.std.proofs.lemmas.List.{append-nil}
+use Rattle.std.specs.Prelude.{Result, Ok, Err, IfErr}
+use Rattle.gatestep.specs.Step.{Evaluation}
+use Rattle.design.specs.Netlist.{Netlist}
+use Rattle.edits.specs.declared.edit.Edit.{Edit}
+use Rattle.edits.specs.declared.fault.EditFault.{EditFault}
+use Rattle.edits.specs.declared.fault.EditFault.TheVariants.{OutOfMemory, TooMany}
+use Rattle.bench.specs.declared.fault.CommitFault.{CommitFault}
+use Rattle.bench.specs.declared.fault.CommitFault.TheVariants as commit
+use Rattle.bench.specs.Benches.{SnapshotRecord}
+use Rattle.bench.specs.Commits.{commit_of}
+use Rattle.bench.specs.Refusals.{IsRefusal, MayRefuse, loses_a_worker}
+use Rattle.bench.specs.Work.{AskedInPart, AskedByRefused}
+
+-- A refused edit.
+
+pub may_refuse : (s : SnapshotRecord) (edits : List Edit) (place : ℕ) (fault : EditFault) (r : CommitFault) → IsRefusal place fault r
+    → (fault ≡ OutOfMemory) ⊎ (commit_of s.version s.design edits ≡ Err (place, fault)) → MayRefuse s edits r
+may_refuse s edits place fault (commit.Edit p f) is (inl memory) = absurd (is.2 memory)
+may_refuse s edits place fault (commit.Edit p f) is (inr refused) = rw (is.0, is.1) refused
+may_refuse s edits place fault commit.OutOfMemory is from = tt
+may_refuse s edits place fault commit.WorkerLost is from = absurd is
+
+pub no_loss : (place : ℕ) (fault : EditFault) (r : CommitFault) (losses : ℕ) → IsRefusal place fault r
+    → losses ≡ losses + (if loses_a_worker {A = ℕ} (Err r) then 1 else 0)
+no_loss place fault (commit.Edit p f) losses is = omega arith
+no_loss place fault commit.OutOfMemory losses is = omega arith
+no_loss place fault commit.WorkerLost losses is = absurd is
+
+-- What was asked in vain.
+
+pub asked_nothing : (made : Result Netlist (ℕ × EditFault)) (asked : List (Evaluation × ℕ)) → AskedByRefused made asked asked
+asked_nothing (Ok d) asked = (0, omega arith, sym (append-nil asked))
+asked_nothing (Err refused) asked = refl
+
+pub asked_part : (made : Result Netlist (ℕ × EditFault)) (d : Netlist) (old new : List (Evaluation × ℕ)) → made ≡ Ok d → AskedInPart d old new → AskedByRefused made old new
+asked_part made d old new is part = rw is part
+
+-- A commit's refusal is never that memory ran out.
+pub refused_for : (last : Bool) (made : Result Netlist (ℕ × EditFault)) → IfErr made (λ refused. refused.1 ≢ OutOfMemory)
+    → IfErr (if last then Err (0, TooMany) else made) (λ refused. refused.1 ≢ OutOfMemory)
+refused_for true made is = λ e. cc
+refused_for false made is = is

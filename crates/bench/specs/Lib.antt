@@ -1,0 +1,5 @@
+pub mod Benches
+pub mod Commits
+pub mod Cursors
+pub mod Refusals
+pub mod Work

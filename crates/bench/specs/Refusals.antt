@@ -1,0 +1,35 @@
+-- Why a commit may be refused.
+use Rattle.std.specs.Prelude.{◌≡◌, ◌≢◌, ℕ, Bool, true, false, IsOk, List, Result, Ok, Err}
+use Rattle.gatestep.specs.declared.fault.StepFault.{StepFault}
+use Rattle.gatestep.specs.declared.fault.StepFault.TheVariants as step
+use Rattle.edits.specs.declared.edit.Edit.{Edit}
+use Rattle.edits.specs.declared.fault.EditFault.{EditFault}
+use Rattle.edits.specs.declared.fault.EditFault.TheVariants as edit
+use Rattle.bench.specs.declared.fault.CommitFault.{CommitFault}
+use Rattle.bench.specs.declared.fault.CommitFault.TheVariants as commit
+use Rattle.bench.specs.Benches.{SnapshotRecord}
+use Rattle.bench.specs.Commits.{commit_of}
+
+-- a commit of these edits to this snapshot may be refused for the first edit that the design refuses, because memory ran out,
+-- or because a worker was lost over a design that accepts the edits
+abbrev pub MayRefuse : SnapshotRecord → List Edit → CommitFault → Type 0
+MayRefuse s edits (commit.Edit place fault) = commit_of s.version s.design edits ≡ Err (place, fault)
+MayRefuse s edits commit.OutOfMemory = Unit {0}
+MayRefuse s edits commit.WorkerLost = IsOk (commit_of s.version s.design edits)
+
+-- a commit lost a worker
+abbrev pub loses_a_worker : {A : Type 0} → Result A CommitFault → Bool
+loses_a_worker (Err commit.WorkerLost) = true
+loses_a_worker (Err _) = false
+loses_a_worker (Ok version) = false
+
+-- the fault of a stepper as that of a commit
+abbrev pub refusal_of : StepFault → CommitFault
+refusal_of step.OutOfMemory = commit.OutOfMemory
+refusal_of step.WorkerLost = commit.WorkerLost
+
+-- the fault of a commit whose edit at this place has this fault
+abbrev pub IsRefusal : ℕ → EditFault → CommitFault → Type 0
+IsRefusal place fault (commit.Edit p f) = (p ≡ place) × (f ≡ fault) × (fault ≢ edit.OutOfMemory)
+IsRefusal place fault commit.OutOfMemory = fault ≡ edit.OutOfMemory
+IsRefusal place fault commit.WorkerLost = ⊥

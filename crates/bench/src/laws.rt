@@ -1,0 +1,34 @@
+//! Laws of commits: each function does nothing, and its contract is the law.
+
+ghost use Rattle.std.specs.Prelude.{◌≡◌, ◌≢◌, ◌++◌, ◌-◌, ◌^◌, ℕ, List, [], ◌∷◌, Ok, Err, IfErr};
+ghost use Rattle.design.specs.Netlist.{Netlist};
+ghost use Rattle.edits.specs.declared.edit.Edit as declared;
+ghost use Rattle.edits.specs.Batches.{batch};
+ghost use Rattle.bench.specs.Commits.{after, commit_of, committed};
+
+use edits::EditFault;
+use edits::laws::limits_of_edits;
+
+/// No commits leave a design as it is.
+pub fn no_commits()
+    ensures { (d : Netlist) → after d [] ≡ d }
+{}
+
+/// The design after one commit more is that commit on the design before it.
+pub fn one_commit_more()
+    ensures step { (d : Netlist) (log : List (List declared.Edit)) (edits : List declared.Edit) → after d (log ++ edits ∷ []) ≡ committed (after d log) edits }
+    ensures accepted { (d new : Netlist) (log : List (List declared.Edit)) (edits : List declared.Edit) → (version : ℕ)
+        → commit_of version (after d log) edits ≡ Ok new → after d (log ++ edits ∷ []) ≡ new }
+{}
+
+/// At the greatest version each commit is refused at its first place as one too many.
+pub fn last_version()
+    ensures { (d : Netlist) (edits : List declared.Edit) → commit_of (2 ^ 64 - 1) d edits ≡ Err (0, EditFault.TooMany) }
+{}
+
+/// The fault of a refused commit is never that memory ran out.
+pub fn faults_of_commits()
+    ensures { (version : ℕ) (d : Netlist) (edits : List declared.Edit) → IfErr (commit_of version d edits) (λ refused. refused.1 ≢ EditFault.OutOfMemory) }
+{
+    limits_of_edits();
+}

@@ -1,0 +1,7 @@
+//! Commits, snapshots and cursors, worked out by hand.
+
+mod commits;
+mod cursors;
+mod held;
+mod opened;
+mod stuck;

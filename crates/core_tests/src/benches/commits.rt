@@ -1,0 +1,141 @@
+//! What commits do, and what refused ones leave.
+
+use super::opened::{check, commit, open};
+use bench::{Bench, CommitFault};
+use edits::EditFault;
+use gatestep::Stepper;
+use std::alloc::Global;
+use std::process::Abort;
+
+const SLOW_BUFFER: [&str; 6] = [
+    "input a",
+    "net y wire",
+    "gate g buf 5 5 y a",
+    "stim a 0 0",
+    "stim a 10 1",
+    "horizon 30",
+];
+
+#[test]
+fn a_later_point(rt: HostRuntime) {
+    let mut bench = open(&rt, rt.alloc(), &SLOW_BUFFER);
+    check(&rt, rt.alloc(), &bench, "y", " 0:x 5:0 15:1");
+    let later = ["unstim a 10", "stim a 12 1"];
+    assert_eq!(rt; commit(&rt, rt.alloc(), &mut bench, &later), Ok(1));
+    check(&rt, rt.alloc(), &bench, "y", " 0:x 5:0 17:1");
+    drop(bench);
+}
+
+const ONE_BUFFER: [&str; 5] = [
+    "horizon 10",
+    "input a",
+    "net y wire",
+    "gate g buf 5 5 y a",
+    "stim a 0 0",
+];
+
+// A buffer that gives way to an inverter in one commit.
+#[test]
+fn replaced_gate(rt: HostRuntime) {
+    let mut bench = open(&rt, rt.alloc(), &ONE_BUFFER);
+    check(&rt, rt.alloc(), &bench, "y", " 0:x 5:0");
+    let inverter = ["drop g", "gate h not 2 2 y a"];
+    assert_eq!(rt; commit(&rt, rt.alloc(), &mut bench, &inverter), Ok(1));
+    check(&rt, rt.alloc(), &bench, "y", " 0:x 2:1");
+    drop(bench);
+}
+
+const TWO_BUFFERS: [&str; 10] = [
+    "input a",
+    "input b",
+    "net q wire",
+    "net n wire",
+    "gate g0 buf 1 1 n a",
+    "gate g1 buf 1 1 n b",
+    "gate h buf 1 1 q n",
+    "stim a 0 0",
+    "stim b 0 1",
+    "horizon 10",
+];
+
+const ANOTHER_KIND: [&str; 8] = [
+    "drop g0",
+    "drop g1",
+    "drop h",
+    "dropnet n",
+    "net n wor",
+    "gate g0 buf 1 1 n a",
+    "gate g1 buf 1 1 n b",
+    "gate h buf 1 1 q n",
+];
+
+// A net that is removed and added with another kind, and the gates at it.
+#[test]
+fn replaced_net(rt: HostRuntime) {
+    let mut bench = open(&rt, rt.alloc(), &TWO_BUFFERS);
+    check(&rt, rt.alloc(), &bench, "n", " 0:x");
+    check(&rt, rt.alloc(), &bench, "q", " 0:x");
+    assert_eq!(rt; commit(&rt, rt.alloc(), &mut bench, &ANOTHER_KIND), Ok(1));
+    check(&rt, rt.alloc(), &bench, "n", " 0:x 1:1");
+    check(&rt, rt.alloc(), &bench, "q", " 0:x 2:1");
+    drop(bench);
+}
+
+const BUFFER: [&str; 4] = ["input a", "net y wire", "gate g buf 3 3 y a", "horizon 30"];
+
+/// Three commits, which let a short pulse come to the buffer.
+fn send_pulse<S: Stepper + Drop>(rt: &impl Abort, alloc: Global, bench: &mut Bench<S>) {
+    assert_eq!(rt; commit(rt, alloc, bench, &["stim a 0 0"]), Ok(1));
+    assert_eq!(rt; commit(rt, alloc, bench, &["stim a 10 1"]), Ok(2));
+    assert_eq!(rt; commit(rt, alloc, bench, &["stim a 12 0"]), Ok(3));
+}
+
+const THIRD_REFUSED: [&str; 5] = [
+    "stim a 20 1",
+    "stim a 25 0",
+    "delay g 0 3",
+    "horizon 50",
+    "stim a 30 1",
+];
+
+#[test]
+fn refused_edit(rt: HostRuntime) {
+    let mut bench = open(&rt, rt.alloc(), &BUFFER);
+    send_pulse(&rt, rt.alloc(), &mut bench);
+    check(&rt, rt.alloc(), &bench, "y", " 0:x 3:0");
+    let refused = Err(CommitFault::Edit(2, EditFault::ZeroDelay));
+    assert_eq!(rt;
+        commit(&rt, rt.alloc(), &mut bench, &THIRD_REFUSED),
+        refused
+    );
+    check(&rt, rt.alloc(), &bench, "y", " 0:x 3:0");
+    check(&rt, rt.alloc(), &bench, "a", " 0:0 10:1 12:0");
+    assert_eq!(rt; bench.snapshot().version(), 3);
+    assert_eq!(rt; bench.snapshot().horizon(), 30);
+    drop(bench);
+}
+
+#[test]
+fn no_edits(rt: HostRuntime) {
+    let mut bench = open(&rt, rt.alloc(), &ONE_BUFFER);
+    assert_eq!(rt; bench.snapshot().version(), 0);
+    assert_eq!(rt; commit(&rt, rt.alloc(), &mut bench, &[]), Ok(1));
+    assert_eq!(rt; bench.snapshot().version(), 1);
+    check(&rt, rt.alloc(), &bench, "y", " 0:x 5:0");
+    drop(bench);
+}
+
+#[test]
+fn no_such_net(rt: HostRuntime) {
+    let bench = open(&rt, rt.alloc(), &ONE_BUFFER);
+    assert!(rt; bench.snapshot().wave("g").is_none());
+    assert!(rt; bench.snapshot().wave("").is_none());
+    drop(bench);
+}
+
+#[test]
+fn texts_of_faults(rt: HostRuntime) {
+    let fault = CommitFault::Edit(2, EditFault::ZeroDelay);
+    let text = format!(in rt.alloc(); "{fault}").expect(&rt, "a text");
+    assert_eq!(rt; text.as_str(), "edit 2: zero delay");
+}
