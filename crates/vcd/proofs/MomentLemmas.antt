@@ -1,0 +1,102 @@
+-- The lines of moments, one after another.
+use Rattle.std.proofs.Common.{◌≡◌, ◌≢◌, ◌<◌, ◌≤◌, ℕ, zero, suc, ◌+◌, ◌/◌, ◌*◌, true, false, refl, ap, ◌∙◌, List, [], ◌∷◌, ◌++◌, length, append-nil, arith}
+use Rattle.std.specs.Prelude.{◌==◌, ◌||◌, nat_lt, slice_index}
+use Rattle.std.proofs.lemmas.Bool.{eqb-false, ltb-true, ltb-false}
+use Rattle.std.proofs.lemmas.Grind.{common_steps, flat_map-append}
+use Rattle.fourstate.specs.declared.value.Value.{Value}
+use Rattle.waveform.specs.Timelines.{moments}
+use Rattle.vcd.specs.Changes.{change_lines, lines_below, moment_lines, some_changes_at, time_line}
+use Rattle.vcd.specs.declared.upcoming.Upcoming.{Upcoming}
+use Rattle.vcd.specs.Kept.{IsAhead, IsNext}
+use Rattle.vcd.specs.Waves.{wave_in}
+use Rattle.vcd.proofs.UpcomingLemmas.{since_left}
+use Rattle.vcd.proofs.WaveLemmas.{no_change}
+
+-- one moment more
+pub below_suc : (waves : List (List (ℕ × Value))) (last t : ℕ) → lines_below waves last (suc t) ≡ lines_below waves last t ++ moment_lines waves last t
+below_suc waves last t =
+    flat_map-append (moment_lines waves last) (moments t) (t ∷ []) ∙
+    ap (λ lines. lines_below waves last t ++ lines) (append-nil (moment_lines waves last t))
+
+moment_none : (waves : List (List (ℕ × Value))) (last t : ℕ) → 0 < t → t < last → some_changes_at waves t ≡ false → moment_lines waves last t ≡ []
+moment_none waves last zero after before none = absurd (omega arith)
+moment_none waves last (suc t) after before none =
+    let other : (suc t == last) ≡ false = grind (arith, common_steps) in
+    rw (other, none) refl
+
+moment_some : (waves : List (List (ℕ × Value))) (last t : ℕ) → 0 < t → (t == last || some_changes_at waves t) ≡ true →
+    moment_lines waves last t ≡ time_line t ++ change_lines waves t
+moment_some waves last zero after some = absurd (omega arith)
+moment_some waves last (suc t) after some = rw some refl
+
+-- moments without a change have no lines
+skipped : (waves : List (List (ℕ × Value))) (last t n : ℕ) → 0 < t → t ≤ n → n ≤ last → ((s : ℕ) → t ≤ s → s < n → some_changes_at waves s ≡ false) →
+    lines_below waves last n ≡ lines_below waves last t
+skipped waves last t zero after le end none = absurd (omega arith)
+skipped waves last t (suc n) after le end none =
+    elim (nat_lt n t) as (λ b. nat_lt n t ≡ b → lines_below waves last (suc n) ≡ lines_below waves last t) [
+      | true ↦ λ is.
+          let less : n < t = ltb-true n t is in
+          let same : suc n ≡ t = omega arith in
+          ap (λ m. lines_below waves last m) same
+      | false ↦ λ is.
+          let least : t ≤ n = ltb-false n t is in
+          let here : moment_lines waves last n ≡ [] = moment_none waves last n (omega arith) (omega arith) (none n least (omega arith)) in
+          below_suc waves last n ∙ (ap (λ lines. lines_below waves last n ++ lines) here ∙ (append-nil (lines_below waves last n) ∙
+          skipped waves last t n after least (omega arith) (λ s from to. none s from (omega arith))))
+    ] refl
+
+none_between : (waves : List (List (ℕ × Value))) (t u s : ℕ) (upcoming : Upcoming) → IsAhead waves t 0 upcoming →
+    ((block : ℕ) → block * 256 < length waves → u ≤ slice_index upcoming.least block) → t ≤ s → s < u → some_changes_at waves s ≡ false
+none_between waves t u s upcoming ahead each from to =
+    no_change waves s
+    (λ k below.
+    let next : IsNext (wave_in waves k) t (slice_index upcoming.times k) = rw (since_left t 0 (k / 256) (omega arith)) at (ahead.next k below) in
+    let least : slice_index upcoming.least (k / 256) ≤ slice_index upcoming.times k = ahead.least k below in
+    let first : u ≤ slice_index upcoming.least (k / 256) = each (k / 256) (omega arith) in
+    next.none s from (omega arith))
+
+is_written : (waves : List (List (ℕ × Value))) (last u : ℕ) → u ≤ last → (u < last → some_changes_at waves u ≡ true) → (u == last || some_changes_at waves u) ≡ true
+is_written waves last u within change =
+    elim (u == last) as (λ b. (u == last) ≡ b → (b || some_changes_at waves u) ≡ true) [
+      | true ↦ λ is. refl
+      | false ↦ λ is. let other : u ≢ last = eqb-false u last is in change (omega arith)
+    ] refl
+
+-- the next moment that is written
+pub lines_to : (waves : List (List (ℕ × Value))) (last t u : ℕ) (upcoming : Upcoming) → IsAhead waves (t + 1) 0 upcoming → t < u → u ≤ last →
+    ((block : ℕ) → block * 256 < length waves → u ≤ slice_index upcoming.least block) → (u < last → some_changes_at waves u ≡ true) →
+    lines_below waves last (suc u) ≡ lines_below waves last (suc t) ++ (time_line u ++ change_lines waves u)
+lines_to waves last t u upcoming ahead less within each change =
+    let empty : lines_below waves last u ≡ lines_below waves last (suc t) =
+    skipped waves last (suc t) u (omega arith) (omega arith) within (λ s from to. none_between waves (t + 1) u s upcoming ahead each (omega arith) to) in
+    let here : moment_lines waves last u ≡ time_line u ++ change_lines waves u = moment_some waves last u (omega arith) (is_written waves last u within change) in
+    below_suc waves last u ∙ (ap (λ lines. lines ++ moment_lines waves last u) empty ∙ ap (λ lines. lines_below waves last (suc t) ++ lines) here)
+
+-- some time is left for the next one
+pub is_later : (waves : List (List (ℕ × Value))) (t : ℕ) (upcoming : Upcoming) → IsAhead waves t 0 upcoming → (block : ℕ) → block * 256 < length waves →
+    t ≤ slice_index upcoming.least block
+is_later waves t upcoming ahead block inside = rw (since_left t 0 block (omega arith)) at (ahead.later block inside)
+
+-- the tables at the next moment that is written
+pub ahead_later : (waves : List (List (ℕ × Value))) (t u : ℕ) (upcoming : Upcoming) → IsAhead waves t 0 upcoming → t ≤ u →
+    ((block : ℕ) → block * 256 < length waves → u ≤ slice_index upcoming.least block) → IsAhead waves u 0 upcoming
+ahead_later waves t u upcoming ahead le each = record {
+  next = λ k below.
+      let next : IsNext (wave_in waves k) t (slice_index upcoming.times k) = rw (since_left t 0 (k / 256) (omega arith)) at (ahead.next k below) in
+      let least : slice_index upcoming.least (k / 256) ≤ slice_index upcoming.times k = ahead.least k below in
+      let first : u ≤ slice_index upcoming.least (k / 256) = each (k / 256) (omega arith) in
+      rw (since_left u 0 (k / 256) (omega arith))
+      (record {
+        later = omega arith;
+        none = λ s from to. next.none s (omega arith) to;
+        change = next.change;
+      });
+  least = ahead.least;
+  later = λ block inside. rw (since_left u 0 block (omega arith)) (each block inside);
+  change = ahead.change;
+}
+
+-- the lines of moment 0
+pub first_lines : (waves : List (List (ℕ × Value))) (last : ℕ) → lines_below waves last 1 ≡ moment_lines waves last 0
+first_lines waves last = append-nil (moment_lines waves last 0)

@@ -1,0 +1,192 @@
+-- Tables of the changes to come.
+use Rattle.std.proofs.Common.{◌≡◌, ◌≢◌, ◌<◌, ◌≤◌, ℕ, zero, suc, ◌+◌, true, false, refl, ap, sym, subst, ◌∙◌, List, [], ◌∷◌, ◌++◌, length, get_or-set_other, get_or-set_same, below_more, append-nil, append_assoc, add-one, add-zero, add-suc, zero-add, ◌-◌, ◌*◌, ◌/◌, arith}
+use Rattle.std.specs.Prelude.{◌==◌, min, nat_lt, slice_index, slice_set}
+use Rattle.std.specs.List.{enumerate_from, flat_map}
+use Rattle.std.proofs.lemmas.List.{get_or-replicate}
+use Rattle.std.proofs.lemmas.Bool.{ltb-true, ltb-false, lt-ltb, le-ltb, eqb-true, eqb-false}
+use Rattle.fourstate.specs.declared.value.Value.{Value}
+use Rattle.fourstate.specs.Values.{same_value}
+use Rattle.waveform.specs.Entries.{standing}
+use Rattle.waveform.specs.Timelines.{IsTimeline}
+use Rattle.std.proofs.Math.ListN.{replicate}
+use Rattle.devices.specs.Outgoing.{Adds, Outgoing}
+use Rattle.vcd.specs.declared.upcoming.TheConstants.{NEVER}
+use Rattle.vcd.specs.declared.upcoming.Upcoming.{Upcoming}
+use Rattle.vcd.specs.Changes.{change_line, change_lines, changes_at, some_changes_at}
+use Rattle.vcd.specs.Kept.{IsAhead, IsNext, IsPassing, lines_from, since}
+use Rattle.vcd.specs.Waves.{wave_in}
+use Rattle.vcd.proofs.WaveLemmas.{next_at_start, some_change}
+use Rattle.vcd.proofs.Ways.{both}
+
+-- what holds of both holds of the lesser
+pub of_lesser : (P : ℕ → Type 0) (a b : ℕ) → P a → P b → P (min a b)
+of_lesser P a b first second =
+    elim (nat_lt a b) as (λ t. nat_lt a b ≡ t → P (min a b)) [
+      | true ↦ λ is. let less : a < b = ltb-true a b is in let e : min a b ≡ a = omega arith in subst P (sym e) first
+      | false ↦ λ is. let least : b ≤ a = ltb-false a b is in let e : min a b ≡ b = omega arith in subst P (sym e) second
+    ] refl
+
+-- the next net is past the moment
+pub passed_more : (waves : List (List (ℕ × Value))) (first t i : ℕ) (before times : List ℕ) (least next : ℕ) (old now then : Outgoing) →
+    IsPassing waves first t i before times least old now → first + i < length times → first + i < length waves →
+    IsNext (wave_in waves (first + i)) (t + 1) next → Adds now then (change_line (first + i) (wave_in waves (first + i)) t) →
+    IsPassing waves first t (i + 1) before (slice_set times (first + i) next) (min least next) old then
+passed_more waves first t i before times least next old now then passing inside below is adds = record {
+  passed =
+      below_more _ _
+      (λ k h. let other : first + k ≢ first + i = omega arith in rw get_or-set_other (passing.passed k h))
+      (rw get_or-set_same is);
+  under = λ k h. let other : k ≢ first + i = omega arith in rw get_or-set_other (passing.under k h);
+  over = λ k h. let other : k ≢ first + i = omega arith in rw get_or-set_other (passing.over k (omega arith));
+  below =
+      below_more _ _
+      (λ k h.
+      let other : first + k ≢ first + i = omega arith in
+      rw get_or-set_other (let le : least ≤ slice_index times (first + k) = passing.below k h in omega arith))
+      (rw get_or-set_same (omega arith));
+  later = let a : t + 1 ≤ least = passing.later in let b : t + 1 ≤ next = is.later in omega arith;
+  change =
+      of_lesser (λ s. s < NEVER → some_changes_at waves s ≡ true) least next passing.change
+      (λ moment. some_change waves (first + i) next below (is.change moment));
+  text = rw add-one (both old now then (lines_from waves t first i) (change_line (first + i) (wave_in waves (first + i)) t) passing.text adds);
+}
+
+-- Blocks.
+
+since_passed : (t passed block : ℕ) → block < passed → since t passed block ≡ t + 1
+since_passed t passed block less = rw (lt-ltb block passed less) refl
+
+pub since_left : (t passed block : ℕ) → passed ≤ block → since t passed block ≡ t
+since_left t passed block le = rw (le-ltb block passed le) refl
+
+-- one block more makes no difference to the others
+since_other : (t passed block : ℕ) → block ≢ passed → since t (passed + 1) block ≡ since t passed block
+since_other t passed block other =
+    elim (nat_lt block passed) as (λ b. nat_lt block passed ≡ b → since t (passed + 1) block ≡ since t passed block) [
+      | true ↦ λ is.
+          let less : block < passed = ltb-true block passed is in
+          since_passed t (passed + 1) block (omega arith) ∙ sym (since_passed t passed block less)
+      | false ↦ λ is.
+          let least : passed ≤ block = ltb-false block passed is in
+          since_left t (passed + 1) block (omega arith) ∙ sym (since_left t passed block least)
+    ] refl
+
+none_from : (waves : List (List (ℕ × Value))) (t first n : ℕ) → ((k : ℕ) → k < n → changes_at (wave_in waves (first + k)) t ≡ false) →
+    lines_from waves t first n ≡ []
+none_from waves t first zero none = refl
+none_from waves t first (suc n) none =
+    rw (none n (omega arith)) (rw append-nil (none_from waves t first n (λ k h. none k (omega arith))))
+
+-- a block of which nothing changes at t has no lines there
+pub nothing_added : (waves : List (List (ℕ × Value))) (t block : ℕ) (upcoming : Upcoming) (now : Outgoing) → IsAhead waves t block upcoming →
+    slice_index upcoming.least block ≢ t → block * 256 < length waves →
+    Adds now now (lines_from waves t (block * 256) (min 256 (length waves - block * 256)))
+nothing_added waves t block upcoming now ahead other inside =
+    let later : since t block block ≤ slice_index upcoming.least block = ahead.later block inside in
+    let here : since t block block ≡ t = since_left t block block (omega arith) in
+    rw (none_from waves t (block * 256) (min 256 (length waves - block * 256))
+    (λ k h.
+    let same : (block * 256 + k) / 256 ≡ block = omega arith in
+    let least : slice_index upcoming.least ((block * 256 + k) / 256) ≤ slice_index upcoming.times (block * 256 + k) = ahead.least (block * 256 + k) (omega arith) in
+    let least' : slice_index upcoming.least block ≤ slice_index upcoming.times (block * 256 + k) = rw same at least in
+    let next : IsNext (wave_in waves (block * 256 + k)) t (slice_index upcoming.times (block * 256 + k)) =
+    rw (same, here) at (ahead.next (block * 256 + k) (omega arith)) in
+    next.none t (omega arith) (omega arith)))
+    (rw append-nil refl)
+
+-- each number lies before a stretch, in it or behind it
+in_stretch : (P : ℕ → Type 0) (first count k : ℕ) → (k < first → P k) → ((j : ℕ) → j < count → P (first + j)) → (first + count ≤ k → P k) → P k
+in_stretch P first count k under within over =
+    elim (nat_lt k first) as (λ b. nat_lt k first ≡ b → P k) [
+      | true ↦ λ is. under (ltb-true k first is)
+      | false ↦ λ is.
+          let from : first ≤ k = ltb-false k first is in
+          elim (nat_lt k (first + count)) as (λ b. nat_lt k (first + count) ≡ b → P k) [
+            | true ↦ λ to.
+                let less : k < first + count = ltb-true k (first + count) to in
+                let back : first + (k - first) ≡ k = omega arith in
+                subst P back (within (k - first) (omega arith))
+            | false ↦ λ to. over (ltb-false k (first + count) to)
+          ] refl
+    ] refl
+
+-- one number, and each other
+one_or_other : (P : ℕ → Type 0) (a b : ℕ) → P b → (a ≢ b → P a) → P a
+one_or_other P a b one other =
+    elim (a == b) as (λ t. (a == b) ≡ t → P a) [
+      | true ↦ λ is. subst P (sym (eqb-true a b is)) one
+      | false ↦ λ is. other (eqb-false a b is)
+    ] refl
+
+-- the tables after a block
+pub block_passed : (waves : List (List (ℕ × Value))) (t block count : ℕ) (upcoming : Upcoming) (times : List ℕ) (least : ℕ) (old now : Outgoing) →
+    IsAhead waves t block upcoming → block * 256 < length waves → block < length upcoming.least → count ≡ min 256 (length waves - block * 256) →
+    IsPassing waves (block * 256) t count upcoming.times times least old now →
+    IsAhead waves t (block + 1) (record { times = times; least = slice_set upcoming.least block least })
+block_passed waves t block count upcoming times least old now ahead inside room all passing = record {
+  next = λ k.
+      in_stretch (λ k. k < length waves → IsNext (wave_in waves k) (since t (block + 1) (k / 256)) (slice_index times k)) (block * 256) count k
+      (λ less h. let other : k / 256 ≢ block = omega arith in rw (since_other t block (k / 256) other, passing.under k less) (ahead.next k h))
+      (λ j less h. rw (since_passed t (block + 1) ((block * 256 + j) / 256) (omega arith)) (passing.passed j less))
+      (λ le h. let other : k / 256 ≢ block = omega arith in rw (since_other t block (k / 256) other, passing.over k le) (ahead.next k h));
+  least = λ k.
+      in_stretch (λ k. k < length waves → slice_index (slice_set upcoming.least block least) (k / 256) ≤ slice_index times k) (block * 256) count k
+      (λ less h. let other : k / 256 ≢ block = omega arith in rw (get_or-set_other, passing.under k less) (ahead.least k h))
+      (λ j less h. let same : (block * 256 + j) / 256 ≡ block = omega arith in rw (same, get_or-set_same) (passing.below j less))
+      (λ le h. let other : k / 256 ≢ block = omega arith in rw (get_or-set_other, passing.over k le) (ahead.least k h));
+  later = λ at.
+      one_or_other (λ at. at * 256 < length waves → since t (block + 1) at ≤ slice_index (slice_set upcoming.least block least) at) at block
+      (λ h. rw (since_passed t (block + 1) block (omega arith), get_or-set_same) passing.later)
+      (λ other h. rw (since_other t block at other, get_or-set_other) (ahead.later at h));
+  change = λ at.
+      one_or_other
+      (λ at. at * 256 < length waves → slice_index (slice_set upcoming.least block least) at < NEVER →
+      some_changes_at waves (slice_index (slice_set upcoming.least block least) at) ≡ true) at block
+      (λ h. rw get_or-set_same passing.change)
+      (λ other h. rw get_or-set_other (ahead.change at h));
+}
+
+-- before moment 0
+pub ahead_at_start : (waves : List (List (ℕ × Value))) (m n : ℕ) → length waves ≤ m → length waves ≤ n * 256 →
+    ((k : ℕ) → k < length waves → IsTimeline same_value standing (wave_in waves k)) →
+    IsAhead waves 0 0 (record { times = replicate m 0; least = replicate n 0 })
+ahead_at_start waves m n nets blocks lines = record {
+  next = λ k h. rw (since_left 0 0 (k / 256) (omega arith), get_or-replicate {A = ℕ} m k 0 0 (omega arith)) (next_at_start (wave_in waves k) (lines k h));
+  least = λ k h. rw (get_or-replicate {A = ℕ} n (k / 256) 0 0 (omega arith)) (omega arith);
+  later = λ block h. rw (since_left 0 0 block (omega arith)) (omega arith);
+  change = λ block h moment.
+      let first : IsNext (wave_in waves 0) 0 0 = next_at_start (wave_in waves 0) (lines 0 (omega arith)) in
+      rw (get_or-replicate {A = ℕ} n block 0 0 (omega arith)) (some_change waves 0 0 (omega arith) (first.change (omega arith)));
+}
+
+-- Lines.
+
+pub lines_add : (waves : List (List (ℕ × Value))) (t first m n : ℕ) → lines_from waves t first (m + n) ≡ lines_from waves t first m ++ lines_from waves t (first + m) n
+lines_add waves t first m zero = rw (add-zero, append-nil) refl
+lines_add waves t first m (suc n) =
+    let place : first + (m + n) ≡ first + m + n = omega arith in
+    rw (add-suc, lines_add waves t first m n, append_assoc, place) refl
+
+-- what the blocks up to one write, and what that one writes
+pub lines_of_block : (waves : List (List (ℕ × Value))) (t block : ℕ) → block * 256 < length waves →
+    lines_from waves t 0 (min (block * 256) (length waves)) ++ lines_from waves t (block * 256) (min 256 (length waves - block * 256)) ≡
+    lines_from waves t 0 (min ((block + 1) * 256) (length waves))
+lines_of_block waves t block inside =
+    let before : min (block * 256) (length waves) ≡ block * 256 = omega arith in
+    let after : min ((block + 1) * 256) (length waves) ≡ block * 256 + min 256 (length waves - block * 256) = omega arith in
+    let start : 0 + block * 256 ≡ block * 256 = omega arith in
+    rw (before, after) (sym (rw start at (lines_add waves t 0 (block * 256) (min 256 (length waves - block * 256)))))
+
+lines_enumerated : (all waves : List (List (ℕ × Value))) (t n : ℕ) → ((k : ℕ) → k < length waves → wave_in all (n + k) ≡ wave_in waves k) →
+    lines_from all t n (length waves) ≡ flat_map (λ e. change_line e.0 e.1 t) (enumerate_from n waves)
+lines_enumerated all [] t n each = refl
+lines_enumerated all (wave ∷ waves) t n each =
+    let first : wave_in all (n + 0) ≡ wave = each 0 (omega arith) in
+    let count : length (wave ∷ waves) ≡ 1 + length waves = omega arith in
+    let rest : lines_from all t (n + 1) (length waves) ≡ flat_map (λ e. change_line e.0 e.1 t) (enumerate_from (n + 1) waves) =
+    lines_enumerated all waves t (n + 1) (λ k h. let place : n + 1 + k ≡ n + suc k = omega arith in rw place (each (suc k) (omega arith))) in
+    ap (λ m. lines_from all t n m) count ∙ (lines_add all t n 1 (length waves) ∙ rw (rest, first, add-zero) refl)
+
+-- the lines of all nets
+pub lines_whole : (waves : List (List (ℕ × Value))) (t : ℕ) → lines_from waves t 0 (length waves) ≡ change_lines waves t
+lines_whole waves t = lines_enumerated waves waves t 0 (λ k h. rw zero-add refl)
