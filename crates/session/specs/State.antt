@@ -3,6 +3,7 @@ use Rattle.std.specs.Prelude.{◌≡◌, Bool, true, false, ℕ, List, [], ◌�
 use Rattle.fourstate.specs.declared.value.Value.{Value}
 use Rattle.edits.specs.declared.fault.EditFault.{EditFault}
 use Rattle.bench.specs.Benches.{SnapshotRecord}
+use Rattle.vcd.specs.Text.{vcd_of}
 use Rattle.session.specs.declared.commands.command.Command.{Command}
 use Rattle.session.specs.declared.commands.command.Command.TheVariants as command
 use Rattle.session.specs.declared.commands.question.NetQuestion.{NetQuestion}
@@ -30,7 +31,7 @@ net_reply asked snapshot = query_reply snapshot.version asked.query (changes_ask
 
 abbrev pub question_reply : Question → SnapshotRecord → List ℕ
 question_reply (question.Net asked) snapshot = net_reply asked snapshot
-question_reply question.Vcd snapshot = refusal_line refusal.BadCommand
+question_reply question.Vcd snapshot = vcd_of snapshot.design ++ ok_line snapshot.version
 
 -- the same of the snapshot that is held under a name, if one is
 abbrev pub held_reply : Question → Option SnapshotRecord → List ℕ

@@ -10,6 +10,7 @@ use crate::replies::{Refusal, no, ok, tell};
 use bench::Snapshot;
 use devices::{Sink, Writer};
 use edits::EditFault;
+use vcd::text;
 use waveform::Wave;
 
 /// Answers a question about a snapshot. It takes no memory.
@@ -18,7 +19,10 @@ pub fn reply<W: Sink>(snapshot: &Snapshot, question: &Question<'_>, writer: &mut
 {
     match question {
         Question::Net(question) => reply_of_net(snapshot, question, writer),
-        Question::Vcd => no(writer, Refusal::BadCommand),
+        Question::Vcd => {
+            text(snapshot, writer);
+            ok(writer, snapshot.version());
+        }
     }
 }
 

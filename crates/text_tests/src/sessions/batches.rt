@@ -215,3 +215,33 @@ fn names_of_64_snapshots(rt: HostRuntime) -> Result<(), Fail> {
     assert_eq!(rt; replies.as_slice(), want.as_slice());
     Ok(())
 }
+
+// The dump of the pulse, of a shorter run, and of the longer one again; and that of a held snapshot.
+const DUMP_HEAD: &[u8] =
+    b"$version gatebench $end\n$timescale 1 ns $end\n$scope module m $end\n$var wire 1 ! a $end\n\
+$var wire 1 \" y $end\n$upscope $end\n$enddefinitions $end\n#0\n$dumpvars\n0!\nx\"\n$end\n#3\n0\"\n#10\n1!\n";
+
+const DUMP_REST: &[u8] = b"#13\n0!\n1\"\n#16\n0\"\n#100\n";
+
+#[test]
+fn dumps(rt: HostRuntime) -> Result<(), Fail> {
+    let lines =
+        b"stim a 0 0\nstim a 10 1\nstim a 13 0\nvcd\nhold long\nhorizon 10\nvcd\nat long vcd\nvcd now\nat short vcd\n";
+    let (result, replies) = answered(&rt, rt.alloc(), BUFFER, 100, lines);
+    let mut want = b"ok 1\nok 2\nok 3\n".as_slice().to_vec(rt.alloc())?;
+    for part in [
+        DUMP_HEAD,
+        DUMP_REST,
+        b"ok 3\nok 3\nok 4\n",
+        DUMP_HEAD,
+        b"ok 4\n",
+        DUMP_HEAD,
+        DUMP_REST,
+        b"ok 3\nno 16 BadCommand\nno 18 UnknownHold\n",
+    ] {
+        want.extend_from_slice(part)?;
+    }
+    assert_eq!(rt; result, Ok(()));
+    assert_eq!(rt; replies.as_slice(), want.as_slice());
+    Ok(())
+}
