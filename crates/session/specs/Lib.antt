@@ -7,6 +7,9 @@ pub mod Commands
 pub mod Replies
 pub mod Questions
 pub mod Kept
+pub mod Held
+pub mod Standing
+pub mod Steps
 pub mod Refused
 pub mod State
 pub mod Traffic

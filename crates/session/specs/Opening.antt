@@ -10,14 +10,14 @@ use Rattle.vtext.specs.declared.fault.ReadFaultKind.TheVariants as read
 use Rattle.session.specs.declared.fault.SessionFault.{SessionFault}
 use Rattle.session.specs.declared.fault.SessionFault.TheVariants as fault
 use Rattle.session.specs.declared.open.Options.{Options}
-use Rattle.session.specs.State.{SessionState}
+use Rattle.session.specs.Standing.{SessionState, opened_with}
 
 -- A session opens in this state: version 0, and the design that the text spells, up to the horizon.
 pub record Opens (text : List ℕ) (options : Options) (first : SessionState) : Type 0 where
   pub spelled : Netlist
   pub spells : Spells options.delay text spelled
   pub within : options.horizon ≤ MAX_TIME
-  pub state : first ≡ record { version = 0; netlist = with_horizon spelled options.horizon }
+  pub state : first ≡ opened_with (with_horizon spelled options.horizon)
 
 -- a session opens in a state of which this holds
 abbrev pub FromOpening : List ℕ → Options → (SessionState → Type 0) → Type 0

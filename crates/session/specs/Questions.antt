@@ -1,22 +1,18 @@
 -- What is asked about the wave of a net, and the lines that answer it (own).
-use Rattle.std.specs.Prelude.{Bool, false, ℕ, suc, nat_lt, if◌then◌else◌, List, Option, None, Some, Result, Ok, Err}
+use Rattle.std.specs.Prelude.{Bool, false, ℕ, nat_lt, if◌then◌else◌, List, Option, None, Some, Result, Ok, Err}
 use Rattle.fourstate.specs.declared.value.Value.{Value}
 use Rattle.fourstate.specs.Values.{same_value}
 use Rattle.gatestep.specs.Step.{advance}
 use Rattle.design.specs.Netlist.{NetEntry, Netlist, net_named}
-use Rattle.waveform.specs.Changes.{wave_at, wave_changes_below}
+use Rattle.waveform.specs.Changes.{wave_at}
 use Rattle.waveform.specs.Timelines.{first_after, last_before, next_to}
-use Rattle.scratch.specs.Run.{value}
+use Rattle.scratch.specs.Run.{wave_of}
 use Rattle.session.specs.declared.commands.question.Query.{Query}
 use Rattle.session.specs.declared.commands.question.Query.TheVariants as query
-use Rattle.session.specs.declared.commands.question.Question.{Question}
+use Rattle.session.specs.declared.commands.question.NetQuestion.{NetQuestion}
 use Rattle.edits.specs.declared.fault.EditFault.{EditFault}
 use Rattle.edits.specs.declared.fault.EditFault.TheVariants.{UnknownNet, TimeTooLarge}
 use Rattle.session.specs.Replies.{change_or_none, value_line, wave_lines}
-
--- the changes of a net's wave, up to the horizon
-abbrev pub wave_of : Netlist → NetEntry → List (ℕ × Value)
-wave_of d n = wave_changes_below (value advance d n) (suc d.horizon)
 
 -- what is asked is about a moment after the horizon
 abbrev pub is_past : ℕ → Query → Bool
@@ -30,9 +26,9 @@ is_past horizon (query.Seek t v) = nat_lt horizon t
 -- moment must not lie after the horizon
 abbrev pub changes_within : Netlist → Query → Option NetEntry → Result (List (ℕ × Value)) EditFault
 changes_within d asked None = Err UnknownNet
-changes_within d asked (Some n) = if is_past d.horizon asked then Err TimeTooLarge else Ok (wave_of d n)
+changes_within d asked (Some n) = if is_past d.horizon asked then Err TimeTooLarge else Ok (wave_of advance d n)
 
-abbrev pub changes_asked : Netlist → Question → Result (List (ℕ × Value)) EditFault
+abbrev pub changes_asked : Netlist → NetQuestion → Result (List (ℕ × Value)) EditFault
 changes_asked d question = changes_within d question.query (net_named d question.net)
 
 -- the lines that answer what is asked about these changes

@@ -1,28 +1,56 @@
--- Why an edit may be refused.
-use Rattle.std.specs.Prelude.{◌≡◌, ◌⊎◌, Some, None}
-use Rattle.gatestep.specs.declared.fault.StepFault.{StepFault}
-use Rattle.gatestep.specs.declared.fault.StepFault.TheVariants as step
+-- Why a command may be refused, and what it leaves.
+use Rattle.std.specs.Prelude.{◌≡◌, ◌⊎◌, Bool, true, false, List, None, is_none, is_some, IsOk, Result, Ok, Err}
+use Rattle.std.specs.Option.{option_map_or}
 use Rattle.edits.specs.declared.edit.Edit.{Edit}
 use Rattle.edits.specs.declared.fault.EditFault.TheVariants.{OutOfMemory}
+use Rattle.bench.specs.declared.fault.CommitFault.{CommitFault}
+use Rattle.bench.specs.declared.fault.CommitFault.TheVariants as commit
+use Rattle.session.specs.declared.commands.command.Command.{Command}
+use Rattle.session.specs.declared.commands.command.Command.TheVariants as command
 use Rattle.session.specs.declared.replies.refusal.Refusal.{Refusal}
 use Rattle.session.specs.declared.replies.refusal.Refusal.TheVariants as refusal
-use Rattle.session.specs.State.{SessionState, fault_of}
+use Rattle.session.specs.Held.{hold_fault}
+use Rattle.session.specs.Standing.{SessionState, with_batch}
+use Rattle.session.specs.Steps.{commit_step, has_room, step}
 
--- An edit may be refused for its own fault or because memory ran out; a worker is lost only over an edit that the design takes.
-abbrev pub MayRefuse : SessionState → Edit → Refusal → Type 0
-MayRefuse s e (refusal.Edit fault) = (fault_of s e ≡ Some fault) ⊎ (fault ≡ OutOfMemory)
-MayRefuse s e refusal.WorkerLost = fault_of s e ≡ None
-MayRefuse s e refusal.BadCommand = ⊥
-MayRefuse s e refusal.LongLine = ⊥
+-- the command takes memory, so that an allocation may be refused
+abbrev pub takes_memory : SessionState → Command → Bool
+takes_memory s (command.Change line) = option_map_or has_room s.batch true
+takes_memory s command.Commit = is_some s.batch
+takes_memory s (command.Hold name) = is_none (hold_fault s.held name)
+takes_memory s _ = false
 
--- a stepper's fault as a reply says it
-abbrev pub refusal_of : StepFault → Refusal
-refusal_of step.OutOfMemory = refusal.Edit OutOfMemory
-refusal_of step.WorkerLost = refusal.WorkerLost
+-- the command commits edits, so that the stepper may lose a worker
+abbrev pub commits : SessionState → Command → Bool
+commits s (command.Change line) = is_none s.batch
+commits s command.Commit = is_some s.batch
+commits s _ = false
 
--- the refusal is a stepper's: out of memory or a lost worker
-abbrev pub IsOfStepper : Refusal → Type 0
-IsOfStepper (refusal.Edit fault) = fault ≡ OutOfMemory
-IsOfStepper refusal.WorkerLost = Unit {0}
-IsOfStepper refusal.BadCommand = ⊥
-IsOfStepper refusal.LongLine = ⊥
+-- A command may be refused for a fault of its own, or because memory ran out; a worker is lost only over edits that the design
+-- takes.
+abbrev pub MayRefuse : SessionState → Command → Refusal → Type 0
+MayRefuse s c (refusal.Edit fault) = (step s c ≡ Err (refusal.Edit fault)) ⊎ ((fault ≡ OutOfMemory) × (takes_memory s c ≡ true))
+MayRefuse s c refusal.WorkerLost = (commits s c ≡ true) × IsOk (step s c)
+MayRefuse s c r = step s c ≡ Err r
+
+-- a refused command leaves all as it was, save that a commit ends the batch
+abbrev pub left_by : Command → SessionState → SessionState
+left_by command.Commit s = with_batch s None
+left_by c s = s
+
+-- a command came to this result, and led from old to new
+abbrev pub Comes : SessionState → SessionState → Command → Result (Unit {0}) Refusal → Type 0
+Comes old new c (Ok done) = step old c ≡ Ok new
+Comes old new c (Err refused) = (new ≡ left_by c old) × MayRefuse old c refused
+
+-- a commit's fault as a reply says it
+abbrev pub refusal_of : CommitFault → Refusal
+refusal_of (commit.Edit place fault) = refusal.Edit fault
+refusal_of commit.OutOfMemory = refusal.Edit OutOfMemory
+refusal_of commit.WorkerLost = refusal.WorkerLost
+
+-- the same as of a command, of a commit of these edits
+abbrev pub MayRefuseCommit : SessionState → List Edit → Refusal → Type 0
+MayRefuseCommit s edits (refusal.Edit fault) = (commit_step s edits ≡ Err (refusal.Edit fault)) ⊎ (fault ≡ OutOfMemory)
+MayRefuseCommit s edits refusal.WorkerLost = IsOk (commit_step s edits)
+MayRefuseCommit s edits r = ⊥

@@ -4,7 +4,7 @@ use Rattle.std.specs.List.{flat_map}
 use Rattle.fourstate.specs.declared.value.Value.{Value}
 use Rattle.fourstate.specs.Values.{symbol_of}
 use Rattle.session.specs.declared.replies.refusal.Refusal.{Refusal}
-use Rattle.session.specs.declared.replies.refusal.Refusal.TheVariants.{Edit, WorkerLost, BadCommand, LongLine}
+use Rattle.session.specs.declared.replies.refusal.Refusal.TheVariants.{Edit, WorkerLost, BadCommand, LongLine, UnknownHold, NoBatch, InBatch}
 use Rattle.edits.specs.EditFaults.{fault_code, fault_name}
 
 abbrev pub refusal_code : Refusal → ℕ
@@ -12,12 +12,18 @@ refusal_code (Edit fault) = fault_code fault
 refusal_code WorkerLost = 15
 refusal_code BadCommand = 16
 refusal_code LongLine = 17
+refusal_code UnknownHold = 18
+refusal_code NoBatch = 19
+refusal_code InBatch = 20
 
 abbrev pub refusal_name : Refusal → List ℕ
 refusal_name (Edit fault) = fault_name fault
 refusal_name WorkerLost = codes "WorkerLost"
 refusal_name BadCommand = codes "BadCommand"
 refusal_name LongLine = codes "LongLine"
+refusal_name UnknownHold = codes "UnknownHold"
+refusal_name NoBatch = codes "NoBatch"
+refusal_name InBatch = codes "InBatch"
 
 -- Lines, each with its line feed.
 

@@ -1,71 +1,70 @@
--- How a session stands, and what it may answer (own).
-use Rattle.std.specs.Prelude.{◌≡◌, Bool, true, false, ℕ, ◌+◌, ◌-◌, ◌^◌, ◌==◌, if◌then◌else◌, List, [], ◌∷◌, ◌++◌, Option, Some, None, Result, Ok, Err, ◌⊎◌, MatchBool}
+-- What a session may answer (own).
+use Rattle.std.specs.Prelude.{◌≡◌, Bool, true, false, ℕ, List, [], ◌∷◌, ◌++◌, Option, None, Some, Result, Ok, Err, MatchBool}
 use Rattle.fourstate.specs.declared.value.Value.{Value}
-use Rattle.design.specs.Netlist.{Netlist}
+use Rattle.edits.specs.declared.fault.EditFault.{EditFault}
+use Rattle.bench.specs.Benches.{SnapshotRecord}
+use Rattle.vcd.specs.Text.{vcd_of}
 use Rattle.session.specs.declared.commands.command.Command.{Command}
 use Rattle.session.specs.declared.commands.command.Command.TheVariants as command
+use Rattle.session.specs.declared.commands.question.NetQuestion.{NetQuestion}
 use Rattle.session.specs.declared.commands.question.Query.{Query}
 use Rattle.session.specs.declared.commands.question.Question.{Question}
-use Rattle.edits.specs.declared.edit.Edit.{Edit}
-use Rattle.edits.specs.declared.fault.EditFault.{EditFault}
-use Rattle.edits.specs.declared.fault.EditFault.TheVariants.{TooMany, OutOfMemory}
+use Rattle.session.specs.declared.commands.question.Question.TheVariants as question
+use Rattle.session.specs.declared.replies.refusal.Refusal.{Refusal}
 use Rattle.session.specs.declared.replies.refusal.Refusal.TheVariants as refusal
 use Rattle.session.specs.Commands.{command_of}
-use Rattle.session.specs.EditLines.{edit_of}
-use Rattle.edits.specs.Checks.{cause}
-use Rattle.edits.specs.Edits.{edited}
+use Rattle.session.specs.Held.{held_as}
 use Rattle.session.specs.Questions.{changes_asked, query_lines}
+use Rattle.session.specs.Refused.{Comes}
 use Rattle.session.specs.Replies.{ok_line, refusal_line}
+pub use Rattle.session.specs.Standing.{SessionState}
 
--- the number of accepted edits so far, and the design with them
-pub record SessionState : Type 0 where
-  pub version : ℕ
-  pub netlist : Netlist
-
--- why an edit is refused, if it is; the greatest version is never left
-abbrev pub fault_of : SessionState → Edit → Option EditFault
-fault_of s e = if s.version == 2 ^ 64 - 1 then Some TooMany else cause s.netlist e
-
--- the reply to an edit, and the state after it
-
-abbrev pub edit_reply : SessionState → Option EditFault → List ℕ
-edit_reply s None = ok_line (s.version + 1)
-edit_reply s (Some fault) = refusal_line (refusal.Edit fault)
-
-abbrev pub after_edit : SessionState → Edit → Option EditFault → SessionState
-after_edit s e None = record { version = s.version + 1; netlist = edited s.netlist e }
-after_edit s e (Some fault) = s
+-- Replies to questions, which are asked of a snapshot and end with its version.
 
 -- the reply to what is asked about the changes of a wave, or to a question that is refused, at a version
 abbrev pub query_reply : ℕ → Query → Result (List (ℕ × Value)) EditFault → List ℕ
 query_reply version query (Err fault) = refusal_line (refusal.Edit fault)
 query_reply version query (Ok changes) = query_lines changes query ++ ok_line version
 
--- the one reply to a question
-abbrev pub question_reply : SessionState → Question → List ℕ
-question_reply s question = query_reply s.version question.query (changes_asked s.netlist question)
+abbrev pub net_reply : NetQuestion → SnapshotRecord → List ℕ
+net_reply asked snapshot = query_reply snapshot.version asked.query (changes_asked snapshot.design asked)
+
+abbrev pub question_reply : Question → SnapshotRecord → List ℕ
+question_reply (question.Net asked) snapshot = net_reply asked snapshot
+question_reply question.Vcd snapshot = vcd_of snapshot.design ++ ok_line snapshot.version
+
+-- the same of the snapshot that is held under a name, if one is
+abbrev pub held_reply : Question → Option SnapshotRecord → List ℕ
+held_reply asked None = refusal_line refusal.UnknownHold
+held_reply asked (Some snapshot) = question_reply asked snapshot
+
+-- Replies to the other commands.
+
+-- the version after a command that was carried out, or the refusal
+abbrev pub result_line : ℕ → Result (Unit {0}) Refusal → List ℕ
+result_line version (Ok done) = ok_line version
+result_line version (Err refused) = refusal_line refused
+
+-- From old, a command came to a result and led to new, and this reply says so.
+pub record Concludes (old : SessionState) (c : Command) (reply : List ℕ) (new : SessionState) : Type 0 where
+  pub result : Result (Unit {0}) Refusal
+  pub comes : Comes old new c result
+  pub reply_is : reply ≡ result_line new.present.version result
 
 -- this reply, and the state after it
 pub record Gives (reply : List ℕ) (new : SessionState) (wanted : List ℕ) (after : SessionState) : Type 0 where
   pub reply_is : reply ≡ wanted
   pub state_is : new ≡ after
 
--- From old, a session may give this reply to an edit and go on to new. An edit may be refused because memory ran out, or because
--- the stepper lost a worker, where the design takes the edit.
-abbrev pub EditReplies : SessionState → Edit → List ℕ → SessionState → Type 0
-EditReplies old e reply new =
-    Gives reply new (edit_reply old (fault_of old e)) (after_edit old e (fault_of old e))
-    ⊎ (Gives reply new (refusal_line (refusal.Edit OutOfMemory)) old
-    ⊎ ((fault_of old e ≡ None) × Gives reply new (refusal_line refusal.WorkerLost) old))
-
--- the same for a command
+-- From old, a session may give this reply to a command and go on to new. A question asks the present snapshot, in a batch too.
 abbrev pub Replies : SessionState → Command → List ℕ → SessionState → Type 0
 Replies old command.Skip reply new = Gives reply new [] old
-Replies old (command.Change line) reply new = EditReplies old (edit_of line) reply new
-Replies old (command.Ask question) reply new = Gives reply new (question_reply old question) old
-Replies old command.Quit reply new = Gives reply new (ok_line old.version) old
+Replies old (command.Ask asked) reply new = Gives reply new (question_reply asked old.present) old
+Replies old (command.At name asked) reply new = Gives reply new (held_reply asked (held_as old.held name)) old
+Replies old command.Quit reply new = Gives reply new (ok_line old.present.version) old
 Replies old command.Unreadable reply new = Gives reply new (refusal_line refusal.BadCommand) old
 Replies old command.TooLong reply new = Gives reply new (refusal_line refusal.LongLine) old
+Replies old c reply new = Concludes old c reply new
 
 -- the same for a line
 unfoldable pub Answers : SessionState → List ℕ → List ℕ → SessionState → Type 0

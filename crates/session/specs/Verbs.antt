@@ -28,17 +28,26 @@ ask_word ask.Wave = codes "wave"
 ask_word ask.Next = codes "next"
 ask_word ask.Prev = codes "prev"
 ask_word ask.Seek = codes "seek"
+ask_word ask.Vcd = codes "vcd"
 
 abbrev pub verb_word : Verb → List ℕ
 verb_word (verb.Edit v) = edit_word v
+verb_word verb.Begin = codes "begin"
+verb_word verb.Commit = codes "commit"
+verb_word verb.Abort = codes "abort"
 verb_word (verb.Ask v) = ask_word v
+verb_word verb.Hold = codes "hold"
+verb_word verb.Free = codes "free"
+verb_word verb.At = codes "at"
 verb_word verb.Quit = codes "quit"
 
 abbrev pub verbs : List Verb
 verbs =
     verb.Edit edit.Net ∷ verb.Edit edit.Input ∷ verb.Edit edit.DropNet ∷ verb.Edit edit.Kind ∷ verb.Edit edit.Gate ∷ verb.Edit edit.Drop
     ∷ verb.Edit edit.Delay ∷ verb.Edit edit.Type ∷ verb.Edit edit.Wire ∷ verb.Edit edit.Stim ∷ verb.Edit edit.Unstim ∷ verb.Edit edit.Horizon
-    ∷ verb.Ask ask.Value ∷ verb.Ask ask.Wave ∷ verb.Ask ask.Next ∷ verb.Ask ask.Prev ∷ verb.Ask ask.Seek ∷ verb.Quit ∷ []
+    ∷ verb.Begin ∷ verb.Commit ∷ verb.Abort
+    ∷ verb.Ask ask.Value ∷ verb.Ask ask.Wave ∷ verb.Ask ask.Next ∷ verb.Ask ask.Prev ∷ verb.Ask ask.Seek ∷ verb.Ask ask.Vcd
+    ∷ verb.Hold ∷ verb.Free ∷ verb.At ∷ verb.Quit ∷ []
 
 -- the verb that a word writes, if it writes one
 abbrev pub verb_of : List ℕ → Option Verb

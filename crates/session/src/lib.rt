@@ -1,8 +1,11 @@
 //! A session: lines of commands in, replies out.
 #![tactic(auto)]
 
+mod asking;
+mod batch;
 mod commands;
 mod fault;
+mod held;
 pub mod laws;
 mod machine;
 mod open;

@@ -1,69 +1,60 @@
-//! The design of a session, its run, and the stepper that makes it.
+//! What a session has: the bench, a batch, and snapshots that are held.
 
-ghost use Rattle.std.specs.Prelude.{◌≡◌, ◌<◌, ◌+◌, ◌-◌, ◌^◌, None, Ok, Err, IfErr, IfOk, OnOk, MatchResult, option_map};
-ghost use Rattle.std.specs.Option.{option_copied};
+ghost use Rattle.std.specs.Prelude.{◌≡◌, Ok, IfOk, MatchResult};
+ghost use Rattle.devices.specs.Outgoing.{Adds};
 ghost use Rattle.gatestep.specs.Step.{advance};
 ghost use Rattle.design.specs.Keys.{netlist};
-ghost use Rattle.design.specs.Netlist.{net_named};
-ghost use Rattle.edits.specs.Checks.{cause};
-ghost use Rattle.edits.specs.Edits.{edited};
-ghost use Rattle.scratch.specs.Run.{IsRun};
-ghost use Rattle.session.specs.EditLines.{edit_of};
-ghost use Rattle.session.specs.Questions.{changes_asked, wave_of};
-ghost use Rattle.session.specs.Refused.{IsOfStepper, MayRefuse, refusal_of};
-ghost use Rattle.session.specs.State.{after_edit, ends, fault_of, is_quit};
+ghost use Rattle.session.specs.Held.{held_as};
+ghost use Rattle.session.specs.Refused.{Comes, MayRefuseCommit, refusal_of};
+ghost use Rattle.session.specs.Standing.{opened_with};
+ghost use Rattle.session.specs.State.{ends, held_reply, is_quit, result_line};
+ghost use Rattle.session.specs.Steps.{commit_step};
 ghost use Rattle.session.specs.Talk.{Answered, CarriedOut};
 
+use crate::asking::reply;
+use crate::batch::Batch;
 use crate::commands::{Command, EditLine, Question, read};
-use crate::replies::{Refusal, no, ok, tell};
+use crate::held::Held;
+use crate::replies::{Refusal, no, ok};
+use crate::words::WordRef;
+use bench::{Bench, CommitFault};
 use design::Design;
 use devices::{Sink, Writer};
-use edits::{Edit, EditFault, apply_all};
+use edits::{Edit, EditFault};
 use gatestep::{StepFault, Stepper};
-use scratch::{simulate, wave_named};
 use std::alloc::Global;
 use std::marker::Model;
 use std::slice;
-use waveform::{Run, Wave};
 
-/// The design as it is after the accepted edits, with its run.
+/// The bench with the design, the edits of a batch, inside one, and the snapshots that are held by name.
 #[derive(Drop)]
 pub struct Machine<S: Stepper + Drop> {
     alloc: Global,
-    version: u64,
-    design: Design,
-    run: Run,
-    stepper: S,
+    bench: Bench<S>,
+    batch: Option<Batch>,
+    held: Held,
 }
 
 impl<S: Stepper + Drop> Model for Machine<S> {
-    ghost use Rattle.std.specs.Prelude.{◌≡◌};
-    ghost use Rattle.gatestep.specs.Step.{advance};
-    ghost use Rattle.design.specs.Keys.{netlist};
-    ghost use Rattle.scratch.specs.Run.{IsRun};
     ghost use Rattle.session.specs.State.{SessionState};
 
     ghost Value = { SessionState };
 
-    ghost view = { λ m. record { version = m.version; netlist = netlist m.design } };
-
-    ghost invariant = { λ m. IsRun S.answer m.design m.run × (S.answer ≡ advance) };
+    ghost view = { λ m. record { present = m.bench.snapshot; batch = m.batch; held = m.held } };
 }
 
 impl<S: Stepper + Drop> Machine<S> {
     /// The design at version 0, with its run.
     pub fn open(alloc: Global, design: Design, stepper: S) -> Result<Machine<S>, StepFault>
         requires { S.answer ≡ advance }
-        ensures { IfOk result (λ machine. machine ≡ record { version = 0; netlist = netlist design }) }
+        ensures { IfOk result (λ machine. machine ≡ opened_with (netlist design)) }
     {
-        let mut stepper = stepper;
-        let run = simulate(alloc, &design, &mut stepper)?;
+        let bench = Bench::open(alloc, design, stepper)?;
         Ok(Machine {
             alloc,
-            version: 0,
-            design,
-            run,
-            stepper,
+            bench,
+            batch: None,
+            held: Held::new(alloc),
         })
     }
 
@@ -76,16 +67,41 @@ impl<S: Stepper + Drop> Machine<S> {
         self.carry_out(read(line), writer)
     }
 
+    #[tactic(auto, using(crate::proofs::AnswerLemmas::concludes))]
     fn carry_out<W: Sink>(&mut self, command: Command<'_>, writer: &mut Writer<'_, W>) -> bool
         ensures carried_out { CarriedOut self.old self.new command.entry writer.old writer.new }
         ensures ends { result ≡ is_quit command.entry }
     {
         match command {
             Command::Skip => return false,
-            Command::Change(line) => self.change(&line, writer),
-            Command::Ask(question) => self.ask(&question, writer),
+            Command::Change(line) => {
+                let result = self.change(&line);
+                self.conclude(result, writer);
+            }
+            Command::Begin => {
+                let result = self.begin();
+                self.conclude(result, writer);
+            }
+            Command::Commit => {
+                let result = self.commit();
+                self.conclude(result, writer);
+            }
+            Command::Abort => {
+                let result = self.abort();
+                self.conclude(result, writer);
+            }
+            Command::Ask(question) => reply(self.bench.snapshot(), &question, writer),
+            Command::Hold(name) => {
+                let result = self.hold(&name);
+                self.conclude(result, writer);
+            }
+            Command::Free(name) => {
+                let result = self.free(&name);
+                self.conclude(result, writer);
+            }
+            Command::At { name, question } => self.ask_held(&name, &question, writer),
             Command::Quit => {
-                ok(writer, self.version);
+                ok(writer, self.version());
                 return true;
             }
             Command::Unreadable => no(writer, Refusal::BadCommand),
@@ -94,123 +110,117 @@ impl<S: Stepper + Drop> Machine<S> {
         false
     }
 
-    #[tactic(auto, using(crate::proofs::AnswerLemmas::changed, crate::proofs::AnswerLemmas::refused))]
-    fn change<W: Sink>(&mut self, line: &EditLine<'_>, writer: &mut Writer<'_, W>)
-        ensures { CarriedOut self.old self.new (Command.Change line.now) writer.old writer.new }
+    // The reply to a command that was carried out or refused.
+    fn conclude<W: Sink>(&self, outcome: Result<(), Refusal>, writer: &mut Writer<'_, W>)
+        ensures { Adds writer.old writer.new (result_line self.now.present.version outcome) }
     {
-        match self.try_change(line) {
-            Ok(()) => ok(writer, self.version),
+        match outcome {
+            Ok(()) => ok(writer, self.version()),
             Err(refusal) => no(writer, refusal),
         }
     }
 
-    // Where it is refused nothing changes.
-    #[tactic(auto, using(crate::proofs::AnswerLemmas::stepper_may_refuse))]
-    fn try_change(&mut self, line: &EditLine<'_>) -> Result<(), Refusal>
-        ensures { MatchResult result
-            (λ _. (fault_of self.old (edit_of line.now) ≡ None) × (self.new ≡ after_edit self.old (edit_of line.now) None))
-            (λ refusal. (self.new ≡ self.old) × MayRefuse self.old (edit_of line.now) refusal) }
+    fn version(&self) -> u64
+        ensures { result ≡ self.now.present.version }
     {
-        let design = self.edited_by(line)?;
-        self.adopt(design)
+        self.bench.snapshot().version()
     }
 
-    // The design with the edit of a line.
-    fn edited_by(&self, line: &EditLine<'_>) -> Result<Design, Refusal>
-        ensures taken { IfOk result (λ design. (cause self.now.netlist (edit_of line.now) ≡ None)
-            × (netlist design ≡ edited self.now.netlist (edit_of line.now))) }
-        ensures room { OnOk result (self.now.version < 2 ^ 64 - 1) }
-        ensures refused { IfErr result (λ refusal. MayRefuse self.now (edit_of line.now) refusal) }
+    // Outside a batch an edit is a commit by itself; in a batch it is kept.
+    fn change(&mut self, line: &EditLine<'_>) -> Result<(), Refusal>
+        ensures { Comes self.old self.new (Command.Change line.now) result }
     {
+        if let Some(batch) = &mut self.batch {
+            return batch.keep(self.alloc, line);
+        }
         match line.to_edit(self.alloc) {
-            Ok(edit) => self.edited(&edit),
+            Ok(edit) => self.commit_edits(slice::from_ref(&edit)),
             Err(_) => Err(Refusal::Edit(EditFault::OutOfMemory)),
         }
     }
 
-    // The design with an edit.
-    #[tactic(auto, using(crate::proofs::AnswerLemmas::one_taken, crate::proofs::AnswerLemmas::one_refused))]
-    fn edited(&self, edit: &Edit) -> Result<Design, Refusal>
-        ensures taken { IfOk result (λ design. (cause self.now.netlist edit.now ≡ None) × (netlist design ≡ edited self.now.netlist edit.now)) }
-        ensures room { OnOk result (self.now.version < 2 ^ 64 - 1) }
-        ensures refused { IfErr result (λ refusal. MayRefuse self.now edit.now refusal) }
+    fn begin(&mut self) -> Result<(), Refusal>
+        ensures { Comes self.old self.new Command.Begin result }
     {
-        if self.version == u64::MAX {
-            return Err(Refusal::Edit(EditFault::TooMany));
+        if self.batch.is_some() {
+            return Err(Refusal::InBatch);
         }
-        match apply_all(self.alloc, &self.design, slice::from_ref(edit)) {
-            Ok(design) => Ok(design),
-            Err((_, fault)) => Err(Refusal::Edit(fault)),
+        self.batch = Some(Batch::new(self.alloc));
+        Ok(())
+    }
+
+    // The batch ends, whether its commit is taken or refused.
+    fn commit(&mut self) -> Result<(), Refusal>
+        ensures { Comes self.old self.new Command.Commit result }
+    {
+        match self.batch.take() {
+            Some(batch) => self.commit_edits(batch.as_slice()),
+            None => Err(Refusal::NoBatch),
         }
     }
 
-    // Simulates a design and takes it as the next version.
-    #[tactic(auto, using(crate::proofs::AnswerLemmas::from_stepper))]
-    fn adopt(&mut self, design: Design) -> Result<(), Refusal>
-        requires { self.old.version < 2 ^ 64 - 1 }
+    fn abort(&mut self) -> Result<(), Refusal>
+        ensures { Comes self.old self.new Command.Abort result }
+    {
+        match self.batch.take() {
+            Some(_) => Ok(()),
+            None => Err(Refusal::NoBatch),
+        }
+    }
+
+    // Where it is refused nothing changes.
+    fn commit_edits(&mut self, edits: &[Edit]) -> Result<(), Refusal>
         ensures { MatchResult result
-            (λ _. self.new ≡ record { version = self.old.version + 1; netlist = netlist design })
-            (λ refusal. (self.new ≡ self.old) × IsOfStepper refusal) }
+            (λ _. commit_step self.old edits.now ≡ Ok self.new)
+            (λ refusal. (self.new ≡ self.old) × MayRefuseCommit self.old edits.now refusal) }
     {
-        match simulate(self.alloc, &design, &mut self.stepper) {
-            Ok(run) => {
-                self.install(design, run);
-                Ok(())
-            }
-            Err(fault) => Err(stepper_refusal(fault)),
+        match self.bench.commit(edits) {
+            Ok(_) => Ok(()),
+            Err(fault) => Err(commit_refusal(fault)),
         }
     }
 
-    fn install(&mut self, design: Design, run: Run)
-        requires run { IsRun S.answer design run }
-        requires room { self.old.version < 2 ^ 64 - 1 }
-        ensures { self.new ≡ record { version = self.old.version + 1; netlist = netlist design } }
+    fn hold(&mut self, name: &WordRef<'_>) -> Result<(), Refusal>
+        ensures { Comes self.old self.new (Command.Hold name.now) result }
     {
-        self.design = design;
-        self.run = run;
-        self.version += 1;
-    }
-
-    fn ask<W: Sink>(&self, question: &Question<'_>, writer: &mut Writer<'_, W>)
-        ensures { CarriedOut self.now self.now (Command.Ask question.now) writer.old writer.new }
-    {
-        match self.wave_asked(question) {
-            Ok(wave) => {
-                tell(writer, wave, question.query);
-                ok(writer, self.version);
-            }
-            Err(fault) => no(writer, Refusal::Edit(fault)),
+        let held = &mut self.held;
+        match held.hold(self.alloc, name.as_str(), self.bench.snapshot()) {
+            Ok(()) => Ok(()),
+            Err(fault) => Err(Refusal::Edit(fault)),
         }
     }
 
-    // The wave that a question is about, or why the question is refused.
-    fn wave_asked(&self, question: &Question<'_>) -> Result<&Wave, EditFault>
-        ensures { MatchResult result
-            (λ wave. changes_asked self.now.netlist question.now ≡ Ok wave.now)
-            (λ fault. changes_asked self.now.netlist question.now ≡ Err fault) }
+    fn free(&mut self, name: &WordRef<'_>) -> Result<(), Refusal>
+        ensures { Comes self.old self.new (Command.Free name.now) result }
     {
-        let Some(wave) = self.wave(question.net.as_str()) else {
-            return Err(EditFault::UnknownNet);
-        };
-        if question.query.is_past(self.design.horizon()) {
-            return Err(EditFault::TimeTooLarge);
+        if self.held.free(name.as_str()) {
+            Ok(())
+        } else {
+            Err(Refusal::UnknownHold)
         }
-        Ok(wave)
     }
 
-    // The wave of the net of this name.
-    fn wave(&self, net: &str) -> Option<&Wave>
-        ensures { option_copied result ≡ option_map (wave_of self.now.netlist) (net_named self.now.netlist net.now) }
+    fn ask_held<W: Sink>(
+        &self,
+        name: &WordRef<'_>,
+        question: &Question<'_>,
+        writer: &mut Writer<'_, W>,
+    )
+        ensures { Adds writer.old writer.new (held_reply question.now (held_as self.now.held name.now)) }
     {
-        wave_named(&self.design, &self.run, net)
+        match self.held.get(name.as_str()) {
+            Some(snapshot) => reply(snapshot, question, writer),
+            None => no(writer, Refusal::UnknownHold),
+        }
     }
 }
 
-fn stepper_refusal(fault: StepFault) -> Refusal
+fn commit_refusal(fault: CommitFault) -> Refusal
     ensures { result ≡ refusal_of fault }
 {
     match fault {
-        StepFault::OutOfMemory => Refusal::Edit(EditFault::OutOfMemory),
-        StepFault::WorkerLost => Refusal::WorkerLost,
+        CommitFault::Edit(_, fault) => Refusal::Edit(fault),
+        CommitFault::OutOfMemory => Refusal::Edit(EditFault::OutOfMemory),
+        CommitFault::WorkerLost => Refusal::WorkerLost,
     }
 }

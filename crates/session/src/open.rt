@@ -8,6 +8,7 @@ ghost use Rattle.design.specs.Netlist.{with_horizon};
 ghost use Rattle.vread.specs.Reads.{Spells};
 ghost use Rattle.session.specs.Opening.{IsOpeningFault, IsTextRefused, Opens, Refuses, fault_by};
 ghost use Rattle.session.specs.Outcomes.{Ran, outcome_of};
+ghost use Rattle.session.specs.Standing.{opened_with};
 ghost use Rattle.session.specs.Traffic.{traffic_of};
 
 use crate::fault::SessionFault;
@@ -95,7 +96,7 @@ fn opened(
     text: &[u8],
     options: &Options,
 ) -> Result<Design, SessionFault>
-    ensures state { IfOk result (λ design. Opens text.now options.now (record { version = 0; netlist = netlist design })) }
+    ensures state { IfOk result (λ design. Opens text.now options.now (opened_with (netlist design))) }
     ensures refused { IfErr result (λ fault. IsOpeningFault fault × Refuses text.now options.now fault) }
 {
     let design = spelled(alloc, names, text, options.delay)?;
@@ -144,7 +145,7 @@ fn start<S: Stepper + Drop>(
     stepper: S,
 ) -> Result<Session<S>, StepFault>
     requires { S.answer ≡ advance }
-    ensures { IfOk result (λ session. (session.line ≡ []) × (session.machine ≡ record { version = 0; netlist = netlist design })) }
+    ensures { IfOk result (λ session. (session.line ≡ []) × (session.machine ≡ opened_with (netlist design))) }
 {
     let line = LineBuffer::new(alloc)?;
     let machine = Machine::open(alloc, design, stepper)?;

@@ -103,3 +103,13 @@ fn an_opening_of_one_moment_takes_one_step(rt: HostRuntime) {
     );
     drop(replies);
 }
+
+#[test]
+fn a_commit_that_loses_a_worker_ends_its_batch(rt: HostRuntime) {
+    let input = b"begin\nstim a 0 0\ncommit\ncommit\nwave y\n";
+    let (result, _, replies) = ended(&rt, rt.alloc(), GATE, 1, input);
+    assert_eq!(rt; result, Ok(()));
+    let want = b"ok 0\nok 0\nno 15 WorkerLost\nno 19 NoBatch\n0 x\nok 0\n".as_slice();
+    assert_eq!(rt; replies.as_slice(), want);
+    drop(replies);
+}

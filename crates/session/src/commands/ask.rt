@@ -1,9 +1,9 @@
 //! The commands that ask.
 
 ghost use Rattle.std.specs.Prelude.{◌≡◌};
-ghost use Rattle.session.specs.Commands.{next_question, prev_question, question_of, seek_question, value_question, wave_question};
+ghost use Rattle.session.specs.Commands.{next_question, prev_question, question_of, seek_question, value_question, vcd_question, wave_question};
 
-use crate::commands::question::{Query, Question};
+use crate::commands::question::{NetQuestion, Query, Question};
 use crate::commands::times::{read_name_and_time, read_value};
 use crate::commands::verb::AskVerb;
 use crate::words::{Words, number};
@@ -18,6 +18,7 @@ pub fn read_question(verb: AskVerb, words: Words<'_>) -> Option<Question<'_>>
         AskVerb::Next => ask_next(words),
         AskVerb::Prev => ask_prev(words),
         AskVerb::Seek => ask_seek(words),
+        AskVerb::Vcd => ask_vcd(words),
     }
 }
 
@@ -27,7 +28,7 @@ fn ask_value(words: Words<'_>) -> Option<Question<'_>>
 {
     let (net, time) = read_name_and_time(words)?;
     let query = Query::Value(time);
-    Some(Question { net, query })
+    Some(Question::Net(NetQuestion { net, query }))
 }
 
 // `wave N`, behind its first word.
@@ -36,7 +37,7 @@ fn ask_wave(words: Words<'_>) -> Option<Question<'_>>
 {
     let net = words.one()?;
     let query = Query::Wave;
-    Some(Question { net, query })
+    Some(Question::Net(NetQuestion { net, query }))
 }
 
 // `next N T`, behind its first word.
@@ -45,7 +46,7 @@ fn ask_next(words: Words<'_>) -> Option<Question<'_>>
 {
     let (net, time) = read_name_and_time(words)?;
     let query = Query::Next(time);
-    Some(Question { net, query })
+    Some(Question::Net(NetQuestion { net, query }))
 }
 
 // `prev N T`, behind its first word.
@@ -54,7 +55,7 @@ fn ask_prev(words: Words<'_>) -> Option<Question<'_>>
 {
     let (net, time) = read_name_and_time(words)?;
     let query = Query::Prev(time);
-    Some(Question { net, query })
+    Some(Question::Net(NetQuestion { net, query }))
 }
 
 // `seek N T V`, behind its first word.
@@ -65,5 +66,16 @@ fn ask_seek(words: Words<'_>) -> Option<Question<'_>>
     let time = number(time.as_bytes())?;
     let value = read_value(value.as_bytes())?;
     let query = Query::Seek(time, value);
-    Some(Question { net, query })
+    Some(Question::Net(NetQuestion { net, query }))
+}
+
+// `vcd`, behind its first word.
+fn ask_vcd(words: Words<'_>) -> Option<Question<'_>>
+    ensures { result ≡ vcd_question words.entry }
+{
+    if words.none() {
+        Some(Question::Vcd)
+    } else {
+        None
+    }
 }

@@ -1,15 +1,16 @@
 //! The command of a line.
 
 ghost use Rattle.std.specs.Prelude.{◌≡◌};
-ghost use Rattle.session.specs.Commands.{ask_of, change_of, command_of, command_within, verb_command, words_command};
+ghost use Rattle.session.specs.Commands.{alone, ask_of, change_of, command_of, command_within, verb_command, words_command};
 ghost use Rattle.session.specs.Lines.{without_return};
 ghost use Rattle.session.specs.Words.{are_skipped, words};
 
 use crate::commands::ask::read_question;
 use crate::commands::edit_line::{EditLine, read_edit};
+use crate::commands::held::{read_at, read_free, read_hold};
 use crate::commands::question::Question;
 use crate::commands::verb::Verb;
-use crate::words::{Words, without_blanks};
+use crate::words::{WordRef, Words, without_blanks};
 
 /// The most bytes of a line, without its line feed (own).
 pub const LINE_LIMIT: usize = 4_096;
@@ -21,8 +22,23 @@ pub enum Command<'a> {
     Skip,
     /// A change of the design.
     Change(EditLine<'a>),
-    /// A question.
+    /// The beginning of a batch.
+    Begin,
+    /// The commit of the batch.
+    Commit,
+    /// The end of the batch without a commit.
+    Abort,
+    /// A question about the present snapshot.
     Ask(Question<'a>),
+    /// A name for the present snapshot.
+    Hold(WordRef<'a>),
+    /// The end of such a name.
+    Free(WordRef<'a>),
+    /// A question about the snapshot that is held under the name.
+    At {
+        name: WordRef<'a>,
+        question: Question<'a>,
+    },
     /// The end of the session.
     Quit,
     /// What can't be read.
@@ -91,16 +107,23 @@ fn read_behind(verb: Verb, words: Words<'_>) -> Command<'_>
 {
     match verb {
         Verb::Edit(verb) => change(read_edit(verb, words)),
+        Verb::Begin => read_alone(words, Command::Begin),
+        Verb::Commit => read_alone(words, Command::Commit),
+        Verb::Abort => read_alone(words, Command::Abort),
         Verb::Ask(verb) => ask(read_question(verb, words)),
-        Verb::Quit => read_quit(words),
+        Verb::Hold => read_hold(words),
+        Verb::Free => read_free(words),
+        Verb::At => read_at(words),
+        Verb::Quit => read_alone(words, Command::Quit),
     }
 }
 
-fn read_quit(words: Words<'_>) -> Command<'_>
-    ensures { result ≡ verb_command Verb.Quit words.entry }
+// A command of one word.
+fn read_alone<'a>(words: Words<'a>, command: Command<'a>) -> Command<'a>
+    ensures { result ≡ alone words.entry command.entry }
 {
     if words.none() {
-        Command::Quit
+        command
     } else {
         Command::Unreadable
     }

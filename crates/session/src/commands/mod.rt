@@ -5,6 +5,7 @@ mod command;
 mod edit_line;
 mod gate;
 mod gates;
+mod held;
 mod nets;
 mod pins;
 mod question;
@@ -13,4 +14,4 @@ mod verb;
 
 pub use command::{Command, LINE_LIMIT, read};
 pub use edit_line::EditLine;
-pub use question::{Query, Question};
+pub use question::{NetQuestion, Query, Question};

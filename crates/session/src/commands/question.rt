@@ -1,4 +1,4 @@
-//! Questions about the wave of a net.
+//! Questions about a run.
 
 ghost use Rattle.std.specs.Prelude.{◌≡◌};
 ghost use Rattle.session.specs.Questions.{is_past};
@@ -35,9 +35,18 @@ impl Query {
     }
 }
 
-/// A question about the wave of the net of this name. It borrows the name from its line.
+/// A question about a run. It borrows its words from its line.
 #[derive(Drop)]
-pub struct Question<'a> {
+pub enum Question<'a> {
+    /// About one wave.
+    Net(NetQuestion<'a>),
+    /// The whole run, as a value change dump.
+    Vcd,
+}
+
+/// A question about the wave of the net of this name.
+#[derive(Drop)]
+pub struct NetQuestion<'a> {
     /// The name of the net.
     pub net: WordRef<'a>,
     /// What is asked.

@@ -8,8 +8,20 @@ ghost use Rattle.session.specs.Verbs.{ask_word, edit_word, verb_of, verb_word};
 pub enum Verb {
     /// A change of the design.
     Edit(EditVerb),
-    /// An answer about a wave.
+    /// The beginning of a batch.
+    Begin,
+    /// The commit of a batch.
+    Commit,
+    /// The end of a batch without a commit.
+    Abort,
+    /// An answer about a run.
     Ask(AskVerb),
+    /// A name for the present snapshot.
+    Hold,
+    /// The end of such a name.
+    Free,
+    /// An answer about a held snapshot.
+    At,
     /// The end of the session.
     Quit,
 }
@@ -31,7 +43,7 @@ pub enum EditVerb {
     Horizon,
 }
 
-/// Which answer about a wave.
+/// Which answer about a run.
 #[derive(Clone, Copy, Debug, PartialEq, Eq)]
 pub enum AskVerb {
     Value,
@@ -39,6 +51,7 @@ pub enum AskVerb {
     Next,
     Prev,
     Seek,
+    Vcd,
 }
 
 impl EditVerb {
@@ -72,12 +85,13 @@ impl AskVerb {
             AskVerb::Next => "next",
             AskVerb::Prev => "prev",
             AskVerb::Seek => "seek",
+            AskVerb::Vcd => "vcd",
         }
     }
 }
 
 impl Verb {
-    const ALL: [Verb; 18] = [
+    const ALL: [Verb; 25] = [
         Verb::Edit(EditVerb::Net),
         Verb::Edit(EditVerb::Input),
         Verb::Edit(EditVerb::DropNet),
@@ -90,11 +104,18 @@ impl Verb {
         Verb::Edit(EditVerb::Stim),
         Verb::Edit(EditVerb::Unstim),
         Verb::Edit(EditVerb::Horizon),
+        Verb::Begin,
+        Verb::Commit,
+        Verb::Abort,
         Verb::Ask(AskVerb::Value),
         Verb::Ask(AskVerb::Wave),
         Verb::Ask(AskVerb::Next),
         Verb::Ask(AskVerb::Prev),
         Verb::Ask(AskVerb::Seek),
+        Verb::Ask(AskVerb::Vcd),
+        Verb::Hold,
+        Verb::Free,
+        Verb::At,
         Verb::Quit,
     ];
 
@@ -103,7 +124,13 @@ impl Verb {
     {
         match self {
             Verb::Edit(verb) => verb.keyword(),
+            Verb::Begin => "begin",
+            Verb::Commit => "commit",
+            Verb::Abort => "abort",
             Verb::Ask(verb) => verb.keyword(),
+            Verb::Hold => "hold",
+            Verb::Free => "free",
+            Verb::At => "at",
             Verb::Quit => "quit",
         }
     }

@@ -16,6 +16,12 @@ pub enum Refusal {
     BadCommand,
     /// The line is too long.
     LongLine,
+    /// No snapshot is held under the name.
+    UnknownHold,
+    /// There is no batch to end.
+    NoBatch,
+    /// There is a batch already.
+    InBatch,
 }
 
 impl Refusal {
@@ -28,6 +34,9 @@ impl Refusal {
             Refusal::WorkerLost => 15,
             Refusal::BadCommand => 16,
             Refusal::LongLine => 17,
+            Refusal::UnknownHold => 18,
+            Refusal::NoBatch => 19,
+            Refusal::InBatch => 20,
         }
     }
 
@@ -40,6 +49,9 @@ impl Refusal {
             Refusal::WorkerLost => "WorkerLost",
             Refusal::BadCommand => "BadCommand",
             Refusal::LongLine => "LongLine",
+            Refusal::UnknownHold => "UnknownHold",
+            Refusal::NoBatch => "NoBatch",
+            Refusal::InBatch => "InBatch",
         }
     }
 }

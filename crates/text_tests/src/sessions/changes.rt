@@ -58,7 +58,7 @@ const REFUSALS: [(&[u8], &[u8]); 34] = [
     (b"horizon 1000000001", b"11 TimeTooLarge"),
     (b"horizon", b"16 BadCommand"),
     (b"horizon 1 2", b"16 BadCommand"),
-    (b"begin", b"16 BadCommand"),
+    (b"commit", b"19 NoBatch"),
 ];
 
 #[test]
