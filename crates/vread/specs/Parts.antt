@@ -1,12 +1,10 @@
 -- What may be made of a module: its nets and gates, one after another.
-use Rattle.std.specs.Prelude.{◌≡◌, ◌≤◌, ℕ, false, IsTrue, List, length, All}
+use Rattle.std.specs.Prelude.{◌≡◌, ◌≤◌, ℕ, false, IsTrue, List, length}
 use Rattle.std.specs.List.{list_any}
 use Rattle.fourstate.specs.Delays.{AreDelays}
 use Rattle.fourstate.specs.Gates.{takes_inputs}
 use Rattle.design.specs.declared.limits.TheConstants.{MAX_GATES, MAX_NETS}
 use Rattle.design.specs.Names.{is_name}
-use Rattle.vtext.specs.declared.gate.Terminal.{Terminal}
-use Rattle.vtext.specs.declared.gate.Terminal.TheVariants.{Net, Constant}
 use Rattle.vtext.specs.GateNames.{gate_bytes}
 use Rattle.vtext.specs.Modules.{GateEntry, ModuleEntry}
 use Rattle.vtext.specs.Names.{name_at}
@@ -17,18 +15,11 @@ use Rattle.vread.specs.LateFaults.{drives_input, is_long_named}
 abbrev pub IsNamed : List (List ℕ) → ℕ → Type 0
 IsNamed names n = IsTrue (is_name (name_at names n))
 
--- a constant, or a net of such a name
-abbrev pub IsNamedInput : List (List ℕ) → Terminal → Type 0
-IsNamedInput names (Net n) = IsNamed names n
-IsNamedInput names (Constant value) = Unit {0}
-
 -- a gate that may be made
 pub record IsFitGate (names : List (List ℕ)) (gate : GateEntry) : Type 0 where
   pub named : IsTrue (is_name (gate_bytes names gate))
   pub fits : IsTrue (takes_inputs gate.kind (length gate.inputs))
   pub delays : AreDelays gate.delays
-  pub output : IsNamed names gate.output
-  pub inputs : All (IsNamedInput names) gate.inputs
 
 -- a module that may be a design
 pub record IsFitModule (names : List (List ℕ)) (top : ModuleEntry) : Type 0 where

@@ -1,16 +1,18 @@
 //! The gates of a design, from those of the module at its top.
 
-ghost use Rattle.std.specs.Prelude.{◌≡◌, ◌+◌, ◌<◌, [], true, All, IfOk, IsTrue, length, map, take};
+ghost use Rattle.std.specs.Prelude.{◌≡◌, ◌+◌, ◌<◌, [], false, All, IfOk, IsSomeAnd, IsTrue, length, map, take};
 ghost use Rattle.fourstate.specs.Delays.{AreDelays};
-ghost use Rattle.design.specs.Keys.{IsConnected, IsThere, connection_in, entry_in, netlist};
+ghost use Rattle.design.specs.Keys as Keys;
+ghost use Rattle.design.specs.Keys.{IsThere, connection_in, entry_in, netlist};
 ghost use Rattle.design.specs.Names.{is_name};
-ghost use Rattle.design.specs.Netlist.{is_drivable, is_readable};
 ghost use Rattle.vread.specs.Netlists.{connection_of, gate_entry, net_entry};
-ghost use Rattle.vread.specs.Parts.{IsFitGate, IsFitModule, IsNamedInput};
+ghost use Rattle.vread.specs.Parts.{IsFitGate, IsFitModule};
 ghost use Rattle.vtext.specs.GateNames.{gate_bytes};
-ghost use Rattle.vtext.specs.Names.{name_at};
+ghost use Rattle.vtext.specs.Nets.{is_input, net_of};
+ghost use Rattle.vtext.specs.Sound.{IsConnected};
 
-use crate::names::{key_of, name_from, name_of};
+use crate::names::{name_from, name_of};
+use crate::nets::key_of;
 use design::{Design, Gate, Name, Terminal};
 use fourstate::Delays;
 use std::alloc::{AllocError, Global};
@@ -49,7 +51,7 @@ fn with_gate_at(
     requires before { (netlist design).gates ≡ map (gate_entry names.now) (take place top.now.gates) }
     ensures { IfOk result (λ made. netlist made ≡ record (netlist design) { gates = map (gate_entry names.now) (take (place + 1) top.now.gates) }) }
 {
-    let gate = gate_of(alloc, &design, names, &top.gates()[place])?;
+    let gate = gate_of(alloc, &design, names, top, &top.gates()[place])?;
     let (design, _key) = design.add_gate(gate)?;
     Ok(design)
 }
@@ -59,17 +61,19 @@ fn gate_of(
     alloc: Global,
     design: &Design,
     names: &Names,
+    top: &Module,
     gate: &vtext::Gate,
 ) -> Result<Gate, AllocError>
     requires fit { IsFitGate names.now gate.now }
-    requires output { is_drivable (netlist design.now) (name_at names.now gate.now.output) ≡ true }
-    requires inputs { All (λ input. is_readable (netlist design.now) (connection_of names.now input) ≡ true) gate.now.inputs }
+    requires nets { (netlist design.now).nets ≡ map (net_entry names.now) top.now.nets }
+    requires output { IsSomeAnd (net_of top.now.nets gate.now.output) (λ net. is_input net ≡ false) }
+    requires inputs { All (IsConnected top.now.nets) gate.now.inputs }
     ensures entry { IfOk result (λ made. entry_in design.now.nets made ≡ gate_entry names.now gate.now) }
-    ensures connected { IfOk result (IsConnected design.now.nets) }
+    ensures connected { IfOk result (Keys.IsConnected design.now.nets) }
 {
     let name = name_of_gate(alloc, names, gate)?;
-    let inputs = connections(alloc, design, names, gate.inputs())?;
-    let output = key_of(design, names, gate.output());
+    let inputs = connections(alloc, design, names, top, gate.inputs())?;
+    let output = key_of(design, names, top, gate.output());
     let delays = delays_of(gate);
     Ok(Gate::new(name, gate.kind(), delays, output, inputs))
 }
@@ -101,30 +105,31 @@ fn connections(
     alloc: Global,
     design: &Design,
     names: &Names,
+    top: &Module,
     inputs: &[vtext::Terminal],
 ) -> Result<Vec<Terminal>, AllocError>
-    requires named { All (IsNamedInput names.now) inputs.now }
-    requires there { All (λ input. is_readable (netlist design.now) (connection_of names.now input) ≡ true) inputs.now }
+    requires nets { (netlist design.now).nets ≡ map (net_entry names.now) top.now.nets }
+    requires inputs { All (IsConnected top.now.nets) inputs.now }
     ensures named { IfOk result (λ made. map (connection_in design.now.nets) made.items ≡ map (connection_of names.now) inputs.now) }
     ensures there { IfOk result (λ made. All (IsThere design.now.nets) made.items) }
     ensures count { IfOk result (λ made. length made.items ≡ length inputs.now) }
 {
     let mut made = Vec::with_capacity(alloc, inputs.len())?;
     for input in inputs {
-        let connection = connection(design, names, *input);
+        let connection = connection(design, names, top, *input);
         made.push(connection)?;
     }
     Ok(made)
 }
 
-fn connection(design: &Design, names: &Names, input: vtext::Terminal) -> Terminal
-    requires named { IsNamedInput names.now input }
-    requires there { is_readable (netlist design.now) (connection_of names.now input) ≡ true }
+fn connection(design: &Design, names: &Names, top: &Module, input: vtext::Terminal) -> Terminal
+    requires nets { (netlist design.now).nets ≡ map (net_entry names.now) top.now.nets }
+    requires there { IsConnected top.now.nets input }
     ensures named { connection_in design.now.nets result ≡ connection_of names.now input }
     ensures there { IsThere design.now.nets result }
 {
     match input {
-        vtext::Terminal::Net(number) => Terminal::Net(key_of(design, names, number)),
+        vtext::Terminal::Net(number) => Terminal::Net(key_of(design, names, top, number)),
         vtext::Terminal::Constant(value) => Terminal::Constant(value),
     }
 }

@@ -1,13 +1,11 @@
 //! Names of a text as names of a design.
 
-ghost use Rattle.std.specs.Prelude.{◌≡◌, true, IfOk, IsSome, IsTrue};
+ghost use Rattle.std.specs.Prelude.{◌≡◌, IfOk, IsTrue};
 ghost use Rattle.design.specs.Names.{is_name};
-ghost use Rattle.design.specs.Keys.{name_of as net_name, net_by_key, netlist};
-ghost use Rattle.design.specs.Netlist.{has_net, net_named};
 ghost use Rattle.vread.specs.Parts.{IsNamed};
 ghost use Rattle.vtext.specs.Names.{name_at};
 
-use design::{Design, Name, NetKey};
+use design::Name;
 use std::alloc::{AllocError, Global};
 use vtext::Names;
 
@@ -37,18 +35,4 @@ pub fn name_of(alloc: Global, names: &Names, number: u32) -> Result<Name, AllocE
     ensures { IfOk result (λ name. name ≡ name_at names.now number) }
 {
     name_from(alloc, names.text(number))
-}
-
-/// The key of the net whose name has this number.
-pub fn key_of(design: &Design, names: &Names, number: u32) -> NetKey
-    requires named { IsNamed names.now number }
-    requires there { has_net (netlist design.now) (name_at names.now number) ≡ true }
-    ensures net { net_by_key design.now result ≡ net_named (netlist design.now) (name_at names.now number) }
-    ensures name { net_name design.now.nets result ≡ name_at names.now number }
-    ensures there { IsSome (net_by_key design.now result) }
-{
-    match design.net(text_of(names.text(number))) {
-        Some(key) => key,
-        None => unreachable!(),
-    }
 }

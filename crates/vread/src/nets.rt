@@ -1,15 +1,16 @@
-//! The nets of a design, from those of the module at its top.
+//! The nets of a design, from those of the module at its top, and their keys.
 
-ghost use Rattle.std.specs.Prelude.{◌≡◌, ◌+◌, ◌<◌, [], false, true, IfOk, length, map, slice_get, take, Some};
-ghost use Rattle.design.specs.Keys.{netlist};
+ghost use Rattle.std.specs.Prelude.{◌≡◌, ◌+◌, ◌<◌, [], false, true, IfOk, IsSome, length, map, option_map, slice_get, take, Some};
+ghost use Rattle.design.specs.Keys.{name_of as net_name, net_by_key, netlist};
 ghost use Rattle.design.specs.declared.limits.TheConstants.{MAX_NETS};
 ghost use Rattle.design.specs.Netlist.{has_net, new_net, with_net};
 ghost use Rattle.vread.specs.Netlists.{net_entry};
 ghost use Rattle.vread.specs.Parts.{IsFitModule};
-ghost use Rattle.vtext.specs.Nets.{is_input, net_kind};
+ghost use Rattle.vtext.specs.Names.{name_at};
+ghost use Rattle.vtext.specs.Nets.{is_input, net_kind, net_of};
 
 use crate::names::name_of;
-use design::{Design, Name};
+use design::{Design, Name, NetKey};
 use fourstate::NetKind;
 use std::alloc::{AllocError, Global};
 use vtext::{Module, Names, Net};
@@ -74,4 +75,18 @@ fn with_input(design: Design, name: Name, kind: NetKind) -> Result<Design, Alloc
 {
     let (design, key) = design.add_input(name)?;
     design.set_net_kind(key, kind)
+}
+
+/// The key of the net of this name, by its number, in a design that has the nets of a module.
+pub fn key_of(design: &Design, names: &Names, top: &Module, number: u32) -> NetKey
+    requires nets { (netlist design.now).nets ≡ map (net_entry names.now) top.now.nets }
+    requires there { IsSome (net_of top.now.nets number) }
+    ensures net { net_by_key design.now result ≡ option_map (λ net. net_entry names.now (number, net)) (net_of top.now.nets number) }
+    ensures name { net_name design.now.nets result ≡ name_at names.now number }
+    ensures there { IsSome (net_by_key design.now result) }
+{
+    match top.net_place(number) {
+        Some(place) => design.net_key_at(place),
+        None => unreachable!(),
+    }
 }

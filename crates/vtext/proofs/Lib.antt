@@ -9,6 +9,7 @@ pub mod ReadLaws
 pub mod SpelledLemmas
 pub mod WalkEnds
 pub mod CountLemmas
+pub mod NetPlaces
 pub mod NumberLemmas
 pub mod TableLemmas
 pub mod KeywordLemmas

@@ -1,6 +1,6 @@
 //! Modules as they are read.
 
-ghost use Rattle.std.specs.Prelude.{◌≡◌, ◌<◌, length, slice_get};
+ghost use Rattle.std.specs.Prelude.{◌≡◌, ◌<◌, IfSome, is_some, length, option_map, slice_get};
 ghost use Rattle.vtext.specs.Modules.{ModuleEntry};
 ghost use Rattle.vtext.specs.Nets.{net_of};
 
@@ -74,6 +74,14 @@ impl Module {
         ensures { result ≡ net_of self.now.nets name }
     {
         self.nets.get(&name).copied()
+    }
+
+    /// The place of the net of this name, by its number, in the module's order; none where there is no such net.
+    pub fn net_place(&self, name: u32) -> Option<usize>
+        ensures there { is_some result ≡ is_some (net_of self.now.nets name) }
+        ensures net { IfSome result (λ place. slice_get self.now.nets place ≡ option_map (λ net. (name, net)) (net_of self.now.nets name)) }
+    {
+        self.nets.get_index_of(&name)
     }
 
     /// The gates in order.

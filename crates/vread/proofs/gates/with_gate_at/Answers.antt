@@ -15,13 +15,11 @@ pub gate_of-requires-clause-output : goal.gate_of-requires-clause-output
 gate_of-requires-clause-output c =
     let top = c.args.top.now in let gate = c.index-gates-place.result in
     drives_at c.args.names.now top c.requires.fit c.args.place gate (gate_at top.gates c.gates.result.now c.args.place gate c.gates.ensures c.requires.within c.index-gates-place.is)
-    (netlist c.args.design) c.requires.nets
 
 pub gate_of-requires-clause-inputs : goal.gate_of-requires-clause-inputs
 gate_of-requires-clause-inputs c =
     let top = c.args.top.now in let gate = c.index-gates-place.result in
     reads_at c.args.names.now top c.requires.fit c.args.place gate (gate_at top.gates c.gates.result.now c.args.place gate c.gates.ensures c.requires.within c.index-gates-place.is)
-    (netlist c.args.design) c.requires.nets
 
 pub add_gate-requires-clause-absent : goal.add_gate-requires-clause-absent
 add_gate-requires-clause-absent c =
