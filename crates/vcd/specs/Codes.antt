@@ -1,4 +1,4 @@
--- Identifier codes: how a dump names nets (IEEE 1364-2005, 18.2.1: printable characters, 33 to 126; which ones is own).
+-- Identifier codes: how a dump names nets (IEEE 1364-2005, 18.2: printable characters, 33 to 126; which ones is own).
 use Rattle.std.specs.Prelude.{ℕ, zero, suc, true, false, ◌+◌, ◌-◌, ◌/◌, ◌%◌, nat_lt, List, [], ◌∷◌}
 
 -- the first bytes of the code of n, at most so many

@@ -6,7 +6,7 @@ ghost use Rattle.vcd.specs.Codes.{code_of};
 
 use devices::{Sink, Writer};
 
-/// How many printable characters a code is made of, and the first of them (IEEE 1364-2005, 18.2.1).
+/// How many printable characters a code is made of, and the first of them (IEEE 1364-2005, 18.2).
 const CHARACTERS: usize = 94;
 
 const FIRST: u8 = b'!';

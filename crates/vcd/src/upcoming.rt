@@ -1,9 +1,7 @@
 //! The changes to come: of each net the time of its next one, and of each block of nets the least of these, in tables of
 //! fixed size.
 
-ghost use Rattle.std.specs.Prelude.{◌≡◌, ◌≤◌, ◌<◌, ◌+◌, ◌-◌, ◌*◌, ℕ, zero, true, length, slice_index};
-ghost use Rattle.std.specs.List.{fold};
-ghost use Rattle.std.proofs.Common.{min};
+ghost use Rattle.std.specs.Prelude.{◌≡◌, ◌≤◌, ◌<◌, ◌+◌, ◌-◌, ◌*◌, ℕ, true, length, min, slice_index};
 ghost use Rattle.devices.specs.Outgoing.{Adds};
 ghost use Rattle.vcd.specs.Changes.{change_line, change_lines, some_changes_at};
 ghost use Rattle.vcd.specs.Kept.{IsAhead, IsNext, IsPassing, lines_from};
