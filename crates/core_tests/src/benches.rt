@@ -3,5 +3,5 @@
 mod commits;
 mod cursors;
 mod held;
-mod opened;
+pub mod opened;
 mod stuck;

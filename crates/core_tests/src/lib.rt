@@ -10,6 +10,8 @@ mod chunks;
 #[cfg(test)]
 mod designs;
 #[cfg(test)]
+mod dumps;
+#[cfg(test)]
 mod edit_lists;
 #[cfg(test)]
 mod steps;

@@ -1,0 +1,77 @@
+//! Names in scopes, which no design has yet.
+
+use devices::faulty::Failing;
+use devices::{Device, Sink, Writer};
+use std::alloc::Global;
+use std::process::Abort;
+use vcd::change_scopes;
+
+/// Writes what stands before each name, and behind the last one.
+fn write_scopes<W: Sink>(sink: &mut W, names: &[&str]) -> Result<(), u64> {
+    let mut writer = Writer::new(sink);
+    let mut before = "";
+    for name in names {
+        change_scopes(&mut writer, before.as_bytes(), name.as_bytes());
+        before = name;
+    }
+    change_scopes(&mut writer, before.as_bytes(), b"");
+    let result = writer.flush();
+    let _sink = writer.finish();
+    result
+}
+
+fn check(rt: &impl Abort, alloc: Global, names: &[&str], wanted: &[u8]) {
+    let mut device = Device::new(Vec::new(alloc));
+    assert_eq!(rt; write_scopes(&mut device, names), Ok(()));
+    assert_eq!(rt; device.inner.as_slice(), wanted);
+}
+
+const OPENED_AGAIN: &[u8] = b"$scope module u $end
+$upscope $end
+$scope module u $end
+$upscope $end
+";
+
+#[test]
+fn a_scope_opened_again(rt: HostRuntime) {
+    check(&rt, rt.alloc(), &["u.a", "b", "u.c"], OPENED_AGAIN);
+}
+
+#[test]
+fn a_writer_that_fails_at_each_byte(rt: HostRuntime) {
+    for place in 0..OPENED_AGAIN.len() {
+        let mut device = Device::new(Failing::new(Vec::new(rt.alloc()), place));
+        let result = write_scopes(&mut device, &["u.a", "b", "u.c"]);
+        assert_eq!(rt; result, Err(place as u64));
+        assert_eq!(rt; device.inner.inner.as_slice(), &OPENED_AGAIN[..place]);
+    }
+}
+
+const INNER: &[u8] = b"$scope module u $end
+$scope module v $end
+$upscope $end
+$scope module uv $end
+$upscope $end
+$upscope $end
+";
+
+#[test]
+fn inner_scopes(rt: HostRuntime) {
+    check(&rt, rt.alloc(), &["u.v.c", "u.d", "u.uv.e", "u.v"], INNER);
+}
+
+const APART: &[u8] = b"$scope module u $end
+$scope module v $end
+$upscope $end
+$upscope $end
+$scope module v $end
+$scope module v $end
+$upscope $end
+$upscope $end
+";
+
+// Scopes of one name in different scopes are different ones.
+#[test]
+fn scopes_of_one_name(rt: HostRuntime) {
+    check(&rt, rt.alloc(), &["u.v.a", "v.v.a"], APART);
+}
