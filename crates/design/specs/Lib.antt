@@ -10,4 +10,5 @@ pub mod Places
 pub mod Pieces
 pub mod PointPlaces
 pub mod Records
+pub mod Shared
 pub mod Shown

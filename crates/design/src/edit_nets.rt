@@ -15,7 +15,7 @@ use crate::net::Net;
 use crate::net_change::NetChange;
 use catalog::Catalog;
 use fourstate::{NetKind, Value};
-use std::alloc::AllocError;
+use std::alloc::{AllocError, Global};
 
 impl Design {
     /// Adds a net that is no input, and gives its key.
@@ -26,8 +26,7 @@ impl Design {
         ensures by_name { IfOk result (λ made. netlist made.0 ≡ with_net (netlist self) (new_net name kind false)) }
         ensures there { IfOk result (λ made. net_by_key made.0 made.1 ≡ Some (new_net name kind false)) }
     {
-        let alloc = self.wires.allocator();
-        self.push_net(Net::new(alloc, name, kind, false))
+        self.push_net(Net::new(name, kind, false))
     }
 
     /// Adds an input, a net of the kind `wire` with no stimulus points, and gives its key.
@@ -38,8 +37,7 @@ impl Design {
         ensures by_name { IfOk result (λ made. netlist made.0 ≡ with_net (netlist self) (new_net name NetKind.Wire true)) }
         ensures there { IfOk result (λ made. net_by_key made.0 made.1 ≡ Some (new_net name NetKind.Wire true)) }
     {
-        let alloc = self.wires.allocator();
-        self.push_net(Net::new(alloc, name, NetKind::Wire, true))
+        self.push_net(Net::new(name, NetKind::Wire, true))
     }
 
     fn push_net(self, net: Net) -> Result<(Design, NetKey), AllocError>
@@ -107,7 +105,8 @@ impl Design {
         ensures by_name { IfOk result (λ made. IfSome (net_by_key self net) (λ n. netlist made ≡ with_net_changed (netlist self) n.name (net_changed change))) }
     {
         let others = self.points - self.net_of(net).point_count();
-        let (nets, count) = with_change_at(self.nets, net.number, change)?;
+        let alloc = self.wires.allocator();
+        let (nets, count) = with_change_at(alloc, self.nets, net.number, change)?;
         Ok(Design {
             nets,
             points: others + count,
@@ -118,6 +117,7 @@ impl Design {
 
 /// The nets with one changed, and how many points that one has.
 fn with_change_at(
+    alloc: Global,
     nets: Catalog<Net>,
     key: usize,
     change: NetChange,
@@ -127,7 +127,7 @@ fn with_change_at(
     ensures count { IfOk result (λ made. IfSome (record_at nets key) (λ n. made.1 ≡ length (net_changed change n).points)) }
 {
     let (nets, old) = take(nets, key)?;
-    let new = old.changed(change)?;
+    let new = old.changed(alloc, change)?;
     let count = new.point_count();
     let nets = nets.replace(key, new)?;
     Ok((nets, count))

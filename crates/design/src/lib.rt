@@ -18,6 +18,7 @@ mod net;
 mod net_change;
 mod piece;
 mod pieces;
+mod point_list;
 mod points;
 mod stimulus;
 mod terminal;

@@ -36,7 +36,7 @@ impl Model for Net {
 
 impl Net {
     /// A net with no points.
-    pub(crate) fn new(alloc: Global, name: Name, kind: NetKind, is_input: bool) -> Net
+    pub(crate) fn new(name: Name, kind: NetKind, is_input: bool) -> Net
         ensures { result ≡ new_net name kind is_input }
     {
         name.lawful();
@@ -44,7 +44,7 @@ impl Net {
             name,
             kind,
             is_input,
-            stimulus: Stimulus::new(alloc),
+            stimulus: Stimulus::none(),
         }
     }
 
@@ -55,8 +55,7 @@ impl Net {
     {
         let name = self.name.clone()?;
         let net = self.clone()?;
-        let bare = Net::new(self.stimulus.allocator(), name, self.kind, self.is_input);
-        Ok((net, bare))
+        Ok((net, Net::new(name, self.kind, self.is_input)))
     }
 
     /// The net's name.
@@ -103,14 +102,14 @@ impl Net {
     }
 
     /// The net with a change.
-    pub(crate) fn changed(self, change: NetChange) -> Result<Net, AllocError>
+    pub(crate) fn changed(self, alloc: Global, change: NetChange) -> Result<Net, AllocError>
         requires { IsNetChange change self }
         ensures { IfOk result (λ net. net ≡ net_changed change self) }
     {
         match change {
             NetChange::Kind(kind) => Ok(self.with_kind(kind)),
-            NetChange::Point(t, value) => self.with_point(t, value),
-            NetChange::NoPoint(t) => self.without_point(t),
+            NetChange::Point(t, value) => self.with_point(alloc, t, value),
+            NetChange::NoPoint(t) => self.without_point(alloc, t),
         }
     }
 
@@ -122,20 +121,20 @@ impl Net {
     }
 
     /// The net with its stimulus set from the moment `t` on, until the next point.
-    fn with_point(self, t: u64, value: Value) -> Result<Net, AllocError>
+    fn with_point(self, alloc: Global, t: u64, value: Value) -> Result<Net, AllocError>
         requires input { self.is_input ≡ true }
         requires moment { t ≤ MAX_TIME }
         ensures { IfOk result (λ net. net ≡ net_with_point self t value) }
     {
-        let stimulus = self.stimulus.with_point(t, value)?;
+        let stimulus = self.stimulus.with_point(alloc, t, value)?;
         Ok(Net { stimulus, ..self })
     }
 
     /// The net without its point at the moment `t`.
-    fn without_point(self, t: u64) -> Result<Net, AllocError>
+    fn without_point(self, alloc: Global, t: u64) -> Result<Net, AllocError>
         ensures { IfOk result (λ net. net ≡ net_without_point self t) }
     {
-        let stimulus = self.stimulus.without_point(t)?;
+        let stimulus = self.stimulus.without_point(alloc, t)?;
         Ok(Net { stimulus, ..self })
     }
 

@@ -1,4 +1,4 @@
-//! The stimulus of a net.
+//! The stimulus of a net, which copies share.
 
 ghost use Rattle.std.specs.Prelude.{◌≡◌, ◌==◌, [], not, IfOk, length};
 ghost use Rattle.std.specs.Ordering.{nat_cmp};
@@ -7,54 +7,44 @@ ghost use Rattle.std.specs.List.{filter};
 ghost use Rattle.design.specs.Lawful.{AreRising};
 ghost use Rattle.design.specs.Netlist.{has_point, stimulus};
 
-use crate::piece::Piece;
-use crate::pieces::{self, home_of};
-use crate::points::{is_set, value_at};
+use crate::point_list::PointList;
 use fourstate::Value;
 use std::alloc::{AllocError, Global};
 use std::marker::Model;
+use std::sync::Arc;
 
-/// Stimulus points in order of time. A copy shares them in pieces; a change of one point copies its piece, where another
-/// stimulus shares it, and the pointers to the others. Contracts see the list.
+/// Stimulus points in order of time. Contracts see the list.
 #[derive(Debug, Drop)]
 pub struct Stimulus {
-    pieces: Vec<Piece>,
-    len: usize,
+    points: Option<Arc<PointList>>,
 }
 
 impl Model for Stimulus {
-    ghost use Rattle.std.specs.Prelude.{◌≡◌, ℕ, List, length};
+    ghost use Rattle.std.specs.Prelude.{ℕ, List};
     ghost use Rattle.fourstate.specs.declared.value.Value.{Value as Level};
-    ghost use Rattle.design.specs.Pieces.{AreFilled, points_in, points_of};
+    ghost use Rattle.design.specs.Shared.{stimulus_in};
 
     ghost Value = { List (ℕ × Level) };
 
-    ghost view = { λ a. points_of a.pieces.items };
-
-    ghost invariant = { λ a. AreFilled points_in a.pieces.items × (a.len ≡ length (points_of a.pieces.items)) };
+    ghost view = { λ a. stimulus_in a.points };
 }
 
 impl Stimulus {
-    /// No points. It takes no memory.
-    pub fn new(alloc: Global) -> Stimulus
+    /// No points.
+    pub fn none() -> Stimulus
         ensures { result ≡ [] }
     {
-        Stimulus {
-            pieces: Vec::new(alloc),
-            len: 0,
-        }
-    }
-
-    /// Where the points take their memory.
-    pub fn allocator(&self) -> Global {
-        *self.pieces.allocator()
+        Stimulus { points: None }
     }
 
     /// How many points there are.
     pub fn len(&self) -> usize
         ensures { result ≡ length self.now }
     {
-        self.len
+        match &self.points {
+            Some(points) => points.len(),
+            None => 0,
+        }
     }
 
     /// The value from the latest point at or before the moment `t`, x without one.
@@ -62,11 +52,10 @@ impl Stimulus {
         requires { AreRising self.now }
         ensures { result ≡ stimulus self.now t }
     {
-        if self.pieces.is_empty() {
-            return Value::Unknown;
+        match &self.points {
+            Some(points) => points.value_at(t),
+            None => Value::Unknown,
         }
-        let home = home_of(&self.pieces, t);
-        value_at(&self.pieces[home], t)
     }
 
     /// Whether a point is at the moment `t`.
@@ -74,34 +63,46 @@ impl Stimulus {
         requires { AreRising self.now }
         ensures { result ≡ has_point self.now t }
     {
-        if self.pieces.is_empty() {
-            return false;
+        match &self.points {
+            Some(points) => points.has_point(t),
+            None => false,
         }
-        let home = home_of(&self.pieces, t);
-        is_set(&self.pieces[home], t)
     }
 
     /// The points with the value from the moment `t` on, until the next point.
-    pub fn with_point(self, t: u64, value: Value) -> Result<Stimulus, AllocError>
+    pub fn with_point(self, alloc: Global, t: u64, value: Value) -> Result<Stimulus, AllocError>
         requires { AreRising self }
         ensures { IfOk result (λ stimulus. stimulus ≡ insert_entry nat_cmp self t value) }
     {
-        let added = usize::from(!self.has_point(t));
-        let len = self.len.checked_add(added).ok_or(AllocError)?;
-        let mut pieces = self.pieces;
-        pieces::set(&mut pieces, t, value)?;
-        Ok(Stimulus { pieces, len })
+        let points = self.into_points(alloc)?;
+        let points = points.with_point(t, value)?;
+        let points = Arc::new(alloc, points)?;
+        Ok(Stimulus {
+            points: Some(points),
+        })
     }
 
     /// The points without the one at the moment `t`.
-    pub fn without_point(self, t: u64) -> Result<Stimulus, AllocError>
+    pub fn without_point(self, alloc: Global, t: u64) -> Result<Stimulus, AllocError>
         requires { AreRising self }
         ensures { IfOk result (λ stimulus. stimulus ≡ filter (λ point. not (point.0 == t)) self) }
     {
-        let len = self.len - usize::from(self.has_point(t));
-        let mut pieces = self.pieces;
-        pieces::remove(&mut pieces, t)?;
-        Ok(Stimulus { pieces, len })
+        let points = self.into_points(alloc)?;
+        let points = points.without_point(t)?;
+        let points = Arc::new(alloc, points)?;
+        Ok(Stimulus {
+            points: Some(points),
+        })
+    }
+
+    /// The points, copied where another net shares them.
+    fn into_points(self, alloc: Global) -> Result<PointList, AllocError>
+        ensures { IfOk result (λ points. points ≡ self) }
+    {
+        match self.points {
+            Some(points) => Arc::unwrap_or_clone(points),
+            None => Ok(PointList::new(alloc)),
+        }
     }
 }
 
@@ -111,10 +112,14 @@ impl Clone for Stimulus {
     ghost is_clone = { λ old new. new ≡ old };
 
     fn clone(&self) -> Result<Stimulus, AllocError> {
-        let pieces = self.pieces.clone()?;
-        Ok(Stimulus {
-            pieces,
-            len: self.len,
-        })
+        match &self.points {
+            Some(points) => {
+                let points = points.clone()?;
+                Ok(Stimulus {
+                    points: Some(points),
+                })
+            }
+            None => Ok(Stimulus { points: None }),
+        }
     }
 }

@@ -1,12 +1,12 @@
 use Rattle.std.proofs.Common.{◌≡◌, ◌<◌, ◌∙◌, ap, length}
 use Rattle.design.specs.Lawful.{AreRising}
-use Rattle.design.specs.Netlist.{has_point}
-use Rattle.design.specs.Pieces.{IsHome, points_in, points_of}
-use Rattle.design.proofs.PieceLemmas.{home_has, rising_in}
-use Rattle.design.proofs.stimulus.Stimulus.has_point.Goals as goal
+use Rattle.design.specs.Netlist.{stimulus}
+use Rattle.design.specs.Pieces.{HasBegun, IsHome, begins_by, points_in, points_of}
+use Rattle.design.proofs.PieceLemmas.{home_stimulus, rising_in}
+use Rattle.design.proofs.point_list.PointList.value_at.Goals as goal
 
-pub is_set-requires : goal.is_set-requires
-is_set-requires c =
+pub value_at-requires : goal.value_at-requires
+value_at-requires c =
     let pieces = c.self.inside.pieces.items in
     let home = c.home_of-home.result in
     let rising : AreRising (points_of pieces) = rw c.self.view_is c.requires in
@@ -20,5 +20,8 @@ returns c =
     let pieces = c.self.inside.pieces.items in
     let home = c.home_of-home.result in
     let at : IsHome points_in t pieces home = rw c.deref.ensures.value at c.home_of-home.ensures.home in
+    let begun : HasBegun points_in t pieces home = rw c.deref.ensures.value at c.home_of-home.ensures.begun in
     let points : c.deref-3.result.now ≡ points_in c.index.result.now = c.deref-3.ensures.value ∙ ap (λ v. v.items) c.deref-2.ensures in
-    c.is_set.ensures ∙ ap (λ l. has_point l t) points ∙ home_has points_in t pieces home c.index.result.now at c.index.ensures ∙ ap (λ l. has_point l t) c.self.view_is
+    c.value_at.ensures ∙ ap (λ l. stimulus l t) points
+    ∙ home_stimulus points_in t pieces home c.index.result.now c.self.invariant.0 at c.index.ensures (λ above. ap (λ p. begins_by t (points_in p)) c.index.ensures ∙ begun c.index.result.now above)
+    ∙ ap (λ l. stimulus l t) c.self.view_is

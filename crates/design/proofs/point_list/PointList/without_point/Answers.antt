@@ -3,7 +3,7 @@ use Rattle.design.specs.Lawful.{AreRising}
 use Rattle.design.specs.Netlist.{has_point}
 use Rattle.design.specs.Pieces.{points_of}
 use Rattle.design.proofs.PointLemmas.{count_without}
-use Rattle.design.proofs.stimulus.Stimulus.without_point.Goals as goal
+use Rattle.design.proofs.point_list.PointList.without_point.Goals as goal
 use mir.Val.{bool_byte}
 
 byte_of : (b : Bool) → bool_byte b ≡ cond b 1 0

@@ -3,7 +3,7 @@ use Rattle.design.specs.Lawful.{AreRising}
 use Rattle.design.specs.Netlist.{has_point}
 use Rattle.design.specs.Pieces.{points_of}
 use Rattle.design.proofs.PointLemmas.{count_set}
-use Rattle.design.proofs.stimulus.Stimulus.with_point.Goals as goal
+use Rattle.design.proofs.point_list.PointList.with_point.Goals as goal
 use mir.Val.{bool_byte}
 
 byte_of_not : (b : Bool) → bool_byte (not b) ≡ cond b 0 1

@@ -1,7 +1,7 @@
 use Rattle.std.proofs.Common.{◌∙◌, ap, sym, length}
 use Rattle.design.specs.Pieces.{points_in}
 use Rattle.design.proofs.PieceLemmas.{pieces_same}
-use Rattle.design.proofs.stimulus.StimulusClone.clone.Goals as goal
+use Rattle.design.proofs.point_list.PointListClone.clone.Goals as goal
 
 pub invariant_of-result : goal.invariant_of-result
 invariant_of-result c =
