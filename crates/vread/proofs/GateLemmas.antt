@@ -30,12 +30,6 @@ undriven_there : (o : Option nets.Net) → IsSome o → option_map_or is_input o
 undriven_there (Some net) some undriven = undriven
 undriven_there None some undriven = absurd (cc)
 
--- a net of the design is an input where it is one of the module
-pub drivable_key : (names : List (List ℕ)) (n : ℕ) (o : Option nets.Net) (found : Option netlist.NetEntry) → found ≡ option_map (λ net. net_entry names (n, net)) o
-    → IsSomeAnd o (λ net. is_input net ≡ false) → IsSomeAnd found (λ net. net.is_input ≡ false)
-drivable_key names n (Some net) found e undriven = let P : Option netlist.NetEntry → Type 0 = λ p. IsSomeAnd p (λ net. net.is_input ≡ false) in subst P (sym e) undriven
-drivable_key names n None found e undriven = absurd undriven
-
 pub some_of : {X : Type 0} (P : X → Type 0) (o : Option X) → IsSomeAnd o P → IsSome o
 some_of P (Some x) there = refl
 some_of P None there = absurd there
