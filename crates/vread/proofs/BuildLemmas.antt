@@ -1,19 +1,12 @@
 -- The design of a module.
-use Rattle.std.proofs.Common.{◌≡◌, ℕ, ◌≤◌, nat_lt, Bool, true, false, List, length, map, Option, Some, None, refl, ap, ◌∙◌, arith}
-use Rattle.std.specs.Prelude.{IfOk, Result, Ok, Err, if◌then◌else◌}
-use Rattle.std.specs.List.{list_any}
-use Rattle.std.proofs.lemmas.Bool.Decides.{nat_tests}
-use Rattle.design.specs.declared.limits.TheConstants.{MAX_GATES, MAX_NETS}
+use Rattle.std.proofs.Common.{◌≡◌, ℕ, List, map, ap, ◌∙◌}
+use Rattle.std.specs.Prelude.{IfOk, Result, Ok, Err}
 use Rattle.fourstate.specs.declared.unit.TimeUnit.{TimeUnit}
 use Rattle.design.specs.Keys.{Keyed, netlist}
 use Rattle.design.specs.Netlist.{Netlist, empty_netlist}
-use Rattle.vtext.specs.declared.fault.ReadFaultKind.{ReadFaultKind}
 use Rattle.vtext.specs.Modules.{ModuleEntry, ModuleList}
 use Rattle.vtext.specs.Names.{name_at}
-use Rattle.vtext.specs.Sound.{IsSoundModule}
-use Rattle.vread.specs.LateFaults.{drives_input, has_many_gates, has_many_nets, is_long_named, top_fault}
 use Rattle.vread.specs.Netlists.{gate_entry, net_entry, netlist_of, unit_of}
-use Rattle.vread.specs.Parts.{IsFitModule}
 
 -- The parts of a design.
 

@@ -2,7 +2,6 @@
 use Rattle.std.proofs.Common.{◌≡◌, ◌≢◌, ℕ, ◌<◌, Bool, false, List, length, map, take, get_or, Option, Some, None, IsSome, IsSomeAnd, All, refl, sym, ap, subst, ◌∙◌}
 use Rattle.std.specs.List.{list_any, slice_get}
 use Rattle.std.specs.Option.{option_map_or}
-use Rattle.std.specs.Prelude.{option_map}
 use Rattle.std.proofs.lemmas.Bool.{both_ways, false_from_ne_true}
 use Rattle.std.proofs.lemmas.List.Folds.{list_any_at}
 use Rattle.std.proofs.lemmas.Option.{get_or_from_slice_get, slice_get_read, slice_get_within}
@@ -15,7 +14,7 @@ use Rattle.vtext.specs.Modules.{GateEntry, ModuleEntry}
 use Rattle.vtext.specs.Nets.{is_input, net_of}
 use Rattle.vtext.specs.Sound.{IsConnected, IsSoundGate}
 use Rattle.vread.specs.LateFaults.{drives_input, is_long_named}
-use Rattle.vread.specs.Netlists.{gate_entry, net_entry}
+use Rattle.vread.specs.Netlists.{gate_entry}
 use Rattle.vread.specs.Parts.{IsFitGate, IsFitModule}
 use Rattle.vread.proofs.Lists.{names_differ, none_earlier}
 use Rattle.vread.proofs.NameLemmas.{spelling_is_name}
