@@ -2,7 +2,6 @@
 use Rattle.std.proofs.Common.{◌≡◌, ◌≢◌, ℕ, ◌<◌, Bool, false, List, length, map, take, get_or, Option, Some, None, IsSome, IsSomeAnd, All, refl, sym, ap, subst, ◌∙◌}
 use Rattle.std.specs.List.{list_any, slice_get}
 use Rattle.std.specs.Option.{option_map_or}
-use Rattle.std.specs.Prelude.{option_map}
 use Rattle.std.proofs.lemmas.Bool.{both_ways, false_from_ne_true}
 use Rattle.std.proofs.lemmas.List.Folds.{list_any_at}
 use Rattle.std.proofs.lemmas.Option.{get_or_from_slice_get, slice_get_read, slice_get_within}
@@ -15,7 +14,7 @@ use Rattle.vtext.specs.Modules.{GateEntry, ModuleEntry}
 use Rattle.vtext.specs.Nets.{is_input, net_of}
 use Rattle.vtext.specs.Sound.{IsConnected, IsSoundGate}
 use Rattle.vread.specs.LateFaults.{drives_input, is_long_named}
-use Rattle.vread.specs.Netlists.{gate_entry, net_entry}
+use Rattle.vread.specs.Netlists.{gate_entry}
 use Rattle.vread.specs.Parts.{IsFitGate, IsFitModule}
 use Rattle.vread.proofs.Lists.{names_differ, none_earlier}
 use Rattle.vread.proofs.NameLemmas.{spelling_is_name}
@@ -29,12 +28,6 @@ any_fails p xs k d none within = false_from_ne_true (p (get_or xs k d)) (λ t. b
 undriven_there : (o : Option nets.Net) → IsSome o → option_map_or is_input o false ≡ false → IsSomeAnd o (λ net. is_input net ≡ false)
 undriven_there (Some net) some undriven = undriven
 undriven_there None some undriven = absurd (cc)
-
--- a net of the design is an input where it is one of the module
-pub drivable_key : (names : List (List ℕ)) (n : ℕ) (o : Option nets.Net) (found : Option netlist.NetEntry) → found ≡ option_map (λ net. net_entry names (n, net)) o
-    → IsSomeAnd o (λ net. is_input net ≡ false) → IsSomeAnd found (λ net. net.is_input ≡ false)
-drivable_key names n (Some net) found e undriven = let P : Option netlist.NetEntry → Type 0 = λ p. IsSomeAnd p (λ net. net.is_input ≡ false) in subst P (sym e) undriven
-drivable_key names n None found e undriven = absurd undriven
 
 pub some_of : {X : Type 0} (P : X → Type 0) (o : Option X) → IsSomeAnd o P → IsSome o
 some_of P (Some x) there = refl

@@ -1,6 +1,6 @@
 -- The table of names as it grows: a name keeps its number, and what it says.
-use Rattle.std.proofs.Common.{◌≡◌, ℕ, suc, ◌+◌, ◌<◌, ◌++◌, Bool, true, false, not, cond, ◌||◌, List, [], ◌∷◌, Option, Some, None, length, get_or, take, drop, map, fold, refl, sym, ap, subst, ◌∙◌}
-use Rattle.std.proofs.lemmas.List.{append_assoc, get_or-map, map-append, map_more, take-append-drop}
+use Rattle.std.proofs.Common.{◌≡◌, ◌≢◌, ℕ, suc, ◌+◌, ◌<◌, ◌++◌, Bool, true, false, not, cond, ◌||◌, List, [], ◌∷◌, Option, Some, None, length, get_or, take, drop, map, fold, refl, sym, ap, subst, ◌∙◌, arith}
+use Rattle.std.proofs.lemmas.List.{append_assoc, get_or_append_left, get_or-map, length-append, map-append, map_more, take-append-drop}
 use Rattle.std.proofs.lemmas.List.Folds.{list_any-append, list_any_at}
 use Rattle.std.proofs.lemmas.List.Quantifiers.{position-Some}
 use Rattle.std.proofs.lemmas.List.Sums.{fold-append}
@@ -127,6 +127,32 @@ any_absent names bytes h = step (list_any (bytes_eq bytes) names) refl
 
 pub name_stays : (names : List (List ℕ)) (bytes : List ℕ) (n : ℕ) → number_of names bytes ≡ Some n → with_name names bytes ≡ names
 name_stays names bytes n h = rw (any_there names bytes n h) refl
+
+-- a name is new where its number is the last one
+pub number_is_new : (names all : List (List ℕ)) (bytes : List ℕ) (n : ℕ) → all ≡ with_name names bytes → number_of all bytes ≡ Some n → n ≡ length names → number_of names bytes ≡ None
+number_is_new names all bytes n longer h last = step (number_of names bytes) refl
+  where
+    step : (o : Option ℕ) → number_of names bytes ≡ o → number_of names bytes ≡ None
+    step (Some k) e =
+        let same : all ≡ names = longer ∙ name_stays names bytes k e in
+        let found : number_of names bytes ≡ Some n = sym (ap (λ table. number_of table bytes) same) ∙ h in
+        absurd (omega (arith, (numbered names bytes n found).0))
+    step None e = e
+
+-- no name is new where the number is another one
+pub number_is_old : (names all : List (List ℕ)) (bytes : List ℕ) (n : ℕ) → all ≡ with_name names bytes → number_of all bytes ≡ Some n → n ≢ length names → all ≡ names
+number_is_old names all bytes n longer h other = step (number_of names bytes) refl
+  where
+    step : (o : Option ℕ) → number_of names bytes ≡ o → all ≡ names
+    step (Some k) e = longer ∙ name_stays names bytes k e
+    step None e =
+        let absent : list_any (bytes_eq bytes) names ≡ false = any_absent names bytes e in
+        let appended : with_name names bytes ≡ names ++ bytes ∷ [] = rw absent refl in
+        let at = position-Some (bytes_eq bytes) (names ++ bytes ∷ []) n [] (sym (ap (λ table. number_of table bytes) (longer ∙ appended)) ∙ h) in
+        let inside : n < length names = omega (arith, at.0, length-append names (bytes ∷ [])) in
+        let there : list_any (bytes_eq bytes) names ≡ true
+        = list_any_at (bytes_eq bytes) names n [] inside (sym (ap (bytes_eq bytes) (get_or_append_left names (bytes ∷ []) [] n inside)) ∙ at.1) in
+        absurd cc
 
 meanings_added : (names : List (List ℕ)) (bytes : List ℕ) (word : Word) → word ≡ plain_word (names ++ bytes ∷ []) bytes
     → meanings_of names ++ word ∷ [] ≡ meanings_of (names ++ bytes ∷ [])

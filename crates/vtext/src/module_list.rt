@@ -11,13 +11,13 @@ use std::marker::Model;
 
 /// The modules of a text in order, with the table of its names.
 #[derive(Drop)]
-pub struct Modules {
-    names: Names,
+pub struct Modules<'a> {
+    names: Names<'a>,
     unit: Option<TimeUnit>,
     modules: Vec<Module>,
 }
 
-impl Model for Modules {
+impl<'a> Model for Modules<'a> {
     ghost use Rattle.vtext.specs.Modules.{ModuleList};
 
     ghost Value = { ModuleList };
@@ -25,10 +25,10 @@ impl Model for Modules {
     ghost view = { λ a. record { names = a.names; unit = a.unit; modules = a.modules.items } };
 }
 
-impl Modules {
+impl<'a> Modules<'a> {
     /// The modules that were read.
-    pub fn new(names: Names, draft: Draft) -> Modules
-        ensures { result ≡ record { names = names; unit = (view draft).unit; modules = (view draft).modules } }
+    pub fn new(names: Names<'a>, draft: Draft) -> Modules<'a>
+        ensures { result ≡ record { names = names.entry; unit = (view draft).unit; modules = (view draft).modules } }
     {
         let Draft { unit, modules, .. } = draft;
         Modules {
@@ -39,7 +39,7 @@ impl Modules {
     }
 
     /// The names of the text: modules, nets and gates are named by their numbers.
-    pub fn names(&self) -> &Names
+    pub fn names(&self) -> &Names<'a>
         ensures { result.now ≡ self.now.names }
     {
         &self.names

@@ -8,25 +8,26 @@ use indexmap::IndexSet;
 use std::alloc::{AllocError, Global};
 use std::marker::Model;
 
-/// The names of a text, each once: a name is known by its place, its number. There is room for 4,294,967,296.
+/// The names of a text, each once and as a part of it: a name is known by its place, its number. There is room for
+/// 4,294,967,296.
 #[derive(Drop)]
-pub struct Names {
-    texts: IndexSet<Vec<u8>, NameHasher>,
+pub struct Names<'a> {
+    texts: IndexSet<&'a [u8], NameHasher>,
 }
 
-impl Model for Names {
+impl<'a> Model for Names<'a> {
     ghost use Rattle.std.specs.Prelude.{ℕ, ◌^◌, ◌≤◌, List, map, length};
 
     ghost Value = { List (List ℕ) };
 
-    ghost view = { λ a. map (λ text. text.items) a.texts.keys };
+    ghost view = { λ a. map (λ text. text.now) a.texts.keys };
 
     ghost invariant = { λ a. length a.texts.keys ≤ 2 ^ 32 };
 }
 
-impl Names {
+impl<'a> Names<'a> {
     /// No names, to be hashed so.
-    pub fn new(alloc: Global, hasher: NameHasher) -> Names
+    pub fn new(alloc: Global, hasher: NameHasher) -> Names<'a>
         ensures { result ≡ [] }
     {
         Names {
@@ -48,13 +49,13 @@ impl Names {
         ensures { result.now ≡ name_at self.now number }
     {
         match self.texts.get_index(number as usize) {
-            Some(text) => text.as_slice(),
+            Some(text) => *text,
             None => &[],
         }
     }
 
     /// Adds a name where it is new, and answers its number.
-    pub fn add(&mut self, alloc: Global, name: &[u8]) -> Result<u32, AllocError>
+    pub fn add(&mut self, name: &'a [u8]) -> Result<u32, AllocError>
         ensures ok { OnOk result (self.new ≡ with_name self.old name.now) }
         ensures number { IfOk result (λ number. number_of self.new name.now ≡ Some number) }
         ensures err { OnErr result (self.new ≡ self.old) }
@@ -62,8 +63,7 @@ impl Names {
         if self.texts.len() > u32::MAX as usize {
             return Err(AllocError);
         }
-        let text = Vec::from_slice(alloc, name)?;
-        let (place, _) = self.texts.insert_full(text)?;
+        let (place, _) = self.texts.insert_full(name)?;
         Ok(place as u32)
     }
 }

@@ -41,12 +41,12 @@ fn fault_at(text: &[u8], tokens: &[Token], place: usize, cause: Cause) -> ReadFa
 
 /// The modules of a structural Verilog text, or its first fault with its line: the first pass over a design text. `default`
 /// is the delay, in time units, of gate items without one; the names of the text are hashed by `hasher`.
-pub fn modules(
+pub fn modules<'a>(
     alloc: Global,
     hasher: NameHasher,
-    text: &[u8],
+    text: &'a [u8],
     default: Option<u32>,
-) -> Result<Modules, ReadFault>
+) -> Result<Modules<'a>, ReadFault>
     // The modules are those that the text says.
     ensures list { IfOk result (Says default text.now) }
     // A fault is the first one of the text, or an allocation was refused.

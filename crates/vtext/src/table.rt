@@ -12,14 +12,14 @@ use std::alloc::{AllocError, Global};
 
 /// The names of a text so far, and what each says where it is not escaped, by its number.
 #[derive(Drop)]
-pub struct Table {
-    pub names: Names,
+pub struct Table<'a> {
+    pub names: Names<'a>,
     pub meanings: Vec<Word>,
 }
 
-impl Table {
+impl<'a> Table<'a> {
     /// No names, to be hashed so.
-    pub fn new(alloc: Global, hasher: NameHasher) -> Table
+    pub fn new(alloc: Global, hasher: NameHasher) -> Table<'a>
         ensures names { result.names ≡ [] }
         ensures meanings { result.meanings.items ≡ [] }
     {
@@ -30,39 +30,38 @@ impl Table {
     }
 
     /// The number of a name, which is added where it is new.
-    fn number(&mut self, alloc: Global, name: &[u8]) -> Result<u32, AllocError>
+    fn number(&mut self, name: &'a [u8]) -> Result<u32, AllocError>
         requires { self.old.meanings.items ≡ meanings_of self.old.names }
         ensures names { OnOk result (self.new.names ≡ with_name self.old.names name.now) }
         ensures meanings { OnOk result (self.new.meanings.items ≡ meanings_of self.new.names) }
         ensures number { IfOk result (λ number. number_of self.new.names name.now ≡ Some number) }
     {
-        if let Some(number) = self.names.find(name) {
-            return Ok(number);
+        let number = self.names.add(name)?;
+        if number as usize == self.meanings.len() {
+            self.meanings.push(plain_word(number, name))?;
         }
-        let number = self.names.add(alloc, name)?;
-        self.meanings.push(plain_word(number, name))?;
         Ok(number)
     }
 
     /// A word, or a name that is not escaped.
-    pub fn plain_word(&mut self, alloc: Global, name: &[u8]) -> Result<Word, AllocError>
+    pub fn plain_word(&mut self, name: &'a [u8]) -> Result<Word, AllocError>
         requires { self.old.meanings.items ≡ meanings_of self.old.names }
         ensures names { OnOk result (self.new.names ≡ with_name self.old.names name.now) }
         ensures meanings { OnOk result (self.new.meanings.items ≡ meanings_of self.new.names) }
         ensures word { IfOk result (λ word. word ≡ plain_word self.new.names name.now) }
     {
-        let number = self.number(alloc, name)?;
+        let number = self.number(name)?;
         Ok(self.meanings[number as usize])
     }
 
     /// An escaped name.
-    pub fn name_word(&mut self, alloc: Global, name: &[u8]) -> Result<Word, AllocError>
+    pub fn name_word(&mut self, name: &'a [u8]) -> Result<Word, AllocError>
         requires { self.old.meanings.items ≡ meanings_of self.old.names }
         ensures names { OnOk result (self.new.names ≡ with_name self.old.names name.now) }
         ensures meanings { OnOk result (self.new.meanings.items ≡ meanings_of self.new.names) }
         ensures word { IfOk result (λ word. word ≡ name_word self.new.names name.now) }
     {
-        let number = self.number(alloc, name)?;
+        let number = self.number(name)?;
         Ok(name_word(number, name))
     }
 }

@@ -15,13 +15,12 @@ use fourstate::TimeUnit;
 use lexing::{Shape, Token, constant_value, number_value};
 use std::alloc::{AllocError, Global};
 
-impl Table {
+impl<'a> Table<'a> {
     /// What a token says; its name is then in the table, if it has one.
     fn word(
         &mut self,
-        alloc: Global,
         first: Option<TimeUnit>,
-        text: &[u8],
+        text: &'a [u8],
         token: Token,
     ) -> Result<Placed, AllocError>
         requires inside { IsInside (length text.now) token }
@@ -32,8 +31,8 @@ impl Table {
     {
         let bytes = token.bytes(text);
         let word = match token.shape {
-            Shape::Name => self.plain_word(alloc, token.name(text))?,
-            Shape::Escaped => self.name_word(alloc, token.name(text))?,
+            Shape::Name => self.plain_word(token.name(text))?,
+            Shape::Escaped => self.name_word(token.name(text))?,
             Shape::Number => Word::Number(number_value(bytes)),
             Shape::Constant => Word::Literal(constant_value(bytes)),
             Shape::Timescale => directive_word(first, unit_at(text, token)),
@@ -49,12 +48,12 @@ impl Table {
 }
 
 /// What the tokens of a text say, each at its place, with the table of its names, hashed so.
-pub fn words(
+pub fn words<'a>(
     alloc: Global,
     hasher: NameHasher,
-    text: &[u8],
+    text: &'a [u8],
     tokens: &[Token],
-) -> Result<(Names, Vec<Placed>), AllocError>
+) -> Result<(Names<'a>, Vec<Placed>), AllocError>
     requires { All (IsInside (length text.now)) tokens.now }
     ensures names { IfOk result (λ said. said.0 ≡ names_of text.now tokens.now) }
     ensures words { IfOk result (λ said. said.1.items ≡ words_of text.now tokens.now) }
@@ -63,7 +62,7 @@ pub fn words(
     let mut table = Table::new(alloc, hasher);
     let mut words = Vec::with_capacity(alloc, tokens.len())?;
     for token in tokens {
-        words.push(table.word(alloc, first, text, *token)?)?;
+        words.push(table.word(first, text, *token)?)?;
     }
     Ok((table.names, words))
 }

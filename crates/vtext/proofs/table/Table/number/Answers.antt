@@ -1,12 +1,21 @@
-use Rattle.std.proofs.Common.{sym, ◌∙◌}
-use Rattle.vtext.proofs.TableLemmas.{meanings_more, name_stays}
+use Rattle.std.proofs.Common.{◌≡◌, length, sym, ap, ◌∙◌, arith}
+use Rattle.std.proofs.lemmas.List.{length-map}
+use Rattle.vtext.specs.Keywords.{meanings_of, plain_word}
+use Rattle.vtext.proofs.TableLemmas.{meanings_more, number_is_new, number_is_old}
 use Rattle.vtext.proofs.table.Table.number.Goals as goal
 
-pub returns-in-Some-clause-names : goal.returns-in-Some-clause-names
-returns-in-Some-clause-names c = sym (name_stays c.args.self.now.names c.args.name.now c.in-Some.number (sym c.in-Some.ensures))
-
-pub returns-clause-meanings : goal.returns-clause-meanings
-returns-clause-meanings c =
+pub returns-in_ok-push-clause-meanings : goal.returns-in_ok-push-clause-meanings
+returns-in_ok-push-clause-meanings c =
+    let names = c.args.self.now.names in let new = c.add.new.self in let meanings = c.args.self.now.meanings in
+    let last : c.in_ok-number.number ≡ length names = omega (arith, c.if-number-len.true, c.len.ensures, meanings.ok.0, ap length c.requires, length-map names (plain_word names)) in
     c.in_ok-push.ensures.items
-    ∙ meanings_more c.args.self.now.names c.add.new.self c.args.name.now c.args.self.now.meanings.items c.plain_word.result (sym c.in_default.ensures) c.in_ok-number.ensures.ok c.requires
-    (c.plain_word.ensures c.add.new.self c.in_ok-number.ensures.number)
+    ∙ meanings_more names new c.args.name.now meanings.items c.plain_word.result
+    (number_is_new names new c.args.name.now c.in_ok-number.number c.in_ok-number.ensures.ok c.in_ok-number.ensures.number last) c.in_ok-number.ensures.ok c.requires
+    (c.plain_word.ensures new c.in_ok-number.ensures.number)
+
+pub returns-else-number-len-clause-meanings : goal.returns-else-number-len-clause-meanings
+returns-else-number-len-clause-meanings c =
+    let names = c.args.self.now.names in let meanings = c.args.self.now.meanings in
+    c.requires
+    ∙ ap meanings_of (sym (number_is_old names c.add.new.self c.args.name.now c.in_ok-number.number c.in_ok-number.ensures.ok c.in_ok-number.ensures.number
+    (λ last. c.if-number-len.false (omega (arith, last, c.len.ensures, meanings.ok.0, ap length c.requires, length-map names (plain_word names))))))
