@@ -7,7 +7,7 @@ ghost use Rattle.gatestep.specs.Step.{advance};
 ghost use Rattle.design.specs.Keys.{netlist};
 ghost use Rattle.design.specs.Netlist.{net_named};
 ghost use Rattle.scratch.specs.Lost as lost;
-ghost use Rattle.scratch.specs.Run.{IsRun, wave_of};
+ghost use Rattle.scratch.specs.Run.{wave_of};
 ghost use Rattle.bench.specs.Benches.{snapshot_of};
 ghost use Rattle.bench.specs.Work.{AskedInPart, work_of};
 
@@ -85,14 +85,6 @@ impl Snapshot {
         ensures { result ≡ self.now.design.horizon }
     {
         self.design.horizon()
-    }
-
-    /// The design and its run, for calls that read both.
-    pub fn parts(&self) -> (&Design, &Run)
-        ensures design { netlist result.0.now ≡ self.now.design }
-        ensures run { IsRun advance result.0.now result.1.now }
-    {
-        (&self.design, &self.run)
     }
 
     /// The wave of the net of this name; none where no net has the name.

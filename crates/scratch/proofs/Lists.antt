@@ -44,12 +44,6 @@ whole_beside f (w ∷ xs) ys zero same past = absurd (omega arith)
 whole_beside f (w ∷ xs) [] (suc i) same past = absurd (omega arith)
 whole_beside f (w ∷ xs) (z ∷ ys) (suc i) same past = ap (λ l. f (w, z) ∷ l) (whole_beside f xs ys i (omega arith) (omega arith))
 
-pub length_beside : {A B : Type 0} (f : A × B → A) (xs : List A) (ys : List B) → length xs ≡ length ys → length (map f (zip xs ys)) ≡ length xs
-length_beside f [] [] same = refl
-length_beside f [] (z ∷ ys) same = absurd (omega arith)
-length_beside f (w ∷ xs) [] same = absurd (omega arith)
-length_beside f (w ∷ xs) (z ∷ ys) same = ap suc (length_beside f xs ys (omega arith))
-
 -- one pair more
 pub zip_next : {A B : Type 0} (xs : List A) (ys : List B) (i : ℕ) (x : A) (y : B) → slice_get xs i ≡ Some x → slice_get ys i ≡ Some y →
     take (i + 1) (zip xs ys) ≡ take i (zip xs ys) ++ (x, y) ∷ []

@@ -3,14 +3,13 @@ use Rattle.std.specs.Prelude.{ℕ, suc, List, ◌++◌, map}
 use Rattle.fourstate.specs.declared.value.Value.{Value}
 use Rattle.gatestep.specs.Step.{advance}
 use Rattle.design.specs.Netlist.{Netlist}
-use Rattle.waveform.specs.Changes.{wave_changes_below}
-use Rattle.scratch.specs.Run.{value}
+use Rattle.scratch.specs.Run.{wave_of}
 use Rattle.vcd.specs.Changes.{lines_below}
 use Rattle.vcd.specs.Head.{head_lines}
 
 -- the changes of each net's value, up to the horizon
 abbrev pub waves_of : Netlist → List (List (ℕ × Value))
-waves_of d = map (λ n. wave_changes_below (value advance d n) (suc d.horizon)) d.nets
+waves_of d = map (wave_of advance d) d.nets
 
 -- the head, and the lines of each moment up to the horizon
 abbrev pub dump_of : Netlist → List (List (ℕ × Value)) → List ℕ
