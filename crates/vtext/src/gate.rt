@@ -3,7 +3,11 @@
 ghost use Rattle.std.specs.Prelude.{◌≡◌};
 
 use fourstate::{DelayTimes, GateKind, Value};
+use smallvec::SmallVec;
 use std::marker::Model;
+
+/// How many inputs of a gate stand in the gate itself; only a gate of more takes memory for them (own).
+pub(crate) const INLINE_INPUTS: usize = 4;
 
 /// What a terminal of a gate is connected to.
 #[derive(Clone, Copy, Debug, PartialEq, Eq)]
@@ -12,6 +16,13 @@ pub enum Terminal {
     Net(u32),
     /// A value that never changes.
     Constant(Value),
+}
+
+/// What fills the places of a list that hold no terminal.
+impl Default for Terminal {
+    fn default() -> Terminal {
+        Terminal::Constant(Value::Unknown)
+    }
 }
 
 /// What a gate instance is called.
@@ -31,7 +42,7 @@ pub struct Gate {
     instance: InstanceName,
     part: Option<usize>,
     output: u32,
-    inputs: Vec<Terminal>,
+    inputs: SmallVec<Terminal, INLINE_INPUTS>,
 }
 
 impl Model for Gate {
@@ -50,7 +61,7 @@ impl Gate {
         instance: InstanceName,
         part: Option<usize>,
         output: u32,
-        inputs: Vec<Terminal>,
+        inputs: SmallVec<Terminal, INLINE_INPUTS>,
     ) -> Gate
         ensures { result ≡ record { kind = kind; delays = delays; instance = instance; part = part; output = output; inputs = inputs.items } }
     {

@@ -9,6 +9,7 @@ use crate::gate::{Gate, InstanceName, Terminal};
 use crate::gate_names::instance_text;
 use crate::names::Names;
 use crate::terminals::{part_count, split};
+use smallvec::SmallVec;
 use std::alloc::{AllocError, Global};
 use std::mem;
 
@@ -105,7 +106,7 @@ impl Draft {
     ) -> Result<(), AllocError>
         ensures { OnOk result (view self.new ≡ record (view self.old) { gates = (view self.old).gates ++ gate_of (view self.old) instance part inputs.now output ∷ [] }) }
     {
-        let inputs = Vec::from_slice(alloc, inputs)?;
+        let inputs = SmallVec::from_slice(alloc, inputs)?;
         let gate = Gate::new(self.gate, self.delays, instance, part, output.net(), inputs);
         self.gates.push(gate)?;
         Ok(())
