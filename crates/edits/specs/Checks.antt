@@ -1,10 +1,11 @@
 -- What an edit is checked for, in order (own).
-use Rattle.std.specs.Prelude.{Bool, false, ℕ, ◌==◌, ◌&&◌, ◌||◌, not, nat_le, nat_lt, List, [], ◌∷◌, ◌++◌, length, Option, option_map}
+use Rattle.std.specs.Prelude.{Bool, false, ℕ, ◌&&◌, not, nat_le, nat_lt, List, [], ◌∷◌, ◌++◌, length, Option, option_map}
 use Rattle.std.specs.List.{find, list_all}
 use Rattle.std.specs.Option.{option_map_or}
 use Rattle.fourstate.specs.declared.delay_times.DelayTimes.{DelayTimes}
-use Rattle.fourstate.specs.declared.limits.TheConstants.{MAX_DELAY, MAX_TIME}
+use Rattle.fourstate.specs.declared.limits.TheConstants.{MAX_TIME}
 use Rattle.fourstate.specs.declared.gate.GateKind.{GateKind}
+use Rattle.fourstate.specs.Delays.{exceeds_limit, has_zero}
 use Rattle.fourstate.specs.Gates.{takes_inputs}
 use Rattle.design.specs.declared.limits.TheConstants.{MAX_NETS, MAX_GATES, MAX_POINTS}
 use Rattle.design.specs.Names.{is_name}
@@ -57,9 +58,7 @@ new_gate_checks d name =
     (not (is_name name), BadName) ∷ (has_gate d name, DuplicateName) ∷ (nat_le MAX_GATES (length d.gates), TooMany) ∷ []
 
 abbrev pub delay_checks : DelayTimes → List (Bool × EditFault)
-delay_checks delays =
-    (delays.rise == 0 || delays.fall == 0, ZeroDelay)
-    ∷ (nat_lt MAX_DELAY delays.rise || nat_lt MAX_DELAY delays.fall, DelayTooLarge) ∷ []
+delay_checks delays = (has_zero delays, ZeroDelay) ∷ (exceeds_limit delays, DelayTooLarge) ∷ []
 
 -- whether the number of inputs fits is asked first
 abbrev pub wiring_checks : Netlist → Bool → List ℕ → List Pin → List (Bool × EditFault)

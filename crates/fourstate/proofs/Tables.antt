@@ -1,13 +1,14 @@
 -- The laws of the tables.
 use Rattle.std.specs.Bool.{Decides}
 use Rattle.std.specs.Cmp.{IsEquivalence, decided, both_ways}
-use Rattle.std.proofs.Common.{◌≡◌, ◌≤◌, true, List, [], ◌∷◌, Some, map, refl, arith}
+use Rattle.std.proofs.Common.{◌≡◌, ◌≤◌, List, [], ◌∷◌, Some, map, refl, arith}
 use Rattle.std.proofs.lemmas.Map.Views.{list_any-from_Contains, Contains-from_any}
-use Rattle.fourstate.specs.Delays.{AreDelays, IsDelay, delay_to}
+use Rattle.fourstate.specs.Delays.{delay_to}
 use Rattle.fourstate.specs.declared.delay_times.DelayTimes.{DelayTimes}
 use Rattle.fourstate.specs.Gates.{gate_of}
 use Rattle.fourstate.specs.Keywords.{gate_keyword, gate_kind_of, net_keyword, net_kind_of}
 use Rattle.fourstate.specs.Nets.{net_of}
+use Rattle.fourstate.specs.ValueLaws.{is_same, same_self}
 use Rattle.fourstate.specs.Values.{AreSameSet, same_value, occurs, reading, inverse, symbol_of, value_of_symbol}
 use Rattle.fourstate.specs.declared.value.Value.{Value}
 use Rattle.fourstate.specs.declared.value.Value.TheVariants.{Zero, One, Unknown, HighZ}
@@ -15,30 +16,6 @@ use Rattle.fourstate.specs.declared.gate.GateKind.{GateKind}
 use Rattle.fourstate.specs.declared.gate.GateKind.TheVariants.{And, Nand, Or, Nor, Xor, Xnor, Buf, Not, Bufif1, Bufif0, Notif1, Notif0}
 use Rattle.fourstate.specs.declared.net.NetKind.{NetKind}
 use Rattle.fourstate.specs.declared.net.NetKind.TheVariants.{Wire, Tri, Wand, Triand, Wor, Trior}
-
-pub is_same : (v w : Value) → same_value v w ≡ true → v ≡ w
-is_same Zero Zero e = refl
-is_same Zero One e = cc
-is_same Zero Unknown e = cc
-is_same Zero HighZ e = cc
-is_same One Zero e = cc
-is_same One One e = refl
-is_same One Unknown e = cc
-is_same One HighZ e = cc
-is_same Unknown Zero e = cc
-is_same Unknown One e = cc
-is_same Unknown Unknown e = refl
-is_same Unknown HighZ e = cc
-is_same HighZ Zero e = cc
-is_same HighZ One e = cc
-is_same HighZ Unknown e = cc
-is_same HighZ HighZ e = refl
-
-pub same_self : (v : Value) → same_value v v ≡ true
-same_self Zero = refl
-same_self One = refl
-same_self Unknown = refl
-same_self HighZ = refl
 
 -- `same_value` decides equality
 pub same_value_decides : (v w : Value) → Decides (same_value v w) (v ≡ w)
@@ -81,12 +58,6 @@ inverted_data_zero Zero c = refl
 inverted_data_zero One c = refl
 inverted_data_zero Unknown c = refl
 inverted_data_zero HighZ c = refl
-
-pub delay_in_range : (delays : DelayTimes) → AreDelays delays → (to : Value) → IsDelay (delay_to delays to)
-delay_in_range delays are Zero = are.fall
-delay_in_range delays are One = are.rise
-delay_in_range delays are Unknown = omega arith
-delay_in_range delays are HighZ = omega arith
 
 pub least_delay : (delays : DelayTimes) (to : Value) → delay_to delays Unknown ≤ delay_to delays to
 least_delay delays Zero = omega arith

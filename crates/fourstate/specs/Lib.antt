@@ -1,5 +1,7 @@
+pub mod DelayLaws
 pub mod Delays
 pub mod Gates
 pub mod Keywords
 pub mod Nets
+pub mod ValueLaws
 pub mod Values

@@ -1,7 +1,9 @@
 //! Times that a gate's delays may be (IEEE 1364-2005, 7.14).
 
 ghost use Rattle.std.specs.Prelude.{◌≡◌};
-ghost use Rattle.fourstate.specs.Delays.{delay_times};
+ghost use Rattle.fourstate.specs.Delays.{delay_times, exceeds_limit, has_zero, uniform_delays, with_fall};
+
+use crate::limits::MAX_DELAY;
 
 /// The times of a gate's delays, in time units, as an edit or a text writes them: any numbers, also such as no gate may
 /// have.
@@ -19,5 +21,33 @@ impl DelayTimes {
         ensures { result ≡ delay_times rise fall }
     {
         DelayTimes { rise, fall }
+    }
+
+    /// One time, which is that of each change.
+    pub fn uniform(delay: u64) -> DelayTimes
+        ensures { result ≡ uniform_delays delay }
+    {
+        DelayTimes::new(delay, delay)
+    }
+
+    /// These times with a fall that is given behind the rise.
+    pub fn with_fall(self, fall: u64) -> DelayTimes
+        ensures { result ≡ with_fall self fall }
+    {
+        DelayTimes::new(self.rise, fall)
+    }
+
+    /// Whether some time is 0.
+    pub fn has_zero(self) -> bool
+        ensures { result ≡ has_zero self }
+    {
+        self.rise == 0 || self.fall == 0
+    }
+
+    /// Whether some time is over the limit.
+    pub fn exceeds_limit(self) -> bool
+        ensures { result ≡ exceeds_limit self }
+    {
+        self.rise > MAX_DELAY || self.fall > MAX_DELAY
     }
 }

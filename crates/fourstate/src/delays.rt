@@ -1,10 +1,9 @@
 //! Gate delays (IEEE 1364-2005, 7.14).
 
-ghost use Rattle.std.specs.Prelude.{◌≡◌, ◌↔◌, IsSome, IfSome};
-ghost use Rattle.fourstate.specs.Delays.{AreDelays, IsDelay, delay_times, delay_to};
+ghost use Rattle.std.specs.Prelude.{◌≡◌, ◌↔◌, IsSome, IfSome, false};
+ghost use Rattle.fourstate.specs.Delays.{AreDelays, IsDelay, delay_times, delay_to, exceeds_limit, has_zero};
 
 use crate::delay_times::DelayTimes;
-use crate::limits::MAX_DELAY;
 use crate::value::Value;
 use std::marker::Model;
 
@@ -40,17 +39,16 @@ impl Delays {
     /// The delays of these times; none exactly where one is 0 or over the limit.
     pub fn from_times(times: DelayTimes) -> Option<Delays>
         ensures variant { IsSome result ↔ AreDelays times }
+        ensures tests { IsSome result ↔ ((has_zero times ≡ false) × (exceeds_limit times ≡ false)) }
         ensures value { IfSome result (λ delays. delays ≡ times) }
     {
-        let DelayTimes { rise, fall } = times;
-        if 1 <= rise && rise <= MAX_DELAY && 1 <= fall && fall <= MAX_DELAY {
-            Some(Delays {
-                rise: rise as u32,
-                fall: fall as u32,
-            })
-        } else {
-            None
+        if times.has_zero() || times.exceeds_limit() {
+            return None;
         }
+        Some(Delays {
+            rise: times.rise as u32,
+            fall: times.fall as u32,
+        })
     }
 }
 

@@ -44,7 +44,7 @@ pub fn inverting_three_state_gates(data: Value, control: Value)
 {}
 
 /// The delay to each value is within the limits, and to x it is the least.
-#[tactic(auto, using(crate::proofs::Tables::delay_in_range, crate::proofs::Tables::least_delay))]
+#[tactic(auto, using(crate::specs::DelayLaws::delay_in_range, crate::proofs::Tables::least_delay))]
 pub fn delays_in_range(delays: &Delays)
     ensures each { AreDelays delays.now }
     ensures to_each { (to : values.Value) → IsDelay (delay_to delays.now to) }

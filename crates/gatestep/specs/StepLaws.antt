@@ -5,25 +5,14 @@ use Rattle.std.proofs.Common.{arith}
 use Rattle.std.proofs.lemmas.Grind.{common_steps}
 use Rattle.fourstate.specs.declared.limits.TheConstants.{MAX_DELAY}
 use Rattle.fourstate.specs.declared.value.Value.{Value}
-use Rattle.fourstate.specs.declared.value.Value.TheVariants.{Zero, One, Unknown, HighZ}
 use Rattle.fourstate.specs.Values.{same_value}
+use Rattle.fourstate.specs.ValueLaws.{same_self}
 use Rattle.fourstate.specs.Delays.{AreDelays, IsDelay, delay_to}
+use Rattle.fourstate.specs.DelayLaws.{delay_in_range}
 use Rattle.fourstate.specs.declared.delay_times.DelayTimes.{DelayTimes}
 use Rattle.fourstate.specs.Gates.{gate_of}
 use Rattle.gatestep.specs.Step.{State, Evaluation, is_pending, due_of, due, rescheduled, advance}
 use Rattle.gatestep.specs.Tasks.{IsTask, NothingDue, PendingBefore, again}
-
-same_self : (v : Value) → same_value v v ≡ true
-same_self Zero = refl
-same_self One = refl
-same_self Unknown = refl
-same_self HighZ = refl
-
-delay_in_range : (delays : DelayTimes) → AreDelays delays → (v : Value) → IsDelay (delay_to delays v)
-delay_in_range delays are Zero = are.fall
-delay_in_range delays are One = are.rise
-delay_in_range delays are Unknown = omega arith
-delay_in_range delays are HighZ = omega arith
 
 -- what an evaluation leaves current is what is current once a due event has become so
 pub advance_current : (e : Evaluation) (t : ℕ) → (advance e t).current ≡ (due e.state t).current

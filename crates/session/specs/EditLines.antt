@@ -2,6 +2,7 @@
 use Rattle.std.specs.Prelude.{ℕ, List, ◌∷◌, Option, None, Some, option_map, option_and_then}
 use Rattle.fourstate.specs.Delays.{delay_times}
 use Rattle.fourstate.specs.Keywords.{gate_kind_of, net_kind_of}
+use Rattle.fourstate.specs.declared.delay_times.DelayTimes.{DelayTimes}
 use Rattle.edits.specs.declared.edit.Edit.{Edit}
 use Rattle.edits.specs.declared.edit.Edit.TheVariants as edit
 use Rattle.session.specs.declared.commands.edit_line.EditLine.{EditLine}
@@ -48,10 +49,13 @@ horizon_edit ws = option_and_then (λ word. option_map (λ time. Horizon time) (
 abbrev pub drop_edit : List (List ℕ) → Option EditLine
 drop_edit ws = option_map (λ name. DropGate name) (one_word ws)
 
+-- the delays that two words write, a rise and a fall
+abbrev pub delays_of : List ℕ → List ℕ → Option DelayTimes
+delays_of rise fall = option_and_then (λ r. option_map (λ f. delay_times r f) (number_of fall)) (number_of rise)
+
 -- delay G R F
 abbrev pub delay_edit : List (List ℕ) → Option EditLine
-delay_edit ws =
-    option_and_then (λ w. option_and_then (λ rise. option_map (λ fall. SetDelay w.0 (delay_times rise fall)) (number_of w.2)) (number_of w.1)) (three_words ws)
+delay_edit ws = option_and_then (λ w. option_map (λ delays. SetDelay w.0 delays) (delays_of w.1 w.2)) (three_words ws)
 
 -- type G KIND
 abbrev pub type_edit : List (List ℕ) → Option EditLine
@@ -65,9 +69,9 @@ gate_words _ = None
 
 abbrev pub gate_of_words : GateWords → Option EditLine
 gate_of_words w =
-    option_and_then (λ kind. option_and_then (λ rise. option_and_then (λ fall.
-    option_map (λ inputs. AddGate w.name kind (delay_times rise fall) w.output inputs) (pins_of w.inputs))
-    (number_of w.fall)) (number_of w.rise)) (gate_kind_of w.kind)
+    option_and_then (λ kind. option_and_then (λ delays.
+    option_map (λ inputs. AddGate w.name kind delays w.output inputs) (pins_of w.inputs))
+    (delays_of w.rise w.fall)) (gate_kind_of w.kind)
 
 abbrev pub gate_edit : List (List ℕ) → Option EditLine
 gate_edit ws = option_and_then gate_of_words (gate_words ws)

@@ -3,7 +3,8 @@ use Rattle.std.proofs.Common.{◌≡◌, ◌≢◌, ℕ, Bool, false, List, [], 
 use Rattle.std.proofs.lemmas.Bool.Decides.{nat_tests}
 use Rattle.std.proofs.lemmas.List.Elements.{All-append, All-nil, All-push}
 use Rattle.std.specs.Option.{unwrap_or}
-use Rattle.fourstate.specs.Delays.{AreDelays, IsDelay, delay_times}
+use Rattle.fourstate.specs.DelayLaws.{uniform_in_range}
+use Rattle.fourstate.specs.Delays.{AreDelays, IsDelay, uniform_delays}
 use Rattle.fourstate.specs.declared.limits.TheConstants.{MAX_DELAY}
 use Rattle.vtext.specs.declared.cause.Cause.TheVariants.{ZeroDelay, DelayTooLarge}
 use Rattle.vtext.specs.declared.gate.Terminal.{Terminal}
@@ -145,12 +146,12 @@ within_limits n false false z l h =
 pub good_delay : (n : ℕ) → delay_fault n ≡ None → IsDelay n
 good_delay n h = within_limits n (n == 0) (ltb MAX_DELAY n) refl refl h
 
-pub good_default : (default : Option ℕ) → default_fault default ≡ None → AreDelays (delay_times (unwrap_or default 0) (unwrap_or default 0))
+pub good_default : (default : Option ℕ) → default_fault default ≡ None → AreDelays (uniform_delays (unwrap_or default 0))
 good_default None h = absurd cc
-good_default (Some n) h = record { rise = good_delay n h; fall = good_delay n h }
+good_default (Some n) h = uniform_in_range n (good_delay n h)
 
 -- the default delay is good, where no delay follows the word of a gate
 pub default_timed : (default : Option ℕ) (next : Option Word) → gate_cause default next ≡ None → is_hash next ≡ false
-    → AreDelays (delay_times (unwrap_or default 0) (unwrap_or default 0))
+    → AreDelays (uniform_delays (unwrap_or default 0))
 default_timed default next free plain =
     good_default default (sym (ap (λ (hash : Bool). cond hash None (default_fault default)) plain) ∙ free)

@@ -2,6 +2,7 @@
 use Rattle.std.proofs.Common.{◌≡◌, ℕ, List, Option, Some, None, refl}
 use Rattle.std.proofs.lemmas.List.Elements.{All-push}
 use Rattle.std.specs.Option.{unwrap_or}
+use Rattle.fourstate.specs.DelayLaws.{uniform_in_range, with_fall_in_range}
 use Rattle.vtext.specs.declared.gate.Terminal.TheVariants.{Constant}
 use Rattle.vtext.specs.declared.net.Net.{Net}
 use Rattle.vtext.specs.declared.parser_state.ParserState.{ParserState}
@@ -141,12 +142,12 @@ module _ (default : Option ℕ) (names : List (List ℕ)) (r : Reading) (next : 
   gate_start w free good h = tt
 
   delay : (w : Word) → delay_cause w ≡ None → IsWithin names r → KeptAt names (from_delay w) next (at_delay r w)
-  delay (Number n) free h = (h, record { rise = good_delay n free; fall = good_delay n free })
+  delay (Number n) free h = (h, uniform_in_range n (good_delay n free))
   delay Open free h = h
   delay w free h = tt
 
   rise_delay : (w : Word) → delay_cause w ≡ None → IsWithin names r → KeptAt names (by_number RiseEnd w) next (at_delay r w)
-  rise_delay (Number n) free h = (h, record { rise = good_delay n free; fall = good_delay n free })
+  rise_delay (Number n) free h = (h, uniform_in_range n (good_delay n free))
   rise_delay w free h = tt
 
   rise_end : (w : Word) → Kept names RiseEnd (Some w) r → KeptAt names (from_rise_end w) next r
@@ -155,7 +156,7 @@ module _ (default : Option ℕ) (names : List (List ℕ)) (r : Reading) (next : 
   rise_end w h = tt
 
   fall_delay : (w : Word) → delay_cause w ≡ None → Kept names FallDelay (Some w) r → KeptAt names (by_number FallEnd w) next (at_fall_delay r w)
-  fall_delay (Number n) free h = (h.0, record { rise = h.1.rise; fall = good_delay n free })
+  fall_delay (Number n) free h = (h.0, with_fall_in_range r.delays n h.1 (good_delay n free))
   fall_delay w free h = tt
 
   fall_end : (w : Word) → Kept names FallEnd (Some w) r → KeptAt names (from_fall_end w) next r

@@ -1,6 +1,6 @@
 -- What a word says, by the state of the parser in which it is read.
 use Rattle.std.specs.Prelude.{true, false, ℕ, List, [], ◌∷◌, ◌++◌, Option, Some, None, unwrap_or}
-use Rattle.fourstate.specs.Delays.{delay_times}
+use Rattle.fourstate.specs.Delays.{uniform_delays, with_fall}
 use Rattle.vtext.specs.declared.gate.Terminal.TheVariants.{Net, Constant}
 use Rattle.vtext.specs.declared.word.Word.{Word}
 use Rattle.vtext.specs.declared.word.Word.TheVariants.{Module, Endmodule, PortWord, NetWord, GateWord, Name, Number, Literal, Open, Close, Timescale}
@@ -85,7 +85,7 @@ finished r = record r {
 abbrev pub at_items : Option ℕ → Reading → Word → Reading
 at_items default r (PortWord direction) = record r { direction = direction; kind = None }
 at_items default r (NetWord kind) = record r { kind = Some kind }
-at_items default r (GateWord kind) = record r { gate = kind; delays = delay_times (unwrap_or default 0) (unwrap_or default 0) }
+at_items default r (GateWord kind) = record r { gate = kind; delays = uniform_delays (unwrap_or default 0) }
 at_items default r Endmodule = finished r
 at_items default r word = r
 
@@ -106,11 +106,11 @@ at_net_name r word = r
 
 -- the first number of a delay, and the second one too where none follows
 abbrev pub at_delay : Reading → Word → Reading
-at_delay r (Number n) = record r { delays = delay_times n n }
+at_delay r (Number n) = record r { delays = uniform_delays n }
 at_delay r word = r
 
 abbrev pub at_fall_delay : Reading → Word → Reading
-at_fall_delay r (Number n) = record r { delays = record r.delays { fall = n } }
+at_fall_delay r (Number n) = record r { delays = with_fall r.delays n }
 at_fall_delay r word = r
 
 abbrev pub at_instance_start : Reading → Word → Reading

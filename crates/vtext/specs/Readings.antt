@@ -1,7 +1,7 @@
 -- What has been read of a text, word by word: the finished modules, the module that is being read, and what the item that is
 -- being read has said so far.
 use Rattle.std.specs.Prelude.{Bool, false, ℕ, List, [], Option, None}
-use Rattle.fourstate.specs.Delays.{delay_times}
+use Rattle.fourstate.specs.Delays.{uniform_delays}
 use Rattle.fourstate.specs.declared.delay_times.DelayTimes.{DelayTimes}
 use Rattle.fourstate.specs.declared.gate.GateKind.{GateKind}
 use Rattle.fourstate.specs.declared.gate.GateKind.TheVariants.{And}
@@ -52,7 +52,7 @@ unread = record {
   direction = Input;
   kind = None;
   gate = And;
-  delays = delay_times 0 0;
+  delays = uniform_delays 0;
   instance = None;
   terminals = [];
 }

@@ -2,7 +2,7 @@
 -- (IEEE 1364-2005, 7.1, 12.1, 12.3). Names are numbers of the table.
 use Rattle.std.specs.Prelude.{◌≡◌, true, false, ℕ, List, [], ◌∷◌, ◌++◌, Option, Some, None, fold, unwrap_or}
 use Rattle.std.specs.List.{list_any}
-use Rattle.fourstate.specs.Delays.{delay_times}
+use Rattle.fourstate.specs.Delays.{delay_times, uniform_delays}
 use Rattle.fourstate.specs.declared.delay_times.DelayTimes.{DelayTimes}
 use Rattle.fourstate.specs.declared.gate.GateKind.{GateKind}
 use Rattle.fourstate.specs.declared.net.NetKind.{NetKind}
@@ -133,11 +133,11 @@ after_header r empty_ports = r
 after_header r (older_ports n names) = fold list_port r (n ∷ names)
 after_header r (inline_ports decl ports) = fold after_port (after_decl (record r { inline = true }) decl) ports
 
--- one number is both delays, of two the first is the rise
+-- one number is each delay, of two the first is the rise
 abbrev pub times_of : Option ℕ → Delay → DelayTimes
-times_of default no_delay = delay_times (unwrap_or default 0) (unwrap_or default 0)
-times_of default (one_delay d) = delay_times d d
-times_of default (enclosed_delay d) = delay_times d d
+times_of default no_delay = uniform_delays (unwrap_or default 0)
+times_of default (one_delay d) = uniform_delays d
+times_of default (enclosed_delay d) = uniform_delays d
 times_of default (two_delays r f) = delay_times r f
 
 abbrev pub after_terminal : Reading → Terminal → Reading

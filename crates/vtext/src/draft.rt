@@ -61,7 +61,7 @@ impl Draft {
             direction: Direction::Input,
             kind: None,
             gate: GateKind::And,
-            delays: DelayTimes::new(0, 0),
+            delays: DelayTimes::uniform(0),
             instance: None,
             terminals: Vec::new(alloc),
         }

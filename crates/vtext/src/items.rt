@@ -64,7 +64,7 @@ impl Draft {
             Word::GateWord(kind) => {
                 self.gate = kind;
                 let delay = u64::from(default.unwrap_or(0));
-                self.delays = DelayTimes::new(delay, delay);
+                self.delays = DelayTimes::uniform(delay);
             }
             Word::Endmodule => self.finish(alloc)?,
             _ => {}
@@ -76,8 +76,7 @@ impl Draft {
         ensures { view self.new ≡ at_delay (view self.old) word }
     {
         if let Word::Number(time) = word {
-            let delay = u64::from(time);
-            self.delays = DelayTimes::new(delay, delay);
+            self.delays = DelayTimes::uniform(u64::from(time));
         }
     }
 
@@ -85,7 +84,7 @@ impl Draft {
         ensures { view self.new ≡ at_fall_delay (view self.old) word }
     {
         if let Word::Number(time) = word {
-            self.delays.fall = u64::from(time);
+            self.delays = self.delays.with_fall(u64::from(time));
         }
     }
 

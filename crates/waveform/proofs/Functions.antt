@@ -5,7 +5,7 @@ use Rattle.std.specs.Option.{option_map_or}
 use Rattle.std.proofs.lemmas.Bool.{cases_lt, cond-true, cond-false, lt-ltb, le-ltb, not-false}
 use Rattle.std.proofs.lemmas.List.{append-nil, map-append}
 use Rattle.std.proofs.lemmas.List.Elements.{All-nil, All-cons, All-append, All-weaker, filter-append}
-use Rattle.waveform.specs.Drifts.{Drifts}
+use Rattle.waveform.proofs.Drifts.{Drifts}
 use Rattle.waveform.specs.Timelines.{IsTimeline, AreInTurn, moments, is_change, changes_below, entries_until, value_by, is_reached, pushed}
 use Rattle.waveform.proofs.Lists.{last_or-append, some_entry}
 use Rattle.waveform.proofs.Turns.{all_until}

@@ -5,7 +5,7 @@ use Rattle.std.specs.Option.{option_map_or}
 use Rattle.std.proofs.lemmas.Bool.{lt-ltb, le-ltb, leb-true, ltb-true, cond-true, cond-false, cases_lt}
 use Rattle.std.proofs.lemmas.List.{append-nil, length-append}
 use Rattle.std.proofs.lemmas.List.Elements.{All-append, All-filter, All-head, All-weaker, filter_passes, filter-append}
-use Rattle.waveform.specs.Drifts.{Drifts}
+use Rattle.waveform.proofs.Drifts.{Drifts}
 use Rattle.waveform.specs.Joins.{joined}
 use Rattle.waveform.specs.Timelines.{IsTimeline, AreInTurn, entries_until, entries_after, latest, value_by, pushed}
 use Rattle.waveform.proofs.Lists.{last_or-append, some_entry}

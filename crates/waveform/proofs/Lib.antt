@@ -1,3 +1,4 @@
+pub mod Drifts
 pub mod Functions
 pub mod Joins
 pub mod Lists

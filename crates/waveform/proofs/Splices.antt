@@ -5,7 +5,7 @@ use Rattle.std.specs.List.{last_or, All}
 use Rattle.std.specs.Option.{option_map_or}
 use Rattle.std.proofs.lemmas.Bool.{le-leb, lt-leb, lt-ltb, le-ltb, leb-true, ltb-true, cases_lt}
 use Rattle.std.proofs.lemmas.List.Elements.{All-filter, All-weaker, filter_passes}
-use Rattle.waveform.specs.Drifts.{Drifts}
+use Rattle.waveform.proofs.Drifts.{Drifts}
 use Rattle.waveform.specs.Joins.{joined, spliced}
 use Rattle.waveform.specs.Timelines.{IsTimeline, AreInTurn, entries_before, entries_until, value_by}
 use Rattle.waveform.proofs.Lists.{filter-filter}

@@ -1,5 +1,4 @@
 pub mod Changes
-pub mod Drifts
 pub mod Entries
 pub mod Joins
 pub mod Runs

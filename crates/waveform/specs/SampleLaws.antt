@@ -1,27 +1,13 @@
--- The laws of values and states as samples of a timeline.
+-- The laws of states as samples of a timeline.
 use Rattle.std.specs.Prelude.{◌≡◌, ◌≤◌, ℕ, true, ◌&&◌, ◌==◌, Option, Some, None, refl}
 use Rattle.std.proofs.Common.{arith}
 use Rattle.std.proofs.lemmas.Bool.{eqb-true, eq-eqb, and_parts, and_from}
 use Rattle.std.proofs.lemmas.Grind.{common_steps}
 use Rattle.fourstate.specs.declared.value.Value.{Value}
-use Rattle.fourstate.specs.declared.value.Value.TheVariants.{Zero, One, Unknown, HighZ}
 use Rattle.fourstate.specs.Values.{same_value}
+use Rattle.fourstate.specs.ValueLaws.{is_same, same_self}
 use Rattle.gatestep.specs.Step.{State, due, due_of}
 use Rattle.waveform.specs.Entries.{same_pending, same_state, CanStore}
-
--- `same_value` decides equality
-pub is_same : (v w : Value) → same_value v w ≡ true → v ≡ w
-is_same Zero Zero e = refl
-is_same One One e = refl
-is_same Unknown Unknown e = refl
-is_same HighZ HighZ e = refl
-is_same _ _ e = cc
-
-pub same_self : (v : Value) → same_value v v ≡ true
-same_self Zero = refl
-same_self One = refl
-same_self Unknown = refl
-same_self HighZ = refl
 
 same_events : (v w : Value) (t u : ℕ) → (same_value v w && t == u) ≡ true →
     ◌≡◌ {A = Option (Value × ℕ)} (Some (v, t)) (Some (w, u))

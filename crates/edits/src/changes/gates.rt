@@ -62,7 +62,7 @@ fn delays_of(times: DelayTimes) -> Result<Delays, EditFault>
 {
     match Delays::from_times(times) {
         Some(delays) => Ok(delays),
-        None if times.rise == 0 || times.fall == 0 => Err(EditFault::ZeroDelay),
+        None if times.has_zero() => Err(EditFault::ZeroDelay),
         None => Err(EditFault::DelayTooLarge),
     }
 }

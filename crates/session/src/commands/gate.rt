@@ -6,8 +6,9 @@ ghost use Rattle.session.specs.EditLines.{gate_edit, gate_of_words, gate_words, 
 
 use crate::commands::edit_line::EditLine;
 use crate::commands::pins::PinWords;
-use crate::words::{WordRef, Words, number};
-use fourstate::{DelayTimes, GateKind};
+use crate::commands::times::read_delays;
+use crate::words::{WordRef, Words};
+use fourstate::GateKind;
 
 /// The words of `gate G KIND R F OUT IN..`, behind the first one.
 #[derive(Drop)]
@@ -50,13 +51,12 @@ fn gate_of(words: GateWords<'_>) -> Option<EditLine<'_>>
     ensures { result ≡ gate_of_words words.entry }
 {
     let kind = GateKind::from_keyword(words.kind.as_bytes())?;
-    let rise = number(words.rise.as_bytes())?;
-    let fall = number(words.fall.as_bytes())?;
+    let delays = read_delays(words.rise.as_bytes(), words.fall.as_bytes())?;
     let inputs = PinWords::new(words.inputs)?;
     Some(EditLine::AddGate {
         name: words.name,
         kind,
-        delays: DelayTimes::new(rise, fall),
+        delays,
         output: words.output,
         inputs,
     })

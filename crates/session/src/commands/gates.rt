@@ -5,8 +5,9 @@ ghost use Rattle.std.specs.Prelude.{◌≡◌};
 ghost use Rattle.session.specs.EditLines.{delay_edit, drop_edit, type_edit};
 
 use crate::commands::edit_line::EditLine;
-use crate::words::{Words, number};
-use fourstate::{DelayTimes, GateKind};
+use crate::commands::times::read_delays;
+use crate::words::Words;
+use fourstate::GateKind;
 
 /// `drop G`.
 pub fn read_drop(words: Words<'_>) -> Option<EditLine<'_>>
@@ -21,9 +22,7 @@ pub fn read_delay(words: Words<'_>) -> Option<EditLine<'_>>
     ensures { result ≡ delay_edit words.entry }
 {
     let (name, rise, fall) = words.three()?;
-    let rise = number(rise.as_bytes())?;
-    let fall = number(fall.as_bytes())?;
-    let delays = DelayTimes::new(rise, fall);
+    let delays = read_delays(rise.as_bytes(), fall.as_bytes())?;
     Some(EditLine::SetDelay { name, delays })
 }
 

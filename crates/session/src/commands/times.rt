@@ -1,13 +1,13 @@
-//! The commands that change stimulus and horizon, and the moments and values of lines. Each command is read behind its first
+//! The commands that change stimulus and horizon, and the moments, delays and values of lines. Each command is read behind its first
 //! word; none where the words are unreadable.
 
 ghost use Rattle.std.specs.Prelude.{◌≡◌};
-ghost use Rattle.session.specs.EditLines.{horizon_edit, stim_edit, unstim_edit};
+ghost use Rattle.session.specs.EditLines.{delays_of, horizon_edit, stim_edit, unstim_edit};
 ghost use Rattle.session.specs.Words.{name_and_time, value_of};
 
 use crate::commands::edit_line::EditLine;
 use crate::words::{WordRef, Words, number};
-use fourstate::Value;
+use fourstate::{DelayTimes, Value};
 
 /// `stim N T V`.
 pub fn read_stim(words: Words<'_>) -> Option<EditLine<'_>>
@@ -43,6 +43,15 @@ pub fn read_name_and_time(words: Words<'_>) -> Option<(WordRef<'_>, u64)>
     let (net, time) = words.two()?;
     let time = number(time.as_bytes())?;
     Some((net, time))
+}
+
+/// The delays that two words write, a rise and a fall.
+pub fn read_delays(rise: &[u8], fall: &[u8]) -> Option<DelayTimes>
+    ensures { result ≡ delays_of rise.now fall.now }
+{
+    let rise = number(rise)?;
+    let fall = number(fall)?;
+    Some(DelayTimes::new(rise, fall))
 }
 
 /// The value that a word writes: `0`, `1`, `x` or `z`.

@@ -1,6 +1,6 @@
 use Rattle.std.proofs.Common.{◌≡◌, map, subst, sym, ap, ◌∙◌}
 use Rattle.std.specs.Option.{option_map_or}
-use Rattle.waveform.specs.Drifts.{Drifts}
+use Rattle.waveform.proofs.Drifts.{Drifts}
 use Rattle.waveform.specs.Timelines.{value_by}
 use Rattle.waveform.proofs.Splices.{value_can_store}
 use Rattle.waveform.proofs.entries.value_at.Goals as goal

@@ -1,4 +1,4 @@
-use Rattle.waveform.specs.Drifts.{Drifts}
+use Rattle.waveform.proofs.Drifts.{Drifts}
 use Rattle.waveform.proofs.Functions.{changes_early}
 use Rattle.waveform.proofs.laws.changes_lie_before.Goals as goal
 

@@ -1,4 +1,4 @@
-use Rattle.waveform.specs.Drifts.{Drifts}
+use Rattle.waveform.proofs.Drifts.{Drifts}
 use Rattle.waveform.proofs.Functions.{kept}
 use Rattle.waveform.proofs.laws.cut_of_changes.Goals as goal
 

@@ -1,4 +1,4 @@
-use Rattle.waveform.specs.Drifts.{Drifts}
+use Rattle.waveform.proofs.Drifts.{Drifts}
 use Rattle.waveform.proofs.Functions.{same_changes}
 use Rattle.waveform.proofs.laws.no_change.Goals as goal
 

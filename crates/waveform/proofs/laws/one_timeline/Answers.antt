@@ -1,4 +1,4 @@
-use Rattle.waveform.specs.Drifts.{Drifts}
+use Rattle.waveform.proofs.Drifts.{Drifts}
 use Rattle.waveform.proofs.Unique.{same_timeline}
 use Rattle.waveform.proofs.laws.one_timeline.Goals as goal
 

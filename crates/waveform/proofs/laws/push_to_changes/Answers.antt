@@ -1,4 +1,4 @@
-use Rattle.waveform.specs.Drifts.{Drifts}
+use Rattle.waveform.proofs.Drifts.{Drifts}
 use Rattle.waveform.proofs.Functions.{pushed_is}
 use Rattle.waveform.proofs.laws.push_to_changes.Goals as goal
 

@@ -1,4 +1,4 @@
-use Rattle.waveform.specs.Drifts.{Drifts}
+use Rattle.waveform.proofs.Drifts.{Drifts}
 use Rattle.waveform.proofs.Functions.{changes_are_timeline}
 use Rattle.waveform.proofs.laws.timeline_of_changes.Goals as goal
 

@@ -1,4 +1,4 @@
-use Rattle.waveform.specs.Drifts.{Drifts}
+use Rattle.waveform.proofs.Drifts.{Drifts}
 use Rattle.waveform.proofs.Functions.{value_at_is}
 use Rattle.waveform.proofs.laws.value_of_changes.Goals as goal
 

@@ -1,6 +1,6 @@
 use Rattle.std.proofs.Common.{◌≡◌, ℕ, map, sym, subst}
 use Rattle.std.specs.List.{All}
-use Rattle.waveform.specs.Drifts.{Drifts}
+use Rattle.waveform.proofs.Drifts.{Drifts}
 use Rattle.waveform.specs.Joins.{spliced}
 use Rattle.waveform.specs.Timelines.{IsTimeline}
 use Rattle.waveform.proofs.Splices.{spliced_timeline, spliced_can_store, spliced_value}
