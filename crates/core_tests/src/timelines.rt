@@ -29,7 +29,7 @@ fn state_at(trace: &Trace, t: u64) -> Driver
 }
 
 /// The wave `0 x / 3 0 / 13 1 / 16 0`.
-fn pulse(rt: &impl Abort, alloc: Global) -> Wave {
+pub fn pulse(rt: &impl Abort, alloc: Global) -> Wave {
     let mut wave = Wave::open(alloc, Value::Unknown).expect(rt, "room");
     wave.push(3, Value::Zero).expect(rt, "room");
     wave.push(13, Value::One).expect(rt, "room");
@@ -37,7 +37,8 @@ fn pulse(rt: &impl Abort, alloc: Global) -> Wave {
     wave
 }
 
-fn change(time: u64, value: Value) -> Change {
+/// A change.
+pub fn change(time: u64, value: Value) -> Change {
     Change { time, value }
 }
 
@@ -128,7 +129,7 @@ fn waves_are_spliced(rt: HostRuntime) {
 }
 
 /// The state of a driver that has this value, with nothing pending.
-fn standing(value: Value) -> Driver
+pub fn standing(value: Value) -> Driver
     ensures { result ≡ record { current = value; pending = None } }
 {
     Driver {
@@ -138,7 +139,7 @@ fn standing(value: Value) -> Driver
 }
 
 /// The state of a driver that has this value, and becomes the other one at `time`.
-fn moving(value: Value, next: Value, time: u64) -> Driver
+pub fn moving(value: Value, next: Value, time: u64) -> Driver
     requires { next ≢ value }
     ensures { result ≡ record { current = value; pending = Some (next, time) } }
 {

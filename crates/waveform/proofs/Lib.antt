@@ -1,7 +1,11 @@
 pub mod Drifts
+pub mod Ends
+pub mod Follows
 pub mod Functions
+pub mod Gaps
 pub mod Joins
 pub mod Lists
+pub mod Patching
 pub mod Places
 pub mod Pushes
 pub mod Splices
