@@ -1,6 +1,8 @@
 //! The tables of the standard, written out by hand.
 
-use fourstate::{Delays, GateKind, MAX_INPUTS, NetKind, Value, delay, fits, gate_value, resolve};
+use fourstate::{
+    DelayTimes, Delays, GateKind, MAX_INPUTS, NetKind, Value, delay, fits, gate_value, resolve,
+};
 use std::process::Abort;
 
 /// The order of rows and columns in each table.
@@ -142,6 +144,32 @@ fn delays_and_their_range(rt: HostRuntime) {
     }
     check_delays(&rt, 10, 1, [1, 10, 1, 1]);
     check_delays(&rt, 2, 3, [3, 2, 2, 2]);
+}
+
+#[test]
+fn times_that_no_gate_may_have(rt: HostRuntime) {
+    for (rise, fall, zero, over) in [
+        (0, 1, true, false),
+        (1, 0, true, false),
+        (1, 1, false, false),
+        (1_000_000, 1_000_000, false, false),
+        (1_000_001, 1, false, true),
+        (1, 1_000_001, false, true),
+        (0, 1_000_001, true, true),
+    ] {
+        let times = DelayTimes::new(rise, fall);
+        assert_eq!(rt; times.has_zero(), zero, "{rise} and {fall}");
+        assert_eq!(rt; times.exceeds_limit(), over, "{rise} and {fall}");
+        assert_eq!(rt; Delays::from_times(times).is_some(), !zero && !over);
+    }
+}
+
+#[test]
+fn times_of_one_number_and_of_two(rt: HostRuntime) {
+    let one = DelayTimes::uniform(3);
+    assert_eq!(rt; one, DelayTimes::new(3, 3));
+    assert_eq!(rt; one.with_fall(4), DelayTimes::new(3, 4));
+    assert_eq!(rt; one.with_fall(0).has_zero(), true);
 }
 
 #[test]
