@@ -4,7 +4,7 @@ ghost use Rattle.std.specs.Prelude.{◌≡◌, Err, IfErr, IfOk};
 ghost use Rattle.std.specs.IoError.{error_kind};
 ghost use Rattle.session.specs.Opening.{IsOpeningFault};
 ghost use Rattle.session.specs.Outcomes.{Ran};
-ghost use Rattle.session.specs.Traffic.{traffic_of};
+ghost use Rattle.session.specs.Traffic.{sink_traffic, source_traffic};
 ghost use Rattle.app.specs.Start.{options_of, unread_fault};
 
 use crate::arguments::Args;
@@ -28,8 +28,8 @@ pub fn run_session<T: AllocGlobal + RandomSource + Wait, R: Source, W: Sink>(
     // A file that can't be read is told, and the devices are left alone.
     ensures unread { IfErr file (λ error. (result ≡ Err (unread_fault (error_kind error))) × (source.new ≡ source.old) × (sink.new ≡ sink.old)) }
     ensures ran { IfOk file (λ text. Ran text.items (options_of args.now)
-        (traffic_of R.remaining R.failures source.old source.new)
-        (traffic_of W.contents W.failures sink.old sink.new) result) }
+        (source_traffic R.remaining R.taken R.failures source.old source.new)
+        (sink_traffic W.contents W.failures sink.old sink.new) result) }
     // A session that does not open touches neither device.
     ensures unopened { IfOk file (λ text. IfErr result (λ fault. IsOpeningFault fault → (source.new ≡ source.old) × (sink.new ≡ sink.old))) }
 {

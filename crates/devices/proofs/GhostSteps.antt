@@ -1,4 +1,4 @@
--- The steps of the walks over values of no bytes, `Count` and `GhostText`. Assumes `Logic`.
+-- The steps of the walks over a value of no bytes, `History`. Assumes `Logic`.
 pub use Rattle.std.proofs.Common.{ℕ, List, [], ◌∷◌, ◌++◌, length, ◌+◌, refl, MutBor}
 pub use Rattle.std.proofs.raw_atomic.Walks.{proved}
 pub use base.Fml.{ftrue, flft}

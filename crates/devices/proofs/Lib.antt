@@ -1,3 +1,4 @@
 pub mod DeviceLemmas
 mod GhostSteps
+pub mod HistoryLemmas
 pub mod WriterLemmas

@@ -1,4 +1,4 @@
-pub mod Failures
+pub mod Devices
 pub mod Incoming
 pub mod Outgoing
 pub mod Traffic

@@ -1,12 +1,13 @@
--- What one call of a device does to its bytes and to the count of its failures.
-use Rattle.std.specs.Prelude.{◌≡◌, ℕ, ◌+◌, ◌<◌, ◌≤◌, Bool, true, false, nat_lt, List, Option, None, Some, length, take}
+-- What one call of a device does to its bytes, to the record of its takes and to the count of its failures.
+use Rattle.std.specs.Prelude.{◌≡◌, ℕ, ◌+◌, ◌<◌, ◌≤◌, Bool, true, false, nat_lt, List, [], ◌∷◌, ◌++◌, Option, None, Some, length, take}
 use Rattle.std.specs.Io.KnownBytes.{Keeps, Appends, Consumes, IsAtEnd}
 
--- A take brought n bytes, the first n of the buffer, and none only at the end. Or the device failed, and nothing came.
-abbrev pub Takes : Option (List ℕ) → Option (List ℕ) → ℕ → ℕ → List ℕ → Option ℕ → Type 0
-Takes old new failures failures' buffer None = Keeps old new × (failures' ≡ failures + 1)
-Takes old new failures failures' buffer (Some n) =
-    (n ≤ length buffer) × Consumes old new (take n buffer) × (n ≡ 0 → IsAtEnd new) × (failures' ≡ failures)
+-- A take brought n bytes, the first n of the buffer, as one piece, and none only at the end. Or the device failed, and nothing came.
+abbrev pub Takes : Option (List ℕ) → Option (List ℕ) → List (List ℕ) → List (List ℕ) → ℕ → ℕ → List ℕ → Option ℕ → Type 0
+Takes old new taken taken' failures failures' buffer None = Keeps old new × (taken' ≡ taken) × (failures' ≡ failures + 1)
+Takes old new taken taken' failures failures' buffer (Some n) =
+    (n ≤ length buffer) × Consumes old new (take n buffer) × (n ≡ 0 → IsAtEnd new)
+    × (taken' ≡ taken ++ take n buffer ∷ []) × (failures' ≡ failures)
 
 -- The first n bytes went out, and n isn't 0. Or the device failed, and nothing went out.
 abbrev pub Puts : Option (List ℕ) → Option (List ℕ) → ℕ → ℕ → List ℕ → Option ℕ → Type 0

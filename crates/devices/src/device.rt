@@ -1,8 +1,8 @@
 //! std's readers and writers as devices.
-ghost use Rattle.std.specs.Prelude.{◌≡◌, ◌+◌, None};
-ghost use Rattle.devices.specs.Failures.{failure_count};
+ghost use Rattle.std.specs.Prelude.{◌≡◌, ◌+◌, [], None};
+ghost use Rattle.devices.specs.Devices.{failure_count, taken_pieces};
 
-use crate::count::Count;
+use crate::history::History;
 use crate::sink::Sink;
 use crate::source::Source;
 use std::io::{Read, Write};
@@ -13,18 +13,23 @@ use std::io::{Read, Write};
 pub struct Device<T> {
     /// The reader or the writer.
     pub inner: T,
-    failures: Count,
+    // The pieces that came.
+    takes: History,
+    // An empty piece for each failure: a number would stop at its greatest value.
+    failures: History,
 }
 
 impl<T> Device<T> {
-    /// A device that has not failed yet.
+    /// A device of which nothing was taken, and that has not failed yet.
     pub fn new(inner: T) -> Device<T>
         ensures inner { result.inner ≡ inner }
+        ensures untaken { taken_pieces result ≡ [] }
         ensures unfailed { failure_count result ≡ 0 }
     {
         Device {
             inner,
-            failures: Count::new(),
+            takes: History::new(),
+            failures: History::new(),
         }
     }
 
@@ -32,9 +37,10 @@ impl<T> Device<T> {
     fn fail(&mut self) -> Option<usize>
         ensures none { result ≡ None }
         ensures inner { self.new.inner ≡ self.old.inner }
+        ensures takes { taken_pieces self.new ≡ taken_pieces self.old }
         ensures counted { failure_count self.new ≡ failure_count self.old + 1 }
     {
-        self.failures.note();
+        self.failures.add(b"");
         None
     }
 }
@@ -42,11 +48,16 @@ impl<T> Device<T> {
 impl<T: Read> Source for Device<T> {
     ghost remaining = { λ d. T.remaining d.inner };
 
+    ghost taken = { taken_pieces };
+
     ghost failures = { failure_count };
 
     fn take(&mut self, buffer: &mut [u8]) -> Option<usize> {
         match self.inner.read(buffer) {
-            Ok(n) => Some(n),
+            Ok(n) => {
+                self.takes.add(&buffer[..n]);
+                Some(n)
+            }
             Err(_) => self.fail(),
         }
     }

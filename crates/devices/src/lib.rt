@@ -3,10 +3,10 @@
 #![tactic(auto)]
 
 mod block;
-mod count;
 mod device;
 pub mod faulty;
 mod ghost_text;
+mod history;
 mod reader;
 mod send;
 mod sink;

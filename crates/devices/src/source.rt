@@ -7,6 +7,9 @@ pub trait Source {
     // The bytes that takes will bring from here on, where they are known.
     ghost remaining: { Self → Option (List ℕ) };
 
+    // The pieces that takes brought so far, one for each that did not fail: an empty one at the end.
+    ghost taken: { Self → List (List ℕ) };
+
     // How often the device has failed.
     ghost failures: { Self → ℕ };
 
@@ -14,6 +17,6 @@ pub trait Source {
     /// the device failed; then nothing came, and the failure is counted.
     fn take(&mut self, buffer: &mut [u8]) -> Option<usize>
         requires { 0 < length buffer.old }
-        ensures { Takes (remaining self.old) (remaining self.new)
+        ensures { Takes (remaining self.old) (remaining self.new) (taken self.old) (taken self.new)
             (failures self.old) (failures self.new) buffer.new result };
 }

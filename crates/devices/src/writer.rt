@@ -35,14 +35,14 @@ impl<'a, W: Sink> Model for Writer<'a, W> {
       loan = a.sink.ghost_name;
       before = W.contents a.start.value;
       failures_before = W.failures a.start.value;
-      text = a.written.bytes;
-      gone = a.gone.bytes;
+      text = a.written;
+      gone = a.gone;
       stopped = a.stopped;
     } };
 
     ghost invariant = { λ a. IsGoingOut (W.contents a.start.value) (W.contents a.sink.now)
         (W.failures a.start.value) (W.failures a.sink.now)
-        a.written.bytes a.gone.bytes a.waiting a.stopped a.sent };
+        a.written a.gone a.waiting a.stopped a.sent };
 }
 
 impl<'a, W: Sink> Writer<'a, W> {

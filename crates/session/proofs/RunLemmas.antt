@@ -9,10 +9,10 @@ use Rattle.session.specs.declared.talk.exchange.End.TheVariants as end
 use Rattle.session.specs.Opening.{IsOpeningFault, Opens, Refuses}
 use Rattle.session.specs.Outcomes.{Ran, Serves, outcome_of}
 use Rattle.session.specs.State.{SessionState}
-use Rattle.session.specs.Traffic.{Traffic}
+use Rattle.session.specs.Traffic.{SinkTraffic, SourceTraffic}
 
 -- a session that opened
-pub ran : {text : List ℕ} {options : Options} {first : SessionState} (e : End) (source sink : Traffic) → Opens text options first
+pub ran : {text : List ℕ} {options : Options} {first : SessionState} (e : End) (source : SourceTraffic) (sink : SinkTraffic) → Opens text options first
     → Serves e first source sink → Ran text options source sink (outcome_of e)
 ran {first = first} end.Input source sink opens served = (first, opens, served)
 ran {first = first} end.Quit source sink opens served = (first, opens, served)
@@ -20,7 +20,7 @@ ran {first = first} end.ReadFailed source sink opens served = (first, opens, ser
 ran {first = first} end.WriteFailed source sink opens served = (first, opens, served)
 
 -- a session that did not open
-pub not_ran : (text : List ℕ) (options : Options) (source sink : Traffic) (f : SessionFault) → IsOpeningFault f → Refuses text options f
+pub not_ran : (text : List ℕ) (options : Options) (source : SourceTraffic) (sink : SinkTraffic) (f : SessionFault) → IsOpeningFault f → Refuses text options f
     → Ran text options source sink (Err f)
 not_ran text options source sink (fault.Design f) at_opening refuses = refuses
 not_ran text options source sink (fault.Edit f) at_opening refuses = refuses

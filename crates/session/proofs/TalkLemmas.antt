@@ -1,8 +1,10 @@
 -- How a session goes on, a byte at a time.
-use Rattle.std.proofs.Common.{◌≡◌, ℕ, ◌+◌, ◌<◌, ◌≤◌, List, [], ◌∷◌, ◌++◌, length, take, drop, get_or, Bool, true, false, cond, eqb, refl, sym, ap, subst, ◌∙◌, append_assoc, append-nil, MatchBool, arith, zero, suc, nat_lt}
+use Rattle.std.proofs.Common.{◌≡◌, ◌⊎◌, inl, inr, ◌||◌, ℕ, ◌+◌, ◌<◌, ◌≤◌, List, [], ◌∷◌, ◌++◌, length, take, drop, get_or, Bool, true, false, cond, eqb, refl, sym, ap, subst, ◌∙◌, append_assoc, append-nil, MatchBool, arith, zero, suc, nat_lt}
 use Rattle.std.proofs.lemmas.Bool.{eq-eqb, ltb-false}
 use Rattle.std.proofs.lemmas.Bool.Decides.{nat_tests}
 use Rattle.std.proofs.lemmas.List.{length-append, length-take-le, take_all, take-append-drop, take-append-le, take_more}
+use Rattle.std.proofs.lemmas.List.Folds.{list_any-append}
+use Rattle.std.specs.List.{list_any}
 use Rattle.session.specs.declared.commands.command.Command.{Command}
 use Rattle.session.specs.declared.commands.command.Command.TheVariants as command
 use Rattle.session.specs.declared.commands.command.TheConstants.{LINE_LIMIT}
@@ -89,14 +91,31 @@ goes_on {first = first} {s = s} {s' = s'} {input = input} {kept = kept} {out = o
       (answered line reply going.reaches (answers_kept s s' line kept reply going.line answers) (sym (ends_kept line kept going.line) ∙ goes));
 }
 
+either : (a b : Bool) → (a ≡ true) ⊎ (b ≡ true) → (a || b) ≡ true
+either true b e = refl
+either false true e = refl
+either false false (inl e) = e
+either false false (inr e) = e
+
+-- lines of which the last one ends the session
+last_ends : (done : List (List ℕ)) (line : List ℕ) → ends line ≡ true → list_any ends (done ++ line ∷ []) ≡ true
+last_ends done line quit =
+    list_any-append ends done (line ∷ []) ∙ either (list_any ends done) (ends line || false) (inr (either (ends line) false (inl quit)))
+
 -- the line feed of the line that ends the session
 quits : {first s : SessionState} {input kept out : List ℕ} (s' : SessionState) (reply : List ℕ) (byte : ℕ) → eqb byte 10 ≡ true
     → Going first input kept s out → Answers s kept reply s' → ends kept ≡ true → HasQuit first (input ++ byte ∷ []) (out ++ reply)
-quits {first = first} {s = s} {input = input} {kept = kept} {out = out} s' reply byte e going answers quit = λ more.
+quits {first = first} {s = s} {input = input} {kept = kept} {out = out} s' reply byte e going answers quit =
     let line = unfinished input in
-    let last = transcript_quit s s' line more reply (answers_kept s s' line kept reply going.line answers) (sym (ends_kept line kept going.line) ∙ quit) in
+    let line_ends = sym (ends_kept line kept going.line) ∙ quit in
     let P : List (List ℕ) → Type 0 = λ ls. Transcript first ls (out ++ reply) in
-    subst P (one_more input byte more e) (joins (line ∷ more) reply going.reaches last)
+    record {
+      quits = ap (list_any ends) (sym (one_whole input byte e)) ∙ last_ends (whole_lines input) line line_ends;
+      transcript = λ more.
+          subst P (one_more input byte more e)
+          (joins (line ∷ more) reply going.reaches
+          (transcript_quit s s' line more reply (answers_kept s s' line kept reply going.line answers) line_ends));
+    }
 
 -- The input's end.
 
@@ -155,9 +174,9 @@ closes_empty {first = first} {s = s} {input = input} {kept = kept} {line = line}
 
 pub quits_line : {first s s' : SessionState} {input kept line : List ℕ} {w w' : Outgoing} (byte : ℕ) → byte ≡ 10 → line ≡ kept → Answered s s' line w w' → ends line ≡ true
     → Going first input kept s w.text → HasQuit first (input ++ byte ∷ []) w'.text
-quits_line {first = first} {s = s} {s' = s'} {input = input} {kept = kept} {w = w} {w' = w'} byte feed e a quit going = λ more.
-    let P : List ℕ → Type 0 = λ text. Transcript first (whole_lines (input ++ byte ∷ []) ++ more) text in
-    subst P (sym (text_is w w' a.reply a.adds)) (quits s' a.reply byte (eq-eqb byte 10 feed) going (answers_at e a) (ap ends (sym e) ∙ quit) more)
+quits_line {first = first} {s = s} {s' = s'} {input = input} {kept = kept} {w = w} {w' = w'} byte feed e a quit going =
+    let P : List ℕ → Type 0 = λ text. HasQuit first (input ++ byte ∷ []) text in
+    subst P (sym (text_is w w' a.reply a.adds)) (quits s' a.reply byte (eq-eqb byte 10 feed) going (answers_at e a) (ap ends (sym e) ∙ quit))
 
 pub goes_line : {first s s' : SessionState} {input kept kept' line : List ℕ} {w w' : Outgoing} (byte : ℕ) → byte ≡ 10 → line ≡ kept → kept' ≡ [] → Answered s s' line w w' → ends line ≡ false
     → Going first input kept s w.text → Going first (input ++ byte ∷ []) kept' s' w'.text
@@ -184,15 +203,21 @@ regrouped input taken rest byte = simp append_assoc
 -- a session that has quit in the middle of a piece
 pub quits_early : (first : SessionState) (out input piece : List ℕ) (i : ℕ) → i < length piece
     → HasQuit first ((input ++ take i piece) ++ get_or piece i 0 ∷ []) out → HasQuit first (input ++ piece) out
-quits_early first out input piece i within quit = λ more.
+quits_early first out input piece i within quit =
     let byte = get_or piece i 0 in
     let front = (input ++ take i piece) ++ byte ∷ [] in
     let rest = drop (i + 1) piece in
     let parts : (take i piece ++ byte ∷ []) ++ rest ≡ piece = ap (λ xs. xs ++ rest) (sym (take_more piece i 0 within)) ∙ take-append-drop (i + 1) piece in
     let all : front ++ rest ≡ input ++ piece = regrouped input (take i piece) rest byte ∙ ap (λ xs. input ++ xs) parts in
     let later = whole_behind front rest in
+    let whole : whole_lines front ++ later.0 ≡ whole_lines (input ++ piece) = sym later.1 ∙ ap whole_lines all in
     let P : List (List ℕ) → Type 0 = λ ls. Transcript first ls out in
-    subst P (sym (append_assoc (whole_lines front) later.0 more) ∙ ap (λ ls. ls ++ more) (sym later.1 ∙ ap whole_lines all)) (quit (later.0 ++ more))
+    record {
+      quits = ap (list_any ends) (sym whole) ∙ list_any-append ends (whole_lines front) later.0
+          ∙ either (list_any ends (whole_lines front)) (list_any ends later.0) (inl quit.quits);
+      transcript = λ more.
+          subst P (sym (append_assoc (whole_lines front) later.0 more) ∙ ap (λ ls. ls ++ more) whole) (quit.transcript (later.0 ++ more));
+    }
 
 -- a session that goes on with the next byte of a piece
 pub goes_further : {first s : SessionState} {kept out : List ℕ} (input piece : List ℕ) (i : ℕ) → i < length piece
@@ -205,4 +230,4 @@ pub same_sink_through : {a b c : Outgoing} → SameSink a b → SameSink b c →
 same_sink_through p q = record { loan = q.loan ∙ p.loan; before = q.before ∙ p.before; failures_before = q.failures_before ∙ p.failures_before }
 
 pub same_source_through : {a b c : Incoming} {failed : ℕ} → SameSource a b 0 → SameSource b c failed → SameSource a c failed
-same_source_through p q = record { loan = q.loan ∙ p.loan; before = q.before ∙ p.before; failures = omega (arith, p.failures, q.failures) }
+same_source_through p q = record { loan = q.loan ∙ p.loan; before = q.before ∙ p.before; taken_before = q.taken_before ∙ p.taken_before; failures = omega (arith, p.failures, q.failures) }

@@ -1,7 +1,8 @@
 -- How a session stands in the middle of its input.
 use Rattle.std.specs.Prelude.{◌≡◌, Bool, ℕ, ◌+◌, true, false, if◌then◌else◌, List, ◌++◌, take, Option, Some}
+use Rattle.std.specs.List.{list_all, list_any}
 use Rattle.std.specs.Io.{StartsWith}
-use Rattle.devices.specs.Incoming.{Incoming, IsAllOf}
+use Rattle.devices.specs.Incoming.{Incoming, IsAllOf, text_of}
 use Rattle.devices.specs.Outgoing.{Outgoing, Adds}
 use Rattle.session.specs.declared.commands.command.Command.{Command}
 use Rattle.session.specs.declared.talk.line_buffer.TheConstants.{ROOM}
@@ -10,8 +11,9 @@ use Rattle.session.specs.declared.talk.feed.Turn.TheVariants as turn
 use Rattle.session.specs.declared.talk.exchange.End.{End}
 use Rattle.session.specs.declared.talk.exchange.End.TheVariants as end
 use Rattle.session.specs.Lines.{lines, unfinished, whole_lines}
-use Rattle.session.specs.State.{SessionState, Answers, Reaches, Replies, Transcript}
-use Rattle.session.specs.Transcripts.{GoesOn, StopsReading}
+use Rattle.session.specs.State.{SessionState, Answers, Reaches, Replies, Transcript, ends}
+use Rattle.session.specs.Transcripts.{StopsReading, goes_on}
+use Rattle.session.specs.Words.{has_bytes}
 
 -- a command was carried out, and its reply added to the text
 pub record CarriedOut (old new : SessionState) (command : Command) (before after : Outgoing) : Type 0 where
@@ -32,8 +34,9 @@ pub record Going (first : SessionState) (input kept : List ℕ) (now : SessionSt
   pub reaches : Reaches first (whole_lines input) out now
 
 -- a whole line of the input has ended the session: whatever lines follow get no reply
-abbrev pub HasQuit : SessionState → List ℕ → List ℕ → Type 0
-HasQuit first input out = (more : List (List ℕ)) → Transcript first (whole_lines input ++ more) out
+pub record HasQuit (first : SessionState) (input out : List ℕ) : Type 0 where
+  pub quits : list_any ends (whole_lines input) ≡ true
+  pub transcript : (more : List (List ℕ)) → Transcript first (whole_lines input ++ more) out
 
 -- how the session stands after a turn
 abbrev pub Stands : Turn → SessionState → List ℕ → List ℕ → SessionState → List ℕ → Type 0
@@ -46,11 +49,6 @@ abbrev pub is_finished : Turn → Bool
 is_finished turn.Finished = true
 is_finished _ = false
 
--- the session waits for more input
-abbrev pub is_waiting : Turn → Bool
-is_waiting turn.More = true
-is_waiting _ = false
-
 -- a writer to the same device, which had failed as often before
 pub record SameSink (old new : Outgoing) : Type 0 where
   pub loan : new.loan ≡ old.loan
@@ -61,6 +59,7 @@ pub record SameSink (old new : Outgoing) : Type 0 where
 pub record SameSource (old new : Incoming) (failed : ℕ) : Type 0 where
   pub loan : new.loan ≡ old.loan
   pub before : new.before ≡ old.before
+  pub taken_before : new.taken_before ≡ old.taken_before
   pub failures : new.failures ≡ old.failures + failed
 
 -- the whole text went out
@@ -68,21 +67,31 @@ pub record IsSent (w : Outgoing) : Type 0 where
   pub all : w.gone ≡ w.text
   pub goes_on : w.stopped ≡ false
 
+-- The session goes on behind what a reader brought: it has answered the whole lines, and all replies went out.
+pub record Waits (first : SessionState) (r : Incoming) (kept : List ℕ) (now : SessionState) (w : Outgoing) : Type 0 where
+  pub going : Going first (text_of r) kept now w.text
+  pub unended : list_all has_bytes r.pieces ≡ true
+  pub sent : IsSent w
+
 -- the sink failed, and a beginning of the replies to the whole lines went out, or to all lines where the input had ended
 pub record IsCutShort (first : SessionState) (r : Incoming) (w : Outgoing) : Type 0 where
-  pub ended : Bool
-  pub at_end : ended ≡ true → IsAllOf r.before r.text
+  pub stops : StopsReading r.pieces
+  pub at_end : has_bytes stops.last ≡ false → IsAllOf r.before (text_of r)
   pub out : List ℕ
-  pub transcript : Transcript first (if ended then lines r.text else whole_lines r.text) out
+  pub transcript : Transcript first (if has_bytes stops.last then whole_lines (text_of r) else lines (text_of r)) out
   pub beginning : StartsWith out w.gone
   pub stopped : w.stopped ≡ true
 
+-- the last piece that came has ended the session
+abbrev pub EndsReading : Incoming → Type 0
+EndsReading r = StopsReading r.pieces × (goes_on r.pieces ≡ false)
+
 -- how a session ends
 abbrev pub Ends : End → SessionState → Incoming → Outgoing → Type 0
-Ends end.Input first r w = StopsReading r.text × IsAllOf r.before r.text × Transcript first (lines r.text) w.text × IsSent w
-Ends end.Quit first r w = StopsReading r.text × HasQuit first r.text w.text × IsSent w
-Ends end.ReadFailed first r w = GoesOn r.text × Transcript first (whole_lines r.text) w.text × IsSent w
-Ends end.WriteFailed first r w = StopsReading r.text × IsCutShort first r w
+Ends end.Input first r w = EndsReading r × IsAllOf r.before (text_of r) × Transcript first (lines (text_of r)) w.text × IsSent w
+Ends end.Quit first r w = EndsReading r × HasQuit first (text_of r) w.text × IsSent w
+Ends end.ReadFailed first r w = (goes_on r.pieces ≡ true) × Transcript first (whole_lines (text_of r)) w.text × IsSent w
+Ends end.WriteFailed first r w = IsCutShort first r w
 
 -- how often the source failed at this end
 abbrev pub read_failures : Option End → ℕ

@@ -9,7 +9,7 @@ ghost use Rattle.vread.specs.Reads.{Spells};
 ghost use Rattle.session.specs.Opening.{IsOpeningFault, IsTextRefused, Opens, Refuses, fault_by};
 ghost use Rattle.session.specs.Outcomes.{Ran, outcome_of};
 ghost use Rattle.session.specs.Standing.{opened_with};
-ghost use Rattle.session.specs.Traffic.{traffic_of};
+ghost use Rattle.session.specs.Traffic.{sink_traffic, source_traffic};
 
 use crate::fault::SessionFault;
 use crate::machine::Machine;
@@ -49,8 +49,8 @@ pub fn run<T: Wait + RandomSource, R: Source, W: Sink, S: Stepper + Drop>(
 ) -> Result<(), SessionFault>
     requires { S.answer ≡ advance }
     ensures ran { Ran design.now options.now
-        (traffic_of R.remaining R.failures source.old source.new)
-        (traffic_of W.contents W.failures sink.old sink.new) result }
+        (source_traffic R.remaining R.taken R.failures source.old source.new)
+        (sink_traffic W.contents W.failures sink.old sink.new) result }
     // A session that does not open touches neither device.
     ensures unopened { IfErr result (λ fault. IsOpeningFault fault → (source.new ≡ source.old) × (sink.new ≡ sink.old)) }
 {

@@ -3,7 +3,7 @@
 ghost use Rattle.std.specs.Prelude.{◌≡◌, [], Some, false};
 ghost use Rattle.session.specs.Outcomes.{Serves};
 ghost use Rattle.session.specs.Talk.{Ends, SameSink, SameSource, read_failures};
-ghost use Rattle.session.specs.Traffic.{traffic_of};
+ghost use Rattle.session.specs.Traffic.{sink_traffic, source_traffic};
 
 use crate::talk::exchange::{End, PIECE, exchange};
 use crate::talk::feed::Session;
@@ -20,8 +20,8 @@ pub fn serve<T: Wait, R: Source, W: Sink, S: Stepper + Drop>(
 ) -> End
     requires { session.old.line ≡ [] }
     ensures { Serves result session.old.machine
-        (traffic_of R.remaining R.failures source.old source.new)
-        (traffic_of W.contents W.failures sink.old sink.new) }
+        (source_traffic R.remaining R.taken R.failures source.old source.new)
+        (sink_traffic W.contents W.failures sink.old sink.new) }
 {
     let mut reader = Reader::new(source);
     let mut writer = Writer::new(sink);
@@ -31,7 +31,7 @@ pub fn serve<T: Wait, R: Source, W: Sink, S: Stepper + Drop>(
     end
 }
 
-#[tactic(auto, using(crate::proofs::ExchangeLemmas::begins_at, crate::proofs::ExchangeLemmas::sent_at))]
+#[tactic(auto, using(crate::proofs::ExchangeLemmas::begins_at))]
 fn talk<T: Wait, R: Source, W: Sink, S: Stepper + Drop>(
     rt: &T,
     session: &mut Session<S>,
@@ -39,7 +39,7 @@ fn talk<T: Wait, R: Source, W: Sink, S: Stepper + Drop>(
     writer: &mut Writer<'_, W>,
 ) -> End
     requires line { session.old.line ≡ [] }
-    requires input { reader.old.text ≡ [] }
+    requires input { reader.old.pieces ≡ [] }
     requires text { writer.old.text ≡ [] }
     requires gone { writer.old.gone ≡ [] }
     requires stopped { writer.old.stopped ≡ false }

@@ -1,8 +1,9 @@
 //! The exchange of input and replies.
 
 ghost use Rattle.std.specs.Prelude.{◌<◌, ◌≤◌, Option, None, Some, List, ℕ, length, IfNone, MatchOption};
+ghost use Rattle.devices.specs.Incoming.{text_of};
 ghost use Rattle.session.specs.State.{SessionState};
-ghost use Rattle.session.specs.Talk.{Ends, Going, IsSent, SameSink, SameSource, read_failures};
+ghost use Rattle.session.specs.Talk.{Ends, SameSink, SameSource, Waits, read_failures};
 
 use crate::talk::feed::{Session, Turn};
 use devices::{Reader, Sink, Source, Writer};
@@ -33,12 +34,11 @@ pub fn exchange<R: Source, W: Sink, S: Stepper + Drop>(
 ) -> Option<End>
     requires room { 0 < length buffer.old }
     requires at_once { length buffer.old ≤ PIECE }
-    requires sent { IsSent writer.old }
-    ensures goes_on { (first : SessionState) → Going first reader.old.text session.old.line session.old.machine writer.old.text
-        → MatchOption result (Going first reader.new.text session.new.line session.new.machine writer.new.text × IsSent writer.new)
+    ensures goes_on { (first : SessionState) → Waits first reader.old session.old.line session.old.machine writer.old
+        → MatchOption result (Waits first reader.new session.new.line session.new.machine writer.new)
         (λ end. Ends end first reader.new writer.new) }
     // A session that goes on has read some bytes.
-    ensures read_more { IfNone result (length reader.old.text < length reader.new.text) }
+    ensures read_more { IfNone result (length (text_of reader.old) < length (text_of reader.new)) }
     ensures sink { SameSink writer.old writer.new }
     ensures source { SameSource reader.old reader.new (read_failures result) }
 {

@@ -3,7 +3,7 @@
 ghost use Rattle.std.specs.Prelude.{◌≡◌, ◌<◌, List, ℕ, ◌++◌, ◌∷◌, [], length, true, false, MatchBool};
 ghost use Rattle.session.specs.Lines.{lines};
 ghost use Rattle.session.specs.State.{SessionState, Transcript};
-ghost use Rattle.session.specs.Talk.{Going, HasQuit, SameSink, Stands, is_finished, is_waiting};
+ghost use Rattle.session.specs.Talk.{Going, HasQuit, SameSink, Stands, is_finished};
 
 use crate::machine::Machine;
 use crate::talk::line_buffer::LineBuffer;
@@ -35,7 +35,7 @@ impl<S: Stepper + Drop> Session<S> {
             → Stands result first (input ++ piece.now) self.new.line self.new.machine writer.new.text }
         ensures sink { SameSink writer.old writer.new }
         ensures end { is_finished result ≡ true → length piece.now ≡ 0 }
-        ensures more { is_waiting result ≡ true → 0 < length piece.now }
+        ensures some { is_finished result ≡ false → 0 < length piece.now }
     {
         if piece.is_empty() {
             self.close(writer);

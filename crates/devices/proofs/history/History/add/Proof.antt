@@ -1,9 +1,9 @@
--- An empty body: the borrow is opened, and closed at the longer text. Assumes `Logic`.
+-- An empty body: the borrow is opened, and closed with the piece added. Assumes `Logic`.
 use Rattle.devices.proofs.GhostSteps.{◌++◌, [], ◌∷◌, refl, proved, named, vunit, ftrue, flft, ‵, ◌⊛◌, ◌$◌, ◌∵◌, !, qed, done, move, keep, split, join, fsplit, fsplit3, fjoin, feq_i, suffices, frame, group, enter, of_opd, unit_lit, returns, alloc_all, pass_all, free_all, look_at, sets, u8, yes, MutRef, mut_vals, mut_Tells, ShrSlice, shr_slice_vals, shr_slice_Tells, plain, opens, closes, Stays, walk_of, says, stay_ref, Goes-ref, stay_none_slice, Goes-none_slice, ends_at}
-use Rattle.devices.specs.contracts.ghost_text.GhostText.add as f
-use Rattle.devices.specs.contracts.ghost_text.GhostText.{the_row as R}
-use Rattle.devices.proofs.ghost_text.GhostText.add.Statement.{statement}
-use Rattle.devices.proofs.ghost_text.GhostText.add.Code as code
+use Rattle.devices.specs.contracts.history.History.add as f
+use Rattle.devices.specs.contracts.history.History.{the_row as R}
+use Rattle.devices.proofs.history.History.add.Statement.{statement}
+use Rattle.devices.proofs.history.History.add.Code as code
 
 abbrev stayed : Stays f.ended.signature.params f.ended.kept
 stayed = (stay_ref (0 ∷ []) tt (plain (λ _. R)), (stay_none_slice (1 ∷ []) tt (plain (λ _. u8)) yes, tt))
@@ -16,7 +16,7 @@ add_spec 𝓤 𝓛 𝓜 𝓡 wired =
     (λ κs. (mut_vals, (shr_slice_vals, tt))) (λ κs. (mut_Tells (named 0) κs.0 R, (shr_slice_Tells (named 1) κs.1.0 u8, tt))) (λ κs qs bounds a _ are.
     let b = a.0.ref_ptr.0 in let o = a.0.ref_ptr.1 in let h = a.0.now in let vs = mut_vals a.0 in
     let s = a.1.0 in let ss = shr_slice_vals s in
-    let more = record h { bytes = h.bytes ++ s.now } in
+    let more = record h { pieces = h.pieces ++ s.now ∷ [] } in
     let y : W.Ghost = ((κs, qs, bounds, a, (vs, (ss, tt))), tt) in
     qed 𝓛 (((‵ (flft κs.0 qs.0) ⊛ ‵ (flft κs.1.0 qs.1.0) ⊛ ‵ ftrue) ⊛ ‵ ((MutRef (named 0) κs.0 R).own_val a.0 vs) ⊛ ‵ ((ShrSlice (named 1) κs.1.0 u8).own_val s ss) ⊛ ‵ ftrue) ∷ ‵ ftrue ∷ []) ∵
     split ! $ split ! $ move ! (2 ∷ []) $ split ! $ keep ! (0 ∷ 2 ∷ 1 ∷ 3 ∷ []) $

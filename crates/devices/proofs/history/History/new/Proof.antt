@@ -1,8 +1,8 @@
--- `new` makes the value of no bytes, at no failure. Assumes `Logic`.
+-- `new` makes the value of no bytes, with no piece. Assumes `Logic`.
 use Rattle.devices.proofs.GhostSteps.{[], ◌∷◌, refl, proved, ftrue, ‵, ◌⊛◌, ◌$◌, ◌∵◌, !, qed, done, move, keep, drop, split, fjoin, suffices, agg, enter, no_more, returns, alloc_all, pass_all, free_all, look_at, sets, nothing, Stays, walk_of, says, ends_at, none, none_made}
-use Rattle.devices.specs.contracts.count.Count.new as f
-use Rattle.devices.proofs.count.Count.new.Statement.{statement}
-use Rattle.devices.proofs.count.Count.new.Code as code
+use Rattle.devices.specs.contracts.history.History.new as f
+use Rattle.devices.proofs.history.History.new.Statement.{statement}
+use Rattle.devices.proofs.history.History.new.Code as code
 
 abbrev stayed : Stays f.ended.signature.params f.ended.kept
 stayed = tt
@@ -19,5 +19,5 @@ new_spec 𝓤 𝓛 𝓜 𝓡 wired =
     enter ! _ _ _ _ _ $ alloc_all ! (λ l. pass_all ! refl tt $
     sets ! (agg ! (no_more !)) refl (tt, tt) $ nothing ! $ none_made ! $ fjoin ! $
     returns ! (look_at ! 0 refl) $ free_all ! refl $
-    suffices ! _ (ends_at 𝓛 f.ended stayed c y none (record { times = 0 }) tt tt) $ says ! refl $
+    suffices ! _ (ends_at 𝓛 f.ended stayed c y none (record { pieces = [] }) tt tt) $ says ! refl $
     nothing ! $ move ! (2 ∷ 0 ∷ 1 ∷ []) $ done !))
