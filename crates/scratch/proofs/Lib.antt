@@ -1,6 +1,10 @@
+pub mod Among
 pub mod Asked
+pub mod Between
 pub mod Keyed
 pub mod Lists
 pub mod Moments
+pub mod Passing
 pub mod Places
 pub mod Runs
+pub mod Still

@@ -6,7 +6,7 @@ use Rattle.fourstate.specs.declared.limits.TheConstants.{MAX_DELAY}
 use Rattle.fourstate.specs.Values.{same_value}
 use Rattle.gatestep.specs.Step.{State, Evaluation, due}
 use Rattle.gatestep.specs.StepLaws.{not_due}
-use Rattle.gatestep.specs.Tasks.{IsTask, NothingDue, PendingBefore}
+use Rattle.gatestep.specs.Tasks.{IsTask, NothingDue, PendingBefore, PendingFrom}
 use Rattle.design.specs.Lawful.{IsGate}
 use Rattle.design.specs.Netlist.{GateEntry, Netlist}
 use Rattle.waveform.specs.Changes.{wave_changes_below, trace_below}
@@ -67,6 +67,18 @@ module _ (answer : Evaluation → ℕ → State) (d : Netlist) where
         (map_zip (λ g. trace_below (state_after answer d g) t) (state_before answer d (suc t)) (λ xs s. pushed same_state due xs t s) d.gates
         ∙ map_where IsGate (λ g. pushed same_state due (trace_below (state_after answer d g) t) t (state_before answer d (suc t) g)) (λ g. trace_below (state_after answer d g) (suc t))
         (λ g is. grows (state_after answer d g) (settled g is) t) d.gates are)
+
+    ready_before : (g : GateEntry) → IsGate g → (t : ℕ) → PendingFrom t (state_before answer d t g)
+    ready_before g is zero = λ event none. absurd (cc)
+    ready_before g is (suc t) = λ event some.
+        let late = pending (evaluation_at d (state_before answer d t) g t) t (is_task g is t) event some in omega arith
+
+    -- what is pending before t is for t or a later moment
+    pub ready_all : All IsGate d.gates → (t : ℕ) (states : List State) → states ≡ map (state_before answer d t) d.gates → All (PendingFrom t) states
+    ready_all are t states those =
+        rw those
+        (All-map (PendingFrom t) (state_before answer d t) d.gates
+        (All-weaker IsGate (λ g. PendingFrom t (state_before answer d t g)) (λ g is. ready_before g is t) d.gates are))
 
     module _ (near : (e : Evaluation) (t : ℕ) → IsTask e → PendingBefore (t + MAX_DELAY) e.state → PendingBefore (t + 1 + MAX_DELAY) (answer e t)) where
       -- what is pending before a moment lies at most the greatest delay after the one before

@@ -4,7 +4,7 @@ ghost use Rattle.std.specs.Prelude.{◌≡◌, ◌≤◌, ◌+◌, ◌++◌, ℕ
 ghost use Rattle.design.specs.Keys.{netlist};
 ghost use Rattle.scratch.specs.Lost.{loses_a_worker};
 ghost use Rattle.scratch.specs.Run.{IsRun};
-ghost use Rattle.scratch.specs.Work.{work_below};
+ghost use Rattle.scratch.specs.Plain.{all_work_below};
 
 use crate::moment::Moment;
 use crate::recording::Recording;
@@ -24,9 +24,9 @@ pub fn simulate<S: Stepper>(
     stepper: &mut S,
 ) -> Result<Run, StepFault>
     ensures run { IfOk result (IsRun S.answer design.now) }
-    ensures asked { OnOk result (S.asked stepper.new ≡ S.asked stepper.old ++ work_below S.answer (netlist design.now) (suc (netlist design.now).horizon)) }
+    ensures asked { OnOk result (S.asked stepper.new ≡ S.asked stepper.old ++ all_work_below S.answer (netlist design.now) (suc (netlist design.now).horizon)) }
     ensures part { OnErr result ((n : ℕ) × (n ≤ suc (netlist design.now).horizon)
-        × (S.asked stepper.new ≡ S.asked stepper.old ++ work_below S.answer (netlist design.now) n)) }
+        × (S.asked stepper.new ≡ S.asked stepper.old ++ all_work_below S.answer (netlist design.now) n)) }
     ensures lost { S.losses stepper.new ≡ S.losses stepper.old + (if loses_a_worker result then 1 else 0) }
 {
     design.lawful();

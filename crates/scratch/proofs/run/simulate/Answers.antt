@@ -8,7 +8,7 @@ use Rattle.catalog.specs.Catalog.{keys_of}
 use Rattle.design.specs.Keys.{netlist}
 use Rattle.scratch.specs.Recordings.{AreUnder, pushed_each}
 use Rattle.scratch.specs.Run.{state_after, trace_of, value, wave_of}
-use Rattle.scratch.specs.Work.{work_below}
+use Rattle.scratch.specs.Plain.{all_work_below}
 use Rattle.scratch.proofs.Asked.{more, nothing, part}
 use Rattle.scratch.proofs.Keyed.{traces_under, waves_under}
 use Rattle.scratch.proofs.Moments.{map_twice}
@@ -58,7 +58,7 @@ loop-t-preserved g c =
     let traces : pushed_each same_state due c.loop-t.recording.traces.items c.pass-in-loop-t.new.self.states.items c.loop-t.t ≡ map (λ gate. trace_below (state_after answer d gate) (c.loop-t.t + 1)) d.gates =
     rw (c.loop-t.invariant.traces, c.in_ok-pass-2.ensures.states) (traces_more answer d g.met.S.Stepper.answer_pending c.push_to_changes-2.ensures c.lawful.ensures.design.gates c.loop-t.t) in
     let old = g.S.Stepper.asked c.args.stepper.now in
-    let asked : g.S.Stepper.asked c.pass-in-loop-t.new.stepper ≡ old ++ work_below answer d (c.loop-t.t + 1) =
+    let asked : g.S.Stepper.asked c.pass-in-loop-t.new.stepper ≡ old ++ all_work_below answer d (c.loop-t.t + 1) =
     rw add-one (more answer d old (g.S.Stepper.asked c.loop-t.stepper) (g.S.Stepper.asked c.pass-in-loop-t.new.stepper) c.loop-t.t c.loop-t.invariant.asked c.in_ok-pass-2.ensures.asked) in
     record {
       asked = asked;
@@ -127,4 +127,4 @@ pub returns-clause-asked : goal.returns-clause-asked
 returns-clause-asked g c =
     let d = (netlist c.args.design.now) in
     let at_end : c.loop-t.t ≡ suc d.horizon = grind (arith, common_steps) in
-    subst (λ n. g.S.Stepper.asked c.loop-t.stepper ≡ g.S.Stepper.asked c.args.stepper.now ++ work_below g.S.Stepper.answer d n) at_end c.loop-t.invariant.asked
+    subst (λ n. g.S.Stepper.asked c.loop-t.stepper ≡ g.S.Stepper.asked c.args.stepper.now ++ all_work_below g.S.Stepper.answer d n) at_end c.loop-t.invariant.asked

@@ -3,7 +3,7 @@ use Rattle.gatestep.specs.Tasks.{PendingFrom}
 use Rattle.waveform.specs.Changes.{wave_changes_below, trace_below}
 use Rattle.design.specs.Keys.{netlist}
 use Rattle.scratch.specs.Run.{state_after, state_before, value}
-use Rattle.scratch.specs.Work.{work_below}
+use Rattle.scratch.specs.Plain.{all_work_below}
 use Rattle.scratch.proofs.run.simulate.Given as goal
 
 -- the drivers are as they are before the moment, and the run so far is that of the moments so far
@@ -16,6 +16,6 @@ invariant-loop-t g l =
       ready : All (PendingFrom l.t) l.moment.states.items;
       waves : l.recording.waves.items ≡ map (λ n. wave_changes_below (value answer d n) l.t) d.nets;
       traces : l.recording.traces.items ≡ map (λ g. trace_below (state_after answer d g) l.t) d.gates;
-      asked : g.S.Stepper.asked l.stepper ≡ g.S.Stepper.asked l.fn.stepper ++ work_below answer d l.t;
+      asked : g.S.Stepper.asked l.stepper ≡ g.S.Stepper.asked l.fn.stepper ++ all_work_below answer d l.t;
       losses : g.S.Stepper.losses l.stepper ≡ g.S.Stepper.losses l.fn.stepper;
     }
