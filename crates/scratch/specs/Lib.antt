@@ -6,4 +6,5 @@ pub mod Plain
 pub mod Quiet
 pub mod Recordings
 pub mod Run
+pub mod Stands
 pub mod Work

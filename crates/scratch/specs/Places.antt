@@ -49,3 +49,15 @@ pends_at states k t = option_map_or (λ s. option_map_or (λ event. nat_eq event
 -- each place that is wanted at a moment from n on is noted for that moment
 abbrev pub Covers : (wanted : ℕ → ℕ → Bool) → (noted : ℕ → List ℕ) → ℕ → Type 0
 Covers wanted noted n = (k t : ℕ) → n ≤ t → wanted k t ≡ true → has k (noted t) ≡ true
+
+-- the place is noted for a moment from n to t
+abbrev pub IsNotedWithin : (noted : ℕ → List ℕ) → (k n t : ℕ) → Type 0
+IsNotedWithin noted k n t = (u : ℕ) × (n ≤ u) × (u ≤ t) × (has k (noted u) ≡ true)
+
+-- each place that is wanted at a moment from n on is noted for that moment, or for one between n and it
+abbrev pub Announces : (wanted : ℕ → ℕ → Bool) → (noted : ℕ → List ℕ) → ℕ → Type 0
+Announces wanted noted n = (k t : ℕ) → n ≤ t → wanted k t ≡ true → IsNotedWithin noted k n t
+
+-- what was noted stays noted
+abbrev pub Keeps : (old new : ℕ → List ℕ) → Type 0
+Keeps old new = (k t : ℕ) → has k (old t) ≡ true → has k (new t) ≡ true

@@ -1,5 +1,5 @@
 -- The run as the value of each net at each moment.
-use Rattle.std.specs.Prelude.{ℕ, zero, suc, List, [], ◌++◌, map}
+use Rattle.std.specs.Prelude.{ℕ, List, map}
 use Rattle.fourstate.specs.declared.value.Value.{Value}
 use Rattle.gatestep.specs.Record.{at_moment}
 use Rattle.gatestep.specs.Step.{State, Evaluation}
@@ -19,8 +19,3 @@ values_at answer d t = map (λ n. value answer d n t) d.nets
 -- what is asked at t where every gate is evaluated at every moment
 abbrev pub all_work_at : (Evaluation → ℕ → State) → Netlist → ℕ → List (Evaluation × ℕ)
 all_work_at answer d t = at_moment t (map (λ g. task_at answer d g t) d.gates)
-
--- and at the moments below n
-abbrev pub all_work_below : (Evaluation → ℕ → State) → Netlist → ℕ → List (Evaluation × ℕ)
-all_work_below answer d zero = []
-all_work_below answer d (suc t) = all_work_below answer d t ++ all_work_at answer d t

@@ -91,6 +91,14 @@ impl Moment {
         self.step(stepper, t)
     }
 
+    /// The states and the values.
+    pub fn parts(self) -> (Vec<Driver>, Vec<Value>)
+        ensures states { result.0.items ≡ self.states.items }
+        ensures values { result.1.items ≡ self.values.items }
+    {
+        (self.states, self.values)
+    }
+
     /// Evaluates the tasks, and takes their answers for the states.
     fn step<S: Stepper>(&mut self, stepper: &mut S, t: u64) -> Result<(), StepFault>
         requires ready { All (IsReady t) self.old.tasks.items }
@@ -190,7 +198,7 @@ fn read(values: &[Value], input: Input) -> Value
 }
 
 /// The task of a cell in this state.
-fn task(cell: &Cell, state: Driver, values: &[Value]) -> Task
+pub fn task(cell: &Cell, state: Driver, values: &[Value]) -> Task
     ensures { result ≡ evaluation_from values.now cell.now state }
 {
     let mut read_values = ArrayVec::new();
