@@ -7,6 +7,7 @@ pub mod GateLemmas
 pub mod LookLemmas
 pub mod NameLemmas
 pub mod NetLemmas
+pub mod NextLemmas
 pub mod OrderLemmas
 pub mod PieceLemmas
 pub mod PlaceByNameLemmas

@@ -1,5 +1,5 @@
 -- A design as contracts see it: nets and gates in order, by name (IEEE 1364-2005, 12).
-use Rattle.std.specs.Prelude.{Bool, true, false, ℕ, ◌==◌, ◌++◌, ◌||◌, not, nat_le, if◌then◌else◌, List, [], ◌∷◌, length, map, Option, None}
+use Rattle.std.specs.Prelude.{Bool, true, false, ℕ, ◌==◌, ◌++◌, ◌||◌, not, nat_le, nat_lt, if◌then◌else◌, List, [], ◌∷◌, length, map, Option, None, option_map}
 use Rattle.std.specs.Ordering.{nat_cmp}
 use Rattle.std.specs.BTreeMap.{insert_entry}
 use Rattle.std.specs.List.{filter, find, last_or, list_any, sum_by}
@@ -93,6 +93,10 @@ stimulus points t = option_map_or (λ point. point.1) (last_or None (filter (λ 
 -- one of the points is at t
 abbrev pub has_point : List (ℕ × Value) → ℕ → Bool
 has_point points t = list_any (λ point. point.0 == t) points
+
+-- the moment of the first point after t
+abbrev pub next_point : List (ℕ × Value) → ℕ → Option ℕ
+next_point points t = option_map (λ point. point.0) (find (λ point. nat_lt t point.0) points)
 
 -- how many points the nets have together
 abbrev pub point_total : List NetEntry → ℕ

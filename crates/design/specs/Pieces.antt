@@ -1,8 +1,9 @@
 -- Stimulus points in pieces that copies share.
-use Rattle.std.specs.Prelude.{◌≡◌, Bool, true, false, ℕ, zero, suc, ◌<◌, nat_le, List, [], ◌∷◌, length, All}
+use Rattle.std.specs.Prelude.{◌≡◌, Bool, true, false, ℕ, zero, suc, ◌<◌, nat_le, List, [], ◌∷◌, length, All, Option, None, slice_get}
 use Rattle.std.specs.Global.{Global}
 use Rattle.std.specs.Arc.{arc_value}
 use Rattle.std.specs.List.{flat_map, slice_index_or}
+use Rattle.std.specs.Option.{option_map_or}
 use Rattle.std.specs.declared.vec.Vec.{Vec}
 use Rattle.std.specs.declared.sync.Arc.{Arc}
 use Rattle.fourstate.specs.declared.value.Value.{Value}
@@ -19,6 +20,10 @@ points_of pieces = flat_map points_in pieces
 abbrev pub AreFilled : {C X : Type 0} → (C → List X) → List C → Type 0
 AreFilled items [] = Unit {0}
 AreFilled items (c ∷ cs) = (0 < length (items c)) × AreFilled items cs
+
+-- the first point of a piece, if there is a piece
+abbrev pub first_in : {C : Type 0} → (C → List (ℕ × Value)) → Option C → Option (ℕ × Value)
+first_in items piece = option_map_or (λ c. slice_get (items c) 0) piece None
 
 -- the first point is at or before t
 abbrev pub begins_by : ℕ → List (ℕ × Value) → Bool

@@ -3,7 +3,7 @@
 ghost use Rattle.std.specs.Prelude.{◌≡◌, ◌≤◌, true, IfOk, length};
 ghost use Rattle.fourstate.specs.declared.limits.TheConstants.{MAX_TIME};
 ghost use Rattle.design.specs.Lawful.{IsNet};
-ghost use Rattle.design.specs.Netlist.{has_point, net_with_point, new_net, stimulus};
+ghost use Rattle.design.specs.Netlist.{has_point, net_with_point, new_net, next_point, stimulus};
 ghost use Rattle.design.specs.Records.{IsNetChange, net_changed, net_with_kind, net_without_point};
 
 use crate::name::Name;
@@ -99,6 +99,13 @@ impl Net {
         ensures { result ≡ has_point self.now.points t }
     {
         self.stimulus.has_point(t)
+    }
+
+    /// The moment of the first stimulus point after the moment `t`.
+    pub fn next_point(&self, t: u64) -> Option<u64>
+        ensures { result ≡ next_point self.now.points t }
+    {
+        self.stimulus.next_after(t)
     }
 
     /// The net with a change.

@@ -1,11 +1,11 @@
 //! Lists of stimulus points in pieces.
 
-ghost use Rattle.std.specs.Prelude.{◌≡◌, ◌<◌, ◌==◌, not, OnOk, length};
+ghost use Rattle.std.specs.Prelude.{◌≡◌, ◌<◌, ◌==◌, not, OnOk, length, option_map, slice_get};
 ghost use Rattle.std.specs.Ordering.{nat_cmp};
 ghost use Rattle.std.specs.BTreeMap.{insert_entry};
 ghost use Rattle.std.specs.List.{filter};
 ghost use Rattle.design.specs.Lawful.{AreRising};
-ghost use Rattle.design.specs.Pieces.{AreFilled, HasBegun, IsHome, IsLonger, points_in, points_of};
+ghost use Rattle.design.specs.Pieces.{AreFilled, HasBegun, IsHome, IsLonger, first_in, points_in, points_of};
 
 use crate::piece::{self, MAX_PIECE, Piece};
 use fourstate::Value;
@@ -23,6 +23,17 @@ pub(crate) fn home_of(pieces: &[Piece], t: u64) -> usize
 {
     let begun = pieces.partition_point(|piece| piece::begins_by(piece, t));
     begun.saturating_sub(1)
+}
+
+/// The moment of the first point of the piece at a place, if there is one.
+pub(crate) fn first_at(pieces: &[Piece], place: usize) -> Option<u64>
+    ensures { result ≡ option_map (λ point. point.0) (first_in points_in (slice_get pieces.now place)) }
+{
+    let piece = pieces.get(place)?;
+    match piece.first() {
+        Some(point) => Some(point.0),
+        None => None,
+    }
 }
 
 /// Sets the value from the moment `t` on, until the next point. A piece that gets too long is halved.

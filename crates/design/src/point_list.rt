@@ -5,11 +5,11 @@ ghost use Rattle.std.specs.Ordering.{nat_cmp};
 ghost use Rattle.std.specs.BTreeMap.{insert_entry};
 ghost use Rattle.std.specs.List.{filter};
 ghost use Rattle.design.specs.Lawful.{AreRising};
-ghost use Rattle.design.specs.Netlist.{has_point, stimulus};
+ghost use Rattle.design.specs.Netlist.{has_point, next_point, stimulus};
 
 use crate::piece::Piece;
-use crate::pieces::{self, home_of};
-use crate::points::{is_set, value_at};
+use crate::pieces::{self, first_at, home_of};
+use crate::points::{is_set, next_after, value_at};
 use fourstate::Value;
 use std::alloc::{AllocError, Global};
 use std::marker::Model;
@@ -74,6 +74,21 @@ impl PointList {
         }
         let home = home_of(&self.pieces, t);
         is_set(&self.pieces[home], t)
+    }
+
+    /// The moment of the first point after the moment `t`.
+    pub fn next_after(&self, t: u64) -> Option<u64>
+        requires { AreRising self.now }
+        ensures { result ≡ next_point self.now t }
+    {
+        if self.pieces.is_empty() {
+            return None;
+        }
+        let home = home_of(&self.pieces, t);
+        match next_after(&self.pieces[home], t) {
+            Some(next) => Some(next),
+            None => first_at(&self.pieces, home + 1),
+        }
     }
 
     /// The points with the value from the moment `t` on, until the next point.

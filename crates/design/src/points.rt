@@ -7,7 +7,7 @@ ghost use Rattle.std.specs.List.{filter};
 ghost use Rattle.std.specs.List.Sorted.{IsPartitionPoint};
 ghost use Rattle.design.specs.Lawful.{AreRising};
 ghost use Rattle.design.specs.PointPlaces.{IsPlaceOf, IsPlaceFor};
-ghost use Rattle.design.specs.Netlist.{has_point, stimulus};
+ghost use Rattle.design.specs.Netlist.{has_point, next_point, stimulus};
 
 use fourstate::Value;
 use std::alloc::AllocError;
@@ -32,6 +32,18 @@ pub fn is_set(points: &[(u64, Value)], t: u64) -> bool
     ensures { result ≡ has_point points.now t }
 {
     place_of(points, t).is_ok()
+}
+
+/// The moment of the first point after the moment `t`.
+pub fn next_after(points: &[(u64, Value)], t: u64) -> Option<u64>
+    requires { AreRising points.now }
+    ensures { result ≡ next_point points.now t }
+{
+    let count = count_until(points, t);
+    match points.get(count) {
+        Some(point) => Some(point.0),
+        None => None,
+    }
 }
 
 /// Sets the value from the moment `t` on, until the next point.

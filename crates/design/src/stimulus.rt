@@ -5,7 +5,7 @@ ghost use Rattle.std.specs.Ordering.{nat_cmp};
 ghost use Rattle.std.specs.BTreeMap.{insert_entry};
 ghost use Rattle.std.specs.List.{filter};
 ghost use Rattle.design.specs.Lawful.{AreRising};
-ghost use Rattle.design.specs.Netlist.{has_point, stimulus};
+ghost use Rattle.design.specs.Netlist.{has_point, next_point, stimulus};
 
 use crate::point_list::PointList;
 use fourstate::Value;
@@ -66,6 +66,17 @@ impl Stimulus {
         match &self.points {
             Some(points) => points.has_point(t),
             None => false,
+        }
+    }
+
+    /// The moment of the first point after the moment `t`.
+    pub fn next_after(&self, t: u64) -> Option<u64>
+        requires { AreRising self.now }
+        ensures { result ≡ next_point self.now t }
+    {
+        match &self.points {
+            Some(points) => points.next_after(t),
+            None => None,
         }
     }
 

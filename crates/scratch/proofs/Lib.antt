@@ -1,6 +1,16 @@
-pub mod Asked
+pub mod Among
+pub mod Between
+pub mod GateSteps
 pub mod Keyed
 pub mod Lists
 pub mod Moments
+pub mod NetSteps
+pub mod Notes
+pub mod Passing
 pub mod Places
+pub mod Readers
 pub mod Runs
+pub mod Skips
+pub mod Still
+pub mod Stirred
+pub mod Tasks

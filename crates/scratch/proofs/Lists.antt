@@ -1,15 +1,6 @@
 -- Lists: side by side, and as they grow.
-use Rattle.std.proofs.Common.{◌≡◌, ◌<◌, ◌≤◌, ap, refl, ℕ, zero, suc, ◌+◌, List, [], ◌∷◌, ◌++◌, map, take, drop, length, get_or, Some, slice_get, add-one, arith}
+use Rattle.std.proofs.Common.{◌≡◌, ◌<◌, ◌≤◌, ap, refl, ℕ, zero, suc, ◌+◌, List, [], ◌∷◌, ◌++◌, map, take, length, Some, slice_get, add-one, arith}
 use Rattle.std.specs.List.{zip}
-use Rattle.std.proofs.Math.ListN.{set}
-
-pub zip_take_more : {A B : Type 0} (xs : List A) (ys : List B) (i : ℕ) (x : A) (y : B) → length xs ≡ length ys → i < length xs →
-    x ≡ get_or xs i x → y ≡ get_or ys i y → take (i + 1) (zip xs ys) ≡ take i (zip xs ys) ++ (x, y) ∷ []
-zip_take_more [] ys i x y same below atx aty = absurd (omega arith)
-zip_take_more (w ∷ xs) [] i x y same below atx aty = absurd (omega arith)
-zip_take_more (w ∷ xs) (z ∷ ys) zero x y same below atx aty = cc
-zip_take_more (w ∷ xs) (z ∷ ys) (suc i) x y same below atx aty =
-    rw add-one (ap (λ l. (w, z) ∷ l) (rw add-one at (zip_take_more xs ys i x y (omega arith) (omega arith) atx aty)))
 
 pub zip_whole : {A B : Type 0} (xs : List A) (ys : List B) (i : ℕ) → length xs ≤ i → take i (zip xs ys) ≡ zip xs ys
 zip_whole [] ys zero past = refl
@@ -23,26 +14,6 @@ zip_whole (w ∷ xs) (z ∷ ys) (suc i) past = ap (λ l. (w, z) ∷ l) (zip_whol
 pub map_zip : {A B C D : Type 0} (f : A → B) (h : A → C) (k : B → C → D) (xs : List A) → map (λ p. k p.0 p.1) (zip (map f xs) (map h xs)) ≡ map (λ x. k (f x) (h x)) xs
 map_zip f h k [] = refl
 map_zip f h k (x ∷ xs) = ap (λ l. k (f x) (h x) ∷ l) (map_zip f h k xs)
-
--- One list is changed place by place by another that stands beside it.
-
-pub set_beside : {A B : Type 0} (f : A × B → A) (xs : List A) (ys : List B) (i : ℕ) (x : A) (y : B) → length xs ≡ length ys → i < length xs →
-    x ≡ get_or (map f (take i (zip xs ys)) ++ drop i xs) i x → y ≡ get_or ys i y →
-    set (map f (take i (zip xs ys)) ++ drop i xs) i (f (x, y)) ≡ map f (take (i + 1) (zip xs ys)) ++ drop (i + 1) xs
-set_beside f [] ys i x y same below atx aty = absurd (omega arith)
-set_beside f (w ∷ xs) [] i x y same below atx aty = absurd (omega arith)
-set_beside f (w ∷ xs) (z ∷ ys) zero x y same below atx aty = cc
-set_beside f (w ∷ xs) (z ∷ ys) (suc i) x y same below atx aty =
-    rw add-one (ap (λ l. f (w, z) ∷ l) (rw add-one at (set_beside f xs ys i x y (omega arith) (omega arith) atx aty)))
-
-pub whole_beside : {A B : Type 0} (f : A × B → A) (xs : List A) (ys : List B) (i : ℕ) → length xs ≡ length ys → length xs ≤ i →
-    map f (take i (zip xs ys)) ++ drop i xs ≡ map f (zip xs ys)
-whole_beside f [] [] zero same past = refl
-whole_beside f [] [] (suc i) same past = refl
-whole_beside f [] (z ∷ ys) i same past = absurd (omega arith)
-whole_beside f (w ∷ xs) ys zero same past = absurd (omega arith)
-whole_beside f (w ∷ xs) [] (suc i) same past = absurd (omega arith)
-whole_beside f (w ∷ xs) (z ∷ ys) (suc i) same past = ap (λ l. f (w, z) ∷ l) (whole_beside f xs ys i (omega arith) (omega arith))
 
 -- one pair more
 pub zip_next : {A B : Type 0} (xs : List A) (ys : List B) (i : ℕ) (x : A) (y : B) → slice_get xs i ≡ Some x → slice_get ys i ≡ Some y →

@@ -1,5 +1,5 @@
 -- One moment over what the simulator keeps is that moment of the run.
-use Rattle.std.proofs.Common.{◌≡◌, ◌∙◌, ap, refl, Bool, cond, ℕ, List, [], ◌∷◌, map, Option, Some, None, slice_get, unwrap_or, All}
+use Rattle.std.proofs.Common.{◌≡◌, ◌∙◌, ap, refl, cond, ℕ, List, [], ◌∷◌, map, Option, Some, None, slice_get, unwrap_or, All}
 use Rattle.std.specs.List.{position_from, zip}
 use Rattle.std.specs.Option.{option_map_or}
 use Rattle.std.proofs.lemmas.List.Elements.{All-cons, All-nil, All-head, All-tail}
@@ -26,9 +26,6 @@ map_twice f h (x ∷ xs) = ap (λ l. h (f x) ∷ l) (map_twice f h xs)
 map_beside : {A C D : Type 0} (h : A → C) (k : A → C → D) (xs : List A) → map (λ p. k p.0 p.1) (zip xs (map h xs)) ≡ map (λ x. k x (h x)) xs
 map_beside h k [] = refl
 map_beside h k (x ∷ xs) = ap (λ l. k x (h x) ∷ l) (map_beside h k xs)
-
-net_is_by : (kind : Value) (driven before : Value) (input : Bool) → driven ≡ before → cond input kind driven ≡ cond input kind before
-net_is_by kind driven before input e = rw e refl
 
 module _ (d : Netlist) (before : GateEntry → State) (t : ℕ) where
   abbrev current : GateEntry → Value

@@ -1,20 +1,18 @@
 -- The run, moment after moment.
-use Rattle.std.proofs.Common.{◌≡◌, ◌<◌, ◌∙◌, ap, refl, Bool, ℕ, zero, suc, ◌+◌, List, [], ◌∷◌, map, All, add-one, arith}
+use Rattle.std.proofs.Common.{◌≡◌, ◌<◌, ap, refl, Bool, ℕ, zero, suc, ◌+◌, List, [], ◌∷◌, map, All, add-one, arith}
 use Rattle.std.proofs.lemmas.List.{length-map}
 use Rattle.std.proofs.lemmas.List.Elements.{All-cons, All-nil, All-head, All-map, All-tail, All-weaker}
 use Rattle.fourstate.specs.declared.limits.TheConstants.{MAX_DELAY}
 use Rattle.fourstate.specs.Values.{same_value}
 use Rattle.gatestep.specs.Step.{State, Evaluation, due}
 use Rattle.gatestep.specs.StepLaws.{not_due}
-use Rattle.gatestep.specs.Tasks.{IsTask, NothingDue, PendingBefore}
+use Rattle.gatestep.specs.Tasks.{IsTask, NothingDue, PendingBefore, PendingFrom}
 use Rattle.design.specs.Lawful.{IsGate}
 use Rattle.design.specs.Netlist.{GateEntry, Netlist}
 use Rattle.waveform.specs.Changes.{wave_changes_below, trace_below}
 use Rattle.waveform.specs.Entries.{CanStore, same_state, standing}
 use Rattle.waveform.specs.Timelines.{IsAlwaysSettled, changes_below, pushed}
-use Rattle.scratch.specs.Recordings.{pushed_each}
 use Rattle.scratch.specs.Run.{evaluation_at, state_after, state_before, value}
-use Rattle.scratch.proofs.Lists.{map_alike, map_zip}
 
 -- two maps agree on a list if they do on the elements of which P holds
 pub map_where : {A B : Type 0} (P : A → Type 0) (f g : A → B) → ((x : A) → P x → f x ≡ g x) → (xs : List A) → All P xs → map f xs ≡ map g xs
@@ -34,16 +32,6 @@ abbrev pub LieBefore : {A : Type 0} → (A → A → Bool) → (A → ℕ → A)
 LieBefore {A = A} same drift = (f : ℕ → A) (n : ℕ) → All (λ e. e.0 < n) (changes_below same drift f n)
 
 module _ (answer : Evaluation → ℕ → State) (d : Netlist) where
-  -- the waves with the values at t
-  pub waves_more : Grows same_value standing → (t : ℕ) →
-      pushed_each same_value standing (map (λ n. wave_changes_below (value answer d n) t) d.nets) (map (λ n. value answer d n t) d.nets) t
-      ≡ map (λ n. wave_changes_below (value answer d n) (t + 1)) d.nets
-  waves_more grows t =
-      rw add-one
-      (map_zip (λ n. wave_changes_below (value answer d n) t) (λ n. value answer d n t) (λ xs v. pushed same_value standing xs t v) d.nets
-      ∙ map_alike (λ n. pushed same_value standing (wave_changes_below (value answer d n) t) t (value answer d n t)) (λ n. wave_changes_below (value answer d n) (suc t))
-      (λ n. grows (value answer d n) (λ u. refl) t) d.nets)
-
   module _ (pending : (e : Evaluation) (t : ℕ) → IsTask e → NothingDue t (answer e t)) where
     is_task : (g : GateEntry) → IsGate g → (t : ℕ) → IsTask (evaluation_at d (state_before answer d t) g t)
     is_task g is t =
@@ -58,15 +46,17 @@ module _ (answer : Evaluation → ℕ → State) (d : Netlist) where
         not_due (state_after answer d g t) (state_after answer d g t).pending t refl
         (pending (evaluation_at d (state_before answer d t) g t) t (is_task g is t))
 
-    -- the traces with the states after t
-    pub traces_more : Grows same_state due → All IsGate d.gates → (t : ℕ) →
-        pushed_each same_state due (map (λ g. trace_below (state_after answer d g) t) d.gates) (map (state_before answer d (t + 1)) d.gates) t
-        ≡ map (λ g. trace_below (state_after answer d g) (t + 1)) d.gates
-    traces_more grows are t =
-        rw add-one
-        (map_zip (λ g. trace_below (state_after answer d g) t) (state_before answer d (suc t)) (λ xs s. pushed same_state due xs t s) d.gates
-        ∙ map_where IsGate (λ g. pushed same_state due (trace_below (state_after answer d g) t) t (state_before answer d (suc t) g)) (λ g. trace_below (state_after answer d g) (suc t))
-        (λ g is. grows (state_after answer d g) (settled g is) t) d.gates are)
+    ready_before : (g : GateEntry) → IsGate g → (t : ℕ) → PendingFrom t (state_before answer d t g)
+    ready_before g is zero = λ event none. absurd (cc)
+    ready_before g is (suc t) = λ event some.
+        let late = pending (evaluation_at d (state_before answer d t) g t) t (is_task g is t) event some in omega arith
+
+    -- what is pending before t is for t or a later moment
+    pub ready_all : All IsGate d.gates → (t : ℕ) (states : List State) → states ≡ map (state_before answer d t) d.gates → All (PendingFrom t) states
+    ready_all are t states those =
+        rw those
+        (All-map (PendingFrom t) (state_before answer d t) d.gates
+        (All-weaker IsGate (λ g. PendingFrom t (state_before answer d t g)) (λ g is. ready_before g is t) d.gates are))
 
     module _ (near : (e : Evaluation) (t : ℕ) → IsTask e → PendingBefore (t + MAX_DELAY) e.state → PendingBefore (t + 1 + MAX_DELAY) (answer e t)) where
       -- what is pending before a moment lies at most the greatest delay after the one before

@@ -1,7 +1,10 @@
 pub mod Cells
 pub mod Kept
 pub mod Lost
+pub mod Places
 pub mod Plain
+pub mod Quiet
 pub mod Recordings
 pub mod Run
+pub mod Stands
 pub mod Work

@@ -1,11 +1,17 @@
 //! The run of a design from scratch: what each net has and in which state each gate's driver is, at each moment.
 #![tactic(auto)]
 
+mod asking;
+mod engine;
 mod moment;
+mod opening;
 #[cfg(test)]
 mod plain;
 mod recording;
+mod resolving;
 mod run;
+mod settling;
+mod stirring;
 #[cfg(test)]
 mod tests;
 mod waves;

@@ -9,7 +9,8 @@ ghost use Rattle.gatestep.specs.Tasks.{IsReady, PendingFrom};
 ghost use Rattle.design.specs.Keys.{netlist};
 ghost use Rattle.scratch.specs.Kept.{IsWiring, currents_of, evaluation_from, evaluations_from, input_value, net_from, values_at, values_from};
 ghost use Rattle.scratch.specs.Run.{state_before, value};
-ghost use Rattle.scratch.specs.Work.{HasGrownOrNot, work_at};
+ghost use Rattle.scratch.specs.Work.{HasGrownOrNot};
+ghost use Rattle.scratch.specs.Plain.{all_work_at};
 
 use crate::wiring::{Cell, Input, Wiring};
 use arrayvec::ArrayVec;
@@ -68,8 +69,8 @@ impl Moment {
         ensures states { OnOk result (self.new.states.items ≡ map (state_before S.answer (netlist design.now) (t + 1)) (netlist design.now).gates) }
         ensures ready { OnOk result (All (PendingFrom (t + 1)) self.new.states.items) }
         ensures asked { MatchResult result
-            (λ _. S.asked stepper.new ≡ S.asked stepper.old ++ work_at S.answer (netlist design.now) t)
-            (λ _. HasGrownOrNot (S.asked stepper.old) (S.asked stepper.new) (work_at S.answer (netlist design.now) t)) }
+            (λ _. S.asked stepper.new ≡ S.asked stepper.old ++ all_work_at S.answer (netlist design.now) t)
+            (λ _. HasGrownOrNot (S.asked stepper.old) (S.asked stepper.new) (all_work_at S.answer (netlist design.now) t)) }
         ensures lost { S.losses stepper.new ≡ S.losses stepper.old + (if is_lost result then 1 else 0) }
     {
         find_currents(self.states.as_slice(), t, &mut self.currents)?;
@@ -88,6 +89,14 @@ impl Moment {
             &mut self.tasks,
         )?;
         self.step(stepper, t)
+    }
+
+    /// The states and the values.
+    pub fn parts(self) -> (Vec<Driver>, Vec<Value>)
+        ensures states { result.0.items ≡ self.states.items }
+        ensures values { result.1.items ≡ self.values.items }
+    {
+        (self.states, self.values)
     }
 
     /// Evaluates the tasks, and takes their answers for the states.
@@ -189,7 +198,7 @@ fn read(values: &[Value], input: Input) -> Value
 }
 
 /// The task of a cell in this state.
-fn task(cell: &Cell, state: Driver, values: &[Value]) -> Task
+pub fn task(cell: &Cell, state: Driver, values: &[Value]) -> Task
     ensures { result ≡ evaluation_from values.now cell.now state }
 {
     let mut read_values = ArrayVec::new();

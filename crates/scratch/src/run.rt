@@ -6,8 +6,7 @@ ghost use Rattle.scratch.specs.Lost.{loses_a_worker};
 ghost use Rattle.scratch.specs.Run.{IsRun};
 ghost use Rattle.scratch.specs.Work.{work_below};
 
-use crate::moment::Moment;
-use crate::recording::Recording;
+use crate::engine::Engine;
 use crate::wiring::wire;
 use design::Design;
 use fourstate::Value;
@@ -15,9 +14,10 @@ use gatestep::{Driver, StepFault, Stepper};
 use std::alloc::Global;
 use waveform::{Run, laws};
 
-/// The run of the design by this stepper, from moment 0 to the horizon, both included: only changes are stored. A step is
-/// made only where there is a gate to evaluate. `OutOfMemory` where an allocation was refused, here or in a step; `WorkerLost`
-/// where a step answered so. Each gate is asked for once at each moment, and nothing else; on an error up to some moment.
+/// The run of the design by this stepper, from moment 0 to the horizon, both included: only changes are stored. It goes from
+/// one moment at which something happens to the next, and there asks for the stirred gates alone; a step is made only where
+/// there is one. `OutOfMemory` where an allocation was refused, here or in a step; `WorkerLost` where a step answered so: then
+/// what was asked is the work up to some moment.
 pub fn simulate<S: Stepper>(
     alloc: Global,
     design: &Design,
@@ -30,19 +30,18 @@ pub fn simulate<S: Stepper>(
     ensures lost { S.losses stepper.new ≡ S.losses stepper.old + (if loses_a_worker result then 1 else 0) }
 {
     design.lawful();
-    // What is recorded at each moment are the changes so far.
-    laws::push_to_changes::<Value>();
-    laws::push_to_changes::<Driver>();
-    laws::changes_lie_before::<Value>();
-    laws::changes_lie_before::<Driver>();
+    laws::no_change::<Value>();
+    laws::no_change::<Driver>();
     let horizon = design.horizon();
     let wiring = wire(alloc, design)?;
-    let mut moment = Moment::before(alloc, design)?;
-    moment.pass(design, &wiring, stepper, 0)?;
-    let mut recording = Recording::open(alloc, &moment)?;
-    for t in 1..horizon + 1 {
-        moment.pass(design, &wiring, stepper, t)?;
-        recording.add(&moment, t)?;
+    let mut engine = Engine::open(alloc, design, &wiring, stepper)?;
+    let mut done = 1;
+    while let Some(t) = engine.next() {
+        if t > horizon {
+            break;
+        }
+        engine.pass(alloc, design, &wiring, stepper, t)?;
+        done = t + 1;
     }
-    Ok(recording.finish(alloc, design)?)
+    Ok(engine.into_recording().finish(alloc, design)?)
 }

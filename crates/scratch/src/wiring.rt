@@ -1,10 +1,12 @@
 //! The connections of a design, by places in place of keys.
 
-ghost use Rattle.std.specs.Prelude.{◌≡◌, map, IfOk, IfSome, IsSome, IsTrue, length};
+ghost use Rattle.std.specs.Prelude.{◌≡◌, ◌<◌, ◌||◌, ◌&&◌, ℕ, true, false, nat_eq, map, IfOk, OnOk, IfSome, IsSome, IsTrue, length};
+ghost use Rattle.std.specs.List.{list_any};
 ghost use Rattle.fourstate.specs.Gates.{takes_inputs};
 ghost use Rattle.design.specs.Keys.{IsConnected, IsThere, connection_in, entry_in, net_by_key, netlist};
 ghost use Rattle.design.specs.Places.{driver_places};
-ghost use Rattle.scratch.specs.Kept.{IsWiring, cell_of, input_of};
+ghost use Rattle.scratch.specs.Kept.{IsWiring, cell_of, input_of, is_at, output_at, places_at};
+ghost use Rattle.scratch.specs.Places.{drives_at, has, reads_at};
 
 use design::{Design, Gate, NetKey, Terminal};
 use fourstate::{Delays, GateKind, Value};
@@ -103,6 +105,10 @@ pub struct Wiring {
     pub cells: Vec<Cell>,
     /// Of each net, the places of the gates that drive it, in order.
     pub drivers: Vec<Vec<usize>>,
+    /// Of each gate, the place of the net that it drives.
+    pub outputs: Vec<usize>,
+    /// Of each net, the places of the gates that read it, in order; of one that reads it twice, twice.
+    pub readers: Vec<Vec<usize>>,
 }
 
 /// The connections of a design.
@@ -111,7 +117,14 @@ pub fn wire(alloc: Global, design: &Design) -> Result<Wiring, AllocError>
 {
     let cells = all_cells(alloc, design)?;
     let drivers = all_drivers(alloc, design)?;
-    Ok(Wiring { cells, drivers })
+    let outputs = all_outputs(alloc, design)?;
+    let readers = all_readers(alloc, design, cells.as_slice())?;
+    Ok(Wiring {
+        cells,
+        drivers,
+        outputs,
+        readers,
+    })
 }
 
 fn all_cells(alloc: Global, design: &Design) -> Result<Vec<Cell>, AllocError>
@@ -151,4 +164,75 @@ fn drivers_of(alloc: Global, design: &Design, net: NetKey) -> Result<Vec<usize>,
         places.push(place)?;
     }
     Ok(places)
+}
+
+/// The place of the net that each gate drives.
+fn all_outputs(alloc: Global, design: &Design) -> Result<Vec<usize>, AllocError>
+    ensures { IfOk result (λ all. (k m : ℕ) → drives_at (netlist design.now) k m ≡ true → has m (output_at all.items k) ≡ true) }
+{
+    design.lawful();
+    design.places_are_keys();
+    let mut all = Vec::with_capacity(alloc, design.gate_count())?;
+    for place in 0..design.gate_count() {
+        let Some(net) = design.net_place_of(design.gate_at(place).output()) else {
+            unreachable!();
+        };
+        all.push(net)?;
+    }
+    Ok(all)
+}
+
+/// Adds a place to the readers of the net that an input reads.
+fn add_reader(input: Input, place: usize, all: &mut Vec<Vec<usize>>) -> Result<(), AllocError>
+    ensures readers { OnOk result ((k m : ℕ) → m < length all.old.items → has k (places_at all.new.items m) ≡ (has k (places_at all.old.items m) || (nat_eq k place && is_at m input))) }
+    ensures as_many { OnOk result (length all.new.items ≡ length all.old.items) }
+{
+    if let Input::At(net) = input {
+        if net < all.len() {
+            let places = &mut all[net];
+            places.push(place)?;
+        }
+    }
+    Ok(())
+}
+
+/// Adds a place to the readers of each net that some inputs read.
+fn add_readers(inputs: &[Input], place: usize, all: &mut Vec<Vec<usize>>) -> Result<(), AllocError>
+    ensures readers { OnOk result ((k m : ℕ) → m < length all.old.items → has k (places_at all.new.items m) ≡ (has k (places_at all.old.items m) || (nat_eq k place && list_any (is_at m) inputs.now))) }
+    ensures as_many { OnOk result (length all.new.items ≡ length all.old.items) }
+{
+    for input in inputs {
+        add_reader(*input, place, all)?;
+    }
+    Ok(())
+}
+
+/// An empty list for each net.
+fn empty_lists(alloc: Global, count: usize) -> Result<Vec<Vec<usize>>, AllocError>
+    ensures none { IfOk result (λ all. (k m : ℕ) → has k (places_at all.items m) ≡ false) }
+    ensures as_many { IfOk result (λ all. length all.items ≡ count) }
+{
+    let mut all = Vec::with_capacity(alloc, count)?;
+    for _ in 0..count {
+        all.push(Vec::new(alloc))?;
+    }
+    Ok(all)
+}
+
+/// The places of the gates that read each net.
+fn all_readers(
+    alloc: Global,
+    design: &Design,
+    cells: &[Cell],
+) -> Result<Vec<Vec<usize>>, AllocError>
+    requires { cells.now ≡ map (cell_of (netlist design.now)) (netlist design.now).gates }
+    ensures { IfOk result (λ all. (k m : ℕ) → has k (places_at all.items m) ≡ reads_at (netlist design.now) k m) }
+{
+    design.lawful();
+    let mut all = empty_lists(alloc, design.net_count())?;
+    for place in 0..cells.len() {
+        let cell = &cells[place];
+        add_readers(cell.inputs(), place, &mut all)?;
+    }
+    Ok(all)
 }

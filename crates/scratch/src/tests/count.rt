@@ -76,17 +76,64 @@ fn count(rt: &impl Abort, alloc: Global, plan: Plan<'_>) -> (u64, u64) {
     (stepper.steps, stepper.tasks)
 }
 
-#[test]
-fn a_gate_is_evaluated_at_each_moment(rt: HostRuntime) {
+/// The counts of a buffer of the delays 3 and 3 whose input goes up at 10, down at 20 and up at 40: evaluated at 0, there, and 3
+/// after each.
+fn count_four_edges(rt: &impl Abort, alloc: Global, horizon: u64) -> (u64, u64) {
     let plan = Plan {
-        inputs: &[("a", &[(0, Zero), (4, One)])],
+        inputs: &[("a", &[(0, Zero), (10, One), (20, Zero), (40, One)])],
         nets: &[("y", NetKind::Wire)],
         gates: &[("g", (GateKind::Buf, 3, 3), ("y", &["a"]))],
-        horizon: 10,
+        horizon,
+    };
+    count(rt, alloc, plan)
+}
+
+#[test]
+fn a_gate_is_evaluated_where_it_is_stirred(rt: HostRuntime) {
+    let (steps, tasks) = count_four_edges(&rt, rt.alloc(), 1000);
+    assert_eq!(rt; steps, 8);
+    assert_eq!(rt; tasks, 8);
+}
+
+// What happens decides how much is asked, and not how long it takes.
+#[test]
+fn a_long_run_with_few_events(rt: HostRuntime) {
+    let (steps, tasks) = count_four_edges(&rt, rt.alloc(), 1_000_000_000);
+    assert_eq!(rt; steps, 8);
+    assert_eq!(rt; tasks, 8);
+}
+
+// At 5 the input has a point, and no other value: evaluated at 0, 3, 10 and 13.
+#[test]
+fn a_point_that_changes_nothing(rt: HostRuntime) {
+    let plan = Plan {
+        inputs: &[("a", &[(0, Zero), (5, Zero), (10, One)])],
+        nets: &[("y", NetKind::Wire)],
+        gates: &[("g", (GateKind::Buf, 3, 3), ("y", &["a"]))],
+        horizon: 100,
     };
     let (steps, tasks) = count(&rt, rt.alloc(), plan);
-    assert_eq!(rt; steps, 11);
-    assert_eq!(rt; tasks, 11);
+    assert_eq!(rt; steps, 4);
+    assert_eq!(rt; tasks, 4);
+}
+
+// Two gates at the same moment are two tasks of one step: at 0 both, at 1 both (n is 1 then), at 5 and from there on each
+// moment the gate of the ring, and the one behind it from 6 on.
+#[test]
+fn a_ring_and_a_gate_behind_it(rt: HostRuntime) {
+    let plan = Plan {
+        inputs: &[("en", &[(0, Zero), (5, One)])],
+        nets: &[("n", NetKind::Wire), ("y", NetKind::Wire)],
+        gates: &[
+            ("g", (GateKind::Nand, 1, 1), ("n", &["en", "n"])),
+            ("h", (GateKind::Buf, 2, 2), ("y", &["n"])),
+        ],
+        horizon: 9,
+    };
+    let (steps, tasks) = count(&rt, rt.alloc(), plan);
+    // g at 0, 1, 5, 6, 7, 8, 9; h at 0, 1, where n gets 1, at 3, where y does, and at 6, 7, 8, 9.
+    assert_eq!(rt; steps, 8);
+    assert_eq!(rt; tasks, 14);
 }
 
 #[test]

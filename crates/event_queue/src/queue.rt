@@ -1,0 +1,78 @@
+//! Numbers that are noted for moments to come.
+
+ghost use Rattle.std.specs.Prelude.{◌≡◌, ◌≢◌, ◌<◌, ◌++◌, [], ℕ, IfSome, IfNone, OnOk, OnErr};
+ghost use Rattle.event_queue.specs.Noted.{AreSame, IsAdded, IsTaken, noted};
+
+use std::alloc::{AllocError, Global};
+use std::collections::BTreeMap;
+use std::marker::Model;
+
+/// Numbers that are noted for moments, in time units: those of a moment in the order in which they were noted, one that was
+/// noted twice there twice. Contracts read it by `noted` alone.
+#[derive(Drop)]
+pub struct EventQueue {
+    moments: BTreeMap<u64, Vec<usize>>,
+}
+
+impl Model for EventQueue {
+    ghost use Rattle.std.specs.Prelude.{ℕ, List, map};
+    ghost use Rattle.event_queue.specs.Noted.{IsFilled};
+
+    ghost Value = { List (ℕ × List ℕ) };
+
+    ghost view = { λ a. map (λ e. (e.0, e.1.items)) a.moments.entries };
+
+    ghost invariant = { λ a. IsFilled (map (λ e. (e.0, e.1.items)) a.moments.entries) };
+}
+
+impl EventQueue {
+    /// A queue without a number.
+    pub fn new(alloc: Global) -> EventQueue
+        ensures { (t : ℕ) → noted result t ≡ [] }
+    {
+        EventQueue {
+            moments: BTreeMap::new(alloc),
+        }
+    }
+
+    /// Notes a number for the moment `t`. It fails where memory runs out, and then nothing has changed.
+    pub fn add(&mut self, alloc: Global, t: u64, number: usize) -> Result<(), AllocError>
+        ensures ok { OnOk result (IsAdded t number self.old self.new) }
+        ensures err { OnErr result (AreSame self.old self.new) }
+    {
+        if let Some(numbers) = self.moments.get_mut(&t) {
+            numbers.push(number)?;
+            return Ok(());
+        }
+        let mut numbers = Vec::with_capacity(alloc, 1)?;
+        numbers.push(number)?;
+        self.moments.insert(t, numbers)?;
+        Ok(())
+    }
+
+    /// The first moment for which a number is noted.
+    pub fn first(&self) -> Option<u64>
+        ensures noted { IfSome result (λ t. noted self.now t ≢ []) }
+        ensures least { IfSome result (λ t. (u : ℕ) → u < t → noted self.now u ≡ []) }
+        ensures none { IfNone result ((u : ℕ) → noted self.now u ≡ []) }
+    {
+        match self.moments.first_key_value() {
+            Some((t, _)) => Some(*t),
+            None => None,
+        }
+    }
+
+    /// Moves the numbers of the moment `t` to the end of `out`. It fails where memory runs out, and then nothing has changed.
+    pub fn take(&mut self, t: u64, out: &mut Vec<usize>) -> Result<(), AllocError>
+        ensures taken { OnOk result (out.new.items ≡ out.old.items ++ noted self.old t) }
+        ensures rest { OnOk result (IsTaken t self.old self.new) }
+        ensures err { OnErr result (AreSame self.old self.new) }
+        ensures err_out { OnErr result (out.new.items ≡ out.old.items) }
+    {
+        if let Some(numbers) = self.moments.get(&t) {
+            out.extend_from_slice(numbers.as_slice())?;
+        }
+        self.moments.remove(&t);
+        Ok(())
+    }
+}

@@ -1,0 +1,182 @@
+-- The values and waves of nets that change go on, the others stay.
+use Rattle.std.proofs.Common.{◌≡◌, ◌<◌, ◌∙◌, sym, ap, refl, Bool, true, false, not, ℕ, zero, suc, ◌+◌, ◌-◌, List, [], ◌∷◌, ◌++◌, map, Option, Some, None, slice_get, length, Vec, Global, All, add-one, arith}
+use Rattle.std.specs.Option.{option_map_or, option_map}
+use Rattle.std.specs.Prelude.{◌||◌}
+use Rattle.std.proofs.Math.ListN.{set}
+use Rattle.std.proofs.lemmas.Option.{slice_get-map, slice_get_within}
+use Rattle.fourstate.specs.declared.value.Value.{Value}
+use Rattle.fourstate.specs.Values.{same_value}
+use Rattle.gatestep.specs.Step.{State, Evaluation, due}
+use Rattle.design.specs.Netlist.{NetEntry, Netlist}
+use Rattle.design.specs.Places.{driver_places}
+use Rattle.waveform.specs.Changes.{wave_changes_below}
+use Rattle.waveform.specs.Entries.{standing}
+use Rattle.waveform.specs.SampleLaws.{is_same, same_self}
+use Rattle.waveform.specs.Timelines.{pushed}
+use Rattle.scratch.specs.Kept.{currents_of, net_from}
+use Rattle.scratch.specs.Places.{changes_at, has}
+use Rattle.scratch.specs.Run.{state_before, value}
+use Rattle.scratch.proofs.Among.{has_more, nat_itself, or_false, or_true}
+use Rattle.scratch.proofs.Between.{Between, is_new, is_old, length_set, pass, step, write}
+use Rattle.scratch.proofs.Moments.{map_twice, net_is}
+use Rattle.scratch.proofs.Runs.{Grows, LieBefore, waves_early}
+use Rattle.scratch.proofs.Skips.{all_at}
+use Rattle.scratch.proofs.Still.{Stays, not_false, wave_stays}
+
+module _ (answer : Evaluation → ℕ → State) (d : Netlist) (t : ℕ) where
+  abbrev values_of : ℕ → List Value
+  values_of u = map (λ n. value answer d n u) d.nets
+
+  abbrev waves_of : ℕ → List (List (ℕ × Value))
+  waves_of u = map (λ n. wave_changes_below (value answer d n) u) d.nets
+
+  abbrev changes : ℕ → Bool
+  changes k = changes_at answer d k t
+
+  -- the nets at the places `done` are done
+  pub record Part (done : List ℕ) (vs : List Value) (ws : List (List (ℕ × Value))) (cs : List ℕ) : Type 0 where
+    pub values : Between done (slice_get (values_of (t - 1))) (slice_get (values_of t)) (slice_get vs)
+    pub waves : Between done (slice_get (waves_of t)) (slice_get (waves_of (t + 1))) (slice_get ws)
+    pub changed : Between done (λ k. false) changes (λ k. has k cs)
+    pub as_many : length vs ≡ length d.nets
+    pub as_many_waves : length ws ≡ length d.nets
+
+  -- the value that is found for a net
+  pub resolved_is : (states : List State) (n : NetEntry) (places : List ℕ) (v : Value) → states ≡ map (state_before answer d t) d.gates → places ≡ driver_places d.gates n.name →
+      v ≡ net_from (currents_of states t) t n places → v ≡ value answer d n t
+  resolved_is states n places v are those is =
+      is ∙ ap (λ ss. net_from (currents_of ss t) t n places) are
+      ∙ ap (λ cs. net_from cs t n places) (map_twice (state_before answer d t) (λ s. (due s t).current) d.gates)
+      ∙ ap (net_from (map (λ g. (due (state_before answer d t g) t).current) d.gates) t n) those ∙ net_is d (state_before answer d t) t n
+
+  module _ (begun : 0 < t) (still : Stays same_value standing) where
+    same_value_by : (o : Option NetEntry) → option_map_or (λ n. not (same_value (value answer d n t) (value answer d n (t - 1)))) o false ≡ false →
+        option_map (λ n. value answer d n (t - 1)) o ≡ option_map (λ n. value answer d n t) o
+    same_value_by None h = refl
+    same_value_by (Some n) h =
+        ap (λ v. Some v) (sym (is_same (value answer d n t) (value answer d n (t - 1)) (not_false (same_value (value answer d n t) (value answer d n (t - 1))) h)))
+
+    -- a net that does not change keeps its value
+    pub same_value_at : (k : ℕ) → changes k ≡ false → slice_get (values_of (t - 1)) k ≡ slice_get (values_of t) k
+    same_value_at k h = slice_get-map (λ n. value answer d n (t - 1)) d.nets k ∙ same_value_by (slice_get d.nets k) h ∙ sym (slice_get-map (λ n. value answer d n t) d.nets k)
+
+    wave_on : (n : NetEntry) (u : ℕ) → 0 < u → value answer d n u ≡ value answer d n (u - 1) → wave_changes_below (value answer d n) u ≡ wave_changes_below (value answer d n) (u + 1)
+    wave_on n zero low same = absurd (omega arith)
+    wave_on n (suc v) low same =
+        let one : suc v - 1 ≡ v = omega arith in
+        rw add-one (sym (wave_stays still answer d n v (rw one at same)))
+
+    same_wave_by : (o : Option NetEntry) → option_map_or (λ n. not (same_value (value answer d n t) (value answer d n (t - 1)))) o false ≡ false →
+        option_map (λ n. wave_changes_below (value answer d n) t) o ≡ option_map (λ n. wave_changes_below (value answer d n) (t + 1)) o
+    same_wave_by None h = refl
+    same_wave_by (Some n) h =
+        ap (λ v. Some v) (wave_on n t begun (is_same (value answer d n t) (value answer d n (t - 1)) (not_false (same_value (value answer d n t) (value answer d n (t - 1))) h)))
+
+    -- and its wave
+    pub same_wave_at : (k : ℕ) → changes k ≡ false → slice_get (waves_of t) k ≡ slice_get (waves_of (t + 1)) k
+    same_wave_at k h =
+        slice_get-map (λ n. wave_changes_below (value answer d n) t) d.nets k ∙ same_wave_by (slice_get d.nets k) h ∙ sym (slice_get-map (λ n. wave_changes_below (value answer d n) (t + 1)) d.nets k)
+
+    module _ (p : ℕ) (done : List ℕ) (values : List Value) (waves : List (List (ℕ × Value))) (changed : List ℕ) (part : Part done values waves changed) where
+      as_it_is : slice_get values p ≡ slice_get (values_of t) p → slice_get waves p ≡ slice_get (waves_of (t + 1)) p → has p changed ≡ changes p → Part (done ++ p ∷ []) values waves changed
+      as_it_is v w c =
+          record {
+            values = pass done (values_of (t - 1)) (values_of t) values part.values p v;
+            waves = pass done (waves_of t) (waves_of (t + 1)) waves part.waves p w;
+            changed = step done (λ k. false) changes (λ k. has k changed) part.changed p (λ k. has k changed) c (λ k e. refl);
+            as_many = part.as_many;
+            as_many_waves = part.as_many_waves;
+          }
+
+      stayed_by : changes p ≡ false → (b : Bool) → has p done ≡ b → Part (done ++ p ∷ []) values waves changed
+      stayed_by off true on =
+          as_it_is (is_new done (slice_get (values_of (t - 1))) (slice_get (values_of t)) (slice_get values) part.values p on)
+          (is_new done (slice_get (waves_of t)) (slice_get (waves_of (t + 1))) (slice_get waves) part.waves p on)
+          (is_new done (λ k. false) changes (λ k. has k changed) part.changed p on)
+      stayed_by off false not_yet =
+          as_it_is (is_old done (slice_get (values_of (t - 1))) (slice_get (values_of t)) (slice_get values) part.values p not_yet ∙ same_value_at p off)
+          (is_old done (slice_get (waves_of t)) (slice_get (waves_of (t + 1))) (slice_get waves) part.waves p not_yet ∙ same_wave_at p off)
+          (is_old done (λ k. false) changes (λ k. has k changed) part.changed p not_yet ∙ sym off)
+
+      -- a net that does not change is done
+      pub stayed : changes p ≡ false → Part (done ++ p ∷ []) values waves changed
+      stayed off = stayed_by off (has p done) refl
+
+      module _ (n : NetEntry) (here : slice_get d.nets p ≡ Some n) (v old : Value) (is : v ≡ value answer d n t) (at : slice_get values p ≡ Some old) where
+        new_value : slice_get (values_of t) p ≡ Some v
+        new_value = slice_get-map (λ n. value answer d n t) d.nets p ∙ ap (option_map (λ n. value answer d n t)) here ∙ ap (λ x. Some x) (sym is)
+
+        old_value : has p done ≡ false → value answer d n (t - 1) ≡ old
+        old_value not_yet =
+            let both : Some (value answer d n (t - 1)) ≡ Some old =
+            sym (slice_get-map (λ n. value answer d n (t - 1)) d.nets p ∙ ap (option_map (λ n. value answer d n (t - 1))) here)
+            ∙ sym (is_old done (slice_get (values_of (t - 1))) (slice_get (values_of t)) (slice_get values) part.values p not_yet) ∙ at in
+            cc
+
+        change_is : has p done ≡ false → changes p ≡ not (same_value v old)
+        change_is not_yet =
+            ap (λ o. option_map_or (λ n. not (same_value (value answer d n t) (value answer d n (t - 1)))) o false) here
+            ∙ ap (λ x. not (same_value x (value answer d n (t - 1)))) (sym is) ∙ ap (λ x. not (same_value v x)) (old_value not_yet)
+
+        again_by : (b : Bool) → has p done ≡ b → not (same_value v old) ≡ false → Part (done ++ p ∷ []) values waves changed
+        again_by true on same =
+            as_it_is (is_new done (slice_get (values_of (t - 1))) (slice_get (values_of t)) (slice_get values) part.values p on)
+            (is_new done (slice_get (waves_of t)) (slice_get (waves_of (t + 1))) (slice_get waves) part.waves p on)
+            (is_new done (λ k. false) changes (λ k. has k changed) part.changed p on)
+        again_by false not_yet same = stayed (change_is not_yet ∙ same)
+
+        -- a net whose value is found to stand already is done
+        pub again : not (same_value v old) ≡ false → Part (done ++ p ∷ []) values waves changed
+        again same = again_by (has p done) refl same
+
+        first_by : (b : Bool) → has p done ≡ b → not (same_value v old) ≡ true → has p done ≡ false
+        first_by true on other =
+            let both : Some old ≡ Some v = sym at ∙ is_new done (slice_get (values_of (t - 1))) (slice_get (values_of t)) (slice_get values) part.values p on ∙ new_value in
+            let equal : v ≡ old = cc in
+            absurd (let never : false ≡ true = sym (ap not (ap (same_value v) (sym equal) ∙ same_self v)) ∙ other in cc)
+        first_by false not_yet other = not_yet
+
+        module _ (other : not (same_value v old) ≡ true) where
+          not_done : has p done ≡ false
+          not_done = first_by (has p done) refl other
+
+          wave_was : (w : List (ℕ × Value)) → slice_get waves p ≡ Some w → slice_get (waves_of t) p ≡ Some w
+          wave_was w there = sym (is_old done (slice_get (waves_of t)) (slice_get (waves_of (t + 1))) (slice_get waves) part.waves p not_done) ∙ there
+
+          pub wave_early : LieBefore same_value standing → (w : List (ℕ × Value)) → slice_get waves p ≡ Some w → All (λ e. e.0 < t) w
+          wave_early early w there = all_at (All (λ e. e.0 < t)) (waves_of t) p w (waves_early answer d early t) (wave_was w there)
+
+          -- a net that changes goes on
+          pub went : Grows same_value standing → (w : List (ℕ × Value)) → slice_get waves p ≡ Some w →
+              Part (done ++ p ∷ []) (set values p v) (set waves p (pushed same_value standing w t v)) (changed ++ p ∷ [])
+          went grows w there =
+              let in_nets = slice_get_within d.nets p n here in
+              let in_values : p < length values = rw part.as_many in_nets in
+              let in_waves : p < length waves = rw part.as_many_waves in_nets in
+              let old_wave : Some (wave_changes_below (value answer d n) t) ≡ Some w =
+              sym (slice_get-map (λ n. wave_changes_below (value answer d n) t) d.nets p ∙ ap (option_map (λ n. wave_changes_below (value answer d n) t)) here) ∙ wave_was w there in
+              let old_one : wave_changes_below (value answer d n) t ≡ w = cc in
+              let one : pushed same_value standing (wave_changes_below (value answer d n) t) t (value answer d n t) ≡ wave_changes_below (value answer d n) (t + 1) =
+              rw add-one (grows (value answer d n) (λ u. refl) t) in
+              let new_wave : slice_get (waves_of (t + 1)) p ≡ Some (pushed same_value standing w t v) =
+              slice_get-map (λ n. wave_changes_below (value answer d n) (t + 1)) d.nets p ∙ ap (option_map (λ n. wave_changes_below (value answer d n) (t + 1))) here
+              ∙ ap (λ x. Some x) (sym one ∙ ap (λ x. pushed same_value standing x t (value answer d n t)) old_one ∙ ap (pushed same_value standing w t) (sym is)) in
+              let on : changes p ≡ true = change_is not_done ∙ other in
+              record {
+                values = write done (values_of (t - 1)) (values_of t) values part.values p v new_value in_values;
+                waves = write done (waves_of t) (waves_of (t + 1)) waves part.waves p (pushed same_value standing w t v) new_wave in_waves;
+                changed = step done (λ k. false) changes (λ k. has k changed) part.changed p (λ k. has k (changed ++ p ∷ []))
+                    (has_more p p changed ∙ ap (λ (b : Bool). has p changed || b) (nat_itself p) ∙ or_true (has p changed) ∙ sym on)
+                    (λ k e. has_more k p changed ∙ ap (λ (b : Bool). has k changed || b) e ∙ or_false (has k changed));
+                as_many = length_set values p v ∙ part.as_many;
+                as_many_waves = length_set waves p (pushed same_value standing w t v) ∙ part.as_many_waves;
+              }
+
+-- the drivers that stand at the place of a net
+pub drivers_at : (d : Netlist) (lists : List (Vec ℕ Global)) (p : ℕ) (n : NetEntry) (places : Vec ℕ Global) → map (λ (v : Vec ℕ Global). v.items) lists ≡ map (λ n. driver_places d.gates n.name) d.nets →
+    slice_get d.nets p ≡ Some n → slice_get lists p ≡ Some places → places.items ≡ driver_places d.gates n.name
+drivers_at d lists p n places are here there =
+    let left : slice_get (map (λ (v : Vec ℕ Global). v.items) lists) p ≡ Some places.items = slice_get-map (λ (v : Vec ℕ Global). v.items) lists p ∙ ap (option_map (λ (v : Vec ℕ Global). v.items)) there in
+    let right : slice_get (map (λ n. driver_places d.gates n.name) d.nets) p ≡ Some (driver_places d.gates n.name) = slice_get-map (λ n. driver_places d.gates n.name) d.nets p ∙ ap (option_map (λ n. driver_places d.gates n.name)) here in
+    let both : Some places.items ≡ Some (driver_places d.gates n.name) = sym left ∙ ap (λ l. slice_get l p) are ∙ right in
+    cc

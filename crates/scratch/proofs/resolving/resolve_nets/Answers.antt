@@ -1,0 +1,96 @@
+use Rattle.std.proofs.Common.{◌≡◌, ◌<◌, ◌≤◌, ◌+◌, ◌-◌, ◌++◌, ◌∷◌, ◌∙◌, sym, ap, refl, [], map, not, take, length, slice_index_or, arith, true, false}
+use Rattle.std.proofs.lemmas.Grind.{common_steps}
+use Rattle.std.specs.Option.{option_map_or}
+use Rattle.std.proofs.lemmas.List.{length-map, take_all}
+use Rattle.std.proofs.lemmas.Option.{slice_get-get_or, slice_get_read, slice_get_past}
+use Rattle.fourstate.specs.Values.{same_value}
+use Rattle.waveform.specs.Changes.{wave_changes_below}
+use Rattle.design.specs.Keys.{netlist}
+use Rattle.design.specs.Places.{driver_places}
+use Rattle.scratch.specs.Places.{changes_at, has}
+use Rattle.scratch.specs.Run.{value}
+use Rattle.scratch.proofs.Between.{finish}
+use Rattle.scratch.proofs.Lists.{take_next}
+use Rattle.scratch.proofs.NetSteps.{again, drivers_at, resolved_is, same_value_at, same_wave_at, stayed, wave_early, went}
+use Rattle.scratch.proofs.resolving.resolve_nets.Goals as goal
+use Rattle.scratch.proofs.resolving.resolve_nets.Goals.{then-place-len+in_ok-value+then-is_other+in_ok-push+in_ok-push-2, then-place-len+in_ok-value+else-is_other, else-place-len}
+
+pub push-requires-clause-later : goal.push-requires-clause-later
+push-requires-clause-later g c =
+    let answer = g.S.Stepper.answer in let d = netlist c.args.design.now in let t = c.args.t in
+    let part = c.loop-place.invariant in let done = take c.loop-place.place-index c.args.nets.now in
+    let place = slice_index_or c.args.nets.now c.loop-place.place-index 0 in
+    let in_nets : place < length d.nets = let low = c.if-place-len.true in let many = part.as_many in grind (arith, common_steps) in
+    let n = c.net_at.result.now in
+    let drivers = c.args.wiring.now.drivers.items in
+    let below : place < length drivers = (let as_many = simp length-map at (ap length c.requires.wired.drivers) in omega arith) in
+    let listed = slice_get_read drivers (length drivers) place c.index.result.now refl below c.index.ensures in
+    let places : c.as_slice-places.result.now ≡ driver_places d.gates n.name = c.as_slice-places.ensures.value ∙ drivers_at d drivers place n c.index.result.now c.requires.wired.drivers c.net_at.ensures listed in
+    let v = c.in_ok-value.value in
+    let is : v ≡ value answer d n t = resolved_is answer d t c.args.states.now n c.as_slice-places.result.now v c.requires.states places c.in_ok-value.ensures in
+    let in_values : place < length c.loop-place.values.items = rw part.as_many in_nets in
+    let old = slice_get_read c.loop-place.values.items (length c.loop-place.values.items) place c.index-then-place-len.result.now refl in_values c.index-then-place-len.ensures in
+    let other : not (same_value v c.index-then-place-len.result.now) ≡ true = sym c.is_other.ensures ∙ c.if-is_other.true in
+    let in_waves : place < length c.loop-place.waves.items = rw part.as_many_waves in_nets in
+    let wave = slice_get_read c.loop-place.waves.items (length c.loop-place.waves.items) place c.index_mut-wave.result.now refl in_waves c.index_mut-wave.ensures.value in
+    wave_early answer d t c.requires.begun c.no_change.ensures place done c.loop-place.values.items c.loop-place.waves.items c.loop-place.changed.items part n c.net_at.ensures v c.index-then-place-len.result.now is old other
+    c.changes_lie_before.ensures c.index_mut-wave.result.now wave
+
+pub loop-place-preserved : goal.loop-place-preserved
+loop-place-preserved g c =
+    let answer = g.S.Stepper.answer in let d = netlist c.args.design.now in let t = c.args.t in
+    let part = c.loop-place.invariant in let nets = c.args.nets.now in let i = c.loop-place.place-index in let done = take i nets in
+    let place = slice_index_or nets i 0 in
+    let more : take (i + 1) nets ≡ done ++ place ∷ [] = take_next nets i place (slice_get-get_or nets i 0 c.loop-place-test.true) in
+    let vs = c.loop-place.values.items in let ws = c.loop-place.waves.items in let cs = c.loop-place.changed.items in
+    let still = c.no_change.ensures in
+    elim c.if-place-len.branch [
+      | then-place-len+in_ok-value+then-is_other+in_ok-push+in_ok-push-2 w ↦
+          let in_nets : place < length d.nets = let low = w.if-place-len.true in let many = part.as_many in grind (arith, common_steps) in
+          let n = w.net_at.result.now in
+          let drivers = c.args.wiring.now.drivers.items in
+          let below : place < length drivers = (let as_many = simp length-map at (ap length c.requires.wired.drivers) in omega arith) in
+          let listed = slice_get_read drivers (length drivers) place w.index.result.now refl below w.index.ensures in
+          let places : w.as_slice-places.result.now ≡ driver_places d.gates n.name = w.as_slice-places.ensures.value ∙ drivers_at d drivers place n w.index.result.now c.requires.wired.drivers w.net_at.ensures listed in
+          let v = w.in_ok-value.value in
+          let is : v ≡ value answer d n t = resolved_is answer d t c.args.states.now n w.as_slice-places.result.now v c.requires.states places w.in_ok-value.ensures in
+          let in_values : place < length vs = rw part.as_many in_nets in
+          let old = slice_get_read vs (length vs) place w.index-then-place-len.result.now refl in_values w.index-then-place-len.ensures in
+          let other : not (same_value v w.index-then-place-len.result.now) ≡ true = sym w.is_other.ensures ∙ w.if-is_other.true in
+          let in_waves : place < length ws = rw part.as_many_waves in_nets in
+          let wave = slice_get_read ws (length ws) place w.index_mut-wave.result.now refl in_waves w.index_mut-wave.ensures.value in
+          rw (more, w.values-is, w.waves-is, w.changed-is, w.in_ok-push.ensures.ok, w.in_ok-push-2.ensures.items)
+          (went answer d t c.requires.begun still place done vs ws cs part n w.net_at.ensures v w.index-then-place-len.result.now is old other c.push_to_changes.ensures w.index_mut-wave.result.now wave)
+      | then-place-len+in_ok-value+else-is_other w ↦
+          let in_nets : place < length d.nets = let low = w.if-place-len.true in let many = part.as_many in grind (arith, common_steps) in
+          let n = w.net_at.result.now in
+          let drivers = c.args.wiring.now.drivers.items in
+          let below : place < length drivers = (let as_many = simp length-map at (ap length c.requires.wired.drivers) in omega arith) in
+          let listed = slice_get_read drivers (length drivers) place w.index.result.now refl below w.index.ensures in
+          let places : w.as_slice-places.result.now ≡ driver_places d.gates n.name = w.as_slice-places.ensures.value ∙ drivers_at d drivers place n w.index.result.now c.requires.wired.drivers w.net_at.ensures listed in
+          let v = w.in_ok-value.value in
+          let is : v ≡ value answer d n t = resolved_is answer d t c.args.states.now n w.as_slice-places.result.now v c.requires.states places w.in_ok-value.ensures in
+          let in_values : place < length vs = rw part.as_many in_nets in
+          let old = slice_get_read vs (length vs) place w.index-then-place-len.result.now refl in_values w.index-then-place-len.ensures in
+          let same : not (same_value v w.index-then-place-len.result.now) ≡ false = sym w.is_other.ensures ∙ w.if-is_other.false in
+          rw (more, w.values-is, w.waves-is, w.changed-is) (again answer d t c.requires.begun still place done vs ws cs part n w.net_at.ensures v w.index-then-place-len.result.now is old same)
+      | else-place-len w ↦
+          let past : length d.nets ≤ place = let high = w.if-place-len.false in let many = part.as_many in grind (arith, common_steps) in
+          let off : changes_at answer d place t ≡ false =
+          ap (λ o. option_map_or (λ n. not (same_value (value answer d n t) (value answer d n (t - 1)))) o false) (slice_get_past d.nets place past) in
+          rw (more, w.values-is, w.waves-is, w.changed-is) (stayed answer d t c.requires.begun still place done vs ws cs part off)
+    ]
+
+pub returns-clause-values : goal.returns-clause-values
+returns-clause-values g c =
+    let answer = g.S.Stepper.answer in let d = netlist c.args.design.now in let t = c.args.t in
+    let whole : take c.loop-place.place-index c.args.nets.now ≡ c.args.nets.now = take_all c.loop-place.place-index c.args.nets.now (let past = c.loop-place-test.false in omega arith) in
+    finish (take c.loop-place.place-index c.args.nets.now) (map (λ n. value answer d n (t - 1)) d.nets) (map (λ n. value answer d n t) d.nets) c.loop-place.values.items c.loop-place.invariant.values
+    (λ k off. same_value_at answer d t c.requires.begun c.no_change.ensures k (c.requires.others k (ap (has k) (sym whole) ∙ off)))
+
+pub returns-clause-waves : goal.returns-clause-waves
+returns-clause-waves g c =
+    let answer = g.S.Stepper.answer in let d = netlist c.args.design.now in let t = c.args.t in
+    let whole : take c.loop-place.place-index c.args.nets.now ≡ c.args.nets.now = take_all c.loop-place.place-index c.args.nets.now (let past = c.loop-place-test.false in omega arith) in
+    finish (take c.loop-place.place-index c.args.nets.now) (map (λ n. wave_changes_below (value answer d n) t) d.nets) (map (λ n. wave_changes_below (value answer d n) (t + 1)) d.nets) c.loop-place.waves.items c.loop-place.invariant.waves
+    (λ k off. same_wave_at answer d t c.requires.begun c.no_change.ensures k (c.requires.others k (ap (has k) (sym whole) ∙ off)))

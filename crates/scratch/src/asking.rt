@@ -1,0 +1,68 @@
+//! The evaluation of the gates that are stirred at a moment.
+
+ghost use Rattle.std.specs.Prelude.{◌≡◌, ◌<◌, ◌≤◌, ◌+◌, ◌++◌, map, length, slice_get, All, Some, OnOk, OnErr, if◌then◌else◌};
+ghost use Rattle.fourstate.specs.declared.limits.TheConstants.{MAX_TIME};
+ghost use Rattle.gatestep.specs.Faults.{is_lost};
+ghost use Rattle.gatestep.specs.Tasks.{PendingFrom};
+ghost use Rattle.design.specs.Keys.{netlist};
+ghost use Rattle.scratch.specs.Kept.{IsWiring, evaluations_from};
+ghost use Rattle.scratch.specs.Places.{passing};
+ghost use Rattle.scratch.specs.Run.{state_before, value};
+ghost use Rattle.scratch.specs.Work.{HasGrownOrNot, is_stirred, stirred_at, work_at};
+
+use crate::moment::task;
+use crate::wiring::Wiring;
+use design::Design;
+use fourstate::Value;
+use gatestep::{Driver, StepFault, Stepper, Task};
+use std::alloc::AllocError;
+
+/// The tasks of the gates at some places.
+fn find_some_tasks(
+    wiring: &Wiring,
+    values: &[Value],
+    states: &[Driver],
+    places: &[usize],
+    out: &mut Vec<Task>,
+) -> Result<(), AllocError>
+    requires beside { length wiring.now.cells.items ≡ length states.now }
+    requires there { All (λ k. k < length states.now) places.now }
+    ensures { OnOk result (map (λ task. Some task) out.new.items ≡ map (slice_get (evaluations_from values.now wiring.now.cells.items states.now)) places.now) }
+{
+    out.clear();
+    for place in places {
+        out.push(task(&wiring.cells[*place], states[*place], values))?;
+    }
+    Ok(())
+}
+
+/// The answers to the tasks of the stirred gates, which are at these places.
+pub fn ask<S: Stepper>(
+    design: &Design,
+    wiring: &Wiring,
+    values: &[Value],
+    states: &[Driver],
+    gates: &[usize],
+    stepper: &mut S,
+    t: u64,
+    tasks: &mut Vec<Task>,
+    answers: &mut Vec<Driver>,
+) -> Result<(), StepFault>
+    requires wired { IsWiring (netlist design.now) wiring.now }
+    requires values { values.now ≡ map (λ n. value S.answer (netlist design.now) n t) (netlist design.now).nets }
+    requires states { states.now ≡ map (state_before S.answer (netlist design.now) t) (netlist design.now).gates }
+    requires gates { gates.now ≡ passing (λ g. is_stirred S.answer (netlist design.now) g t) 0 (netlist design.now).gates }
+    requires ready { All (PendingFrom t) states.now }
+    requires within { t ≤ MAX_TIME }
+    ensures answers { OnOk result (answers.new.items ≡ map (state_before S.answer (netlist design.now) (t + 1)) (stirred_at S.answer (netlist design.now) t)) }
+    ensures asked { OnOk result (S.asked stepper.new ≡ S.asked stepper.old ++ work_at S.answer (netlist design.now) t) }
+    ensures part { OnErr result (HasGrownOrNot (S.asked stepper.old) (S.asked stepper.new) (work_at S.answer (netlist design.now) t)) }
+    ensures lost { S.losses stepper.new ≡ S.losses stepper.old + (if is_lost result then 1 else 0) }
+{
+    find_some_tasks(wiring, values, states, gates, tasks)?;
+    answers.clear();
+    if !tasks.is_empty() {
+        stepper.step(tasks.as_slice(), t, answers)?;
+    }
+    Ok(())
+}

@@ -1,0 +1,190 @@
+//! A run that goes from one moment at which something happens to the next.
+
+ghost use Rattle.std.specs.Prelude.{◌≡◌, ◌≢◌, ◌<◌, ◌≤◌, ◌+◌, ◌++◌, [], ℕ, IfSome, IfNone, IfOk, OnOk, OnErr, if◌then◌else◌};
+ghost use Rattle.fourstate.specs.declared.limits.TheConstants.{MAX_TIME};
+ghost use Rattle.event_queue.specs.Noted.{noted};
+ghost use Rattle.design.specs.Keys.{netlist};
+ghost use Rattle.scratch.specs.Kept.{IsWiring};
+ghost use Rattle.scratch.specs.Lost.{loses_a_worker};
+ghost use Rattle.scratch.specs.Stands.{Stands};
+ghost use Rattle.scratch.specs.Work.{HasGrownOrNot, work_at};
+
+use crate::asking::ask;
+use crate::moment::Moment;
+use crate::opening::{list_events, list_points};
+use crate::recording::Recording;
+use crate::resolving::resolve_nets;
+use crate::settling::settle;
+use crate::stirring::{add_readers, find_due, find_nets, put_in_order};
+use crate::wiring::Wiring;
+use design::Design;
+use event_queue::EventQueue;
+use fourstate::Value;
+use gatestep::{Driver, StepFault, Stepper, Task};
+use std::alloc::Global;
+use waveform::{Trace, Wave};
+
+/// What stands between two moments of a run, and what is to happen.
+#[derive(Drop)]
+pub struct Engine {
+    /// The state of each gate's driver, in the order of the gates.
+    pub states: Vec<Driver>,
+    /// The value of each net, in the order of the nets.
+    pub values: Vec<Value>,
+    /// The waves so far, in the order of the nets.
+    pub waves: Vec<Wave>,
+    /// The traces so far, in the order of the gates.
+    pub traces: Vec<Trace>,
+    /// Gates, at the moments of their pending events; also of events that were descheduled.
+    pub events: EventQueue,
+    /// Nets with stimulus points to come, each at the moment of its next one.
+    pub points: EventQueue,
+    // The lists of one moment, which live through the run.
+    listed: Vec<usize>,
+    gates: Vec<usize>,
+    nets: Vec<usize>,
+    changed: Vec<usize>,
+    driven: Vec<Value>,
+    tasks: Vec<Task>,
+    answers: Vec<Driver>,
+}
+
+impl Engine {
+    /// What stands after moment 0.
+    pub fn open<S: Stepper>(
+        alloc: Global,
+        design: &Design,
+        wiring: &Wiring,
+        stepper: &mut S,
+    ) -> Result<Engine, StepFault>
+        requires wired { IsWiring (netlist design.now) wiring.now }
+        ensures stands { IfOk result (λ engine. Stands S.answer (netlist design.now) engine 1) }
+        ensures asked { OnOk result (S.asked stepper.new ≡ S.asked stepper.old ++ work_at S.answer (netlist design.now) 0) }
+        ensures part { OnErr result (HasGrownOrNot (S.asked stepper.old) (S.asked stepper.new) (work_at S.answer (netlist design.now) 0)) }
+        ensures lost { S.losses stepper.new ≡ S.losses stepper.old + (if loses_a_worker result then 1 else 0) }
+    {
+        design.lawful();
+        let mut moment = Moment::before(alloc, design)?;
+        moment.pass(design, wiring, stepper, 0)?;
+        let Recording { waves, traces } = Recording::open(alloc, &moment)?;
+        let events = list_events(alloc, moment.states.as_slice())?;
+        let points = list_points(alloc, design)?;
+        let (states, values) = moment.parts();
+        Ok(Engine {
+            states,
+            values,
+            waves,
+            traces,
+            events,
+            points,
+            listed: Vec::new(alloc),
+            gates: Vec::new(alloc),
+            nets: Vec::new(alloc),
+            changed: Vec::new(alloc),
+            driven: Vec::new(alloc),
+            tasks: Vec::new(alloc),
+            answers: Vec::new(alloc),
+        })
+    }
+
+    /// The next moment for which something is noted.
+    pub fn next(&self) -> Option<u64>
+        ensures some { IfSome result (λ t. noted self.now.events t ≡ [] → noted self.now.points t ≢ []) }
+        ensures events { IfSome result (λ t. (u : ℕ) → u < t → noted self.now.events u ≡ []) }
+        ensures points { IfSome result (λ t. (u : ℕ) → u < t → noted self.now.points u ≡ []) }
+        ensures no_events { IfNone result ((u : ℕ) → noted self.now.events u ≡ []) }
+        ensures no_points { IfNone result ((u : ℕ) → noted self.now.points u ≡ []) }
+    {
+        let event = self.events.first();
+        let point = self.points.first();
+        match event {
+            None => point,
+            Some(event) => match point {
+                None => Some(event),
+                Some(point) if point < event => Some(point),
+                Some(_) => Some(event),
+            },
+        }
+    }
+
+    /// Goes through the moment `t`, before which all is done. After a fault what stands is not known.
+    pub fn pass<S: Stepper>(
+        &mut self,
+        alloc: Global,
+        design: &Design,
+        wiring: &Wiring,
+        stepper: &mut S,
+        t: u64,
+    ) -> Result<(), StepFault>
+        requires wired { IsWiring (netlist design.now) wiring.now }
+        requires stands { Stands S.answer (netlist design.now) self.old t }
+        requires within { t ≤ MAX_TIME }
+        ensures stands { OnOk result (Stands S.answer (netlist design.now) self.new (t + 1)) }
+        ensures asked { OnOk result (S.asked stepper.new ≡ S.asked stepper.old ++ work_at S.answer (netlist design.now) t) }
+        ensures part { OnErr result (HasGrownOrNot (S.asked stepper.old) (S.asked stepper.new) (work_at S.answer (netlist design.now) t)) }
+        ensures lost { S.losses stepper.new ≡ S.losses stepper.old + (if loses_a_worker result then 1 else 0) }
+    {
+        design.lawful();
+        find_due(
+            &mut self.events,
+            self.states.as_slice(),
+            t,
+            &mut self.listed,
+            &mut self.gates,
+        )?;
+        find_nets(
+            alloc,
+            design,
+            &mut self.points,
+            wiring,
+            self.gates.as_slice(),
+            t,
+            &mut self.nets,
+        )?;
+        resolve_nets::<S>(
+            design,
+            wiring,
+            self.states.as_slice(),
+            self.nets.as_slice(),
+            t,
+            &mut self.driven,
+            &mut self.values,
+            &mut self.waves,
+            &mut self.changed,
+        )?;
+        add_readers(wiring, self.changed.as_slice(), &mut self.gates)?;
+        put_in_order(&mut self.gates);
+        ask(
+            design,
+            wiring,
+            self.values.as_slice(),
+            self.states.as_slice(),
+            self.gates.as_slice(),
+            stepper,
+            t,
+            &mut self.tasks,
+            &mut self.answers,
+        )?;
+        settle::<S>(
+            alloc,
+            design,
+            self.gates.as_slice(),
+            self.answers.as_slice(),
+            t,
+            &mut self.states,
+            &mut self.traces,
+            &mut self.events,
+        )?;
+        Ok(())
+    }
+
+    /// What is recorded.
+    pub fn into_recording(self) -> Recording
+        ensures { (result.waves ≡ self.waves) × (result.traces ≡ self.traces) }
+    {
+        Recording {
+            waves: self.waves,
+            traces: self.traces,
+        }
+    }
+}

@@ -1,0 +1,110 @@
+//! The values of nets at a moment, from the states of the gates.
+
+ghost use Rattle.std.specs.Prelude.{◌≡◌, ◌<◌, ◌+◌, ◌-◌, ℕ, false, not, map, slice_get, unwrap_or, OnOk, IfOk};
+ghost use Rattle.fourstate.specs.Values.{same_value};
+ghost use Rattle.waveform.specs.Changes.{wave_changes_below};
+ghost use Rattle.design.specs.Keys.{netlist};
+ghost use Rattle.scratch.specs.Kept.{IsWiring, currents_of, net_from, values_at};
+ghost use Rattle.scratch.specs.Places.{changes_at, has};
+ghost use Rattle.scratch.specs.Run.{state_before, value};
+
+use crate::wiring::Wiring;
+use design::{Design, Net};
+use fourstate::{Value, resolve};
+use gatestep::{Driver, Stepper};
+use std::alloc::AllocError;
+use waveform::{Wave, laws};
+
+/// The current value at a place once due events have become current, x where there is none.
+#[inline(always)]
+fn current_at(states: &[Driver], place: usize, t: u64) -> Value
+    ensures { result ≡ unwrap_or (slice_get (currents_of states.now t) place) Value.Unknown }
+{
+    match states.get(place) {
+        Some(state) => state.due(t).cur,
+        None => Value::Unknown,
+    }
+}
+
+/// The current values at some places.
+fn gather_currents(
+    states: &[Driver],
+    places: &[usize],
+    t: u64,
+    out: &mut Vec<Value>,
+) -> Result<(), AllocError>
+    ensures { OnOk result (out.new.items ≡ values_at (currents_of states.now t) places.now) }
+{
+    out.clear();
+    for place in places {
+        out.push(current_at(states, *place, t))?;
+    }
+    Ok(())
+}
+
+/// The value of a net at the moment `t` from the states of the gates, those of its own drivers at these places.
+fn resolved(
+    net: &Net,
+    places: &[usize],
+    states: &[Driver],
+    t: u64,
+    driven: &mut Vec<Value>,
+) -> Result<Value, AllocError>
+    ensures { IfOk result (λ v. v ≡ net_from (currents_of states.now t) t net.now places.now) }
+{
+    if net.is_input() {
+        return Ok(net.stimulus_at(t));
+    }
+    gather_currents(states, places, t, driven)?;
+    Ok(resolve(net.kind(), driven.as_slice()))
+}
+
+/// Whether the two values differ.
+#[inline(always)]
+fn is_other(value: Value, other: Value) -> bool
+    ensures { result ≡ not (same_value value other) }
+{
+    value != other
+}
+
+/// Goes on to the values at the moment `t`, where nets at other places than these keep theirs, and finds the nets that have
+/// another one.
+pub fn resolve_nets<S: Stepper>(
+    design: &Design,
+    wiring: &Wiring,
+    states: &[Driver],
+    nets: &[usize],
+    t: u64,
+    driven: &mut Vec<Value>,
+    values: &mut Vec<Value>,
+    waves: &mut Vec<Wave>,
+    changed: &mut Vec<usize>,
+) -> Result<(), AllocError>
+    requires wired { IsWiring (netlist design.now) wiring.now }
+    requires begun { 0 < t }
+    requires states { states.now ≡ map (state_before S.answer (netlist design.now) t) (netlist design.now).gates }
+    requires values { values.old.items ≡ map (λ n. value S.answer (netlist design.now) n (t - 1)) (netlist design.now).nets }
+    requires waves { waves.old.items ≡ map (λ n. wave_changes_below (value S.answer (netlist design.now) n) t) (netlist design.now).nets }
+    requires others { (k : ℕ) → has k nets.now ≡ false → changes_at S.answer (netlist design.now) k t ≡ false }
+    ensures values { OnOk result (values.new.items ≡ map (λ n. value S.answer (netlist design.now) n t) (netlist design.now).nets) }
+    ensures waves { OnOk result (waves.new.items ≡ map (λ n. wave_changes_below (value S.answer (netlist design.now) n) (t + 1)) (netlist design.now).nets) }
+    ensures changed { OnOk result ((k : ℕ) → has k changed.new.items ≡ changes_at S.answer (netlist design.now) k t) }
+{
+    laws::push_to_changes::<Value>();
+    laws::changes_lie_before::<Value>();
+    laws::no_change::<Value>();
+    changed.clear();
+    for place in nets {
+        if *place < values.len() {
+            let places = wiring.drivers[*place].as_slice();
+            let value = resolved(design.net_at(*place), places, states, t, driven)?;
+            if is_other(value, values[*place]) {
+                values[*place] = value;
+                let wave = &mut waves[*place];
+                wave.push(t, value)?;
+                changed.push(*place)?;
+            }
+        }
+    }
+    Ok(())
+}

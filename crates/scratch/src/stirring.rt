@@ -1,0 +1,157 @@
+//! Which nets are to be resolved and which gates are to be evaluated at a moment.
+
+ghost use Rattle.std.specs.Prelude.{◌≡◌, ◌<◌, ◌≤◌, ◌+◌, ◌++◌, ◌||◌, [], ℕ, true, OnOk};
+ghost use Rattle.std.specs.List.{filter, list_any};
+ghost use Rattle.event_queue.specs.Noted.{IsTaken, noted};
+ghost use Rattle.design.specs.Keys.{netlist};
+ghost use Rattle.scratch.specs.Kept.{output_at, places_at};
+ghost use Rattle.scratch.specs.Places.{Announces, AreRising, IsNotedWithin, Keeps, has, is_due_at, point_at};
+
+use crate::opening::note_next_point;
+use crate::wiring::Wiring;
+use design::Design;
+use event_queue::EventQueue;
+use gatestep::Driver;
+use std::alloc::{AllocError, Global};
+
+/// An event of the state at a place is due.
+#[inline(always)]
+fn is_due_there(states: &[Driver], place: usize, t: u64) -> bool
+    ensures { result ≡ is_due_at states.now place t }
+{
+    match states.get(place) {
+        None => false,
+        Some(state) => match state.pend {
+            None => false,
+            Some((_, time)) => time <= t,
+        },
+    }
+}
+
+/// Takes the gates that are noted for the moment `t`, and finds those of which an event is due.
+pub fn find_due(
+    events: &mut EventQueue,
+    states: &[Driver],
+    t: u64,
+    listed: &mut Vec<usize>,
+    out: &mut Vec<usize>,
+) -> Result<(), AllocError>
+    ensures due { OnOk result (out.new.items ≡ filter (λ k. is_due_at states.now k t) (noted events.old t)) }
+    ensures rest { OnOk result (IsTaken t events.old events.new) }
+{
+    listed.clear();
+    events.take(t, listed)?;
+    keep_due(listed.as_slice(), states, t, out)
+}
+
+/// Those of some places at whose states an event is due.
+fn keep_due(
+    places: &[usize],
+    states: &[Driver],
+    t: u64,
+    out: &mut Vec<usize>,
+) -> Result<(), AllocError>
+    ensures { OnOk result (out.new.items ≡ filter (λ k. is_due_at states.now k t) places.now) }
+{
+    out.clear();
+    for place in places {
+        if is_due_there(states, *place, t) {
+            out.push(*place)?;
+        }
+    }
+    Ok(())
+}
+
+/// Takes the nets that have a stimulus point at the moment `t`, notes their next ones, and adds the nets that some gates
+/// drive.
+pub fn find_nets(
+    alloc: Global,
+    design: &Design,
+    points: &mut EventQueue,
+    wiring: &Wiring,
+    gates: &[usize],
+    t: u64,
+    out: &mut Vec<usize>,
+) -> Result<(), AllocError>
+    requires announces { Announces (point_at (netlist design.now).nets) (noted points.old) t }
+    requires early { (u : ℕ) → u < t → noted points.old u ≡ [] }
+    ensures nets { OnOk result ((m : ℕ) → has m out.new.items ≡ (has m (noted points.old t) || list_any (λ k. has m (output_at wiring.now.outputs.items k)) gates.now)) }
+    ensures announces { OnOk result (Announces (point_at (netlist design.now).nets) (noted points.new) (t + 1)) }
+    ensures early { OnOk result ((u : ℕ) → u < t + 1 → noted points.new u ≡ []) }
+{
+    out.clear();
+    points.take(t, out)?;
+    note_next_points(alloc, design, out.as_slice(), t, points)?;
+    add_outputs(wiring, gates, out)
+}
+
+/// Notes the first stimulus point after the moment `t` of each of some nets.
+fn note_next_points(
+    alloc: Global,
+    design: &Design,
+    nets: &[usize],
+    t: u64,
+    points: &mut EventQueue,
+) -> Result<(), AllocError>
+    ensures next { OnOk result ((m u : ℕ) → has m nets.now ≡ true → t < u → point_at (netlist design.now).nets m u ≡ true → IsNotedWithin (noted points.new) m (t + 1) u) }
+    ensures kept { OnOk result (Keeps (noted points.old) (noted points.new)) }
+    ensures early { OnOk result ((u : ℕ) → u ≤ t → noted points.new u ≡ noted points.old u) }
+{
+    for net in nets {
+        note_next_point(alloc, design, *net, t, points)?;
+    }
+    Ok(())
+}
+
+/// Adds the net that a gate drives.
+fn add_output(wiring: &Wiring, gate: usize, nets: &mut Vec<usize>) -> Result<(), AllocError>
+    ensures { OnOk result (nets.new.items ≡ nets.old.items ++ output_at wiring.now.outputs.items gate) }
+{
+    if let Some(net) = wiring.outputs.get(gate) {
+        nets.push(*net)?;
+    }
+    Ok(())
+}
+
+/// Adds the nets that some gates drive.
+fn add_outputs(wiring: &Wiring, gates: &[usize], nets: &mut Vec<usize>) -> Result<(), AllocError>
+    ensures { OnOk result ((m : ℕ) → has m nets.new.items ≡ (has m nets.old.items || list_any (λ k. has m (output_at wiring.now.outputs.items k)) gates.now)) }
+{
+    for place in gates {
+        add_output(wiring, *place, nets)?;
+    }
+    Ok(())
+}
+
+/// Adds the gates that read a net.
+fn add_readers_of(wiring: &Wiring, net: usize, gates: &mut Vec<usize>) -> Result<(), AllocError>
+    ensures { OnOk result (gates.new.items ≡ gates.old.items ++ places_at wiring.now.readers.items net) }
+{
+    if let Some(readers) = wiring.readers.get(net) {
+        gates.extend_from_slice(readers.as_slice())?;
+    }
+    Ok(())
+}
+
+/// Adds the gates that read some nets.
+pub fn add_readers(
+    wiring: &Wiring,
+    nets: &[usize],
+    gates: &mut Vec<usize>,
+) -> Result<(), AllocError>
+    ensures { OnOk result ((k : ℕ) → has k gates.new.items ≡ (has k gates.old.items || list_any (λ m. has k (places_at wiring.now.readers.items m)) nets.now)) }
+{
+    for net in nets {
+        add_readers_of(wiring, *net, gates)?;
+    }
+    Ok(())
+}
+
+/// The places in order, each once.
+pub fn put_in_order(places: &mut Vec<usize>)
+    ensures rising { AreRising 0 places.new.items }
+    ensures same { (k : ℕ) → has k places.new.items ≡ has k places.old.items }
+{
+    places.sort_unstable();
+    places.dedup();
+}
