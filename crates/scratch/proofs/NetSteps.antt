@@ -11,7 +11,7 @@ use Rattle.design.specs.Netlist.{NetEntry, Netlist}
 use Rattle.design.specs.Places.{driver_places}
 use Rattle.waveform.specs.Changes.{wave_changes_below}
 use Rattle.waveform.specs.Entries.{standing}
-use Rattle.waveform.specs.SampleLaws.{is_same, same_self}
+use Rattle.fourstate.specs.ValueLaws.{is_same, same_self}
 use Rattle.waveform.specs.Timelines.{pushed}
 use Rattle.scratch.specs.Kept.{currents_of, net_from}
 use Rattle.scratch.specs.Places.{changes_at, has}

@@ -17,7 +17,8 @@ use Rattle.design.specs.Names.{same_name}
 use Rattle.design.specs.Netlist.{NetEntry, GateEntry, Netlist, drivers_of, stimulus, has_point}
 use Rattle.waveform.specs.Changes.{wave_changes_below, trace_below}
 use Rattle.waveform.specs.Entries.{same_state, standing}
-use Rattle.waveform.specs.SampleLaws.{is_same, same_self, same_state_self}
+use Rattle.fourstate.specs.ValueLaws.{is_same, same_self}
+use Rattle.waveform.specs.SampleLaws.{same_state_self}
 use Rattle.waveform.specs.Timelines.{changes_below, is_change}
 use Rattle.scratch.specs.Quiet.{IsQuiet}
 use Rattle.scratch.specs.Run.{terminal_at, state_after, state_before, value}
