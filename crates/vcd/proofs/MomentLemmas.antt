@@ -1,5 +1,5 @@
 -- The lines of moments, one after another.
-use Rattle.std.proofs.Common.{◌≡◌, ◌≢◌, ◌<◌, ◌≤◌, ℕ, zero, suc, ◌+◌, ◌/◌, ◌*◌, true, false, refl, ap, ◌∙◌, List, [], ◌∷◌, ◌++◌, length, append-nil, arith}
+use Rattle.std.proofs.Common.{Bor, ◌≡◌, ◌≢◌, ◌<◌, ◌≤◌, ℕ, zero, suc, ◌+◌, ◌/◌, ◌*◌, true, false, refl, ap, ◌∙◌, List, [], ◌∷◌, ◌++◌, length, append-nil, arith}
 use Rattle.std.specs.Prelude.{◌==◌, ◌||◌, nat_lt, slice_index}
 use Rattle.std.proofs.lemmas.Bool.{eqb-false, ltb-true, ltb-false}
 use Rattle.std.proofs.lemmas.Grind.{common_steps, flat_map-append}
@@ -7,10 +7,10 @@ use Rattle.fourstate.specs.declared.value.Value.{Value}
 use Rattle.waveform.specs.Timelines.{moments}
 use Rattle.vcd.specs.Changes.{change_lines, lines_below, moment_lines, some_changes_at, time_line}
 use Rattle.vcd.specs.declared.upcoming.Upcoming.{Upcoming}
-use Rattle.vcd.specs.Kept.{IsAhead, IsNext}
+use Rattle.vcd.specs.Kept.{IsAhead, IsNext, lefts}
 use Rattle.vcd.specs.Waves.{wave_in}
 use Rattle.vcd.proofs.UpcomingLemmas.{since_left}
-use Rattle.vcd.proofs.WaveLemmas.{no_change}
+use Rattle.vcd.proofs.WaveLemmas.{next_later, no_change}
 
 -- one moment more
 pub below_suc : (waves : List (List (ℕ × Value))) (last t : ℕ) → lines_below waves last (suc t) ≡ lines_below waves last t ++ moment_lines waves last t
@@ -46,12 +46,12 @@ skipped waves last t (suc n) after le end none =
           skipped waves last t n after least (omega arith) (λ s from to. none s from (omega arith))))
     ] refl
 
-none_between : (waves : List (List (ℕ × Value))) (t u s : ℕ) (upcoming : Upcoming) → IsAhead waves t 0 upcoming →
+none_between : (waves : List (List (ℕ × Value))) (t u s : ℕ) (upcoming : Upcoming) (left : List (Bor (List (ℕ × Value)))) → IsAhead waves t 0 upcoming left →
     ((block : ℕ) → block * 256 < length waves → u ≤ slice_index upcoming.least block) → t ≤ s → s < u → some_changes_at waves s ≡ false
-none_between waves t u s upcoming ahead each from to =
+none_between waves t u s upcoming left ahead each from to =
     no_change waves s
     (λ k below.
-    let next : IsNext (wave_in waves k) t (slice_index upcoming.times k) = rw (since_left t 0 (k / 256) (omega arith)) at (ahead.next k below) in
+    let next : IsNext (wave_in waves k) t (slice_index upcoming.times k) (wave_in (lefts left) k) = rw (since_left t 0 (k / 256) (omega arith)) at (ahead.next k below) in
     let least : slice_index upcoming.least (k / 256) ≤ slice_index upcoming.times k = ahead.least k below in
     let first : u ≤ slice_index upcoming.least (k / 256) = each (k / 256) (omega arith) in
     next.none s from (omega arith))
@@ -64,34 +64,31 @@ is_written waves last u within change =
     ] refl
 
 -- the next moment that is written
-pub lines_to : (waves : List (List (ℕ × Value))) (last t u : ℕ) (upcoming : Upcoming) → IsAhead waves (t + 1) 0 upcoming → t < u → u ≤ last →
+pub lines_to : (waves : List (List (ℕ × Value))) (last t u : ℕ) (upcoming : Upcoming) (left : List (Bor (List (ℕ × Value)))) → IsAhead waves (t + 1) 0 upcoming left → t < u → u ≤ last →
     ((block : ℕ) → block * 256 < length waves → u ≤ slice_index upcoming.least block) → (u < last → some_changes_at waves u ≡ true) →
     lines_below waves last (suc u) ≡ lines_below waves last (suc t) ++ (time_line u ++ change_lines waves u)
-lines_to waves last t u upcoming ahead less within each change =
+lines_to waves last t u upcoming left ahead less within each change =
     let empty : lines_below waves last u ≡ lines_below waves last (suc t) =
-    skipped waves last (suc t) u (omega arith) (omega arith) within (λ s from to. none_between waves (t + 1) u s upcoming ahead each (omega arith) to) in
+    skipped waves last (suc t) u (omega arith) (omega arith) within (λ s from to. none_between waves (t + 1) u s upcoming left ahead each (omega arith) to) in
     let here : moment_lines waves last u ≡ time_line u ++ change_lines waves u = moment_some waves last u (omega arith) (is_written waves last u within change) in
     below_suc waves last u ∙ (ap (λ lines. lines ++ moment_lines waves last u) empty ∙ ap (λ lines. lines_below waves last (suc t) ++ lines) here)
 
 -- some time is left for the next one
-pub is_later : (waves : List (List (ℕ × Value))) (t : ℕ) (upcoming : Upcoming) → IsAhead waves t 0 upcoming → (block : ℕ) → block * 256 < length waves →
+pub is_later : (waves : List (List (ℕ × Value))) (t : ℕ) (upcoming : Upcoming) (left : List (Bor (List (ℕ × Value)))) → IsAhead waves t 0 upcoming left → (block : ℕ) → block * 256 < length waves →
     t ≤ slice_index upcoming.least block
-is_later waves t upcoming ahead block inside = rw (since_left t 0 block (omega arith)) at (ahead.later block inside)
+is_later waves t upcoming left ahead block inside = rw (since_left t 0 block (omega arith)) at (ahead.later block inside)
 
 -- the tables at the next moment that is written
-pub ahead_later : (waves : List (List (ℕ × Value))) (t u : ℕ) (upcoming : Upcoming) → IsAhead waves t 0 upcoming → t ≤ u →
-    ((block : ℕ) → block * 256 < length waves → u ≤ slice_index upcoming.least block) → IsAhead waves u 0 upcoming
-ahead_later waves t u upcoming ahead le each = record {
+pub ahead_later : (waves : List (List (ℕ × Value))) (t u : ℕ) (upcoming : Upcoming) (left : List (Bor (List (ℕ × Value)))) → IsAhead waves t 0 upcoming left → t ≤ u →
+    ((block : ℕ) → block * 256 < length waves → u ≤ slice_index upcoming.least block) → IsAhead waves u 0 upcoming left
+ahead_later waves t u upcoming left ahead le each = record {
+  room = ahead.room;
   next = λ k below.
-      let next : IsNext (wave_in waves k) t (slice_index upcoming.times k) = rw (since_left t 0 (k / 256) (omega arith)) at (ahead.next k below) in
+      let next : IsNext (wave_in waves k) t (slice_index upcoming.times k) (wave_in (lefts left) k) = rw (since_left t 0 (k / 256) (omega arith)) at (ahead.next k below) in
       let least : slice_index upcoming.least (k / 256) ≤ slice_index upcoming.times k = ahead.least k below in
       let first : u ≤ slice_index upcoming.least (k / 256) = each (k / 256) (omega arith) in
       rw (since_left u 0 (k / 256) (omega arith))
-      (record {
-        later = omega arith;
-        none = λ s from to. next.none s (omega arith) to;
-        change = next.change;
-      });
+      (next_later (wave_in waves k) t u _ _ next le (omega arith));
   least = ahead.least;
   later = λ block inside. rw (since_left u 0 block (omega arith)) (each block inside);
   change = ahead.change;

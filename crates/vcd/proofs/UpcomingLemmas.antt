@@ -1,8 +1,8 @@
 -- Tables of the changes to come.
-use Rattle.std.proofs.Common.{◌≡◌, ◌≢◌, ◌<◌, ◌≤◌, ℕ, zero, suc, ◌+◌, true, false, refl, ap, sym, subst, ◌∙◌, List, [], ◌∷◌, ◌++◌, length, get_or-set_other, get_or-set_same, below_more, append-nil, append_assoc, add-one, add-zero, add-suc, zero-add, ◌-◌, ◌*◌, ◌/◌, arith}
+use Rattle.std.proofs.Common.{Bor, ◌≡◌, ◌≢◌, ◌<◌, ◌≤◌, ℕ, zero, suc, ◌+◌, true, false, refl, ap, sym, subst, ◌∙◌, List, [], ◌∷◌, ◌++◌, length, get_or-set_other, get_or-set_same, below_more, append-nil, append_assoc, add-one, add-zero, add-suc, zero-add, ◌-◌, ◌*◌, ◌/◌, arith}
 use Rattle.std.specs.Prelude.{◌==◌, min, nat_lt, slice_index, slice_set}
 use Rattle.std.specs.List.{enumerate_from, flat_map}
-use Rattle.std.proofs.lemmas.List.{get_or-replicate}
+use Rattle.std.proofs.lemmas.List.{get_or-replicate, map-set, length-map, length-set}
 use Rattle.std.proofs.lemmas.Bool.{ltb-true, ltb-false, lt-ltb, le-ltb, eqb-true, eqb-false}
 use Rattle.fourstate.specs.declared.value.Value.{Value}
 use Rattle.fourstate.specs.Values.{same_value}
@@ -13,9 +13,9 @@ use Rattle.devices.specs.Outgoing.{Adds, Outgoing}
 use Rattle.vcd.specs.declared.upcoming.TheConstants.{NEVER}
 use Rattle.vcd.specs.declared.upcoming.Upcoming.{Upcoming}
 use Rattle.vcd.specs.Changes.{change_line, change_lines, changes_at, some_changes_at}
-use Rattle.vcd.specs.Kept.{IsAhead, IsNext, IsPassing, lines_from, since}
+use Rattle.vcd.specs.Kept.{IsAhead, IsNext, IsPassing, IsSameAt, IsSameBut, lefts, lines_from, since, time_of}
 use Rattle.vcd.specs.Waves.{wave_in}
-use Rattle.vcd.proofs.WaveLemmas.{next_at_start, some_change}
+use Rattle.vcd.proofs.WaveLemmas.{next_at_start, next_later, some_change}
 use Rattle.vcd.proofs.Ways.{both}
 
 -- what holds of both holds of the lesser
@@ -26,28 +26,101 @@ of_lesser P a b first second =
       | false ↦ λ is. let least : b ≤ a = ltb-false a b is in let e : min a b ≡ b = omega arith in subst P (sym e) second
     ] refl
 
+-- Nets.
+
+pub same_at : (k : ℕ) (upcoming : Upcoming) (left : List (Bor (List (ℕ × Value)))) → IsSameAt k upcoming upcoming left left
+same_at k upcoming left = record { time = refl; rest = refl }
+
+then_same : (k : ℕ) (a b c : Upcoming) (l m n : List (Bor (List (ℕ × Value)))) → IsSameAt k a b l m → IsSameAt k b c m n → IsSameAt k a c l n
+then_same k a b c l m n first second = record { time = second.time ∙ first.time; rest = second.rest ∙ first.rest }
+
+-- of a net as much is kept as before
+pub next_same : (waves : List (List (ℕ × Value))) (t k : ℕ) (before upcoming : Upcoming) (left_before left : List (Bor (List (ℕ × Value)))) → IsSameAt k before upcoming left_before left →
+    IsNext (wave_in waves k) t (slice_index before.times k) (wave_in (lefts left_before) k) →
+    IsNext (wave_in waves k) t (slice_index upcoming.times k) (wave_in (lefts left) k)
+next_same waves t k before upcoming left_before left same next = rw (same.time, same.rest) next
+
+left_set : (place : ℕ) (left : Bor (List (ℕ × Value))) (all : List (Bor (List (ℕ × Value)))) → place < length all →
+    wave_in (lefts (slice_set all place left)) place ≡ left.now
+left_set place left all inside =
+    let room : place < length (lefts all) = rw (length-map) inside in
+    ap (λ lefts. wave_in lefts place) (map-set (λ l. l.now) all place left) ∙ get_or-set_same (lefts all) place left.now [] room
+
+left_other : (k place : ℕ) (left : Bor (List (ℕ × Value))) (all : List (Bor (List (ℕ × Value)))) → k ≢ place →
+    wave_in (lefts (slice_set all place left)) k ≡ wave_in (lefts all) k
+left_other k place left all other =
+    ap (λ lefts. wave_in lefts k) (map-set (λ l. l.now) all place left) ∙ get_or-set_other (lefts all) place k left.now [] other
+
+-- one wave more
+pub waves_more : (waves : List (List (ℕ × Value))) (place : ℕ) (left : Bor (List (ℕ × Value))) (all : List (Bor (List (ℕ × Value)))) → place < length all →
+    left.now ≡ wave_in waves place → ((k : ℕ) → k < place → wave_in (lefts all) k ≡ wave_in waves k) →
+    (k : ℕ) → k < place + 1 → wave_in (lefts (slice_set all place left)) k ≡ wave_in waves k
+waves_more waves place left all inside is before =
+    below_more _ _
+    (λ k less. left_other k place left all (omega arith) ∙ before k less)
+    (left_set place left all inside ∙ is)
+
+-- what a net is left with
+pub next_set : (waves : List (List (ℕ × Value))) (t place : ℕ) (rest : Bor (List (ℕ × Value))) (times : List ℕ) (left : List (Bor (List (ℕ × Value)))) → place < length times →
+    place < length left → IsNext (wave_in waves place) t (time_of rest.now) rest.now →
+    IsNext (wave_in waves place) t (slice_index (slice_set times place (time_of rest.now)) place) (wave_in (lefts (slice_set left place rest)) place)
+next_set waves t place rest times left inside inside_left next = rw (get_or-set_same, left_set place rest left inside_left) next
+
+-- a net moves on
+pub one_passed : (place time : ℕ) (rest : Bor (List (ℕ × Value))) (upcoming : Upcoming) (left : List (Bor (List (ℕ × Value)))) →
+    IsSameBut place upcoming (record upcoming { times = slice_set upcoming.times place time }) left (slice_set left place rest)
+one_passed place time rest upcoming left = record {
+  nets = λ k other.
+      record { time = get_or-set_other upcoming.times place k time 0 other; rest = left_other k place rest left other };
+  blocks = refl;
+  room = length-set left place rest;
+}
+
+pub none_moved : (place : ℕ) (upcoming : Upcoming) (left : List (Bor (List (ℕ × Value)))) → IsSameBut place upcoming upcoming left left
+none_moved place upcoming left = record { nets = λ k other. same_at k upcoming left; blocks = refl; room = refl }
+
+-- before any net
+pub none_passed : (waves : List (List (ℕ × Value))) (first t : ℕ) (upcoming : Upcoming) (left : List (Bor (List (ℕ × Value)))) (now : Outgoing) → t < NEVER →
+    IsPassing waves first t 0 upcoming upcoming left left NEVER now now
+none_passed waves first t upcoming left now moment = record {
+  passed = λ k h. absurd (omega arith);
+  under = λ k h. same_at k upcoming left;
+  over = λ k h. same_at k upcoming left;
+  blocks = refl;
+  room = refl;
+  below = λ k h. absurd (omega arith);
+  later = omega arith;
+  change = λ never. absurd (omega arith);
+  text = rw append-nil refl;
+}
+
 -- the next net is past the moment
-pub passed_more : (waves : List (List (ℕ × Value))) (first t i : ℕ) (before times : List ℕ) (least next : ℕ) (old now then : Outgoing) →
-    IsPassing waves first t i before times least old now → first + i < length times → first + i < length waves →
-    IsNext (wave_in waves (first + i)) (t + 1) next → Adds now then (change_line (first + i) (wave_in waves (first + i)) t) →
-    IsPassing waves first t (i + 1) before (slice_set times (first + i) next) (min least next) old then
-passed_more waves first t i before times least next old now then passing inside below is adds = record {
+pub passed_more : (waves : List (List (ℕ × Value))) (first t i : ℕ) (before upcoming next : Upcoming) (left_before left left_next : List (Bor (List (ℕ × Value))))
+    (least : ℕ) (old now then : Outgoing) →
+    IsPassing waves first t i before upcoming left_before left least old now → first + i < length waves →
+    IsNext (wave_in waves (first + i)) (t + 1) (slice_index next.times (first + i)) (wave_in (lefts left_next) (first + i)) →
+    IsSameBut (first + i) upcoming next left left_next → Adds now then (change_line (first + i) (wave_in waves (first + i)) t) →
+    IsPassing waves first t (i + 1) before next left_before left_next (min least (slice_index next.times (first + i))) old then
+passed_more waves first t i before upcoming next left_before left left_next least old now then passing below is same adds = record {
   passed =
       below_more _ _
-      (λ k h. let other : first + k ≢ first + i = omega arith in rw get_or-set_other (passing.passed k h))
-      (rw get_or-set_same is);
-  under = λ k h. let other : k ≢ first + i = omega arith in rw get_or-set_other (passing.under k h);
-  over = λ k h. let other : k ≢ first + i = omega arith in rw get_or-set_other (passing.over k (omega arith));
+      (λ k h. next_same waves (t + 1) (first + k) upcoming next left left_next (same.nets (first + k) (omega arith)) (passing.passed k h))
+      is;
+  under = λ k h. then_same k before upcoming next left_before left left_next (passing.under k h) (same.nets k (omega arith));
+  over = λ k h. then_same k before upcoming next left_before left left_next (passing.over k (omega arith)) (same.nets k (omega arith));
+  blocks = same.blocks ∙ passing.blocks;
+  room = same.room ∙ passing.room;
   below =
       below_more _ _
       (λ k h.
-      let other : first + k ≢ first + i = omega arith in
-      rw get_or-set_other (let le : least ≤ slice_index times (first + k) = passing.below k h in omega arith))
-      (rw get_or-set_same (omega arith));
-  later = let a : t + 1 ≤ least = passing.later in let b : t + 1 ≤ next = is.later in omega arith;
+      let as_before : slice_index next.times (first + k) ≡ slice_index upcoming.times (first + k) = (same.nets (first + k) (omega arith)).time in
+      let le : least ≤ slice_index upcoming.times (first + k) = passing.below k h in
+      omega arith)
+      (omega arith);
+  later = let a : t + 1 ≤ least = passing.later in let b : t + 1 ≤ slice_index next.times (first + i) = is.later in omega arith;
   change =
-      of_lesser (λ s. s < NEVER → some_changes_at waves s ≡ true) least next passing.change
-      (λ moment. some_change waves (first + i) next below (is.change moment));
+      of_lesser (λ s. s < NEVER → some_changes_at waves s ≡ true) least (slice_index next.times (first + i)) passing.change
+      (λ moment. some_change waves (first + i) (slice_index next.times (first + i)) below (is.change moment));
   text = rw add-one (both old now then (lines_from waves t first i) (change_line (first + i) (wave_in waves (first + i)) t) passing.text adds);
 }
 
@@ -78,10 +151,10 @@ none_from waves t first (suc n) none =
     rw (none n (omega arith)) (rw append-nil (none_from waves t first n (λ k h. none k (omega arith))))
 
 -- a block of which nothing changes at t has no lines there
-pub nothing_added : (waves : List (List (ℕ × Value))) (t block : ℕ) (upcoming : Upcoming) (now : Outgoing) → IsAhead waves t block upcoming →
+pub nothing_added : (waves : List (List (ℕ × Value))) (t block : ℕ) (upcoming : Upcoming) (left : List (Bor (List (ℕ × Value)))) (now : Outgoing) → IsAhead waves t block upcoming left →
     slice_index upcoming.least block ≢ t → block * 256 < length waves →
     Adds now now (lines_from waves t (block * 256) (min 256 (length waves - block * 256)))
-nothing_added waves t block upcoming now ahead other inside =
+nothing_added waves t block upcoming left now ahead other inside =
     let later : since t block block ≤ slice_index upcoming.least block = ahead.later block inside in
     let here : since t block block ≡ t = since_left t block block (omega arith) in
     rw (none_from waves t (block * 256) (min 256 (length waves - block * 256))
@@ -89,7 +162,7 @@ nothing_added waves t block upcoming now ahead other inside =
     let same : (block * 256 + k) / 256 ≡ block = omega arith in
     let least : slice_index upcoming.least ((block * 256 + k) / 256) ≤ slice_index upcoming.times (block * 256 + k) = ahead.least (block * 256 + k) (omega arith) in
     let least' : slice_index upcoming.least block ≤ slice_index upcoming.times (block * 256 + k) = rw same at least in
-    let next : IsNext (wave_in waves (block * 256 + k)) t (slice_index upcoming.times (block * 256 + k)) =
+    let next : IsNext (wave_in waves (block * 256 + k)) t (slice_index upcoming.times (block * 256 + k)) (wave_in (lefts left) (block * 256 + k)) =
     rw (same, here) at (ahead.next (block * 256 + k) (omega arith)) in
     next.none t (omega arith) (omega arith)))
     (rw append-nil refl)
@@ -118,44 +191,75 @@ one_or_other P a b one other =
       | false ↦ λ is. other (eqb-false a b is)
     ] refl
 
+-- the tables after a block of which nothing changes at t
+pub block_left : (waves : List (List (ℕ × Value))) (t block : ℕ) (upcoming : Upcoming) (left : List (Bor (List (ℕ × Value)))) → IsAhead waves t block upcoming left →
+    slice_index upcoming.least block ≢ t → block * 256 < length waves → IsAhead waves t (block + 1) upcoming left
+block_left waves t block upcoming left ahead other inside =
+    let here : since t block block ≡ t = since_left t block block (omega arith) in
+    let least : t ≤ slice_index upcoming.least block = rw here at (ahead.later block inside) in
+    record {
+      room = ahead.room;
+      next = λ k h.
+          one_or_other (λ at. k / 256 ≡ at → IsNext (wave_in waves k) (since t (block + 1) at) (slice_index upcoming.times k) (wave_in (lefts left) k)) (k / 256) block
+          (λ same.
+          let later : slice_index upcoming.least block ≤ slice_index upcoming.times k = rw same at (ahead.least k h) in
+          let next : IsNext (wave_in waves k) t (slice_index upcoming.times k) (wave_in (lefts left) k) = rw (same, here) at (ahead.next k h) in
+          rw (since_passed t (block + 1) block (omega arith)) (next_later (wave_in waves k) t (t + 1) _ _ next (omega arith) (omega arith)))
+          (λ apart same. rw (since_other t block (k / 256) apart) (ahead.next k h)) refl;
+      least = ahead.least;
+      later = λ at.
+          one_or_other (λ at. at * 256 < length waves → since t (block + 1) at ≤ slice_index upcoming.least at) at block
+          (λ h. rw (since_passed t (block + 1) block (omega arith)) (omega arith))
+          (λ apart h. rw (since_other t block at apart) (ahead.later at h));
+      change = ahead.change;
+    }
+
 -- the tables after a block
-pub block_passed : (waves : List (List (ℕ × Value))) (t block count : ℕ) (upcoming : Upcoming) (times : List ℕ) (least : ℕ) (old now : Outgoing) →
-    IsAhead waves t block upcoming → block * 256 < length waves → block < length upcoming.least → count ≡ min 256 (length waves - block * 256) →
-    IsPassing waves (block * 256) t count upcoming.times times least old now →
-    IsAhead waves t (block + 1) (record { times = times; least = slice_set upcoming.least block least })
-block_passed waves t block count upcoming times least old now ahead inside room all passing = record {
-  next = λ k.
-      in_stretch (λ k. k < length waves → IsNext (wave_in waves k) (since t (block + 1) (k / 256)) (slice_index times k)) (block * 256) count k
-      (λ less h. let other : k / 256 ≢ block = omega arith in rw (since_other t block (k / 256) other, passing.under k less) (ahead.next k h))
-      (λ j less h. rw (since_passed t (block + 1) ((block * 256 + j) / 256) (omega arith)) (passing.passed j less))
-      (λ le h. let other : k / 256 ≢ block = omega arith in rw (since_other t block (k / 256) other, passing.over k le) (ahead.next k h));
-  least = λ k.
-      in_stretch (λ k. k < length waves → slice_index (slice_set upcoming.least block least) (k / 256) ≤ slice_index times k) (block * 256) count k
-      (λ less h. let other : k / 256 ≢ block = omega arith in rw (get_or-set_other, passing.under k less) (ahead.least k h))
-      (λ j less h. let same : (block * 256 + j) / 256 ≡ block = omega arith in rw (same, get_or-set_same) (passing.below j less))
-      (λ le h. let other : k / 256 ≢ block = omega arith in rw (get_or-set_other, passing.over k le) (ahead.least k h));
-  later = λ at.
-      one_or_other (λ at. at * 256 < length waves → since t (block + 1) at ≤ slice_index (slice_set upcoming.least block least) at) at block
-      (λ h. rw (since_passed t (block + 1) block (omega arith), get_or-set_same) passing.later)
-      (λ other h. rw (since_other t block at other, get_or-set_other) (ahead.later at h));
-  change = λ at.
-      one_or_other
-      (λ at. at * 256 < length waves → slice_index (slice_set upcoming.least block least) at < NEVER →
-      some_changes_at waves (slice_index (slice_set upcoming.least block least) at) ≡ true) at block
-      (λ h. rw get_or-set_same passing.change)
-      (λ other h. rw get_or-set_other (ahead.change at h));
-}
+pub block_passed : (waves : List (List (ℕ × Value))) (t block count : ℕ) (before upcoming : Upcoming) (left_before left : List (Bor (List (ℕ × Value)))) (least : ℕ) (old now : Outgoing) →
+    IsAhead waves t block before left_before → block * 256 < length waves → block < length before.least → count ≡ min 256 (length waves - block * 256) →
+    IsPassing waves (block * 256) t count before upcoming left_before left least old now →
+    IsAhead waves t (block + 1) (record upcoming { least = slice_set upcoming.least block least }) left
+block_passed waves t block count before upcoming left_before left least old now ahead inside room all passing =
+    let inside_least : block < length upcoming.least = rw passing.blocks room in
+    record {
+      room = let room : length waves ≤ length left_before = ahead.room in rw passing.room room;
+      next = λ k.
+          in_stretch (λ k. k < length waves → IsNext (wave_in waves k) (since t (block + 1) (k / 256)) (slice_index upcoming.times k) (wave_in (lefts left) k)) (block * 256) count k
+          (λ less h. let other : k / 256 ≢ block = omega arith in
+          rw (since_other t block (k / 256) other) (next_same waves _ k before upcoming left_before left (passing.under k less) (ahead.next k h)))
+          (λ j less h. rw (since_passed t (block + 1) ((block * 256 + j) / 256) (omega arith)) (passing.passed j less))
+          (λ le h. let other : k / 256 ≢ block = omega arith in
+          rw (since_other t block (k / 256) other) (next_same waves _ k before upcoming left_before left (passing.over k le) (ahead.next k h)));
+      least = λ k.
+          in_stretch (λ k. k < length waves → slice_index (slice_set upcoming.least block least) (k / 256) ≤ slice_index upcoming.times k) (block * 256) count k
+          (λ less h. let other : k / 256 ≢ block = omega arith in rw (get_or-set_other, passing.blocks, (passing.under k less).time) (ahead.least k h))
+          (λ j less h. let same : (block * 256 + j) / 256 ≡ block = omega arith in rw (same, get_or-set_same) (passing.below j less))
+          (λ le h. let other : k / 256 ≢ block = omega arith in rw (get_or-set_other, passing.blocks, (passing.over k le).time) (ahead.least k h));
+      later = λ at.
+          one_or_other (λ at. at * 256 < length waves → since t (block + 1) at ≤ slice_index (slice_set upcoming.least block least) at) at block
+          (λ h. rw (since_passed t (block + 1) block (omega arith), get_or-set_same) passing.later)
+          (λ other h. rw (since_other t block at other, get_or-set_other, passing.blocks) (ahead.later at h));
+      change = λ at.
+          one_or_other
+          (λ at. at * 256 < length waves → slice_index (slice_set upcoming.least block least) at < NEVER →
+          some_changes_at waves (slice_index (slice_set upcoming.least block least) at) ≡ true) at block
+          (λ h. rw get_or-set_same passing.change)
+          (λ other h. rw (get_or-set_other, passing.blocks) (ahead.change at h));
+    }
 
 -- before moment 0
-pub ahead_at_start : (waves : List (List (ℕ × Value))) (m n : ℕ) → length waves ≤ m → length waves ≤ n * 256 →
+pub ahead_at_start : (waves : List (List (ℕ × Value))) (left : List (Bor (List (ℕ × Value)))) (m n : ℕ) → length waves ≤ m → length waves ≤ n * 256 →
     ((k : ℕ) → k < length waves → IsTimeline same_value standing (wave_in waves k)) →
-    IsAhead waves 0 0 (record { times = replicate m 0; least = replicate n 0 })
-ahead_at_start waves m n nets blocks lines = record {
-  next = λ k h. rw (since_left 0 0 (k / 256) (omega arith), get_or-replicate {A = ℕ} m k 0 0 (omega arith)) (next_at_start (wave_in waves k) (lines k h));
+    ((k : ℕ) → k < length waves → wave_in (lefts left) k ≡ wave_in waves k) → length waves ≤ length left →
+    IsAhead waves 0 0 (record { times = replicate m 0; least = replicate n 0 }) left
+ahead_at_start waves left m n nets blocks lines each room = record {
+  room = room;
+  next = λ k h.
+      rw (since_left 0 0 (k / 256) (omega arith), get_or-replicate {A = ℕ} m k 0 0 (omega arith), each k h) (next_at_start (wave_in waves k) (lines k h));
   least = λ k h. rw (get_or-replicate {A = ℕ} n (k / 256) 0 0 (omega arith)) (omega arith);
   later = λ block h. rw (since_left 0 0 block (omega arith)) (omega arith);
   change = λ block h moment.
-      let first : IsNext (wave_in waves 0) 0 0 = next_at_start (wave_in waves 0) (lines 0 (omega arith)) in
+      let first : IsNext (wave_in waves 0) 0 0 (wave_in waves 0) = next_at_start (wave_in waves 0) (lines 0 (omega arith)) in
       rw (get_or-replicate {A = ℕ} n block 0 0 (omega arith)) (some_change waves 0 0 (omega arith) (first.change (omega arith)));
 }
 

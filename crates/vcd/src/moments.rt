@@ -8,7 +8,9 @@ ghost use Rattle.vcd.specs.Kept.{IsAhead};
 use crate::lines::time_line;
 use crate::upcoming::{NEVER, Upcoming};
 use crate::waves::Waves;
+use design::MAX_NETS;
 use devices::{Sink, Writer};
+use waveform::Change;
 
 /// Writes the values at 0, then the changes at each later moment that has some, and the last moment. From one moment to the
 /// next it looks only at the first changes to come of each block of nets, and then into those blocks that have a change.
@@ -17,37 +19,44 @@ pub(crate) fn moments<W: Sink>(writer: &mut Writer<'_, W>, waves: &Waves<'_>)
 {
     waves.lawful();
     let horizon = waves.horizon();
-    let mut upcoming = Upcoming::at_start(waves);
-    first_moment(writer, waves, &mut upcoming);
+    let mut left: [&[Change]; MAX_NETS] = [&[]; MAX_NETS];
+    let mut upcoming = Upcoming::at_start(waves, &mut left);
+    first_moment(writer, waves, &mut upcoming, &mut left);
     let mut t = 0;
     while t < horizon {
         t = upcoming.first_time(waves, horizon);
-        later_moment(writer, waves, &mut upcoming, t);
+        later_moment(writer, waves, &mut upcoming, &mut left, t);
     }
 }
 
-fn first_moment<W: Sink>(writer: &mut Writer<'_, W>, waves: &Waves<'_>, upcoming: &mut Upcoming)
-    requires { IsAhead waves.now.waves 0 0 upcoming.old }
-    ensures ahead { IsAhead waves.now.waves 1 0 upcoming.new }
+fn first_moment<'a, W: Sink>(
+    writer: &mut Writer<'_, W>,
+    waves: &Waves<'a>,
+    upcoming: &mut Upcoming,
+    left: &mut [&'a [Change]],
+)
+    requires { IsAhead waves.now.waves 0 0 upcoming.old left.old }
+    ensures ahead { IsAhead waves.now.waves 1 0 upcoming.new left.new }
     ensures text { Adds writer.old writer.new (moment_lines waves.now.waves waves.now.horizon 0) }
 {
     time_line(writer, 0);
     writer.text(b"$dumpvars\n");
-    upcoming.pass(waves, 0, writer);
+    upcoming.pass(waves, left, 0, writer);
     writer.text(b"$end\n");
 }
 
-fn later_moment<W: Sink>(
+fn later_moment<'a, W: Sink>(
     writer: &mut Writer<'_, W>,
-    waves: &Waves<'_>,
+    waves: &Waves<'a>,
     upcoming: &mut Upcoming,
+    left: &mut [&'a [Change]],
     t: u64,
 )
     requires moment { t < NEVER }
-    requires ahead { IsAhead waves.now.waves t 0 upcoming.old }
-    ensures ahead { IsAhead waves.now.waves (t + 1) 0 upcoming.new }
+    requires ahead { IsAhead waves.now.waves t 0 upcoming.old left.old }
+    ensures ahead { IsAhead waves.now.waves (t + 1) 0 upcoming.new left.new }
     ensures text { Adds writer.old writer.new (time_line t ++ change_lines waves.now.waves t) }
 {
     time_line(writer, t);
-    upcoming.pass(waves, t, writer);
+    upcoming.pass(waves, left, t, writer);
 }

@@ -52,7 +52,7 @@ impl<'a> Waves<'a> {
     }
 
     /// The wave of the net at this place.
-    pub(crate) fn wave(&self, place: usize) -> &Wave
+    pub(crate) fn wave(&self, place: usize) -> &'a Wave
         requires { place < length self.now.waves }
         ensures { result.now ≡ wave_in self.now.waves place }
     {

@@ -11,22 +11,22 @@ loop-t-init g c =
 pub later_moment-requires-clause-ahead : goal.later_moment-requires-clause-ahead
 later_moment-requires-clause-ahead g c =
     let later : c.loop-t.t + 1 ≤ c.first_time-t.result =
-    c.first_time-t.ensures.no_earlier (c.loop-t.t + 1) (omega arith) (is_later c.args.waves.now.waves (c.loop-t.t + 1) c.loop-t.upcoming c.loop-t.invariant.0) in
-    ahead_later c.args.waves.now.waves (c.loop-t.t + 1) c.first_time-t.result c.loop-t.upcoming c.loop-t.invariant.0 later c.first_time-t.ensures.each
+    c.first_time-t.ensures.no_earlier (c.loop-t.t + 1) (omega arith) (is_later c.args.waves.now.waves (c.loop-t.t + 1) c.loop-t.upcoming c.loop-t.left c.loop-t.invariant.0) in
+    ahead_later c.args.waves.now.waves (c.loop-t.t + 1) c.first_time-t.result c.loop-t.upcoming c.loop-t.left c.loop-t.invariant.0 later c.first_time-t.ensures.each
 
 pub loop-t-smaller : goal.loop-t-smaller
 loop-t-smaller g c =
     let later : c.loop-t.t + 1 ≤ c.first_time-t.result =
-    c.first_time-t.ensures.no_earlier (c.loop-t.t + 1) (omega arith) (is_later c.args.waves.now.waves (c.loop-t.t + 1) c.loop-t.upcoming c.loop-t.invariant.0) in
+    c.first_time-t.ensures.no_earlier (c.loop-t.t + 1) (omega arith) (is_later c.args.waves.now.waves (c.loop-t.t + 1) c.loop-t.upcoming c.loop-t.left c.loop-t.invariant.0) in
     omega arith
 
 pub loop-t-preserved : goal.loop-t-preserved
 loop-t-preserved g c =
     let later : c.loop-t.t + 1 ≤ c.first_time-t.result =
-    c.first_time-t.ensures.no_earlier (c.loop-t.t + 1) (omega arith) (is_later c.args.waves.now.waves (c.loop-t.t + 1) c.loop-t.upcoming c.loop-t.invariant.0) in (
+    c.first_time-t.ensures.no_earlier (c.loop-t.t + 1) (omega arith) (is_later c.args.waves.now.waves (c.loop-t.t + 1) c.loop-t.upcoming c.loop-t.left c.loop-t.invariant.0) in (
       c.later_moment.ensures.ahead,
       c.first_time-t.ensures.within,
-      rw (lines_to c.args.waves.now.waves c.args.waves.now.horizon c.loop-t.t c.first_time-t.result c.loop-t.upcoming c.loop-t.invariant.0 (omega arith) (omega arith)
+      rw (lines_to c.args.waves.now.waves c.args.waves.now.horizon c.loop-t.t c.first_time-t.result c.loop-t.upcoming c.loop-t.left c.loop-t.invariant.0 (omega arith) (omega arith)
           c.first_time-t.ensures.each (λ before. c.first_time-t.ensures.change (omega arith)))
           (both c.args.writer.now c.loop-t.writer c.later_moment.new.writer (lines_below c.args.waves.now.waves c.args.waves.now.horizon (suc c.loop-t.t))
           (time_line c.first_time-t.result ++ change_lines c.args.waves.now.waves c.first_time-t.result) c.loop-t.invariant.2 c.later_moment.ensures.text),

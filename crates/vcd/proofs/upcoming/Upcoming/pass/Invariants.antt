@@ -6,5 +6,5 @@ use Rattle.vcd.proofs.upcoming.Upcoming.pass.Given as goal
 
 abbrev pub invariant-loop-block : goal.invariant-loop-block
 invariant-loop-block g l =
-    IsAhead l.waves.waves l.t l.block l.self ×
+    IsAhead l.waves.waves l.t l.block l.self l.left ×
     Adds l.initial.writer l.writer (lines_from l.waves.waves l.t 0 (min (l.block * 256) (length l.waves.waves)))

@@ -1,12 +1,16 @@
 use Rattle.std.proofs.Common.{arith}
-use Rattle.vcd.proofs.UpcomingLemmas.{block_passed, nothing_added}
+use Rattle.vcd.proofs.UpcomingLemmas.{block_left, block_passed, nothing_added}
 use Rattle.vcd.proofs.upcoming.Upcoming.pass_block.Goals as goal
 
 pub returns-then-self-block-clause-text : goal.returns-then-self-block-clause-text
 returns-then-self-block-clause-text g c =
-    nothing_added c.args.waves.now.waves c.args.t c.args.block c.args.self.now c.args.writer.now c.requires.ahead c.if-self-block.true c.requires.block
+    nothing_added c.args.waves.now.waves c.args.t c.args.block c.args.self.now c.args.left.now c.args.writer.now c.requires.ahead c.if-self-block.true c.requires.block
+
+pub returns-then-self-block-clause-ahead : goal.returns-then-self-block-clause-ahead
+returns-then-self-block-clause-ahead g c =
+    block_left c.args.waves.now.waves c.args.t c.args.block c.args.self.now c.args.left.now c.requires.ahead c.if-self-block.true c.requires.block
 
 pub returns-clause-ahead : goal.returns-clause-ahead
 returns-clause-ahead g c =
-    block_passed c.args.waves.now.waves c.args.t c.args.block c.min-count.result c.args.self.now c.pass_nets.new.times c.pass_nets.result
+    block_passed c.args.waves.now.waves c.args.t c.args.block c.min-count.result c.args.self.now c.pass_nets.new.self c.args.left.now c.pass_nets.new.left c.pass_nets.result
     c.args.writer.now c.pass_nets.new.writer c.requires.ahead c.requires.block (omega arith) (omega arith) c.pass_nets.ensures
