@@ -171,6 +171,43 @@ fn a_source_that_fails_leaves_the_replies_to_whole_lines(rt: HostRuntime) {
     }
 }
 
+#[test]
+fn lines_after_quit_stay_in_the_source(rt: HostRuntime) {
+    let input = b"input a\nquit\nwave a\n".as_slice();
+    let mut source = Device::new(Pieces::new(input, 1));
+    let mut sink = Device::new(Vec::new(rt.alloc()));
+    let result = run(
+        &rt,
+        rt.alloc(),
+        EMPTY,
+        &up_to(10),
+        &mut source,
+        &mut sink,
+        Serial::new(),
+    );
+    assert_eq!(rt; result, Ok(()));
+    assert_eq!(rt; sink.inner.as_slice(), b"ok 1\nok 1\n".as_slice());
+    assert_eq!(rt; source.inner.inner, b"wave a\n".as_slice());
+}
+
+#[test]
+fn a_source_that_would_fail_is_left_alone_after_quit(rt: HostRuntime) {
+    let input = b"input a\nquit\n".as_slice();
+    let mut source = Device::new(Failing::new(input, input.len()));
+    let mut sink = Device::new(Vec::new(rt.alloc()));
+    let result = run(
+        &rt,
+        rt.alloc(),
+        EMPTY,
+        &up_to(10),
+        &mut source,
+        &mut sink,
+        Serial::new(),
+    );
+    assert_eq!(rt; result, Ok(()));
+    assert_eq!(rt; sink.inner.as_slice(), b"ok 1\nok 1\n".as_slice());
+}
+
 const EDITS: &[u8] =
     b"net a'b wire\nnet a.b wire\ninput $end\ninput a\nnet a wire\ninput a\nnet y wire\n\
 gate g' not 1 1 y a\ngate g not 1 1 y a\ngate g not 0 1 y a\ngate h not 0 1 y a\ngate h not 1000001 0 y a\n\
