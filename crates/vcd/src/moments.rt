@@ -14,6 +14,8 @@ use waveform::Change;
 
 /// Writes the values at 0, then the changes at each later moment that has some, and the last moment. From one moment to the
 /// next it looks only at the first changes to come of each block of nets, and then into those blocks that have a change.
+// Not inlined: what its tables take of the stack is paid for at each call of the function that has them.
+#[inline(never)]
 pub(crate) fn moments<W: Sink>(writer: &mut Writer<'_, W>, waves: &Waves<'_>)
     ensures { Adds writer.old writer.new (lines_below waves.now.waves waves.now.horizon (suc waves.now.horizon)) }
 {
