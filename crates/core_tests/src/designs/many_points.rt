@@ -47,10 +47,30 @@ fn check_count(rt: &impl Abort, design: &Design, net: NetKey, count: usize) {
     assert_eq!(rt; design.point_count(), count);
 }
 
+fn check_next(rt: &impl Abort, design: &Design, net: NetKey, next: &[(u64, Option<u64>)]) {
+    assert!(rt; design.net_place_of(net).is_some());
+    for (t, wanted) in next {
+        assert_eq!(rt; design.net_of(net).next_point(*t), *wanted, "after {t}");
+    }
+}
+
 // 1 at 0, 4, .. 19,996.
 fn check_first(rt: &impl Abort, design: &Design, a: NetKey) {
     check_count(rt, design, a, 5_000);
     check_set(rt, design, a, &[(0, true), (2, false), (19_996, true)]);
+    // Around the pieces' ends too.
+    check_next(
+        rt,
+        design,
+        a,
+        &[(0, Some(4)), (3, Some(4)), (19_992, Some(19_996))],
+    );
+    check_next(
+        rt,
+        design,
+        a,
+        &[(4_092, Some(4_096)), (8_188, Some(8_192)), (19_996, None)],
+    );
     check_stimulus(rt, design, a, &[(0, Value::One), (19_999, Value::One)]);
 }
 
