@@ -1,0 +1,3 @@
+pub mod Dirty
+pub mod Kept
+pub mod Stirred

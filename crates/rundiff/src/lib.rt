@@ -1,0 +1,2 @@
+//! What differs between two runs, and when.
+#![tactic(auto)]
