@@ -39,6 +39,13 @@ module _ {A : Type 0} {same : A → A → Bool} {drift : A → ℕ → A} (drift
       (λ after. let here : suc u ≡ t = omega arith in ap (changes_below same drift f) here)
       (cases_lt t (suc u))
 
+  -- nor does the moment after t add one, if the value merely drifts there
+  pub none_added : (t : ℕ) → f (suc t) ≡ drift (f t) (suc t) → changes_below same drift f (suc (suc t)) ≡ changes_below same drift f (suc t)
+  none_added t drifted =
+      let still : is_change same drift f (suc t) ≡ false =
+      ap (λ a. not (same (f (suc t)) a)) (sym drifted) ∙ ap not (drifts.equal_is_same (f (suc t))) in
+      one_more (suc t) ∙ ap (λ b. changes_below same drift f (suc t) ++ change_at (suc t) b) still ∙ append-nil (changes_below same drift f (suc t))
+
   change_all : (P : ℕ × A → Type 0) (n : ℕ) (b : Bool) → P (n, f n) → All P (change_at n b)
   change_all P n true one = All-cons P (n, f n) [] one (All-nil P)
   change_all P n false one = All-nil P
@@ -98,7 +105,7 @@ module _ {A : Type 0} {same : A → A → Bool} {drift : A → ℕ → A} (drift
         ∙ push_or_not m (same (f (suc m)) (drift (f m) (suc m))) xs
         ∙ sym (one_more (suc m))
 
-    changes_end : (n : ℕ) → EndsBefore (changes_below same drift f n) n
+    pub changes_end : (n : ℕ) → EndsBefore (changes_below same drift f n) n
     changes_end zero = refl
     changes_end (suc m) =
         let last = changes_last m in
@@ -117,7 +124,7 @@ module _ {A : Type 0} {same : A → A → Bool} {drift : A → ℕ → A} (drift
         cond-false (nat_lt t n) (value_by drift start (changes_below same drift f n) t) (drift (f n) t) (le-ltb t n after) ∙ ap (λ u. drift (f u) t) (sym here) ∙ settled t)
         (cases_lt t n)
 
-    changes_in_turn : (n : ℕ) → AreInTurn same drift None (changes_below same drift f n)
+    pub changes_in_turn : (n : ℕ) → AreInTurn same drift None (changes_below same drift f n)
     changes_in_turn zero = tt
     changes_in_turn (suc n) =
         subst (λ xs. AreInTurn same drift None xs) (pushed_is n)

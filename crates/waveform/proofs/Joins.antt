@@ -32,13 +32,13 @@ module _ {A : Type 0} {same : A → A → Bool} {drift : A → ℕ → A} (drift
       (turns.0, (omega arith, rw (alike e.0 (omega arith)) turns.1.1), turns.2)
 
   -- an entry of ys at t or before, with what ys gives at t
-  at_moment : (start : A) (ys : List (ℕ × A)) (t : ℕ) → IsTimeline same drift ys →
+  pub at_moment : (start : A) (ys : List (ℕ × A)) (t : ℕ) → IsTimeline same drift ys →
       (d : ℕ × A) × (latest ys t ≡ Some d) × ((d.0 ≤ t) × (value_by drift start ys t ≡ drift d.1 t))
   at_moment start ys t timeline =
       let entry = latest_some same drift (λ _. Unit {0}) ys t timeline (λ k d low. tt) in
       (entry.0, entry.1, (entry.2.0, ap (λ o. option_map_or (λ e. drift e.1 t) o start) entry.1))
 
-  value_settled : (start : A) (ys : List (ℕ × A)) (t : ℕ) → IsTimeline same drift ys →
+  pub value_settled : (start : A) (ys : List (ℕ × A)) (t : ℕ) → IsTimeline same drift ys →
       drift (value_by drift start ys t) t ≡ value_by drift start ys t
   value_settled start ys t timeline =
       let entry = at_moment start ys t timeline in

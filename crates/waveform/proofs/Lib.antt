@@ -1,6 +1,10 @@
+pub mod Ends
+pub mod Follows
 pub mod Functions
+pub mod Gaps
 pub mod Joins
 pub mod Lists
+pub mod Patching
 pub mod Places
 pub mod Pushes
 pub mod Splices

@@ -2,6 +2,7 @@ pub mod Changes
 pub mod Drifts
 pub mod Entries
 pub mod Joins
+pub mod Patches
 pub mod Runs
 pub mod SampleLaws
 pub mod Tables

@@ -1,6 +1,6 @@
 -- A timeline: a function of time, kept as entries. An entry (t, a) says that from t on, up to the next entry, the value at u
 -- is `drift a u`. A drift says how a value moves by itself while time goes on; of a value that stands it is `λ v t. v` (own).
-use Rattle.std.specs.Prelude.{◌≡◌, ◌<◌, ℕ, zero, suc, Bool, true, false, not, ◌&&◌, nat_lt, nat_le, if◌then◌else◌, Option, Some, None, List, [], ◌∷◌, ◌++◌, map, length}
+use Rattle.std.specs.Prelude.{◌≡◌, ◌<◌, ℕ, zero, suc, Bool, true, false, not, ◌&&◌, nat_lt, nat_le, if◌then◌else◌, Option, Some, None, List, [], ◌∷◌, ◌++◌, map, length, max}
 use Rattle.std.specs.List.{filter, find, last_or}
 use Rattle.std.specs.Option.{option_map_or}
 
@@ -33,6 +33,11 @@ entries_before entries t = filter (λ e. nat_lt e.0 t) entries
 -- the entries after t
 abbrev pub entries_after : {A : Type 0} → List (ℕ × A) → ℕ → List (ℕ × A)
 entries_after entries t = filter (λ e. nat_lt t e.0) entries
+
+-- the first moment that lies after all entries
+abbrev pub end_of : {A : Type 0} → List (ℕ × A) → ℕ
+end_of [] = 0
+end_of (e ∷ es) = max (suc e.0) (end_of es)
 
 -- the latest entry at t or before
 abbrev pub latest : {A : Type 0} → List (ℕ × A) → ℕ → Option (ℕ × A)

@@ -1,7 +1,7 @@
 //! Laws of functions of time and of their timelines: each function does nothing, and its contract is the law.
 
-ghost use Rattle.std.specs.Prelude.{◌≡◌, ◌<◌, ◌≤◌, ℕ, suc, false, List, All};
-ghost use Rattle.waveform.specs.Timelines.{IsAlwaysSettled, IsTimeline, changes_below, entries_until, is_change, pushed, value_by};
+ghost use Rattle.std.specs.Prelude.{◌≡◌, ◌<◌, ◌≤◌, ℕ, suc, false, List, All, IfSome};
+ghost use Rattle.waveform.specs.Timelines.{IsAlwaysSettled, IsTimeline, changes_below, entries_until, first_after, is_change, pushed, value_by};
 
 use crate::sample::Sample;
 
@@ -42,4 +42,41 @@ pub fn cut_of_changes<V: Sample>()
 pub fn no_change<V: Sample>()
     ensures { (f : ℕ → V) (t u : ℕ) → t ≤ u → ((k : ℕ) → t ≤ k → k < u → is_change V.same V.drift f k ≡ false) →
         changes_below V.same V.drift f u ≡ changes_below V.same V.drift f t }
+{}
+
+/// Nor does one moment add a change at which the value is the one before, drifted to there.
+pub fn no_change_by_drift<V: Sample>()
+    ensures { (f : ℕ → V) (t : ℕ) → f (suc t) ≡ V.drift (f t) (suc t) →
+        changes_below V.same V.drift f (suc (suc t)) ≡ changes_below V.same V.drift f (suc t) }
+{}
+
+/// Functions that have the same values below a moment have the same changes below it.
+pub fn same_changes<V: Sample>()
+    ensures { (f g : ℕ → V) (n : ℕ) → ((t : ℕ) → t < n → f t ≡ g t) → changes_below V.same V.drift f n ≡ changes_below V.same V.drift g n }
+{}
+
+/// The function of a timeline is settled, and the timeline is that of its changes, up to a moment after which it has no entry.
+pub fn changes_of_timeline<V: Sample>()
+    ensures settled { (xs : List (ℕ × V)) → IsTimeline V.same V.drift xs → IsAlwaysSettled V.drift (value_by V.drift V.start xs) }
+    ensures changes { (xs : List (ℕ × V)) → IsTimeline V.same V.drift xs → (t : ℕ) → All (λ e. e.0 ≤ t) xs →
+        xs ≡ changes_below V.same V.drift (value_by V.drift V.start xs) (suc t) }
+{}
+
+/// From a moment `t` on, while no entry comes, the entries so far stay the same. The next entry, if there is one, lies at `u`
+/// or later.
+pub fn entries_between<V: Sample>()
+    ensures { (xs : List (ℕ × V)) → IsTimeline V.same V.drift xs → (t k u : ℕ) → t ≤ k → k < u →
+        IfSome (first_after xs t) (λ e. u ≤ e.0) → entries_until xs k ≡ entries_until xs t }
+{}
+
+/// And the value merely drifts: a wave's stands.
+pub fn value_between<V: Sample>()
+    ensures { (xs : List (ℕ × V)) → IsTimeline V.same V.drift xs → (t k u : ℕ) → t ≤ k → k < u →
+        IfSome (first_after xs t) (λ e. u ≤ e.0) → value_by V.drift V.start xs k ≡ V.drift (value_by V.drift V.start xs t) k }
+{}
+
+/// So a function merely drifts up to its next change.
+pub fn drift_between<V: Sample>()
+    ensures { (f : ℕ → V) → IsAlwaysSettled V.drift f → (n t k u : ℕ) → t ≤ k → k < u → u ≤ suc n →
+        IfSome (first_after (changes_below V.same V.drift f (suc n)) t) (λ e. u ≤ e.0) → f k ≡ V.drift (f t) k }
 {}

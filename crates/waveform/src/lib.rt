@@ -5,6 +5,7 @@ mod change;
 mod entries;
 mod entry;
 pub mod laws;
+mod patch;
 mod run;
 mod sample;
 mod table;
@@ -14,6 +15,7 @@ mod wave;
 
 pub use change::Change;
 pub use entry::TraceEntry;
+pub use patch::Patch;
 pub use run::Run;
 pub use sample::Sample;
 pub use timeline::Timeline;

@@ -4,6 +4,7 @@ ghost use Rattle.std.specs.Prelude.{◌≡◌, ◌<◌, ◌≤◌, ℕ, nat_lt, 
 ghost use Rattle.std.specs.List.{last_or};
 ghost use Rattle.waveform.specs.Timelines.{IsTimeline, pushed, value_by, entries_until};
 
+mod follow;
 mod look;
 mod splice;
 

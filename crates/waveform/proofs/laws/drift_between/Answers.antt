@@ -1,0 +1,10 @@
+use Rattle.waveform.specs.Drifts.{Drifts}
+use Rattle.waveform.proofs.Gaps.{drifts_between}
+use Rattle.waveform.proofs.laws.drift_between.Goals as goal
+
+pub returns : goal.returns
+returns g c =
+    let sample = g.V.Sample in
+    let laws = g.met.V.Sample in
+    let drifts : Drifts sample.same sample.drift = record { same_is_equal = laws.same_is_equal; equal_is_same = laws.equal_is_same; drift_twice = laws.drift_twice } in
+    λ f settled n t k u order low within next. drifts_between drifts sample.start f settled n t k u order low within next
