@@ -1,12 +1,11 @@
 -- What a run beside an old one keeps of its own between two moments: the nets that are live have waves of their own, and
 -- their drivers have traces of their own. All else is as in the old run.
-use Rattle.std.specs.Prelude.{◌≡◌, ◌<◌, ◌≤◌, Bool, true, false, ℕ, zero, suc, List, Option, Some, None}
+use Rattle.std.specs.Prelude.{◌≡◌, ◌<◌, ◌≤◌, Bool, true, false, ℕ, zero, suc, List, Some}
 use Rattle.std.specs.List.{All}
 use Rattle.fourstate.specs.declared.value.Value.{Value}
 use Rattle.gatestep.specs.Step.{State, Evaluation}
 use Rattle.design.specs.Connections.{Connection, to_net}
 use Rattle.design.specs.Netlist.{NetEntry, Netlist, net_named, drivers_of, has_point}
-use Rattle.waveform.specs.Timelines.{changes_below}
 use Rattle.scratch.specs.Run.{state_before, terminal_at, value}
 use Rattle.rundiff.specs.Dirty.{is_new}
 use Rattle.rundiff.specs.Stirred.{is_due}
@@ -57,10 +56,3 @@ pub record IsClear (answer : Evaluation → ℕ → State) (old new : Netlist) (
   pub points : All (λ x. live x.name ≡ true → Between r u (λ m. has_point x.points m ≡ false)) new.nets
   pub waves : All (λ x. live x.name ≡ true → Between r u (λ m. m ≤ old.horizon → read_at answer old (to_net x.name) m ≡ read_at answer old (to_net x.name) r)) new.nets
   pub reads : All (λ g. live g.output ≡ true → All (λ connection. Between r u (λ m. m ≤ old.horizon → read_at answer old connection m ≡ read_at answer old connection r)) g.inputs) new.gates
-
--- a function of time of the new run beside that of the old one, below n: one of its own is kept by its changes, once there is
--- a moment; else both have the same values
-abbrev pub Keeps : {A : Type 0} → (A → A → Bool) → (A → ℕ → A) → (kept : Option (Option (List (ℕ × A)))) → (old new : ℕ → A) → ℕ → Type 0
-Keeps same drift None old new n = (u : ℕ) → u < n → new u ≡ old u
-Keeps same drift (Some None) old new n = n ≡ 0
-Keeps same drift (Some (Some line)) old new n = line ≡ changes_below same drift new n

@@ -1,2 +1,15 @@
 //! What differs between two runs, and when.
 #![tactic(auto)]
+
+mod front;
+mod gates;
+mod holding;
+mod looking;
+mod nets;
+mod old;
+mod patches;
+mod places;
+mod reading;
+mod same;
+
+pub use front::Front;
