@@ -121,6 +121,7 @@ pub record IsFront (answer : Evaluation → ℕ → State) (old new : Netlist) (
   pub wave_ends : EndBy front.waves n
   pub trace_ends : EndBy front.traces n
   pub own_traces : (p : ℕ) → held_in front p ≡ true → (n ≡ 0) ⊎ IsOwn (get nat_cmp front.traces p)
+  pub kept_waves : (p : ℕ) → (get nat_cmp front.waves p ≡ None) ⊎ IsOwn (get nat_cmp front.waves p)
   pub other_waves : (p : ℕ) → live_in front p ≡ false → get nat_cmp front.waves p ≡ None
   pub other_traces : (p : ℕ) → held_in front p ≡ false → get nat_cmp front.traces p ≡ None
   pub blank : AreBlank front
@@ -135,6 +136,7 @@ pub record AreNetsDone (answer : Evaluation → ℕ → State) (old new : Netlis
   pub traces : AreTraces answer old new front.traces t
   pub wave_ends : EndBy front.waves (suc t)
   pub trace_ends : EndBy front.traces t
+  pub kept_waves : (p : ℕ) → (get nat_cmp front.waves p ≡ None) ⊎ IsOwn (get nat_cmp front.waves p)
   pub other_waves : (p : ℕ) → live_in front p ≡ false → get nat_cmp front.waves p ≡ None
   pub other_traces : (p : ℕ) → held_in front p ≡ false → get nat_cmp front.traces p ≡ None
   pub blank : AreBlank front
@@ -151,6 +153,7 @@ pub record IsWaiting (answer : Evaluation → ℕ → State) (old new : Netlist)
   pub wave_ends : EndBy front.waves (suc t)
   pub trace_ends : (p : ℕ) → ForSome (get nat_cmp front.traces p) (λ patch. (end_of patch.line ≤ suc t) × (is_working answer old new t p ≡ true → end_of patch.line ≤ t))
   pub own_traces : (p : ℕ) → held_in front p ≡ true → is_working answer old new t p ≡ false → IsOwn (get nat_cmp front.traces p)
+  pub kept_waves : (p : ℕ) → (get nat_cmp front.waves p ≡ None) ⊎ IsOwn (get nat_cmp front.waves p)
   pub other_waves : (p : ℕ) → live_in front p ≡ false → get nat_cmp front.waves p ≡ None
   pub other_traces : (p : ℕ) → held_in front p ≡ false → get nat_cmp front.traces p ≡ None
   pub blank : AreBlank front

@@ -115,6 +115,7 @@ returns-clause-front g c =
                 (λ patch is. let low = before.trace_ends p patch is in let high : end_of patch.line ≤ suc t = omega arith in (high, λ on. low))
           ] refl;
       own_traces = λ p on off. done.own p (resting.all p ∙ rests_on (held p) (test p) on off);
+      kept_waves = before.kept_waves;
       other_waves = before.other_waves;
       other_traces = λ p free. done.others p (resting.all p ∙ resting_off (held p) (test p) free) ∙ before.other_traces p free;
       blank = record { wave = before.blank.wave; trace = before.blank.trace };

@@ -1,4 +1,4 @@
-use Rattle.std.proofs.Common.{◌≡◌, ◌∙◌, ◌<◌, ap, sym, subst, refl, suc, ℕ, List, All, true, false, length, Option}
+use Rattle.std.proofs.Common.{◌≡◌, ◌∙◌, ◌<◌, ap, sym, subst, refl, suc, ℕ, List, All, true, false, length, Option, None, ◌⊎◌, inl, inr}
 use Rattle.std.specs.Prelude.{◌||◌, AllPairs}
 use Rattle.std.specs.BTreeMap.{get}
 use Rattle.std.specs.BTreeSet.{contains}
@@ -10,7 +10,7 @@ use Rattle.design.specs.Keys.{netlist}
 use Rattle.waveform.specs.Entries.{standing}
 use Rattle.waveform.specs.Patches.{Keeps, PatchRecord}
 use Rattle.scratch.specs.Run.{value}
-use Rattle.rundiff.specs.Fronts.{IsAlike, is_among, net_at}
+use Rattle.rundiff.specs.Fronts.{IsAlike, IsOwn, is_among, net_at}
 use Rattle.rundiff.specs.Kept.{read_at}
 use Rattle.rundiff.proofs.Alike.{alike_grows}
 use Rattle.rundiff.proofs.NetsDone.{agrees_now, clean_now, closed_now, free_before, free_wave}
@@ -70,6 +70,11 @@ returns g c =
       traces = before.traces;
       wave_ends = put.ends;
       trace_ends = before.trace_ends;
+      kept_waves = λ p.
+          elim (live p) as (λ b. live p ≡ b → (now p ≡ None) ⊎ IsOwn (now p)) [
+            | true ↦ λ on. inr (put.own p (among p ∙ on))
+            | false ↦ λ free. inl (put.others p (among p ∙ free) ∙ before.other_waves p free)
+          ] refl;
       other_waves = λ p off. let free = (or_none (is_among c.in_ok-found.found.items p) (live p) (sym (adds p) ∙ off)).1 in put.others p (among p ∙ free) ∙ before.other_waves p free;
       other_traces = λ p off.
           before.other_traces p (free_before answer old new is t c.requires.within live later grows before.closed before.agrees alike (contains nat_cmp c.args.self.now.held) (contains nat_cmp c.hold.new.held) before.drivers c.in_ok-hold.ensures.drivers p off);

@@ -99,6 +99,7 @@ returns-clause-front g c =
             | true ↦ λ yes. done.own p (among p ∙ on_true (held p) (test p) on yes)
             | false ↦ λ no. subst (λ (o : Option (PatchRecord State)). IsOwn o) (sym (done.others p (among p ∙ off_right (held p) (test p) no))) (before.own_traces p on no)
           ] refl);
+      kept_waves = before.kept_waves;
       other_waves = before.other_waves;
       other_traces = λ p free. done.others p (among p ∙ off_left (held p) (test p) free) ∙ before.other_traces p free;
       blank = record { wave = before.blank.wave; trace = before.blank.trace };
