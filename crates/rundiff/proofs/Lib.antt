@@ -1,6 +1,7 @@
 pub mod Clean
 pub mod Driven
 pub mod Filtering
+pub mod FirstLive
 pub mod Jumping
 pub mod Known
 pub mod Lists

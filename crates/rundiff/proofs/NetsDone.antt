@@ -19,7 +19,7 @@ use Rattle.rundiff.proofs.Resting.{none_more}
 use Rattle.rundiff.proofs.Settling.{not_dirty, settled, still_closed, untouched_same}
 use Rattle.rundiff.proofs.Wired.{inputs_there}
 
-same_default : {X : Type 0} (xs : List X) (k : ℕ) (d e : X) → k < length xs → slice_index_or xs k d ≡ slice_index_or xs k e
+pub same_default : {X : Type 0} (xs : List X) (k : ℕ) (d e : X) → k < length xs → slice_index_or xs k d ≡ slice_index_or xs k e
 same_default [] k d e low = absurd (omega arith)
 same_default (x ∷ xs) zero d e low = refl
 same_default (x ∷ xs) (suc k) d e low = same_default xs k d e (omega arith)

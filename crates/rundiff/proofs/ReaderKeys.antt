@@ -11,11 +11,11 @@ use Rattle.design.specs.declared.terminal.Terminal.TheVariants.{Net, Constant}
 use Rattle.design.specs.Keys.{AreKeys, IsConnected, IsThere, Keyed, KeyedGate, connection_in, entry_in, gate_by_key, is_at, name_of, net_by_key, netlist, reader_keys, reads_key}
 use Rattle.design.specs.Names.{same_name}
 use Rattle.design.specs.Netlist.{GateEntry, NetEntry, is_at_net, reads}
-use Rattle.rundiff.specs.Fronts.{blank_gate, gate_at, is_among}
+use Rattle.rundiff.specs.Fronts.{blank_gate, blank_net, gate_at, is_among, net_at}
 use Rattle.rundiff.proofs.Lists.{same_name_equal}
 use Rattle.rundiff.proofs.Readers.{position_found}
 
-same_number : (k p : ℕ) → (k == p) ≡ true → k ≡ p
+pub same_number : (k p : ℕ) → (k == p) ≡ true → k ≡ p
 same_number k p h = grind (arith, nat_tests)
 
 number_itself : (k : ℕ) → (k == k) ≡ true
@@ -24,7 +24,7 @@ number_itself k = grind (arith, nat_tests)
 other_number : (k p : ℕ) → k ≢ p → (k == p) ≡ false
 other_number k p apart = elim (k == p) as (λ b. (k == p) ≡ b → b ≡ false) [ true ↦ λ is. absurd (apart (same_number k p is)) | false ↦ λ is. refl ] refl
 
-placed : {X : Type 0} (test : ℕ × X → Bool) (xs : List (ℕ × X)) (start : ℕ) → IsSome (option_map (λ e. e.1) (find test xs)) → (q : ℕ) × (position_from test start xs ≡ Some q)
+pub placed : {X : Type 0} (test : ℕ × X → Bool) (xs : List (ℕ × X)) (start : ℕ) → IsSome (option_map (λ e. e.1) (find test xs)) → (q : ℕ) × (position_from test start xs ≡ Some q)
 placed test [] start is = absurd (cc)
 placed {X} test (x ∷ xs) start is =
     elim (test x) as (λ b. IsSome (option_map (λ (e : ℕ × X). e.1) (cond {A = Option (ℕ × X)} b (Some x) (find test xs))) → (q : ℕ) × (cond {A = Option ℕ} b (Some start) (position_from test (start + 1) xs) ≡ Some q)) [
@@ -74,7 +74,7 @@ index_map f [] q d e low = absurd (omega arith)
 index_map f (x ∷ xs) zero d e low = refl
 index_map f (x ∷ xs) (suc q) d e low = index_map f xs q d e (omega arith)
 
-found_at : {X : Type 0} (es : List (ℕ × X)) (q : ℕ) (d : ℕ × X) → AllPairs (λ a b. a ≢ b) (keys_of es) → q < length es → record_at es (slice_index_or es q d).0 ≡ Some (slice_index_or es q d).1
+pub found_at : {X : Type 0} (es : List (ℕ × X)) (q : ℕ) (d : ℕ × X) → AllPairs (λ a b. a ≢ b) (keys_of es) → q < length es → record_at es (slice_index_or es q d).0 ≡ Some (slice_index_or es q d).1
 found_at [] q d apart low = absurd (omega arith)
 found_at {X} (e ∷ es) zero d apart low = let on = number_itself e.0 in rw on refl
 found_at {X} (e ∷ es) (suc q) d apart low =
@@ -138,3 +138,49 @@ reader_at d keys law blank none key place there low reading =
     records [] p low = absurd (omega arith)
     records (x ∷ es) zero low = omega arith
     records (x ∷ es) (suc p) low = let rest = records es p (omega arith) in omega arith
+
+-- a gate, under its key
+pub record IsEntry (d : Keyed) (place k : ℕ) (g : KeyedGate) : Type 0 where
+  pub found : gate_by_key d k ≡ Some g
+  pub entry : gate_at (netlist d) place ≡ entry_in d.nets g
+  pub there : IsSome (net_by_key d g.output)
+
+pub entry_at : (d : Keyed) → AreKeys d → (none : ℕ × KeyedGate) (place : ℕ) → place < length (netlist d).gates → (k : ℕ) × (g : KeyedGate) × IsEntry d place k g
+unfolding netlist
+entry_at d keys none place low =
+    let e : ℕ × KeyedGate = slice_index_or d.gates place none in
+    let inside : place < length d.gates = lengths d.gates place low in
+    let entry : gate_at (netlist d) place ≡ entry_in d.nets e.1 =
+    index_map (λ (p : ℕ × GateEntry). p.1) (map (λ p. (p.0, entry_in d.nets p.1)) d.gates) place (0, blank_gate) blank_gate (more d.gates place inside)
+    ∙ ap (λ (p : ℕ × GateEntry). p.1) (index_map (λ (p : ℕ × KeyedGate). (p.0, entry_in d.nets p.1)) d.gates place none (0, blank_gate) inside) in
+    let connected : IsConnected d.nets e.1 =
+    subst (IsConnected d.nets) (index_map (λ (p : ℕ × KeyedGate). p.1) d.gates place none none.1 inside) (keys.connected place none.1 (records d.gates place inside)) in
+    (e.0, e.1, record { found = found_at d.gates place none keys.distinct_gates inside; entry = entry; there = some_of (net_by_key d e.1.output) (λ n. n.is_input ≡ false) connected.output })
+  where
+    lengths : (es : List (ℕ × KeyedGate)) (p : ℕ) → p < length (map (λ (q : ℕ × GateEntry). q.1) (map (λ q. (q.0, entry_in d.nets q.1)) es)) → p < length es
+    lengths [] p low = absurd (omega arith)
+    lengths (x ∷ es) zero low = omega arith
+    lengths (x ∷ es) (suc p) low = let rest = lengths es p (omega arith) in omega arith
+
+    more : (es : List (ℕ × KeyedGate)) (p : ℕ) → p < length es → p < length {A = ℕ × GateEntry} (map (λ q. (q.0, entry_in d.nets q.1)) es)
+    more [] p low = absurd (omega arith)
+    more (x ∷ es) zero low = omega arith
+    more (x ∷ es) (suc p) low = let rest = more es p (omega arith) in omega arith
+
+    records : (es : List (ℕ × KeyedGate)) (p : ℕ) → p < length es → p < length (records_of es)
+    records [] p low = absurd (omega arith)
+    records (x ∷ es) zero low = omega arith
+    records (x ∷ es) (suc p) low = let rest = records es p (omega arith) in omega arith
+
+-- a net, under its key
+pub net_entry_at : (d : Keyed) → AreKeys d → (blank : ℕ × NetEntry) (place : ℕ) → place < length (netlist d).nets → (k : ℕ) × (net_by_key d k ≡ Some (net_at (netlist d) place))
+unfolding netlist
+net_entry_at d keys blank place low =
+    let e : ℕ × NetEntry = slice_index_or d.nets place blank in
+    let inside : place < length d.nets = lengths d.nets place low in
+    (e.0, found_at d.nets place blank keys.distinct_nets inside ∙ ap (λ (n : NetEntry). Some n) (sym (index_map (λ (p : ℕ × NetEntry). p.1) d.nets place blank blank_net inside)))
+  where
+    lengths : (es : List (ℕ × NetEntry)) (p : ℕ) → p < length (records_of es) → p < length es
+    lengths [] p low = absurd (omega arith)
+    lengths (x ∷ es) zero low = omega arith
+    lengths (x ∷ es) (suc p) low = let rest = lengths es p (omega arith) in omega arith

@@ -12,9 +12,12 @@ use Rattle.fourstate.specs.declared.value.Value.TheVariants.{Unknown}
 use Rattle.fourstate.specs.Values.{same_value}
 use Rattle.gatestep.specs.Step.{State, Evaluation, due, initial}
 use Rattle.gatestep.specs.Tasks.{IsReady}
+use Rattle.catalog.specs.Catalog.{place_of}
 use Rattle.design.specs.Connections.{to_net}
+use Rattle.design.specs.Keys.{Keyed, KeyedGate, gate_by_key}
 use Rattle.design.specs.Names.{same_name}
 use Rattle.design.specs.Netlist.{GateEntry, NetEntry, Netlist, gate_named, reads}
+use Rattle.edits.specs.Touched.{is_touched}
 use Rattle.waveform.specs.Entries.{CanStore, same_state, standing}
 use Rattle.waveform.specs.Patches.{Keeps, PatchRecord}
 use Rattle.waveform.specs.Timelines.{end_of}
@@ -173,3 +176,8 @@ pub record AreOutcomes (answer : Evaluation → ℕ → State) (old new : Netlis
   pub resting : out.resting.items ≡ filter (λ p. not (is_working answer old new t p)) places
   pub states : out.states.items ≡ map (λ p. state_after answer new (gate_at new p) t) out.resting.items
   pub can : All (CanStore t) out.states.items
+
+-- each touched net that is there is at one of these places, and so is the output of each touched gate that is there
+pub record AreTouched (d : Keyed) (nets gates places : List ℕ) : Type 0 where
+  pub of_nets : (key : ℕ) → is_touched nets key ≡ true → (p : ℕ) → place_of d.nets key ≡ Some p → is_among places p ≡ true
+  pub of_gates : (key : ℕ) → is_touched gates key ≡ true → (g : KeyedGate) → gate_by_key d key ≡ Some g → (p : ℕ) → place_of d.nets g.output ≡ Some p → is_among places p ≡ true

@@ -7,6 +7,7 @@ mod holding;
 mod looking;
 mod nets;
 mod old;
+mod opening;
 mod patches;
 mod places;
 mod reading;
