@@ -1,0 +1,26 @@
+-- Names that are live, where more places are.
+use Rattle.std.proofs.Common.{◌≡◌, ℕ, ◌∙◌, sym, Bool, true, false, List, Option, Some, None, inl, inr, refl}
+use Rattle.std.specs.List.{position_from}
+use Rattle.std.specs.Option.{option_map_or}
+use Rattle.gatestep.specs.Step.{State, Evaluation}
+use Rattle.design.specs.Names.{same_name}
+use Rattle.design.specs.Netlist.{Netlist}
+use Rattle.rundiff.specs.Fronts.{IsAlike, gate_at, is_live}
+
+live_by : (f g : ℕ → Bool) → ((p : ℕ) → f p ≡ true → g p ≡ true) → (o : Option ℕ) → option_map_or f o false ≡ true → option_map_or g o false ≡ true
+live_by f g more None on = on
+live_by f g more (Some p) on = more p on
+
+pub live_grows : (d : Netlist) (f g : ℕ → Bool) → ((p : ℕ) → f p ≡ true → g p ≡ true) → (name : List ℕ) → is_live d f name ≡ true → is_live d g name ≡ true
+live_grows d f g more name on = live_by f g more (position_from (λ n. same_name n.name name) 0 d.nets) on
+
+pub off_shrinks : (d : Netlist) (f g : ℕ → Bool) → ((p : ℕ) → f p ≡ true → g p ≡ true) → (name : List ℕ) → is_live d g name ≡ false → is_live d f name ≡ false
+off_shrinks d f g more name off =
+    elim (is_live d f name) as (λ b. is_live d f name ≡ b → b ≡ false) [
+      | true ↦ λ on. sym (live_grows d f g more name on) ∙ off
+      | false ↦ λ no. refl
+    ] refl
+
+pub alike_grows : (answer : Evaluation → ℕ → State) (old new : Netlist) (f g : ℕ → Bool) (t p : ℕ) → ((p : ℕ) → f p ≡ true → g p ≡ true) → IsAlike answer old new f t p → IsAlike answer old new g t p
+alike_grows answer old new f g t p more (inl same) = inl same
+alike_grows answer old new f g t p more (inr readers) = inr (λ q low reading. live_grows new f g more (gate_at new q).output (readers q low reading))

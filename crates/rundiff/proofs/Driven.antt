@@ -1,0 +1,61 @@
+-- The value of a net from the states of its drivers, which are found by their keys.
+use Rattle.std.proofs.Common.{◌≡◌, ℕ, zero, suc, ◌+◌, ◌<◌, ◌≤◌, ◌∙◌, ap, sym, refl, subst, List, [], ◌∷◌, ◌++◌, Bool, false, cond, map, take, length, get_or, Option, Some, arith, add-one}
+use Rattle.std.specs.Prelude.{slice_get, IsSome}
+use Rattle.std.specs.Option.{option_map, option_map_or}
+use Rattle.fourstate.specs.declared.value.Value.{Value}
+use Rattle.fourstate.specs.Nets.{net_of}
+use Rattle.gatestep.specs.Step.{State, Evaluation, due}
+use Rattle.catalog.specs.Catalog.{place_of}
+use Rattle.design.specs.Keys.{Keyed, driver_keys, name_of, net_by_key, netlist}
+use Rattle.design.specs.Netlist.{GateEntry, NetEntry, drivers_of, stimulus}
+use Rattle.design.specs.Places.{driver_places}
+use Rattle.scratch.specs.Run.{state_before, value}
+use Rattle.rundiff.specs.Fronts.{blank_net, gate_at, net_at}
+use Rattle.rundiff.proofs.ByPlace.{at_place, drivers_at, map_twice, same_put}
+
+-- an element that was read
+pub read_get : {X : Type 0} (xs : List X) (i : ℕ) (x : X) → i < length xs → x ≡ get_or xs i x → slice_get xs i ≡ Some x
+read_get [] i x low at = absurd (omega arith)
+read_get (y ∷ ys) zero x low at = ap (λ (z : _). Some z) (sym at)
+read_get (y ∷ ys) (suc i) x low at = read_get ys i x (omega arith) at
+
+pub take_whole : {X : Type 0} (xs : List X) (i : ℕ) → length xs ≤ i → take i xs ≡ xs
+take_whole [] zero past = refl
+take_whole [] (suc i) past = refl
+take_whole (x ∷ xs) zero past = absurd (omega arith)
+take_whole (x ∷ xs) (suc i) past = ap (λ l. x ∷ l) (take_whole xs i (omega arith))
+
+-- one element more
+pub map_more : {X Y : Type 0} (f : X → Y) (xs : List X) (i : ℕ) (x : X) (y : Y) (ys : List Y) → slice_get xs i ≡ Some x → y ≡ f x → ys ≡ map f (take i xs) → ys ++ y ∷ [] ≡ map f (take (i + 1) xs)
+map_more {X} {Y} f xs i x y ys at same so_far = ap (λ (l : List Y). l ++ y ∷ []) so_far ∙ step xs i at
+  where
+    step : (xs : List X) (i : ℕ) → slice_get xs i ≡ Some x → map f (take i xs) ++ y ∷ [] ≡ map f (take (i + 1) xs)
+    step [] i at = absurd (cc)
+    step (w ∷ xs) zero at = let e : w ≡ x = cc in ap (λ (z : Y). z ∷ []) (same ∙ ap f (sym e))
+    step (w ∷ xs) (suc i) at = rw add-one (ap (λ (l : List Y). f w ∷ l) (rw add-one at (step xs i at)))
+
+pub is_there : {X : Type 0} (o : Option X) (x : X) → o ≡ Some x → IsSome o
+is_there {X} o x is = subst (λ (o : Option X). IsSome o) (sym is) refl
+
+pub driven_is : (answer : Evaluation → ℕ → State) (keyed : Keyed) (key place t : ℕ) (n : NetEntry) (values : List Value) (v : Value) →
+    slice_get (netlist keyed).nets place ≡ Some n → net_by_key keyed key ≡ Some n → n.is_input ≡ false →
+    (IsSome (net_by_key keyed key) → map (λ gate. place_of keyed.gates gate) (driver_keys keyed key) ≡ map (λ place. Some place) (driver_places (netlist keyed).gates (name_of keyed.nets key))) →
+    map (λ v. Some v) values ≡ map (λ gate. option_map (λ place. (due (state_before answer (netlist keyed) t (gate_at (netlist keyed) place)) t).current) (place_of keyed.gates gate)) (driver_keys keyed key) →
+    v ≡ net_of n.kind values → v ≡ value answer (netlist keyed) (net_at (netlist keyed) place) t
+driven_is answer keyed key place t n values v at found driven law so_far is =
+    let d = netlist keyed in
+    let f : GateEntry → Value = λ g. (due (state_before answer d t g) t).current in
+    let look : ℕ → Value = λ p. f (gate_at d p) in
+    let named : name_of keyed.nets key ≡ n.name = ap (λ (o : Option NetEntry). option_map_or (λ m. m.name) o []) found in
+    let places : List ℕ = driver_places d.gates n.name in
+    let those : map (λ v. Some v) values ≡ map (λ v. Some v) (map look places) =
+    so_far
+    ∙ sym (map_twice (λ gate. place_of keyed.gates gate) (λ o. option_map look o) (driver_keys keyed key))
+    ∙ ap (map (λ (o : Option ℕ). option_map look o)) (law (is_there (net_by_key keyed key) n found))
+    ∙ map_twice (λ place. Some place) (λ o. option_map look o) (driver_places d.gates (name_of keyed.nets key))
+    ∙ sym (map_twice look (λ v. Some v) (driver_places d.gates (name_of keyed.nets key)))
+    ∙ ap (λ (name : List ℕ). map (λ v. Some v) (map look (driver_places d.gates name))) named in
+    let all : values ≡ map f (drivers_of d n.name) = same_put values (map look places) those ∙ drivers_at d f n.name in
+    is ∙ ap (net_of n.kind) all
+    ∙ sym (ap (λ (b : Bool). cond b (stimulus n.points t) (net_of n.kind (map f (drivers_of d n.name)))) driven)
+    ∙ sym (ap (λ (x : NetEntry). value answer d x t) (at_place d.nets place blank_net n at))

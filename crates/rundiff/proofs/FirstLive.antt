@@ -1,0 +1,203 @@
+-- Before moment 0: outside of what edits touched both designs are the same.
+use Rattle.std.proofs.Common.{◌≡◌, ℕ, ◌+◌, ◌<◌, ◌∙◌, ap, sym, refl, subst, List, [], ◌∷◌, Bool, true, false, cond, not, map, length, Option, Some, None, arith, All}
+use Rattle.std.specs.Prelude.{◌||◌, ◌==◌, ◌≢◌, AllPairs, IsSome}
+use Rattle.std.specs.Cmp.Lexicographic.{pointwise}
+use Rattle.std.specs.List.{filter, find, list_any, position_from}
+use Rattle.std.specs.Option.{option_map, option_map_or}
+use Rattle.std.proofs.lemmas.Bool.Decides.{nat_tests}
+use Rattle.std.proofs.lemmas.List.Elements.{All-filter}
+use Rattle.fourstate.specs.declared.gate.GateKind.{GateKind}
+use Rattle.fourstate.specs.declared.gate.GateKind.TheVariants.{And, Or, Xor, Nand, Nor, Xnor, Buf, Not, Bufif1, Bufif0, Notif1, Notif0}
+use Rattle.waveform.specs.SampleLaws.{same_self}
+use Rattle.catalog.specs.Catalog.{keys_of, place_of, record_at, records_of}
+use Rattle.design.specs.Connections.{Connection, to_net, to_constant}
+use Rattle.design.specs.Keys.{AreKeys, Keyed, KeyedGate, driver_keys, drives_key, entry_in, gate_by_key, name_of, net_by_key, netlist}
+use Rattle.design.specs.Names.{same_name}
+use Rattle.design.specs.Netlist.{GateEntry, NetEntry, drivers_of, net_named}
+use Rattle.edits.specs.Touched.{IsTouched, is_touched}
+use Rattle.rundiff.specs.Dirty.{is_new, same_connection, same_gate, same_kind}
+use Rattle.rundiff.specs.Fronts.{AreTouched, blank_gate, blank_net, is_among, is_live, net_at}
+use Rattle.rundiff.specs.Kept.{IsClosed, IsSameNet}
+use Rattle.rundiff.proofs.ByPlace.{live_at, map_twice, position_at, same_put}
+use Rattle.rundiff.proofs.Filtering.{map_filter}
+use Rattle.rundiff.proofs.Lists.{filter_where, name_itself}
+use Rattle.rundiff.proofs.NetsDone.{same_default}
+use Rattle.rundiff.proofs.ReaderKeys.{entry_at, found_at, net_entry_at, placed, same_number}
+use Rattle.rundiff.proofs.Still.{map_all}
+
+number_itself : (k : ℕ) → (k == k) ≡ true
+number_itself k = grind (arith, nat_tests)
+
+kind_itself : (k : GateKind) → same_kind k k ≡ true
+kind_itself And = refl
+kind_itself Or = refl
+kind_itself Xor = refl
+kind_itself Nand = refl
+kind_itself Nor = refl
+kind_itself Xnor = refl
+kind_itself Buf = refl
+kind_itself Not = refl
+kind_itself Bufif1 = refl
+kind_itself Bufif0 = refl
+kind_itself Notif1 = refl
+kind_itself Notif0 = refl
+
+connection_itself : (c : Connection) → same_connection c c ≡ true
+connection_itself (to_net name) = name_itself name
+connection_itself (to_constant v) = same_self v
+
+inputs_itself : (cs : List Connection) → pointwise same_connection cs cs ≡ true
+inputs_itself [] = refl
+inputs_itself (c ∷ cs) = let one = connection_itself c in rw one (inputs_itself cs)
+
+gate_itself : (g : GateEntry) → same_gate g g ≡ true
+gate_itself g = rw (name_itself g.name, kind_itself g.kind, number_itself g.delays.rise, number_itself g.delays.fall, name_itself g.output, inputs_itself g.inputs) refl
+
+or_true : (a b : Bool) → b ≡ true → (a || b) ≡ true
+or_true true b h = refl
+or_true false b h = h
+
+or_left : (a b : Bool) → a ≡ true → (a || b) ≡ true
+or_left a b on = rw on refl
+
+some_mapped : {X Y : Type 0} (f : X → Y) (o : Option X) (y : Y) → Some y ≡ option_map f o → (x : X) × (o ≡ Some x) × (y ≡ f x)
+some_mapped f None y is = absurd (let no : ◌≡◌ {A = Option _} (Some y) None = is in cc)
+some_mapped f (Some x) y is = (x, refl, injective y (f x) is)
+  where
+    injective : {Z : Type 0} (a b : Z) → Some a ≡ Some b → a ≡ b
+    injective a b e = cc
+
+-- a record under a key is one of the records
+any_record : {X Y : Type 0} (f : X → Y) (test : Y → Bool) (es : List (ℕ × X)) (key : ℕ) (x : X) → record_at es key ≡ Some x → test (f x) ≡ true → list_any test (map (λ (p : ℕ × Y). p.1) (map (λ e. (e.0, f e.1)) es)) ≡ true
+any_record f test [] key x is on = absurd (cc)
+any_record {X} {Y} f test (e ∷ es) key x is on =
+    elim (e.0 == key) as (λ b. option_map (λ (p : ℕ × X). p.1) (cond {A = Option (ℕ × X)} b (Some e) (find (λ p. p.0 == key) es)) ≡ Some x → (test (f e.1) || list_any test (map (λ (p : ℕ × Y). p.1) (map (λ e. (e.0, f e.1)) es))) ≡ true) [
+      | true ↦ λ here. let same : e.1 ≡ x = cc in or_left (test (f e.1)) _ (ap (λ (z : X). test (f z)) same ∙ on)
+      | false ↦ λ later. or_true (test (f e.1)) _ (any_record f test es key x later on)
+    ] is
+
+pub known_by_key : (d : Keyed) (key : ℕ) (g : KeyedGate) → gate_by_key d key ≡ Some g → is_new (netlist d) (entry_in d.nets g) ≡ false
+unfolding netlist
+known_by_key d key g found = ap not (any_record (entry_in d.nets) (same_gate (entry_in d.nets g)) d.gates key g found (gate_itself (entry_in d.nets g)))
+
+-- each entry is under its key
+entries_found : {X : Type 0} (es : List (ℕ × X)) → AllPairs (λ a b. a ≢ b) (keys_of es) → All (λ e. record_at es e.0 ≡ Some e.1) es
+entries_found es apart = λ q d low. found_at es q d apart low
+
+-- the drivers of the net of a key, each with its key
+abbrev drivers_in : Keyed → ℕ → List (ℕ × KeyedGate)
+drivers_in d key = filter (λ e. drives_key e.1 key) d.gates
+
+abbrev named_at : Keyed → ℕ → Option GateEntry
+named_at d k = option_map (entry_in d.nets) (gate_by_key d k)
+
+-- the drivers by their keys
+by_keys : (d : Keyed) → AreKeys d → (key : ℕ) → map (named_at d) (driver_keys d key) ≡ map (λ g. Some g) (map (entry_in d.nets) (filter (λ g. drives_key g key) (records_of d.gates)))
+by_keys d keys key =
+    let here : All (λ e. record_at d.gates e.0 ≡ Some e.1) (drivers_in d key) =
+    All-filter (λ e. drives_key e.1 key) (λ e. record_at d.gates e.0 ≡ Some e.1) d.gates (entries_found d.gates keys.distinct_gates) in
+    map_twice (λ (e : ℕ × KeyedGate). e.0) (named_at d) (drivers_in d key)
+    ∙ map_all (λ (e : ℕ × KeyedGate). record_at d.gates e.0 ≡ Some e.1) (λ e. named_at d e.0) (λ e. Some (entry_in d.nets e.1)) (λ e found. ap (option_map (entry_in d.nets)) found) (drivers_in d key) here
+    ∙ sym (map_twice (λ (e : ℕ × KeyedGate). e.1) (λ g. Some (entry_in d.nets g)) (drivers_in d key))
+    ∙ ap (map (λ (g : KeyedGate). Some (entry_in d.nets g))) (sym (map_filter (λ (e : ℕ × KeyedGate). e.1) (λ g. drives_key g key) d.gates))
+    ∙ sym (map_twice (entry_in d.nets) (λ g. Some g) (filter (λ g. drives_key g key) (records_of d.gates)))
+
+module _ (old new : Keyed) (old_keys : AreKeys old) (keys : AreKeys new) (distinct : AllPairs (λ n m. n.name ≢ m.name) (netlist new).nets)
+    (places_law : (key : ℕ) → IsSome (net_by_key new key) → position_from (λ n. same_name n.name (name_of new.nets key)) 0 (netlist new).nets ≡ place_of new.nets key)
+    (old_names : (key : ℕ) → net_named (netlist old) (name_of old.nets key) ≡ net_by_key old key)
+    (old_drivers : (key : ℕ) → IsSome (net_by_key old key) → drivers_of (netlist old) (name_of old.nets key) ≡ map (entry_in old.nets) (filter (λ g. drives_key g key) (records_of old.gates)))
+    (new_drivers : (key : ℕ) → IsSome (net_by_key new key) → drivers_of (netlist new) (name_of new.nets key) ≡ map (entry_in new.nets) (filter (λ g. drives_key g key) (records_of new.gates)))
+    (nets gates places : List ℕ) (touched : IsTouched old new nets gates) (are : AreTouched new nets gates places) (live : ℕ → Bool) (covers : (p : ℕ) → is_among places p ≡ true → live p ≡ true) where
+  never : {Z : Type 0} (b : Bool) → b ≡ true → b ≡ false → Z
+  never b on off = let no : true ≡ false = sym on ∙ off in absurd (cc)
+
+  untouched_by : (b : Bool) → (b ≡ true → ⊥) → b ≡ false
+  untouched_by true off = absurd (off refl)
+  untouched_by false off = refl
+
+  -- a gate with an output that is not live was not touched
+  gate_untouched : (k : ℕ) (g : KeyedGate) → gate_by_key new k ≡ Some g → IsSome (net_by_key new g.output) → is_live (netlist new) live (name_of new.nets g.output) ≡ false → is_touched gates k ≡ false
+  gate_untouched k g found there off =
+      let place = placed (λ e. e.0 == g.output) new.nets 0 there in
+      let p : ℕ = place.0 in
+      let at : place_of new.nets g.output ≡ Some p = place.1 in
+      let lives : live p ≡ false = sym (ap (λ (o : Option ℕ). option_map_or live o false) (places_law g.output there ∙ at)) ∙ off in
+      untouched_by (is_touched gates k) (λ on. never (live p) (covers p (are.of_gates k on g found p at)) lives)
+
+  -- a net that is not live
+  module _ (k : ℕ) (low : k < length (netlist new).nets) (off : is_live (netlist new) live (net_at (netlist new) k).name ≡ false) where
+    abbrev x : NetEntry
+    x = net_at (netlist new) k
+
+    dead : live k ≡ false
+    dead = sym (live_at (netlist new) live k distinct low) ∙ off
+
+    module _ (key : ℕ) (found : net_by_key new key ≡ Some x) where
+      there : IsSome (net_by_key new key)
+      there = subst (λ (o : Option NetEntry). IsSome o) (sym found) refl
+
+      named : name_of new.nets key ≡ x.name
+      named = ap (λ (o : Option NetEntry). option_map_or (λ m. m.name) o []) found
+
+      at : place_of new.nets key ≡ Some k
+      at =
+          let e : 0 + k ≡ k = omega arith in
+          sym (places_law key there) ∙ ap (λ (name : List ℕ). position_from (λ n. same_name n.name name) 0 (netlist new).nets) named
+          ∙ position_at (netlist new).nets 0 k blank_net distinct low ∙ ap (λ (i : ℕ). Some i) e
+
+      free : is_touched nets key ≡ false
+      free = untouched_by (is_touched nets key) (λ on. never (live k) (covers k (are.of_nets key on k at)) dead)
+
+      same : net_by_key old key ≡ Some x
+      same = sym (touched.nets_stay key free) ∙ found
+
+      old_there : IsSome (net_by_key old key)
+      old_there = subst (λ (o : Option NetEntry). IsSome o) (sym same) refl
+
+      old_named : name_of old.nets key ≡ x.name
+      old_named = ap (λ (o : Option NetEntry). option_map_or (λ m. m.name) o []) same
+
+      driver_stays : (e : ℕ × KeyedGate) → (record_at new.gates e.0 ≡ Some e.1) × (drives_key e.1 key ≡ true) → named_at new e.0 ≡ named_at old e.0
+      driver_stays e facts =
+          let output : key ≡ e.1.output = same_number key e.1.output facts.1 in
+          let at_output : place_of new.nets e.1.output ≡ Some k = ap (place_of new.nets) (sym output) ∙ at in
+          touched.names_stay e.0 (untouched_by (is_touched gates e.0) (λ on. never (live k) (covers k (are.of_gates e.0 on e.1 facts.0 k at_output)) dead))
+
+      drivers_same : map (named_at new) (driver_keys new key) ≡ map (named_at old) (driver_keys old key)
+      drivers_same =
+          let P : ℕ × KeyedGate → Type 0 = λ e. (record_at new.gates e.0 ≡ Some e.1) × (drives_key e.1 key ≡ true) in
+          let all : All P (drivers_in new key) = filter_where (λ e. drives_key e.1 key) P new.gates (λ q d within on. (entries_found new.gates keys.distinct_gates q d within, on)) in
+          map_twice (λ (e : ℕ × KeyedGate). e.0) (named_at new) (drivers_in new key)
+          ∙ map_all P (λ e. named_at new e.0) (λ e. named_at old e.0) driver_stays (drivers_in new key) all
+          ∙ sym (map_twice (λ (e : ℕ × KeyedGate). e.0) (named_at old) (drivers_in new key))
+          ∙ ap (map (named_at old)) (touched.drivers_stay key free)
+
+      same_net : IsSameNet (netlist old) (netlist new) x
+      same_net =
+          record {
+            net = ap (net_named (netlist old)) (sym old_named) ∙ old_names key ∙ same;
+            drivers =
+                ap (drivers_of (netlist old)) (sym old_named) ∙ old_drivers key old_there
+                ∙ same_put (map (entry_in old.nets) (filter (λ g. drives_key g key) (records_of old.gates))) (map (entry_in new.nets) (filter (λ g. drives_key g key) (records_of new.gates)))
+                (sym (by_keys old old_keys key) ∙ sym drivers_same ∙ by_keys new keys key)
+                ∙ sym (new_drivers key there) ∙ ap (drivers_of (netlist new)) named;
+          }
+
+  pub first_closed : (none : ℕ × KeyedGate) (blank : ℕ × NetEntry) → IsClosed (netlist old) (netlist new) (is_live (netlist new) live)
+  first_closed none blank =
+      record {
+        gates = λ k d low off.
+            let at = same_default (netlist new).gates k d blank_gate low in
+            let one = entry_at new keys none k low in
+            let key : ℕ = one.0 in
+            let g : KeyedGate = one.1 in
+            let facts = one.2 in
+            let entry = at ∙ facts.entry in
+            let free = gate_untouched key g facts.found facts.there (sym (ap (λ (h : GateEntry). is_live (netlist new) live h.output) entry) ∙ off) in
+            let was = some_mapped (entry_in old.nets) (gate_by_key old key) (entry_in new.nets g) (sym (ap (option_map (entry_in new.nets)) facts.found) ∙ touched.names_stay key free) in
+            ap (is_new (netlist old)) (entry ∙ was.2) ∙ known_by_key old key was.0 was.1;
+        nets = λ k d low off.
+            let at = same_default (netlist new).nets k d blank_net low in
+            let one = net_entry_at new keys blank k low in
+            subst (IsSameNet (netlist old) (netlist new)) (sym at) (same_net k low (sym (ap (λ (n : NetEntry). is_live (netlist new) live n.name) at) ∙ off) one.0 one.1);
+      }

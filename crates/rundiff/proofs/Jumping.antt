@@ -1,0 +1,148 @@
+-- What a front keeps is right as it is after moments at which nothing happens to what is live.
+use Rattle.std.proofs.Common.{◌≡◌, ℕ, zero, suc, ◌<◌, ◌≤◌, ◌∙◌, ap, sym, refl, subst, Bool, true, false, not, length, Option, Some, None, inr, arith, ⊎_elim}
+use Rattle.std.specs.BTreeMap.{get}
+use Rattle.std.specs.Option.{option_map_or}
+use Rattle.std.specs.Ordering.{nat_cmp}
+use Rattle.std.proofs.lemmas.Bool.{cases_lt}
+use Rattle.fourstate.specs.declared.value.Value.{Value}
+use Rattle.fourstate.specs.Values.{same_value}
+use Rattle.gatestep.specs.Step.{State, Evaluation, due, initial}
+use Rattle.gatestep.specs.Tasks.{NothingDue, again}
+use Rattle.design.specs.Connections.{to_net}
+use Rattle.design.specs.Lawful.{IsDesign}
+use Rattle.design.specs.Netlist.{GateEntry, Netlist}
+use Rattle.waveform.specs.Changes.{trace_below, wave_changes_below}
+use Rattle.waveform.specs.Entries.{same_state, standing}
+use Rattle.waveform.specs.Patches.{IsMended, Keeps, PatchRecord}
+use Rattle.waveform.specs.SampleLaws.{same_self, same_state_self}
+use Rattle.waveform.specs.Timelines.{changes_below, is_change}
+use Rattle.scratch.specs.Run.{state_after, value}
+use Rattle.rundiff.specs.Dirty.{rework_below}
+use Rattle.rundiff.specs.Fronts.{IsFront, IsOwn, blank_gate, blank_net, gate_at, held_in, is_live, live_in, named_state, net_at}
+use Rattle.rundiff.specs.Kept.{IsClear, read_at}
+use Rattle.rundiff.specs.declared.front.Front.{Front}
+use Rattle.rundiff.proofs.ByPlace.{live_at}
+use Rattle.rundiff.proofs.Known.{known_gate}
+use Rattle.rundiff.proofs.OldLines.{NoChange, keeps_none}
+use Rattle.rundiff.proofs.Skipping.{Jumped, jump}
+use Rattle.rundiff.proofs.Still.{none_due}
+use Rattle.rundiff.proofs.Wired.{inputs_there}
+
+-- without a patch, both functions go on alike
+none_on : {A : Type 0} (same : A → A → Bool) (drift : A → ℕ → A) (f g : ℕ → A) (r l : ℕ) (o : Option (PatchRecord A)) → o ≡ None → Keeps same drift g f o (suc r) → ((m : ℕ) → r < m → m < suc l → f m ≡ g m) → Keeps same drift g f o (suc l)
+none_on {A} same drift f g r l o none kept alike =
+    subst (λ (o : Option (PatchRecord A)). Keeps same drift g f o (suc l)) (sym none)
+    (λ m until. ⊎_elim (λ early. keeps_none same drift f g (suc r) o none kept m early) (λ late. alike m (omega arith) until) (cases_lt m (suc r)))
+
+-- with a patch of its own, the new one has no change
+own_on : {A : Type 0} (same : A → A → Bool) (drift : A → ℕ → A) (f g : ℕ → A) (r l : ℕ) (o : Option (PatchRecord A)) → IsOwn o → Keeps same drift g f o (suc r) → changes_below same drift f (suc l) ≡ changes_below same drift f (suc r) → Keeps same drift g f o (suc l)
+own_on {A} same drift f g r l o own kept none =
+    let patch : PatchRecord A = own.0 in
+    let is : o ≡ Some patch = own.1 in
+    let whole : patch.since ≡ None = own.2 in
+    let at : Keeps same drift g f (Some patch) (suc r) = subst (λ (o : Option (PatchRecord A)). Keeps same drift g f o (suc r)) is kept in
+    let now : IsMended same drift g f patch.line None (suc r) = subst (λ (s : Option ℕ). IsMended same drift g f patch.line s (suc r)) whole at in
+    let then : IsMended same drift g f patch.line None (suc l) = now ∙ sym none in
+    subst (λ (o : Option (PatchRecord A)). Keeps same drift g f o (suc l)) (sym is) (subst (λ (s : Option ℕ). IsMended same drift g f patch.line s (suc l)) (sym whole) then)
+
+module _ (answer : Evaluation → ℕ → State) (old new : Netlist)
+    (current : (e : Evaluation) (t : ℕ) → (answer e t).current ≡ (due e.state t).current)
+    (stays : (e : Evaluation) (t u : ℕ) → t < u → NothingDue u (answer e t) → answer (again e (answer e t)) u ≡ answer e t)
+    (wave_law : NoChange same_value standing) (trace_law : NoChange same_state due) (is_old : IsDesign old) (is : IsDesign new)
+    (front : Front) (r u l : ℕ) (right : IsFront answer old new front (suc r)) (clear : IsClear answer old new (is_live new (live_in front)) r u)
+    (order : r ≤ l) (low : l < u) (within : u ≤ suc old.horizon) where
+  jumped : Jumped answer old new current stays (inputs_there new is) (is_live new (live_in front)) right.closed r l
+  jumped = jump answer old new current stays (inputs_there new is) (is_live new (live_in front)) right.closed r u clear l order low right.agrees
+
+  wave_still : (p : ℕ) → p < length new.nets → live_in front p ≡ true → wave_changes_below (value answer new (net_at new p)) (suc l) ≡ wave_changes_below (value answer new (net_at new p)) (suc r)
+  wave_still p there on = wave_law f (suc r) (suc l) (omega arith) step
+    where
+      f : ℕ → Value
+      f = value answer new (net_at new p)
+
+      at : is_live new (live_in front) (net_at new p).name ≡ true
+      at = live_at new (live_in front) p is.distinct_nets there ∙ on
+
+      step : (k : ℕ) → suc r ≤ k → k < suc l → is_change same_value standing f k ≡ false
+      step zero from until = absurd (omega arith)
+      step (suc k) from until =
+          let now : f (suc k) ≡ f r = jumped.values p blank_net there at (suc k) (omega arith) until in
+          let before : f k ≡ f r = jumped.values p blank_net there at k (omega arith) (omega arith) in
+          ap (λ (v : Value). not (same_value v (f k))) (now ∙ sym before) ∙ ap not (same_self (f k))
+
+  wave_on : (p : ℕ) → p < length new.nets → Keeps same_value standing (read_at answer old (to_net (net_at new p).name)) (value answer new (net_at new p)) (get nat_cmp front.waves p) (suc l)
+  wave_on p there =
+      let f : ℕ → Value = value answer new (net_at new p) in
+      let g : ℕ → Value = read_at answer old (to_net (net_at new p).name) in
+      let o : Option (PatchRecord Value) = get nat_cmp front.waves p in
+      let at = live_at new (live_in front) p is.distinct_nets there in
+      elim (live_in front p) as (λ b. live_in front p ≡ b → Keeps same_value standing g f o (suc l)) [
+        | true ↦ λ on.
+            ⊎_elim
+            (λ none. none_on same_value standing f g r l o none (right.waves p there)
+            (λ m from until.
+            let had : f r ≡ g r = keeps_none same_value standing f g (suc r) o none (right.waves p there) r (omega arith) in
+            jumped.values p blank_net there (at ∙ on) m (omega arith) until ∙ had ∙ sym (clear.waves p blank_net there (at ∙ on) m from (omega arith) (omega arith))))
+            (λ own. own_on same_value standing f g r l o own (right.waves p there) (wave_still p there on))
+            (right.kept_waves p)
+        | false ↦ λ free.
+            none_on same_value standing f g r l o (right.other_waves p free) (right.waves p there)
+            (λ m from until. sym (jumped.free_values p blank_net there (at ∙ free) m (omega arith) until))
+      ] refl
+
+  trace_still : (p : ℕ) → p < length new.gates → held_in front p ≡ true → trace_below (state_after answer new (gate_at new p)) (suc l) ≡ trace_below (state_after answer new (gate_at new p)) (suc r)
+  trace_still p there on = trace_law f (suc r) (suc l) (omega arith) step
+    where
+      f : ℕ → State
+      f = state_after answer new (gate_at new p)
+
+      at : is_live new (live_in front) (gate_at new p).output ≡ true
+      at = sym (right.drivers.drivers p there) ∙ on
+
+      step : (k : ℕ) → suc r ≤ k → k < suc l → is_change same_state due f k ≡ false
+      step zero from until = absurd (omega arith)
+      step (suc k) from until =
+          let now : f (suc k) ≡ f r = jumped.states p blank_gate there at (suc k) (omega arith) until in
+          let before : f k ≡ f r = jumped.states p blank_gate there at k (omega arith) (omega arith) in
+          let none : due (f r) (suc k) ≡ f r = none_due (f r) (suc k) (clear.due p blank_gate there at (suc k) (omega arith) (omega arith)) in
+          ap (λ (s : State). not (same_state s (due (f k) (suc k)))) now
+          ∙ ap (λ (s : State). not (same_state (f r) (due s (suc k)))) before
+          ∙ ap (λ (s : State). not (same_state (f r) s)) none ∙ ap not (same_state_self (f r))
+
+  trace_on : (p : ℕ) → p < length new.gates → Keeps same_state due (named_state answer old (gate_at new p).name) (state_after answer new (gate_at new p)) (get nat_cmp front.traces p) (suc l)
+  trace_on p there =
+      let gate = gate_at new p in
+      let f : ℕ → State = state_after answer new gate in
+      let g : ℕ → State = named_state answer old gate.name in
+      let o : Option (PatchRecord State) = get nat_cmp front.traces p in
+      elim (held_in front p) as (λ b. held_in front p ≡ b → Keeps same_state due g f o (suc l)) [
+        | true ↦ λ on. ⊎_elim (λ never. absurd (omega arith)) (λ own. own_on same_state due f g r l o own (right.traces p there) (trace_still p there on)) (right.own_traces p on)
+        | false ↦ λ free.
+            let off : is_live new (live_in front) gate.output ≡ false = sym (right.drivers.drivers p there) ∙ free in
+            let found = known_gate old is_old gate (right.closed.gates p blank_gate there off) in
+            none_on same_state due f g r l o (right.other_traces p free) (right.traces p there)
+            (λ m from until.
+            sym (jumped.free_states p blank_gate there off m (omega arith) until) ∙ sym (ap (λ (q : Option GateEntry). option_map_or (λ h. state_after answer old h m) q initial) found))
+      ] refl
+
+  -- the front is right after the moments up to l
+  pub front_on : IsFront answer old new front (suc l)
+  front_on =
+      record {
+        drivers = right.drivers;
+        closed = right.closed;
+        agrees = jumped.agrees_on;
+        waves = wave_on;
+        traces = trace_on;
+        wave_ends = λ p patch at. let h = right.wave_ends p patch at in omega arith;
+        trace_ends = λ p patch at. let h = right.trace_ends p patch at in omega arith;
+        kept_waves = right.kept_waves;
+        own_traces = λ p on. ⊎_elim (λ never. absurd (omega arith)) (λ own. inr own) (right.own_traces p on);
+        other_waves = right.other_waves;
+        other_traces = right.other_traces;
+        blank = right.blank;
+      }
+
+  -- and nothing is evaluated at them
+  pub idle_on : rework_below answer old new (suc l) ≡ rework_below answer old new (suc r)
+  idle_on = jumped.idle

@@ -1,0 +1,74 @@
+-- What comes of one gate at one moment.
+use Rattle.std.proofs.Common.{◌≡◌, ℕ, zero, suc, ◌-◌, ◌<◌, ◌≤◌, ◌∙◌, ap, sym, refl, List, Bool, true, false, not, arith}
+use Rattle.std.specs.Prelude.{nat_le, ◌&&◌, ◌||◌}
+use Rattle.std.proofs.lemmas.Bool.Decides.{nat_tests}
+use Rattle.fourstate.specs.declared.value.Value.{Value}
+use Rattle.gatestep.specs.Step.{State, Evaluation}
+use Rattle.gatestep.specs.Tasks.{NothingDue, again}
+use Rattle.design.specs.Netlist.{GateEntry, Netlist}
+use Rattle.waveform.specs.Entries.{same_state}
+use Rattle.scratch.specs.Run.{state_after, state_before}
+use Rattle.rundiff.specs.Dirty.{is_dirty, is_new, same_task}
+use Rattle.scratch.specs.Work.{is_due, is_stirred, same_values, task_at}
+use Rattle.rundiff.proofs.Still.{neither, still_after}
+
+early : (t h : ℕ) → t ≤ h → nat_le t h ≡ true
+early t h le = grind (arith, nat_tests)
+
+pub and_false : (a : Bool) → (a && false) ≡ false
+and_false true = refl
+and_false false = refl
+
+or_false : (a : Bool) → (a || false) ≡ a
+or_false true = refl
+or_false false = refl
+
+module _ (answer : Evaluation → ℕ → State) (old new : Netlist) (g : GateEntry) (t : ℕ) where
+  -- of a gate of both designs the tasks decide
+  by_task : t ≤ old.horizon → is_new old g ≡ false → is_dirty answer old new g t ≡ not (same_task (task_at answer old g t) (task_at answer new g t))
+  by_task within known =
+      let o = task_at answer old g t in let n = task_at answer new g t in
+      ap (λ (b : Bool). not b || (is_new old g || not (same_task o n))) (early t old.horizon within) ∙ ap (λ (b : Bool). b || not (same_task o n)) known
+
+  pub state_differs : t ≤ old.horizon → is_new old g ≡ false → (o s : State) → o ≡ state_before answer old t g → s ≡ state_before answer new t g → same_state o s ≡ false → true ≡ is_dirty answer old new g t
+  state_differs within known o s of_old of_new off =
+      let vs = (task_at answer old g t).inputs in let ws = (task_at answer new g t).inputs in
+      sym (by_task within known
+      ∙ ap (λ (q : State). not (same_state q (state_before answer new t g) && same_values vs ws)) (sym of_old)
+      ∙ ap (λ (q : State). not (same_state o q && same_values vs ws)) (sym of_new)
+      ∙ ap (λ (b : Bool). not (b && same_values vs ws)) off)
+
+  pub inputs_decide : t ≤ old.horizon → is_new old g ≡ false → (o s : State) → o ≡ state_before answer old t g → s ≡ state_before answer new t g → same_state o s ≡ true →
+      (vs ws : List Value) → vs ≡ (task_at answer old g t).inputs → ws ≡ (task_at answer new g t).inputs → not (same_values vs ws) ≡ is_dirty answer old new g t
+  inputs_decide within known o s of_old of_new on vs ws read_old read_new =
+      sym (by_task within known
+      ∙ ap (λ (q : State). not (same_state q (state_before answer new t g) && same_values (task_at answer old g t).inputs (task_at answer new g t).inputs)) (sym of_old)
+      ∙ ap (λ (q : State). not (same_state o q && same_values (task_at answer old g t).inputs (task_at answer new g t).inputs)) (sym of_new)
+      ∙ ap (λ (b : Bool). not (b && same_values (task_at answer old g t).inputs (task_at answer new g t).inputs)) on
+      ∙ ap (λ (qs : List Value). not (same_values qs (task_at answer new g t).inputs)) (sym read_old)
+      ∙ ap (λ (qs : List Value). not (same_values vs qs)) (sym read_new))
+
+  -- a gate that is not dirty is not new
+  pub clean_known : is_dirty answer old new g t ≡ false → is_new old g ≡ false
+  clean_known off =
+      let o = task_at answer old g t in let n = task_at answer new g t in
+      (neither (is_new old g) (not (same_task o n)) (neither (not (nat_le t old.horizon)) (is_new old g || not (same_task o n)) off).1).0
+
+module _ (answer : Evaluation → ℕ → State) (d : Netlist) (g : GateEntry) where
+  -- after moment 0, and with nothing due, the inputs decide
+  pub stirred_is : (t : ℕ) → 0 < t → is_due (state_before answer d t g) t ≡ false → (ws vs : List Value) → ws ≡ (task_at answer d g t).inputs → vs ≡ (task_at answer d g (t - 1)).inputs →
+      not (same_values ws vs) ≡ is_stirred answer d g t
+  stirred_is zero some none ws vs now before = absurd (omega arith)
+  stirred_is (suc r) some none ws vs now before =
+      let e : suc r - 1 ≡ r = omega arith in
+      let then : vs ≡ (task_at answer d g r).inputs = before ∙ ap (λ (m : ℕ). (task_at answer d g m).inputs) e in
+      ap (λ (qs : List Value). not (same_values qs vs)) now
+      ∙ ap (λ (qs : List Value). not (same_values (task_at answer d g (suc r)).inputs qs)) then
+      ∙ sym (ap (λ (b : Bool). not (same_values (task_at answer d g (suc r)).inputs (task_at answer d g r).inputs) || b) none
+      ∙ or_false (not (same_values (task_at answer d g (suc r)).inputs (task_at answer d g r).inputs)))
+
+  -- a gate that is not stirred keeps its state
+  pub rests : (stays : (e : Evaluation) (t u : ℕ) → t < u → NothingDue u (answer e t) → answer (again e (answer e t)) u ≡ answer e t) → (t : ℕ) → is_stirred answer d g t ≡ false →
+      state_before answer d t g ≡ state_after answer d g t
+  rests stays zero off = absurd (cc)
+  rests stays (suc r) off = sym (still_after answer d stays g r off)

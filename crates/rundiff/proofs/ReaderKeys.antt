@@ -1,0 +1,186 @@
+-- The readers of a net by name are those of its key.
+use Rattle.std.proofs.Common.{◌≡◌, ℕ, zero, suc, ◌+◌, ◌<◌, ◌∙◌, ap, sym, refl, subst, List, [], ◌∷◌, Bool, true, false, cond, map, length, Option, Some, None, arith, All}
+use Rattle.std.specs.Prelude.{slice_index_or, ◌||◌, ◌==◌, ◌≢◌, AllPairs, IsSome, IsSomeAnd}
+use Rattle.std.specs.List.{filter, find, list_any, position_from}
+use Rattle.std.specs.Option.{option_map}
+use Rattle.std.proofs.lemmas.Bool.Decides.{nat_tests}
+use Rattle.std.proofs.lemmas.List.Elements.{All-head, All-tail}
+use Rattle.catalog.specs.Catalog.{keys_of, place_of, record_at, records_of}
+use Rattle.design.specs.declared.terminal.Terminal.{Terminal}
+use Rattle.design.specs.declared.terminal.Terminal.TheVariants.{Net, Constant}
+use Rattle.design.specs.Keys.{AreKeys, IsConnected, IsThere, Keyed, KeyedGate, connection_in, entry_in, gate_by_key, is_at, name_of, net_by_key, netlist, reader_keys, reads_key}
+use Rattle.design.specs.Names.{same_name}
+use Rattle.design.specs.Netlist.{GateEntry, NetEntry, is_at_net, reads}
+use Rattle.rundiff.specs.Fronts.{blank_gate, blank_net, gate_at, is_among, net_at}
+use Rattle.rundiff.proofs.Lists.{same_name_equal}
+use Rattle.rundiff.proofs.Readers.{position_found}
+
+pub same_number : (k p : ℕ) → (k == p) ≡ true → k ≡ p
+same_number k p h = grind (arith, nat_tests)
+
+number_itself : (k : ℕ) → (k == k) ≡ true
+number_itself k = grind (arith, nat_tests)
+
+other_number : (k p : ℕ) → k ≢ p → (k == p) ≡ false
+other_number k p apart = elim (k == p) as (λ b. (k == p) ≡ b → b ≡ false) [ true ↦ λ is. absurd (apart (same_number k p is)) | false ↦ λ is. refl ] refl
+
+pub placed : {X : Type 0} (test : ℕ × X → Bool) (xs : List (ℕ × X)) (start : ℕ) → IsSome (option_map (λ e. e.1) (find test xs)) → (q : ℕ) × (position_from test start xs ≡ Some q)
+placed test [] start is = absurd (cc)
+placed {X} test (x ∷ xs) start is =
+    elim (test x) as (λ b. IsSome (option_map (λ (e : ℕ × X). e.1) (cond {A = Option (ℕ × X)} b (Some x) (find test xs))) → (q : ℕ) × (cond {A = Option ℕ} b (Some start) (position_from test (start + 1) xs) ≡ Some q)) [
+      | true ↦ λ here. (start, refl)
+      | false ↦ λ later. placed test xs (start + 1) later
+    ] is
+
+or_true : (a b : Bool) → b ≡ true → (a || b) ≡ true
+or_true true b h = refl
+or_true false b h = h
+
+or_left : (a b : Bool) → a ≡ true → (a || b) ≡ true
+or_left a b on = rw on refl
+
+module _ (d : Keyed) (law : (key : ℕ) → IsSome (net_by_key d key) → position_from (λ n. same_name n.name (name_of d.nets key)) 0 (netlist d).nets ≡ place_of d.nets key) (blank : ℕ × NetEntry) where
+  -- two keys of one name are one key
+  same_key : (k l : ℕ) → IsSome (net_by_key d k) → IsSome (net_by_key d l) → name_of d.nets k ≡ name_of d.nets l → k ≡ l
+  same_key k l there too names =
+      let one = placed (λ e. e.0 == k) d.nets 0 there in
+      let same : place_of d.nets k ≡ place_of d.nets l = sym (law k there) ∙ ap (λ (name : List ℕ). position_from (λ n. same_name n.name name) 0 (netlist d).nets) names ∙ law l too in
+      let q : ℕ = one.0 in
+      let first = position_found (λ e. e.0 == k) d.nets 0 q blank one.1 in
+      let other = position_found (λ e. e.0 == l) d.nets 0 q blank (sym same ∙ one.1) in
+      let i : ℕ = first.0 in let j : ℕ = other.0 in
+      let at : q ≡ 0 + i = first.1 in let as_well : q ≡ 0 + j = other.1 in
+      let e : j ≡ i = omega arith in
+      let mine : (slice_index_or d.nets i blank).0 ≡ k = same_number (slice_index_or d.nets i blank).0 k first.3 in
+      let theirs : (slice_index_or d.nets j blank).0 ≡ l = same_number (slice_index_or d.nets j blank).0 l other.3 in
+      sym mine ∙ ap (λ (n : ℕ). (slice_index_or d.nets n blank).0) (sym e) ∙ theirs
+
+  at_key : (t : Terminal) (key : ℕ) → IsThere d.nets t → IsSome (net_by_key d key) → is_at_net (name_of d.nets key) (connection_in d.nets t) ≡ true → is_at t key ≡ true
+  at_key (Net k) key is there on =
+      let e : key ≡ k = same_key key k there is (sym (same_name_equal (name_of d.nets k) (name_of d.nets key) on)) in
+      ap (λ (l : ℕ). key == l) (sym e) ∙ number_itself key
+  at_key (Constant v) key is there on = cc
+
+  any_at_key : (ts : List Terminal) (key : ℕ) → All (IsThere d.nets) ts → IsSome (net_by_key d key) → list_any (is_at_net (name_of d.nets key)) (map (connection_in d.nets) ts) ≡ true → list_any (λ t. is_at t key) ts ≡ true
+  any_at_key [] key are there on = absurd (cc)
+  any_at_key (t ∷ ts) key are there on =
+      elim (is_at_net (name_of d.nets key) (connection_in d.nets t)) as (λ b. is_at_net (name_of d.nets key) (connection_in d.nets t) ≡ b → (b || list_any (is_at_net (name_of d.nets key)) (map (connection_in d.nets) ts)) ≡ true → (is_at t key || list_any (λ t. is_at t key) ts) ≡ true) [
+        | true ↦ λ here any. or_left (is_at t key) (list_any (λ t. is_at t key) ts) (at_key t key (All-head (IsThere d.nets) t ts are) there here)
+        | false ↦ λ off any. or_true (is_at t key) (list_any (λ t. is_at t key) ts) (any_at_key ts key (All-tail (IsThere d.nets) t ts are) there any)
+      ] refl on
+
+index_map : {X Y : Type 0} (f : X → Y) (xs : List X) (q : ℕ) (d : X) (e : Y) → q < length xs → slice_index_or (map f xs) q e ≡ f (slice_index_or xs q d)
+index_map f [] q d e low = absurd (omega arith)
+index_map f (x ∷ xs) zero d e low = refl
+index_map f (x ∷ xs) (suc q) d e low = index_map f xs q d e (omega arith)
+
+pub found_at : {X : Type 0} (es : List (ℕ × X)) (q : ℕ) (d : ℕ × X) → AllPairs (λ a b. a ≢ b) (keys_of es) → q < length es → record_at es (slice_index_or es q d).0 ≡ Some (slice_index_or es q d).1
+found_at [] q d apart low = absurd (omega arith)
+found_at {X} (e ∷ es) zero d apart low = let on = number_itself e.0 in rw on refl
+found_at {X} (e ∷ es) (suc q) d apart low =
+    let k = (slice_index_or es q d).0 in
+    let head : e.0 ≢ k = λ same. apart 0 (suc q) 0 (omega arith) (within es q low) (same ∙ sym (index_map (λ (p : ℕ × X). p.0) es q d 0 (omega arith))) in
+    let off = other_number e.0 k head in
+    rw off (found_at es q d (λ i j n order inside. apart (suc i) (suc j) n (omega arith) (omega arith)) (omega arith))
+  where
+    within : (es : List (ℕ × X)) (q : ℕ) → suc q < length (e ∷ es) → suc q < length (keys_of (e ∷ es))
+    within [] q low = absurd (omega arith)
+    within (x ∷ es) zero low = omega arith
+    within (x ∷ es) (suc q) low = let rest = within es q (omega arith) in omega arith
+
+listed_at : {X : Type 0} (test : ℕ × X → Bool) (es : List (ℕ × X)) (q : ℕ) (d : ℕ × X) → q < length es → test (slice_index_or es q d) ≡ true → is_among (keys_of (filter test es)) (slice_index_or es q d).0 ≡ true
+listed_at test [] q d low on = absurd (omega arith)
+listed_at test (e ∷ es) zero d low on = rw on (or_left (e.0 == e.0) (is_among (keys_of (filter test es)) e.0) (number_itself e.0))
+listed_at {X} test (e ∷ es) (suc q) d low on =
+    let k = (slice_index_or es q d).0 in
+    let rest = listed_at test es q d (omega arith) on in
+    elim (test e) as (λ b. is_among (keys_of (cond b (e ∷ filter test es) (filter test es))) k ≡ true) [
+      | true ↦ or_true (e.0 == k) (is_among (keys_of (filter test es)) k) rest
+      | false ↦ rest
+    ]
+
+some_of : {X : Type 0} (o : Option X) (P : X → Type 0) → IsSomeAnd o P → IsSome o
+some_of None P is = absurd is
+some_of (Some x) P is = refl
+
+-- the gate at a place, and its key
+pub record IsReader (d : Keyed) (key place k : ℕ) (g : KeyedGate) : Type 0 where
+  pub found : gate_by_key d k ≡ Some g
+  pub among : is_among (reader_keys d key) k ≡ true
+  pub entry : gate_at (netlist d) place ≡ entry_in d.nets g
+  pub there : IsSome (net_by_key d g.output)
+
+pub reader_at : (d : Keyed) → AreKeys d → ((key : ℕ) → IsSome (net_by_key d key) → position_from (λ n. same_name n.name (name_of d.nets key)) 0 (netlist d).nets ≡ place_of d.nets key) → (blank : ℕ × NetEntry) (none : ℕ × KeyedGate) →
+    (key place : ℕ) → IsSome (net_by_key d key) → place < length (netlist d).gates → reads (gate_at (netlist d) place) (name_of d.nets key) ≡ true → (k : ℕ) × (g : KeyedGate) × IsReader d key place k g
+unfolding netlist
+reader_at d keys law blank none key place there low reading =
+    let e : ℕ × KeyedGate = slice_index_or d.gates place none in
+    let inside : place < length d.gates = lengths d.gates place low in
+    let entry : gate_at (netlist d) place ≡ entry_in d.nets e.1 =
+    index_map (λ (p : ℕ × GateEntry). p.1) (map (λ p. (p.0, entry_in d.nets p.1)) d.gates) place (0, blank_gate) blank_gate (more d.gates place inside)
+    ∙ ap (λ (p : ℕ × GateEntry). p.1) (index_map (λ (p : ℕ × KeyedGate). (p.0, entry_in d.nets p.1)) d.gates place none (0, blank_gate) inside) in
+    let connected : IsConnected d.nets e.1 =
+    subst (IsConnected d.nets) (index_map (λ (p : ℕ × KeyedGate). p.1) d.gates place none none.1 inside) (keys.connected place none.1 (records d.gates place inside)) in
+    let on : reads_key e.1 key ≡ true = any_at_key d law blank e.1.inputs key connected.inputs there (sym (ap (λ (g : GateEntry). reads g (name_of d.nets key)) entry) ∙ reading) in
+    (e.0, e.1, record { found = found_at d.gates place none keys.distinct_gates inside; among = listed_at (λ p. reads_key p.1 key) d.gates place none inside on; entry = entry; there = some_of (net_by_key d e.1.output) (λ n. n.is_input ≡ false) connected.output })
+  where
+    lengths : (es : List (ℕ × KeyedGate)) (p : ℕ) → p < length (map (λ (q : ℕ × GateEntry). q.1) (map (λ q. (q.0, entry_in d.nets q.1)) es)) → p < length es
+    lengths [] p low = absurd (omega arith)
+    lengths (x ∷ es) zero low = omega arith
+    lengths (x ∷ es) (suc p) low = let rest = lengths es p (omega arith) in omega arith
+
+    more : (es : List (ℕ × KeyedGate)) (p : ℕ) → p < length es → p < length {A = ℕ × GateEntry} (map (λ q. (q.0, entry_in d.nets q.1)) es)
+    more [] p low = absurd (omega arith)
+    more (x ∷ es) zero low = omega arith
+    more (x ∷ es) (suc p) low = let rest = more es p (omega arith) in omega arith
+
+    records : (es : List (ℕ × KeyedGate)) (p : ℕ) → p < length es → p < length (records_of es)
+    records [] p low = absurd (omega arith)
+    records (x ∷ es) zero low = omega arith
+    records (x ∷ es) (suc p) low = let rest = records es p (omega arith) in omega arith
+
+-- a gate, under its key
+pub record IsEntry (d : Keyed) (place k : ℕ) (g : KeyedGate) : Type 0 where
+  pub found : gate_by_key d k ≡ Some g
+  pub entry : gate_at (netlist d) place ≡ entry_in d.nets g
+  pub there : IsSome (net_by_key d g.output)
+
+pub entry_at : (d : Keyed) → AreKeys d → (none : ℕ × KeyedGate) (place : ℕ) → place < length (netlist d).gates → (k : ℕ) × (g : KeyedGate) × IsEntry d place k g
+unfolding netlist
+entry_at d keys none place low =
+    let e : ℕ × KeyedGate = slice_index_or d.gates place none in
+    let inside : place < length d.gates = lengths d.gates place low in
+    let entry : gate_at (netlist d) place ≡ entry_in d.nets e.1 =
+    index_map (λ (p : ℕ × GateEntry). p.1) (map (λ p. (p.0, entry_in d.nets p.1)) d.gates) place (0, blank_gate) blank_gate (more d.gates place inside)
+    ∙ ap (λ (p : ℕ × GateEntry). p.1) (index_map (λ (p : ℕ × KeyedGate). (p.0, entry_in d.nets p.1)) d.gates place none (0, blank_gate) inside) in
+    let connected : IsConnected d.nets e.1 =
+    subst (IsConnected d.nets) (index_map (λ (p : ℕ × KeyedGate). p.1) d.gates place none none.1 inside) (keys.connected place none.1 (records d.gates place inside)) in
+    (e.0, e.1, record { found = found_at d.gates place none keys.distinct_gates inside; entry = entry; there = some_of (net_by_key d e.1.output) (λ n. n.is_input ≡ false) connected.output })
+  where
+    lengths : (es : List (ℕ × KeyedGate)) (p : ℕ) → p < length (map (λ (q : ℕ × GateEntry). q.1) (map (λ q. (q.0, entry_in d.nets q.1)) es)) → p < length es
+    lengths [] p low = absurd (omega arith)
+    lengths (x ∷ es) zero low = omega arith
+    lengths (x ∷ es) (suc p) low = let rest = lengths es p (omega arith) in omega arith
+
+    more : (es : List (ℕ × KeyedGate)) (p : ℕ) → p < length es → p < length {A = ℕ × GateEntry} (map (λ q. (q.0, entry_in d.nets q.1)) es)
+    more [] p low = absurd (omega arith)
+    more (x ∷ es) zero low = omega arith
+    more (x ∷ es) (suc p) low = let rest = more es p (omega arith) in omega arith
+
+    records : (es : List (ℕ × KeyedGate)) (p : ℕ) → p < length es → p < length (records_of es)
+    records [] p low = absurd (omega arith)
+    records (x ∷ es) zero low = omega arith
+    records (x ∷ es) (suc p) low = let rest = records es p (omega arith) in omega arith
+
+-- a net, under its key
+pub net_entry_at : (d : Keyed) → AreKeys d → (blank : ℕ × NetEntry) (place : ℕ) → place < length (netlist d).nets → (k : ℕ) × (net_by_key d k ≡ Some (net_at (netlist d) place))
+unfolding netlist
+net_entry_at d keys blank place low =
+    let e : ℕ × NetEntry = slice_index_or d.nets place blank in
+    let inside : place < length d.nets = lengths d.nets place low in
+    (e.0, found_at d.nets place blank keys.distinct_nets inside ∙ ap (λ (n : NetEntry). Some n) (sym (index_map (λ (p : ℕ × NetEntry). p.1) d.nets place blank blank_net inside)))
+  where
+    lengths : (es : List (ℕ × NetEntry)) (p : ℕ) → p < length (records_of es) → p < length es
+    lengths [] p low = absurd (omega arith)
+    lengths (x ∷ es) zero low = omega arith
+    lengths (x ∷ es) (suc p) low = let rest = lengths es p (omega arith) in omega arith

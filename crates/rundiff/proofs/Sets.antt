@@ -1,0 +1,95 @@
+-- Sets of places, and lists in their order.
+use Rattle.std.proofs.Common.{◌≡◌, ℕ, zero, suc, ◌+◌, ◌<◌, ◌∙◌, ap, sym, refl, subst, List, [], ◌∷◌, Bool, true, false, cond, map, take, Some, arith, add-one, ⊎_elim, nat_cmp}
+use Rattle.std.specs.Prelude.{slice_get, ◌||◌, ◌==◌}
+use Rattle.std.specs.BTreeSet.{BTreeSet, contains}
+use Rattle.std.specs.Cmp.{nat_cmp_is}
+use Rattle.std.specs.List.{list_any}
+use Rattle.std.specs.List.Sorted.{IsStrictlySortedBy}
+use Rattle.std.specs.Ordering.{is_eq}
+use Rattle.std.specs.declared.cmp.Ordering.TheVariants.{Less, Equal, Greater}
+use Rattle.std.proofs.lemmas.Bool.{cases_lt}
+use Rattle.std.proofs.lemmas.Bool.Decides.{nat_tests}
+use Rattle.std.proofs.lemmas.Map.Keys.{below_from_sorted}
+use Rattle.rundiff.specs.Fronts.{ArePlaces, is_among}
+
+less_off : (p q : ℕ) → p < q → (q == p) ≡ false
+less_off p q low = grind (arith, nat_tests)
+
+more_off : (p q : ℕ) → q < p → (q == p) ≡ false
+more_off p q low = grind (arith, nat_tests)
+
+same_on : (p q : ℕ) → p ≡ q → (q == p) ≡ true
+same_on p q e = grind (arith, nat_tests)
+
+pub test_is : (p q : ℕ) → (q == p) ≡ is_eq (nat_cmp p q)
+test_is p q =
+    ⊎_elim
+    (λ low. less_off p q low ∙ ap is_eq (nat_cmp_is p q Less low))
+    (λ high. ⊎_elim
+    (λ below. more_off p q below ∙ ap is_eq (nat_cmp_is p q Greater below))
+    (λ above. let e : p ≡ q = omega arith in same_on p q e ∙ ap is_eq (nat_cmp_is p q Equal e))
+    (cases_lt q p))
+    (cases_lt p q)
+
+pub among_keys : (keys : List ℕ) (p : ℕ) → is_among keys p ≡ list_any (λ q. is_eq (nat_cmp p q)) keys
+among_keys [] p = refl
+among_keys (q ∷ keys) p = ap (λ (b : Bool). b || is_among keys p) (test_is p q) ∙ ap (λ (b : Bool). is_eq (nat_cmp p q) || b) (among_keys keys p)
+
+-- the keys of a set are its places in order
+pub set_places : (s : BTreeSet ℕ) (places : List ℕ) → places ≡ s.keys → IsStrictlySortedBy nat_cmp s.keys → ArePlaces places (contains nat_cmp s)
+set_places s places same sorted =
+    let those : ArePlaces s.keys (contains nat_cmp s) = record {
+      rising = λ i j d order within. below_from_sorted s.keys i j d sorted order within;
+      all = λ p. among_keys s.keys p;
+    } in
+    subst (λ (l : List ℕ). ArePlaces l (contains nat_cmp s)) (sym same) those
+
+or_assoc : (a b c : Bool) → ((a || b) || c) ≡ (a || (b || c))
+or_assoc true b c = refl
+or_assoc false b c = refl
+
+or_last : (b : Bool) → (b || false) ≡ b
+or_last true = refl
+or_last false = refl
+
+-- one element more
+pub any_more : {X : Type 0} (test : X → Bool) (xs : List X) (i : ℕ) (x : X) → slice_get xs i ≡ Some x → list_any test (take (i + 1) xs) ≡ (list_any test (take i xs) || test x)
+any_more test [] i x at = absurd (cc)
+any_more test (w ∷ xs) zero x at = let e : w ≡ x = cc in or_last (test w) ∙ ap test e
+any_more test (w ∷ xs) (suc i) x at =
+    rw add-one (ap (λ (b : Bool). test w || b) (rw add-one at (any_more test xs i x at)) ∙ sym (or_assoc (test w) (list_any test (take i xs)) (test x)))
+
+pub any_map : {X Y : Type 0} (test : Y → Bool) (f : X → Y) (xs : List X) → list_any (λ x. test (f x)) xs ≡ list_any test (map f xs)
+any_map test f [] = refl
+any_map test f (x ∷ xs) = ap (λ (b : Bool). test (f x) || b) (any_map test f xs)
+
+-- a place more in a set
+pub held_more : (a b c : Bool) → cond b true (a || c) ≡ ((a || b) || c)
+held_more true true c = refl
+held_more false true c = refl
+held_more a false c = ap (λ (x : Bool). x || c) (sym (or_last a))
+
+pub flips : (p q : ℕ) → (p == q) ≡ (q == p)
+flips p q = grind (arith, nat_tests)
+
+pub cond_or : (a b : Bool) → cond a true b ≡ (a || b)
+cond_or true b = refl
+cond_or false b = refl
+
+-- one place more among those that are live
+pub live_step : (a b c : Bool) → (b || (a || c)) ≡ ((a || b) || c)
+live_step true true c = refl
+live_step true false c = refl
+live_step false true c = refl
+live_step false false c = refl
+
+pub or_first : (a b : Bool) → a ≡ true → (a || b) ≡ true
+or_first a b on = rw on refl
+
+pub or_second : (a b : Bool) → b ≡ true → (a || b) ≡ true
+or_second true b on = refl
+or_second false b on = on
+
+pub or_none : (a b : Bool) → (a || b) ≡ false → (a ≡ false) × (b ≡ false)
+or_none true b h = absurd (cc)
+or_none false b h = (refl, h)

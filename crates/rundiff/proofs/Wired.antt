@@ -1,0 +1,38 @@
+-- What gates are connected to is there.
+use Rattle.std.proofs.Common.{◌≡◌, ℕ, List, true, Option, Some, ap, All}
+use Rattle.std.specs.Prelude.{slice_index_or}
+use Rattle.std.specs.Option.{option_map_or}
+use Rattle.fourstate.specs.declared.value.Value.TheVariants.{Unknown}
+use Rattle.gatestep.specs.Step.{State, Evaluation}
+use Rattle.design.specs.Connections.{Connection, to_net, to_constant}
+use Rattle.design.specs.Lawful.{IsDesign}
+use Rattle.design.specs.Names.{same_name}
+use Rattle.design.specs.Netlist.{NetEntry, Netlist, is_readable, net_named}
+use Rattle.scratch.specs.Run.{value}
+use Rattle.rundiff.specs.Kept.{read_at}
+use Rattle.rundiff.proofs.Lists.{all_pass, found_any, found_in, same_name_equal}
+
+-- a connection is a constant, or names a net
+abbrev pub IsThere : Netlist → Connection → Type 0
+IsThere d (to_net name) = (n : NetEntry) × (net_named d name ≡ Some n)
+IsThere d (to_constant v) = Unit {0}
+
+readable_there : (d : Netlist) (c : Connection) → is_readable d c ≡ true → IsThere d c
+readable_there d (to_net name) is = found_any (λ n. same_name n.name name) d.nets is
+readable_there d (to_constant v) is = tt
+
+pub inputs_there : (d : Netlist) → IsDesign d → All (λ g. All (IsThere d) g.inputs) d.gates
+inputs_there d is = λ k e within i c low.
+    let g = slice_index_or d.gates k e in
+    readable_there d (slice_index_or g.inputs i c) (all_pass (is_readable d) g.inputs (is.wiring k e within).inputs i c low)
+
+-- what is said of each net holds of the one that has a name
+pub named_in : (d : Netlist) (P : NetEntry → Type 0) (name : List ℕ) (n : NetEntry) → All P d.nets → net_named d name ≡ Some n → P n × (n.name ≡ name)
+named_in d P name n all found =
+    let facts = found_in P (λ m. same_name m.name name) d.nets n all found in
+    (facts.0, same_name_equal n.name name facts.1)
+
+-- what reads a net that is there reads its value
+pub reads_net : (answer : Evaluation → ℕ → State) (d : Netlist) (name : List ℕ) (n : NetEntry) (t : ℕ) → net_named d name ≡ Some n →
+    read_at answer d (to_net name) t ≡ value answer d n t
+reads_net answer d name n t found = ap (λ (o : Option NetEntry). option_map_or (λ m. value answer d m t) o Unknown) found

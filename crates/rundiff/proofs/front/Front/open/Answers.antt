@@ -1,0 +1,56 @@
+use Rattle.std.proofs.Common.{◌≡◌, ◌∙◌, ap, sym, subst, refl, ℕ, List, [], ◌∷◌, Bool, true, Option, Some, None, inl, arith}
+use Rattle.std.specs.BTreeMap.{BTreeMap, get, is_at}
+use Rattle.std.specs.BTreeSet.{contains}
+use Rattle.std.specs.Map.{lookup}
+use Rattle.std.specs.Ordering.{nat_cmp}
+use Rattle.fourstate.specs.declared.gate.GateKind.TheVariants.{Buf}
+use Rattle.fourstate.specs.Values.{same_value}
+use Rattle.gatestep.specs.Step.{State, due}
+use Rattle.design.specs.Connections.{to_net}
+use Rattle.design.specs.Keys.{netlist}
+use Rattle.waveform.specs.Entries.{same_state, standing}
+use Rattle.waveform.specs.Patches.{Keeps, PatchRecord}
+use Rattle.scratch.specs.Run.{state_after, value}
+use Rattle.rundiff.specs.Fronts.{blank_net, gate_at, is_among, named_state, net_at}
+use Rattle.rundiff.specs.Kept.{read_at}
+use Rattle.rundiff.proofs.FirstLive.{first_closed}
+use Rattle.rundiff.proofs.Sets.{or_first}
+use Rattle.rundiff.proofs.front.Front.open.Goals as goal
+
+none_there : {X : Type 0} (m : BTreeMap ℕ X) → m.entries ≡ [] → (p : ℕ) → get nat_cmp m p ≡ None
+none_there {X} m empty p = ap (λ (es : List (ℕ × X)). lookup (is_at (nat_cmp p)) es) empty
+
+keeps_first : {A : Type 0} (same : A → A → Bool) (drift : A → ℕ → A) (f g : ℕ → A) (o : Option (PatchRecord A)) → o ≡ None → Keeps same drift g f o 0
+keeps_first {A} same drift f g o none = subst (λ (o : Option (PatchRecord A)). Keeps same drift g f o 0) (sym none) (λ u low. absurd (omega arith))
+
+never_some : {X : Type 0} (o : Option X) (x : X) → o ≡ None → o ≡ Some x → ⊥
+never_some o x none some = let no : ◌≡◌ {A = Option _} None (Some x) = sym none ∙ some in cc
+
+pub returns-clause-front : goal.returns-clause-front
+returns-clause-front c = λ answer.
+    let old = netlist c.args.old.now in let new = netlist c.args.new.now in
+    let later = contains nat_cmp c.hold.new.live in
+    let places = c.in_ok-found.found.items in
+    let covers : (p : ℕ) → is_among places p ≡ true → later p ≡ true = λ p among.
+    c.in_ok-hold.ensures.live p
+    ∙ or_first (is_among c.as_slice.result.now p) (contains nat_cmp c.new-live.result p) (ap (λ (l : List ℕ). is_among l p) c.as_slice.ensures.value ∙ among) in
+    let no_wave = none_there c.new.result c.new.ensures.empty in
+    let no_trace = none_there c.new-2.result c.new-2.ensures.empty in
+    record {
+      drivers = c.in_ok-hold.ensures.drivers;
+      closed =
+          first_closed c.args.old.now c.args.new.now c.lawful.ensures.keys c.lawful-2.ensures.keys c.lawful-2.ensures.design.distinct_nets c.places_are_keys.ensures.nets
+          c.names_are_keys.ensures.nets c.names_are_keys.ensures.drivers c.names_are_keys-2.ensures.drivers
+          c.args.touched.now.nets.items c.args.touched.now.gates.items places c.requires c.in_ok-found.ensures.touched later covers
+          (0, record { name = []; kind = Buf; delays = record { rise = 0; fall = 0 }; output = 0; inputs = [] }) (0, blank_net);
+      agrees = record { states = λ k d low off. refl; inputs = λ k d low off i e within. tt; nets = λ k d low off. tt };
+      waves = λ p low. keeps_first same_value standing (value answer new (net_at new p)) (read_at answer old (to_net (net_at new p).name)) _ (no_wave p);
+      traces = λ p low. keeps_first same_state due (state_after answer new (gate_at new p)) (named_state answer old (gate_at new p).name) _ (no_trace p);
+      wave_ends = λ p patch is. absurd (never_some _ patch (no_wave p) is);
+      trace_ends = λ p patch is. absurd (never_some _ patch (no_trace p) is);
+      kept_waves = λ p. inl (no_wave p);
+      own_traces = λ p on. inl refl;
+      other_waves = λ p off. no_wave p;
+      other_traces = λ p off. no_trace p;
+      blank = record { wave = c.in_ok-blank_wave.ensures; trace = c.in_ok-blank_trace.ensures ∙ ap (λ (s : State). (0, s) ∷ []) c.start.ensures };
+    }

@@ -1,0 +1,106 @@
+use Rattle.std.proofs.Common.{◌≡◌, ◌∙◌, ◌<◌, ◌≤◌, ap, sym, subst, refl, suc, ℕ, List, Bool, true, false, map, Option, arith, inr}
+use Rattle.std.specs.Prelude.{◌&&◌, AllPairs}
+use Rattle.std.specs.BTreeMap.{get}
+use Rattle.std.specs.BTreeSet.{contains}
+use Rattle.std.specs.Option.{ForSome}
+use Rattle.std.specs.Ordering.{nat_cmp}
+use Rattle.gatestep.specs.Step.{State, due}
+use Rattle.design.specs.Keys.{netlist}
+use Rattle.waveform.specs.Entries.{same_state}
+use Rattle.waveform.specs.Patches.{Keeps, PatchRecord}
+use Rattle.waveform.specs.Timelines.{end_of}
+use Rattle.scratch.specs.Run.{state_after}
+use Rattle.rundiff.specs.Fronts.{IsOwn, gate_at, is_among, is_working, named_state}
+use Rattle.rundiff.proofs.ByPlace.{map_twice}
+use Rattle.rundiff.proofs.OneGate.{and_false}
+use Rattle.rundiff.proofs.Resting.{idle, stored_each}
+use Rattle.rundiff.proofs.Still.{both}
+use Rattle.rundiff.proofs.front.Front.settle.Goals as goal
+
+pub put_states-requires-clause-there : goal.put_states-requires-clause-there
+put_states-requires-clause-there g c = λ p among.
+    let test = is_working g.S.Stepper.answer (netlist c.args.old.now) (netlist c.args.new.now) c.args.t in
+    let held = contains nat_cmp c.args.self.now.held in
+    c.requires.front.drivers.gates p (both (held p) (test p) (sym (c.requires.front.places.all p) ∙ ap (λ (l : List ℕ). is_among l p) (sym c.as_slice.ensures.value) ∙ among)).0
+
+pub put_states-requires-clause-rising : goal.put_states-requires-clause-rising
+put_states-requires-clause-rising g c = subst (AllPairs (λ p q. p < q)) (sym c.as_slice.ensures.value) c.requires.front.places.rising
+
+pub put_states-requires-clause-traces : goal.put_states-requires-clause-traces
+put_states-requires-clause-traces g c = λ p among.
+    let test = is_working g.S.Stepper.answer (netlist c.args.old.now) (netlist c.args.new.now) c.args.t in
+    let held = contains nat_cmp c.args.self.now.held in
+    let parts = both (held p) (test p) (sym (c.requires.front.places.all p) ∙ ap (λ (l : List ℕ). is_among l p) (sym c.as_slice.ensures.value) ∙ among) in
+    c.requires.front.working p (c.requires.front.drivers.gates p parts.0) parts.1
+
+pub put_states-requires-clause-ends : goal.put_states-requires-clause-ends
+put_states-requires-clause-ends g c = λ p among.
+    let test = is_working g.S.Stepper.answer (netlist c.args.old.now) (netlist c.args.new.now) c.args.t in
+    let held = contains nat_cmp c.args.self.now.held in
+    let parts = both (held p) (test p) (sym (c.requires.front.places.all p) ∙ ap (λ (l : List ℕ). is_among l p) (sym c.as_slice.ensures.value) ∙ among) in
+    λ patch is. (c.requires.front.trace_ends p patch is).1 parts.1
+
+pub put_states-requires-clause-states : goal.put_states-requires-clause-states
+put_states-requires-clause-states g c =
+    let answer = g.S.Stepper.answer in let new = netlist c.args.new.now in let t = c.args.t in
+    c.requires.answers ∙ ap (map (λ h. state_after answer new h t)) c.requires.front.tasks
+    ∙ map_twice (gate_at new) (λ h. state_after answer new h t) c.args.self.now.working.items
+    ∙ ap (map (λ p. state_after answer new (gate_at new p) t)) (sym c.as_slice.ensures.value)
+
+pub put_states-requires-clause-can : goal.put_states-requires-clause-can
+put_states-requires-clause-can g c =
+    let answer = g.S.Stepper.answer in let laws = g.met.S.Stepper in let new = netlist c.args.new.now in let t = c.args.t in
+    let test = is_working answer (netlist c.args.old.now) new t in
+    let held = contains nat_cmp c.args.self.now.held in
+    let those = c.requires.answers ∙ ap (map (λ h. state_after answer new h t)) c.requires.front.tasks ∙ map_twice (gate_at new) (λ h. state_after answer new h t) c.args.self.now.working.items in
+    stored_each answer new laws.answer_pending laws.answer_near c.lawful-2.ensures.design t c.args.self.now.working.items
+    (λ p among. c.requires.front.drivers.gates p (both (held p) (test p) (sym (c.requires.front.places.all p) ∙ among)).0) c.args.answers.now those
+
+pub overflow_add-self : goal.overflow_add-self
+overflow_add-self g c = let most = c.lawful.ensures.design.horizon in let h = c.requires.within in omega arith
+
+pub returns-clause-front : goal.returns-clause-front
+returns-clause-front g c =
+    let answer = g.S.Stepper.answer in
+    let old = netlist c.args.old.now in let new = netlist c.args.new.now in let t = c.args.t in
+    let test = is_working answer old new t in
+    let held = contains nat_cmp c.args.self.now.held in
+    let before = c.requires.front in
+    let done = c.in_ok-put_states.ensures in
+    let slice = c.as_slice.result.now in
+    let was : ℕ → Option (PatchRecord State) = get nat_cmp c.args.self.now.traces in
+    let now : ℕ → Option (PatchRecord State) = get nat_cmp c.put_states.new.traces in
+    let Keep : ℕ → Option (PatchRecord State) → ℕ → Type 0 = λ p o n. Keeps same_state due (named_state answer old (gate_at new p).name) (state_after answer new (gate_at new p)) o n in
+    let among : (p : ℕ) → is_among slice p ≡ (held p && test p) = λ p. ap (λ (l : List ℕ). is_among l p) c.as_slice.ensures.value ∙ before.places.all p in
+    let on_true : (a b : Bool) → a ≡ true → b ≡ true → (a && b) ≡ true = λ a b h k. rw (h, k) refl in
+    let off_left : (a b : Bool) → a ≡ false → (a && b) ≡ false = λ a b h. rw h refl in
+    let off_right : (a b : Bool) → b ≡ false → (a && b) ≡ false = λ a b h. ap (λ (x : Bool). a && x) h ∙ and_false a in
+    record {
+      drivers = before.drivers;
+      closed = before.closed;
+      agrees = before.agrees;
+      waves = before.waves;
+      traces = λ p low.
+          elim (is_among slice p) as (λ b. is_among slice p ≡ b → Keep p (now p) (suc t)) [
+            | true ↦ λ on. done.put p on
+            | false ↦ λ off.
+                subst (λ (o : Option (PatchRecord State)). Keep p o (suc t)) (sym (done.others p off))
+                (before.rested p low (idle (held p) (test p) (before.clean p low) (sym (among p) ∙ off)))
+          ] refl;
+      wave_ends = before.wave_ends;
+      trace_ends = λ p.
+          elim (is_among slice p) as (λ b. is_among slice p ≡ b → ForSome (now p) (λ patch. end_of patch.line ≤ suc t)) [
+            | true ↦ λ on. done.ends p on
+            | false ↦ λ off.
+                subst (λ (o : Option (PatchRecord State)). ForSome o (λ patch. end_of patch.line ≤ suc t)) (sym (done.others p off)) (λ patch is. (before.trace_ends p patch is).0)
+          ] refl;
+      own_traces = λ p on.
+          inr (elim (test p) as (λ b. test p ≡ b → IsOwn (now p)) [
+            | true ↦ λ yes. done.own p (among p ∙ on_true (held p) (test p) on yes)
+            | false ↦ λ no. subst (λ (o : Option (PatchRecord State)). IsOwn o) (sym (done.others p (among p ∙ off_right (held p) (test p) no))) (before.own_traces p on no)
+          ] refl);
+      kept_waves = before.kept_waves;
+      other_waves = before.other_waves;
+      other_traces = λ p free. done.others p (among p ∙ off_left (held p) (test p) free) ∙ before.other_traces p free;
+      blank = record { wave = before.blank.wave; trace = before.blank.trace };
+    }

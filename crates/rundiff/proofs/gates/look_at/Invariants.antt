@@ -1,0 +1,8 @@
+use Rattle.std.proofs.Common.{take}
+use Rattle.design.specs.Keys.{netlist}
+use Rattle.rundiff.specs.Fronts.{AreOutcomes}
+use Rattle.rundiff.proofs.gates.look_at.Given as goal
+
+-- what comes of the gates so far
+abbrev pub invariant-loop-place : goal.invariant-loop-place
+invariant-loop-place g l = AreOutcomes g.S.Stepper.answer (netlist l.old) (netlist l.new) l.t (take l.place-index l.held) l.out

@@ -1,0 +1,14 @@
+use Rattle.std.proofs.Common.{◌≡◌, ℕ, take}
+use Rattle.std.specs.Prelude.{◌||◌}
+use Rattle.std.specs.BTreeSet.{contains}
+use Rattle.std.specs.Ordering.{nat_cmp}
+use Rattle.design.specs.Keys.{netlist}
+use Rattle.rundiff.specs.Fronts.{AreDrivers, is_among}
+use Rattle.rundiff.proofs.holding.hold.Given as goal
+
+-- the nets so far are live
+abbrev pub invariant-loop-place : goal.invariant-loop-place
+invariant-loop-place l = record {
+  drivers : AreDrivers (netlist l.new) (contains nat_cmp l.live) (contains nat_cmp l.held);
+  live : (p : ℕ) → contains nat_cmp l.live p ≡ (is_among (take l.place-index l.found) p || contains nat_cmp l.fn.live p);
+}

@@ -1,0 +1,39 @@
+use Rattle.std.proofs.Common.{◌≡◌, ◌∙◌, ap, sym, subst, refl, ℕ, List, true, false, take}
+use Rattle.std.specs.Prelude.{slice_index_or, nat_eq}
+use Rattle.design.specs.Keys.{netlist}
+use Rattle.rundiff.specs.Fronts.{IsAlike, is_among}
+use Rattle.rundiff.proofs.Alike.{alike_grows}
+use Rattle.rundiff.proofs.ByPlace.{get_at}
+use Rattle.rundiff.proofs.Driven.{take_whole}
+use Rattle.rundiff.proofs.Steps.{among_more, is_one, or_splits, same_place}
+use Rattle.rundiff.proofs.nets.find_differing.Goals as goal
+
+pub add_differing-requires-clause-there : goal.add_differing-requires-clause-there
+add_differing-requires-clause-there g c =
+    let xs = c.args.live.now in let i = c.loop-place.place-index in
+    c.requires.there (slice_index_or xs i 0) (is_one xs i (slice_index_or xs i 0) (get_at xs i 0 c.loop-place-test.true))
+
+pub add_differing-requires-clause-wave : goal.add_differing-requires-clause-wave
+add_differing-requires-clause-wave g c =
+    let xs = c.args.live.now in let i = c.loop-place.place-index in
+    c.requires.waves (slice_index_or xs i 0) (is_one xs i (slice_index_or xs i 0) (get_at xs i 0 c.loop-place-test.true))
+
+pub loop-place-preserved : goal.loop-place-preserved
+loop-place-preserved g c =
+    let xs = c.args.live.now in let i = c.loop-place.place-index in let x = slice_index_or xs i 0 in
+    let old = netlist c.args.old.now in let new = netlist c.args.new.now in let t = c.args.t in
+    let done = c.in_ok-add_differing.ensures in
+    record {
+      there = done.there c.loop-place.invariant.there;
+      alike = λ p among.
+          elim (nat_eq x p) as (λ b. nat_eq x p ≡ b → IsAlike g.S.Stepper.answer old new (is_among c.add_differing.new.found.items) t p) [
+            | true ↦ λ same. subst (λ (q : ℕ). IsAlike g.S.Stepper.answer old new (is_among c.add_differing.new.found.items) t q) (same_place x p same) done.alike
+            | false ↦ λ apart.
+                alike_grows g.S.Stepper.answer old new (is_among c.loop-place.found.items) (is_among c.add_differing.new.found.items) t p done.more
+                (c.loop-place.invariant.alike p (or_splits (is_among (take i xs) p) (nat_eq x p) (sym (among_more xs i x p (get_at xs i 0 c.loop-place-test.true)) ∙ among) apart))
+          ] refl;
+    }
+
+pub returns-clause-alike : goal.returns-clause-alike
+returns-clause-alike g c = λ p among.
+    c.loop-place.invariant.alike p (ap (λ (l : List ℕ). is_among l p) (take_whole c.args.live.now c.loop-place.place-index c.loop-place-test.false) ∙ among)

@@ -1,0 +1,11 @@
+use Rattle.std.proofs.Common.{◌≡◌, ◌<◌, ℕ, true, take, All, length}
+use Rattle.design.specs.Keys.{netlist}
+use Rattle.rundiff.specs.Fronts.{IsAlike, is_among}
+use Rattle.rundiff.proofs.nets.find_differing.Given as goal
+
+-- what is found for the nets so far
+abbrev pub invariant-loop-place : goal.invariant-loop-place
+invariant-loop-place g l = record {
+  there : All (λ p. p < length (netlist l.new).nets) l.found.items;
+  alike : (p : ℕ) → is_among (take l.place-index l.live) p ≡ true → IsAlike g.S.Stepper.answer (netlist l.old) (netlist l.new) (is_among l.found.items) l.t p;
+}

@@ -1,0 +1,57 @@
+use Rattle.std.proofs.Common.{◌≡◌, ◌∙◌, ◌≤◌, ap, sym, subst, refl, ℕ, List, true, false, take, length, Some}
+use Rattle.std.specs.Prelude.{slice_get, nat_eq}
+use Rattle.catalog.specs.Catalog.{place_of}
+use Rattle.design.specs.Keys.{gate_by_key}
+use Rattle.rundiff.specs.Fronts.{is_among}
+use Rattle.rundiff.proofs.Driven.{read_get, take_whole}
+use Rattle.rundiff.proofs.Steps.{among_more, or_splits, same_place}
+use Rattle.rundiff.proofs.opening.touched_places.Goals as goal
+
+pub loop-net-preserved : goal.loop-net-preserved
+loop-net-preserved c =
+    let keys = c.args.touched.now.nets.items in let i = c.loop-net.net-index in let x = c.net-item.result in
+    let nets = c.args.new.now.nets in
+    let at : slice_get keys i ≡ Some x = subst (λ (l : List ℕ). slice_get l i ≡ Some x) c.deref-net-items.ensures.value (read_get c.deref-net-items.result.now i x c.loop-net-test.true c.net-item.is) in
+    let done = c.in_ok-add_net.ensures in
+    record {
+      there = done.there c.loop-net.invariant.there;
+      nets = λ key among p found.
+          elim (nat_eq x key) as (λ b. nat_eq x key ≡ b → is_among c.add_net.new.places.items p ≡ true) [
+            | true ↦ λ same. done.net p (ap (place_of nets) (same_place x key same) ∙ found)
+            | false ↦ λ apart. done.more p (c.loop-net.invariant.nets key (or_splits (is_among (take i keys) key) (nat_eq x key) (sym (among_more keys i x key at) ∙ among) apart) p found)
+          ] refl;
+    }
+
+pub loop-gate-init : goal.loop-gate-init
+loop-gate-init c =
+    let keys = c.args.touched.now.nets.items in let i = c.loop-net.net-index in
+    let past : length keys ≤ i = subst (λ (l : List ℕ). length l ≤ i) c.deref-net-items.ensures.value c.loop-net-test.false in
+    record {
+      there = c.loop-net.invariant.there;
+      nets = λ key among. c.loop-net.invariant.nets key (ap (λ (l : List ℕ). is_among l key) (take_whole keys i past) ∙ among);
+      gates = λ key never. absurd (cc);
+    }
+
+pub loop-gate-preserved : goal.loop-gate-preserved
+loop-gate-preserved c =
+    let keys = c.args.touched.now.gates.items in let i = c.loop-gate.gate-index in let x = c.gate-item.result in
+    let at : slice_get keys i ≡ Some x = subst (λ (l : List ℕ). slice_get l i ≡ Some x) c.deref-gate-items.ensures.value (read_get c.deref-gate-items.result.now i x c.loop-gate-test.true c.gate-item.is) in
+    let done = c.in_ok-add_output.ensures in
+    record {
+      there = done.there c.loop-gate.invariant.there;
+      nets = λ key among p found. done.more p (c.loop-gate.invariant.nets key among p found);
+      gates = λ key among gate under p found.
+          elim (nat_eq x key) as (λ b. nat_eq x key ≡ b → is_among c.add_output.new.places.items p ≡ true) [
+            | true ↦ λ same. done.output gate (ap (gate_by_key c.args.new.now) (same_place x key same) ∙ under) p found
+            | false ↦ λ apart. done.more p (c.loop-gate.invariant.gates key (or_splits (is_among (take i keys) key) (nat_eq x key) (sym (among_more keys i x key at) ∙ among) apart) gate under p found)
+          ] refl;
+    }
+
+pub returns-clause-touched : goal.returns-clause-touched
+returns-clause-touched c =
+    let keys = c.args.touched.now.gates.items in let i = c.loop-gate.gate-index in
+    let past : length keys ≤ i = subst (λ (l : List ℕ). length l ≤ i) c.deref-gate-items.ensures.value c.loop-gate-test.false in
+    record {
+      of_nets = c.loop-gate.invariant.nets;
+      of_gates = λ key among. c.loop-gate.invariant.gates key (ap (λ (l : List ℕ). is_among l key) (take_whole keys i past) ∙ among);
+    }

@@ -1,0 +1,183 @@
+-- What a front keeps of a new run beside an old one, and what is known of it.
+use Rattle.std.specs.Prelude.{◌≡◌, ◌==◌, ◌⊎◌, ◌&&◌, ◌∷◌, ◌<◌, ◌≤◌, Bool, true, false, ℕ, suc, List, [], map, length, Option, Some, None, not}
+use Rattle.std.specs.List.{All, AllPairs, filter, list_any, position_from, slice_index_or}
+use Rattle.std.specs.Option.{option_map_or, ForSome}
+use Rattle.std.specs.Ordering.{nat_cmp}
+use Rattle.std.specs.BTreeMap.{BTreeMap, get}
+use Rattle.std.specs.BTreeSet.{contains}
+use Rattle.fourstate.specs.declared.gate.GateKind.TheVariants.{Buf}
+use Rattle.fourstate.specs.declared.net.NetKind.TheVariants.{Wire}
+use Rattle.fourstate.specs.declared.value.Value.{Value}
+use Rattle.fourstate.specs.declared.value.Value.TheVariants.{Unknown}
+use Rattle.fourstate.specs.Values.{same_value}
+use Rattle.gatestep.specs.Step.{State, Evaluation, due, initial}
+use Rattle.gatestep.specs.Tasks.{IsReady}
+use Rattle.catalog.specs.Catalog.{place_of}
+use Rattle.design.specs.Connections.{to_net}
+use Rattle.design.specs.Keys.{Keyed, KeyedGate, gate_by_key}
+use Rattle.design.specs.Names.{same_name}
+use Rattle.design.specs.Netlist.{GateEntry, NetEntry, Netlist, gate_named, reads}
+use Rattle.edits.specs.Touched.{is_touched}
+use Rattle.waveform.specs.Entries.{CanStore, same_state, standing}
+use Rattle.waveform.specs.Patches.{Keeps, PatchRecord}
+use Rattle.waveform.specs.Timelines.{end_of}
+use Rattle.scratch.specs.Run.{state_after, value}
+use Rattle.rundiff.specs.Dirty.{is_dirty, working_at}
+use Rattle.rundiff.specs.Kept.{Agrees, IsClosed, read_at}
+use Rattle.scratch.specs.Work.{is_stirred, task_at}
+use Rattle.rundiff.specs.declared.front.Front.{Front}
+use Rattle.rundiff.specs.declared.gates.Outcomes.{Outcomes}
+use Rattle.rundiff.specs.declared.looking.Outcome.{Outcome}
+use Rattle.rundiff.specs.declared.looking.Outcome.TheVariants.{Working, Resting}
+
+-- Nets and gates by their places in the order of the new design.
+
+abbrev pub blank_net : NetEntry
+blank_net = record { name = []; kind = Wire; is_input = false; points = [] }
+
+abbrev pub blank_gate : GateEntry
+blank_gate = record { name = []; kind = Buf; delays = record { rise = 0; fall = 0 }; output = []; inputs = [] }
+
+abbrev pub net_at : Netlist → ℕ → NetEntry
+net_at d p = slice_index_or d.nets p blank_net
+
+abbrev pub gate_at : Netlist → ℕ → GateEntry
+gate_at d p = slice_index_or d.gates p blank_gate
+
+-- the place is among these
+abbrev pub is_among : List ℕ → ℕ → Bool
+is_among places p = list_any (λ q. q == p) places
+
+-- the net of this name is at one of the places that are live
+abbrev pub is_live : Netlist → (live : ℕ → Bool) → List ℕ → Bool
+is_live d live name = option_map_or live (position_from (λ n. same_name n.name name) 0 d.nets) false
+
+-- the state of the gate of this name after t, x with nothing pending where there is none
+abbrev pub named_state : (Evaluation → ℕ → State) → Netlist → List ℕ → ℕ → State
+named_state answer d name t = option_map_or (λ g. state_after answer d g t) (gate_named d name) initial
+
+-- Patches by place.
+
+-- a patch is there and has all of the function so far
+abbrev pub IsOwn : {A : Type 0} → Option (PatchRecord A) → Type 0
+IsOwn {A} kept = (patch : PatchRecord A) × (kept ≡ Some patch) × (patch.since ≡ None)
+
+-- no patch has an entry at n or later
+abbrev pub EndBy : {A : Type 0} → BTreeMap ℕ (PatchRecord A) → ℕ → Type 0
+EndBy patches n = (p : ℕ) → ForSome (get nat_cmp patches p) (λ patch. end_of patch.line ≤ n)
+
+module _ (answer : Evaluation → ℕ → State) (old new : Netlist) where
+  -- the value of a net below n, by its patch and the old run
+  abbrev pub IsWave : BTreeMap ℕ (PatchRecord Value) → ℕ → ℕ → Type 0
+  IsWave waves p n = Keeps same_value standing (read_at answer old (to_net (net_at new p).name)) (value answer new (net_at new p)) (get nat_cmp waves p) n
+
+  abbrev pub AreWaves : BTreeMap ℕ (PatchRecord Value) → ℕ → Type 0
+  AreWaves waves n = (p : ℕ) → p < length new.nets → IsWave waves p n
+
+  -- the state of a gate below n, by its patch and the old run
+  abbrev pub IsTrace : BTreeMap ℕ (PatchRecord State) → ℕ → ℕ → Type 0
+  IsTrace traces p n = Keeps same_state due (named_state answer old (gate_at new p).name) (state_after answer new (gate_at new p)) (get nat_cmp traces p) n
+
+  abbrev pub AreTraces : BTreeMap ℕ (PatchRecord State) → ℕ → Type 0
+  AreTraces traces n = (p : ℕ) → p < length new.gates → IsTrace traces p n
+
+  -- the gate at a place is evaluated at t
+  abbrev pub is_working : ℕ → ℕ → Bool
+  is_working t p = is_dirty answer old new (gate_at new p) t && is_stirred answer new (gate_at new p) t
+
+-- a net has the same value at t in both runs, or the outputs of all its readers are at these places
+abbrev pub IsAlike : (Evaluation → ℕ → State) → (old new : Netlist) → (ℕ → Bool) → ℕ → ℕ → Type 0
+IsAlike answer old new found t p =
+    (read_at answer old (to_net (net_at new p).name) t ≡ value answer new (net_at new p) t)
+    ⊎ ((q : ℕ) → q < length new.gates → reads (gate_at new q) (net_at new p).name ≡ true → is_live new found (gate_at new q).output ≡ true)
+
+-- the gates that are held are those that drive the nets that are live
+pub record AreDrivers (d : Netlist) (live held : ℕ → Bool) : Type 0 where
+  pub nets : (p : ℕ) → live p ≡ true → p < length d.nets
+  pub gates : (p : ℕ) → held p ≡ true → p < length d.gates
+  pub drivers : (p : ℕ) → p < length d.gates → held p ≡ is_live d live (gate_at d p).output
+
+-- places in order: these, and no others
+pub record ArePlaces (places : List ℕ) (test : ℕ → Bool) : Type 0 where
+  pub rising : AllPairs (λ p q. p < q) places
+  pub all : (p : ℕ) → is_among places p ≡ test p
+
+-- the nets and gates of a front
+abbrev pub live_in : Front → ℕ → Bool
+live_in front = contains nat_cmp front.live
+
+abbrev pub held_in : Front → ℕ → Bool
+held_in front = contains nat_cmp front.held
+
+-- what is blank
+pub record AreBlank (front : Front) : Type 0 where
+  pub wave : front.blank_wave ≡ (0, Unknown) ∷ []
+  pub trace : front.blank_trace ≡ (0, initial) ∷ []
+
+-- the front is right, where the moments below n are done
+pub record IsFront (answer : Evaluation → ℕ → State) (old new : Netlist) (front : Front) (n : ℕ) : Type 0 where
+  pub drivers : AreDrivers new (live_in front) (held_in front)
+  pub closed : IsClosed old new (is_live new (live_in front))
+  pub agrees : Agrees answer old new (is_live new (live_in front)) n
+  pub waves : AreWaves answer old new front.waves n
+  pub traces : AreTraces answer old new front.traces n
+  pub wave_ends : EndBy front.waves n
+  pub trace_ends : EndBy front.traces n
+  pub own_traces : (p : ℕ) → held_in front p ≡ true → (n ≡ 0) ⊎ IsOwn (get nat_cmp front.traces p)
+  pub kept_waves : (p : ℕ) → (get nat_cmp front.waves p ≡ None) ⊎ IsOwn (get nat_cmp front.waves p)
+  pub other_waves : (p : ℕ) → live_in front p ≡ false → get nat_cmp front.waves p ≡ None
+  pub other_traces : (p : ℕ) → held_in front p ≡ false → get nat_cmp front.traces p ≡ None
+  pub blank : AreBlank front
+
+-- the front is right at the moment t, at which all nets are done, and no gate
+pub record AreNetsDone (answer : Evaluation → ℕ → State) (old new : Netlist) (front : Front) (t : ℕ) : Type 0 where
+  pub drivers : AreDrivers new (live_in front) (held_in front)
+  pub closed : IsClosed old new (is_live new (live_in front))
+  pub agrees : Agrees answer old new (is_live new (live_in front)) (suc t)
+  pub clean : (p : ℕ) → p < length new.gates → held_in front p ≡ false → is_dirty answer old new (gate_at new p) t ≡ false
+  pub waves : AreWaves answer old new front.waves (suc t)
+  pub traces : AreTraces answer old new front.traces t
+  pub wave_ends : EndBy front.waves (suc t)
+  pub trace_ends : EndBy front.traces t
+  pub kept_waves : (p : ℕ) → (get nat_cmp front.waves p ≡ None) ⊎ IsOwn (get nat_cmp front.waves p)
+  pub other_waves : (p : ℕ) → live_in front p ≡ false → get nat_cmp front.waves p ≡ None
+  pub other_traces : (p : ℕ) → held_in front p ≡ false → get nat_cmp front.traces p ≡ None
+  pub blank : AreBlank front
+
+-- the front is right at the moment t, which is done but for the states of the gates that are evaluated
+pub record IsWaiting (answer : Evaluation → ℕ → State) (old new : Netlist) (front : Front) (t : ℕ) : Type 0 where
+  pub drivers : AreDrivers new (live_in front) (held_in front)
+  pub closed : IsClosed old new (is_live new (live_in front))
+  pub agrees : Agrees answer old new (is_live new (live_in front)) (suc t)
+  pub waves : AreWaves answer old new front.waves (suc t)
+  pub rested : (p : ℕ) → p < length new.gates → is_working answer old new t p ≡ false → IsTrace answer old new front.traces p (suc t)
+  pub working : (p : ℕ) → p < length new.gates → is_working answer old new t p ≡ true → IsTrace answer old new front.traces p t
+  pub clean : (p : ℕ) → p < length new.gates → held_in front p ≡ false → is_working answer old new t p ≡ false
+  pub wave_ends : EndBy front.waves (suc t)
+  pub trace_ends : (p : ℕ) → ForSome (get nat_cmp front.traces p) (λ patch. (end_of patch.line ≤ suc t) × (is_working answer old new t p ≡ true → end_of patch.line ≤ t))
+  pub own_traces : (p : ℕ) → held_in front p ≡ true → is_working answer old new t p ≡ false → IsOwn (get nat_cmp front.traces p)
+  pub kept_waves : (p : ℕ) → (get nat_cmp front.waves p ≡ None) ⊎ IsOwn (get nat_cmp front.waves p)
+  pub other_waves : (p : ℕ) → live_in front p ≡ false → get nat_cmp front.waves p ≡ None
+  pub other_traces : (p : ℕ) → held_in front p ≡ false → get nat_cmp front.traces p ≡ None
+  pub blank : AreBlank front
+  pub places : ArePlaces front.working.items (λ p. held_in front p && is_working answer old new t p)
+  pub tasks : working_at answer old new t ≡ map (gate_at new) front.working.items
+
+-- what comes of the gate at a place at t: it is evaluated, or it is not, and its state after t is known
+abbrev pub IsOutcome : (Evaluation → ℕ → State) → (old new : Netlist) → ℕ → ℕ → Outcome → Type 0
+IsOutcome answer old new t p (Working task) = (is_working answer old new t p ≡ true) × (task ≡ task_at answer new (gate_at new p) t) × IsReady t task
+IsOutcome answer old new t p (Resting state) = (is_working answer old new t p ≡ false) × (state ≡ state_after answer new (gate_at new p) t) × CanStore t state
+
+-- what comes of the gates at these places at t, in order
+pub record AreOutcomes (answer : Evaluation → ℕ → State) (old new : Netlist) (t : ℕ) (places : List ℕ) (out : Outcomes) : Type 0 where
+  pub working : out.working.items ≡ filter (is_working answer old new t) places
+  pub tasks : out.tasks.items ≡ map (λ p. task_at answer new (gate_at new p) t) out.working.items
+  pub ready : All (IsReady t) out.tasks.items
+  pub resting : out.resting.items ≡ filter (λ p. not (is_working answer old new t p)) places
+  pub states : out.states.items ≡ map (λ p. state_after answer new (gate_at new p) t) out.resting.items
+  pub can : All (CanStore t) out.states.items
+
+-- each touched net that is there is at one of these places, and so is the output of each touched gate that is there
+pub record AreTouched (d : Keyed) (nets gates places : List ℕ) : Type 0 where
+  pub of_nets : (key : ℕ) → is_touched nets key ≡ true → (p : ℕ) → place_of d.nets key ≡ Some p → is_among places p ≡ true
+  pub of_gates : (key : ℕ) → is_touched gates key ≡ true → (g : KeyedGate) → gate_by_key d key ≡ Some g → (p : ℕ) → place_of d.nets g.output ≡ Some p → is_among places p ≡ true

@@ -1,0 +1,3 @@
+pub mod Dirty
+pub mod Fronts
+pub mod Kept

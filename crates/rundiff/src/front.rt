@@ -1,0 +1,195 @@
+//! What differs at the present moment.
+
+ghost use Rattle.std.specs.Prelude.{◌≡◌, ◌≤◌, ◌+◌, suc, All, IfOk, OnOk, map};
+ghost use Rattle.gatestep.specs.Tasks.{IsReady};
+ghost use Rattle.design.specs.Keys.{netlist};
+ghost use Rattle.scratch.specs.Run.{IsRun, state_after};
+ghost use Rattle.rundiff.specs.Dirty.{working_at};
+ghost use Rattle.rundiff.specs.Fronts.{AreNetsDone, IsFront, IsWaiting};
+ghost use Rattle.scratch.specs.Work.{task_at};
+
+use crate::gates::{Outcomes, look_at, put_states};
+use crate::holding::hold;
+use crate::nets::{find_differing, put_values};
+use crate::places::places_of;
+use design::Design;
+use fourstate::Value;
+use gatestep::{Driver, Stepper, Task};
+use std::alloc::{AllocError, Global};
+use std::collections::{BTreeMap, BTreeSet};
+use waveform::{Patch, Run, Trace, Wave};
+
+/// What a new run keeps of its own beside an old one. Nets and gates are known by their places in the order of the new
+/// design.
+#[derive(Drop)]
+pub struct Front {
+    /// The nets that are live.
+    pub live: BTreeSet<usize>,
+    /// The gates that drive them.
+    pub held: BTreeSet<usize>,
+    /// The waves of live nets.
+    pub waves: BTreeMap<usize, Patch<Value>>,
+    /// The traces of their drivers.
+    pub traces: BTreeMap<usize, Patch<Driver>>,
+    /// Between `due` and `settle`, the gates that are evaluated.
+    pub working: Vec<usize>,
+    /// The wave of a net that the old design has not.
+    pub blank_wave: Wave,
+    /// The trace of a gate that the old design has not.
+    pub blank_trace: Trace,
+    /// How many moments are done.
+    pub done: u64,
+}
+
+impl Front {
+    /// The tasks of the gates that are dirty and stirred at the moment `t`, where all before `t` is done. It fails where
+    /// memory runs out, and then the front is to be dropped.
+    pub fn due<S: Stepper>(
+        &mut self,
+        alloc: Global,
+        old: &Design,
+        run: &Run,
+        new: &Design,
+        t: u64,
+    ) -> Result<Vec<Task>, AllocError>
+        requires run { IsRun S.answer old.now run.now }
+        requires front { IsFront S.answer (netlist old.now) (netlist new.now) self.old t }
+        requires within { t ≤ (netlist old.now).horizon }
+        ensures tasks { IfOk result (λ tasks. tasks.items ≡ map (λ g. task_at S.answer (netlist new.now) g t) (working_at S.answer (netlist old.now) (netlist new.now) t)) }
+        ensures ready { IfOk result (λ tasks. All (IsReady t) tasks.items) }
+        ensures front { OnOk result (IsWaiting S.answer (netlist old.now) (netlist new.now) self.new t) }
+    {
+        self.look_at_nets::<S>(alloc, old, run, new, t)?;
+        self.look_at_gates::<S>(alloc, old, run, new, t)
+    }
+
+    /// Takes the answers to the tasks of the moment `t`, which is done then. It fails where memory runs out, and then the
+    /// front is to be dropped.
+    pub fn settle<S: Stepper>(
+        &mut self,
+        alloc: Global,
+        old: &Design,
+        run: &Run,
+        new: &Design,
+        t: u64,
+        answers: &[Driver],
+    ) -> Result<(), AllocError>
+        requires run { IsRun S.answer old.now run.now }
+        requires front { IsWaiting S.answer (netlist old.now) (netlist new.now) self.old t }
+        requires within { t ≤ (netlist old.now).horizon }
+        requires answers { answers.now ≡ map (λ g. state_after S.answer (netlist new.now) g t) (working_at S.answer (netlist old.now) (netlist new.now) t) }
+        ensures front { OnOk result (IsFront S.answer (netlist old.now) (netlist new.now) self.new (suc t)) }
+        ensures done { OnOk result (self.new.done ≡ t + 1) }
+    {
+        old.lawful();
+        new.lawful();
+        put_states::<S>(
+            alloc,
+            &mut self.traces,
+            &self.blank_trace,
+            old,
+            run,
+            new,
+            self.working.as_slice(),
+            answers,
+            t,
+        )?;
+        self.done = t + 1;
+        Ok(())
+    }
+
+    /// What the nets have at the moment `t`, and which nets become live.
+    fn look_at_nets<S: Stepper>(
+        &mut self,
+        alloc: Global,
+        old: &Design,
+        run: &Run,
+        new: &Design,
+        t: u64,
+    ) -> Result<(), AllocError>
+        requires run { IsRun S.answer old.now run.now }
+        requires front { IsFront S.answer (netlist old.now) (netlist new.now) self.old t }
+        requires within { t ≤ (netlist old.now).horizon }
+        ensures { OnOk result (AreNetsDone S.answer (netlist old.now) (netlist new.now) self.new t) }
+    {
+        new.lawful();
+        let live = places_of(alloc, &self.live)?;
+        put_values::<S>(
+            alloc,
+            &mut self.waves,
+            &self.traces,
+            &self.blank_wave,
+            &self.blank_trace,
+            old,
+            run,
+            new,
+            live.as_slice(),
+            t,
+        )?;
+        let found = find_differing::<S>(
+            alloc,
+            &self.waves,
+            &self.blank_wave,
+            old,
+            run,
+            new,
+            live.as_slice(),
+            t,
+        )?;
+        hold(&mut self.live, &mut self.held, new, found.as_slice())?;
+        Ok(())
+    }
+
+    /// What comes of the held gates at the moment `t`.
+    fn look_at_gates<S: Stepper>(
+        &mut self,
+        alloc: Global,
+        old: &Design,
+        run: &Run,
+        new: &Design,
+        t: u64,
+    ) -> Result<Vec<Task>, AllocError>
+        requires run { IsRun S.answer old.now run.now }
+        requires front { AreNetsDone S.answer (netlist old.now) (netlist new.now) self.old t }
+        requires within { t ≤ (netlist old.now).horizon }
+        ensures tasks { IfOk result (λ tasks. tasks.items ≡ map (λ g. task_at S.answer (netlist new.now) g t) (working_at S.answer (netlist old.now) (netlist new.now) t)) }
+        ensures ready { IfOk result (λ tasks. All (IsReady t) tasks.items) }
+        ensures front { OnOk result (IsWaiting S.answer (netlist old.now) (netlist new.now) self.new t) }
+    {
+        old.lawful();
+        new.lawful();
+        let held = places_of(alloc, &self.held)?;
+        let mut out = Outcomes::new(alloc);
+        look_at::<S>(
+            &self.waves,
+            &self.traces,
+            &self.blank_wave,
+            &self.blank_trace,
+            old,
+            run,
+            new,
+            held.as_slice(),
+            t,
+            &mut out,
+        )?;
+        let Outcomes {
+            tasks,
+            working,
+            resting,
+            states,
+        } = out;
+        put_states::<S>(
+            alloc,
+            &mut self.traces,
+            &self.blank_trace,
+            old,
+            run,
+            new,
+            resting.as_slice(),
+            states.as_slice(),
+            t,
+        )?;
+        self.working = working;
+        Ok(tasks)
+    }
+}

@@ -1,0 +1,193 @@
+//! The held gates at one moment: tasks of those that are evaluated, and states of all others.
+
+ghost use Rattle.std.specs.Prelude.{◌≡◌, ◌<◌, ◌≤◌, ◌++◌, ℕ, suc, true, false, nat_eq, List, [], ◌∷◌, All, AllPairs, OnOk, length, map};
+ghost use Rattle.std.specs.Option.{ForSome};
+ghost use Rattle.std.specs.BTreeMap.{get};
+ghost use Rattle.std.specs.Ordering.{nat_cmp};
+ghost use Rattle.gatestep.specs.Step.{Evaluation, State, initial};
+ghost use Rattle.gatestep.specs.Tasks.{IsReady};
+ghost use Rattle.design.specs.Keys.{netlist};
+ghost use Rattle.design.specs.Netlist.{Netlist};
+ghost use Rattle.waveform.specs.Entries.{CanStore};
+ghost use Rattle.waveform.specs.Timelines.{end_of};
+ghost use Rattle.scratch.specs.Run.{IsRun, state_after};
+ghost use Rattle.rundiff.specs.Fronts.{AreOutcomes, AreTraces, AreWaves, IsOutcome, IsOwn, IsTrace, gate_at, is_among, is_working};
+ghost use Rattle.scratch.specs.Work.{task_at};
+
+use crate::looking::{Outcome, look};
+use crate::old::old_trace;
+use crate::patches::put;
+use design::Design;
+use fourstate::Value;
+use gatestep::{Driver, Stepper, Task};
+use std::alloc::{AllocError, Global};
+use std::collections::BTreeMap;
+use waveform::{Patch, Run, Trace, Wave};
+
+/// What comes of each of some gates.
+#[derive(Drop)]
+pub struct Outcomes {
+    /// The tasks of those that are evaluated.
+    pub tasks: Vec<Task>,
+    /// Their places.
+    pub working: Vec<usize>,
+    /// The places of the others.
+    pub resting: Vec<usize>,
+    /// Their states after the moment.
+    pub states: Vec<Driver>,
+}
+
+impl Outcomes {
+    /// What comes of no gate.
+    pub fn new(alloc: Global) -> Outcomes
+        ensures { (answer : Evaluation → ℕ → State) (old new : Netlist) (t : ℕ) → AreOutcomes answer old new t [] result }
+    {
+        Outcomes {
+            tasks: Vec::new(alloc),
+            working: Vec::new(alloc),
+            resting: Vec::new(alloc),
+            states: Vec::new(alloc),
+        }
+    }
+}
+
+/// What comes of each of these gates at the moment `t`, where all before `t` is known, and what each net has at `t`.
+pub fn look_at<S: Stepper>(
+    waves: &BTreeMap<usize, Patch<Value>>,
+    traces: &BTreeMap<usize, Patch<Driver>>,
+    blank_wave: &Wave,
+    blank_trace: &Trace,
+    old: &Design,
+    run: &Run,
+    new: &Design,
+    held: &[usize],
+    t: u64,
+    out: &mut Outcomes,
+) -> Result<(), AllocError>
+    requires blank_wave { blank_wave.now ≡ (0, Value.Unknown) ∷ [] }
+    requires blank_trace { blank_trace.now ≡ (0, initial) ∷ [] }
+    requires there { (p : ℕ) → is_among held.now p ≡ true → p < length (netlist new.now).gates }
+    requires within { t ≤ (netlist old.now).horizon }
+    requires run { IsRun S.answer old.now run.now }
+    requires waves { AreWaves S.answer (netlist old.now) (netlist new.now) waves.now (suc t) }
+    requires traces { AreTraces S.answer (netlist old.now) (netlist new.now) traces.now t }
+    requires empty { AreOutcomes S.answer (netlist old.now) (netlist new.now) t [] out.old }
+    ensures { OnOk result (AreOutcomes S.answer (netlist old.now) (netlist new.now) t held.now out.new) }
+{
+    for place in held {
+        let outcome = look::<S>(
+            waves,
+            traces,
+            blank_wave,
+            blank_trace,
+            old,
+            run,
+            new,
+            *place,
+            t,
+        );
+        add(out, *place, outcome)?;
+    }
+    Ok(())
+}
+
+/// Adds what comes of one gate.
+fn add(out: &mut Outcomes, place: usize, outcome: Outcome) -> Result<(), AllocError>
+    ensures { OnOk result ((answer : Evaluation → ℕ → State) (old new : Netlist) (t : ℕ) (places : List ℕ) → AreOutcomes answer old new t places out.old
+        → IsOutcome answer old new t place outcome → AreOutcomes answer old new t (places ++ place ∷ []) out.new) }
+{
+    match outcome {
+        Outcome::Working(task) => add_working(out, place, task),
+        Outcome::Resting(state) => add_resting(out, place, state),
+    }
+}
+
+/// Adds a gate that is evaluated.
+fn add_working(out: &mut Outcomes, place: usize, task: Task) -> Result<(), AllocError>
+    ensures { OnOk result ((answer : Evaluation → ℕ → State) (old new : Netlist) (t : ℕ) (places : List ℕ) → AreOutcomes answer old new t places out.old
+        → is_working answer old new t place ≡ true → task ≡ task_at answer new (gate_at new place) t → IsReady t task → AreOutcomes answer old new t (places ++ place ∷ []) out.new) }
+{
+    out.tasks.push(task)?;
+    out.working.push(place)?;
+    Ok(())
+}
+
+/// Adds a gate that is not evaluated.
+fn add_resting(out: &mut Outcomes, place: usize, state: Driver) -> Result<(), AllocError>
+    ensures { OnOk result ((answer : Evaluation → ℕ → State) (old new : Netlist) (t : ℕ) (places : List ℕ) → AreOutcomes answer old new t places out.old
+        → is_working answer old new t place ≡ false → state ≡ state_after answer new (gate_at new place) t → CanStore t state → AreOutcomes answer old new t (places ++ place ∷ []) out.new) }
+{
+    out.states.push(state)?;
+    out.resting.push(place)?;
+    Ok(())
+}
+
+/// Puts the states of some gates after the moment `t`, where all before `t` is known.
+pub fn put_states<S: Stepper>(
+    alloc: Global,
+    traces: &mut BTreeMap<usize, Patch<Driver>>,
+    blank: &Trace,
+    old: &Design,
+    run: &Run,
+    new: &Design,
+    places: &[usize],
+    states: &[Driver],
+    t: u64,
+) -> Result<(), AllocError>
+    requires blank { blank.now ≡ (0, initial) ∷ [] }
+    requires there { (p : ℕ) → is_among places.now p ≡ true → p < length (netlist new.now).gates }
+    requires rising { AllPairs (λ p q. p < q) places.now }
+    requires within { t ≤ (netlist old.now).horizon }
+    requires run { IsRun S.answer old.now run.now }
+    requires traces { (p : ℕ) → is_among places.now p ≡ true → IsTrace S.answer (netlist old.now) (netlist new.now) traces.old p t }
+    requires ends { (p : ℕ) → is_among places.now p ≡ true → ForSome (get nat_cmp traces.old p) (λ patch. end_of patch.line ≤ t) }
+    requires states { states.now ≡ map (λ p. state_after S.answer (netlist new.now) (gate_at (netlist new.now) p) t) places.now }
+    requires can { All (CanStore t) states.now }
+    ensures put { OnOk result ((p : ℕ) → is_among places.now p ≡ true → IsTrace S.answer (netlist old.now) (netlist new.now) traces.new p (suc t)) }
+    ensures own { OnOk result ((p : ℕ) → is_among places.now p ≡ true → IsOwn (get nat_cmp traces.new p)) }
+    ensures ends { OnOk result ((p : ℕ) → is_among places.now p ≡ true → ForSome (get nat_cmp traces.new p) (λ patch. end_of patch.line ≤ suc t)) }
+    ensures others { OnOk result ((p : ℕ) → is_among places.now p ≡ false → get nat_cmp traces.new p ≡ get nat_cmp traces.old p) }
+{
+    for i in 0..places.len() {
+        put_state::<S>(alloc, traces, blank, old, run, new, places[i], states[i], t)?;
+    }
+    Ok(())
+}
+
+/// Puts the state of one gate after the moment `t`.
+fn put_state<S: Stepper>(
+    alloc: Global,
+    traces: &mut BTreeMap<usize, Patch<Driver>>,
+    blank: &Trace,
+    old: &Design,
+    run: &Run,
+    new: &Design,
+    place: usize,
+    state: Driver,
+    t: u64,
+) -> Result<(), AllocError>
+    requires blank { blank.now ≡ (0, initial) ∷ [] }
+    requires there { place < length (netlist new.now).gates }
+    requires within { t ≤ (netlist old.now).horizon }
+    requires run { IsRun S.answer old.now run.now }
+    requires trace { IsTrace S.answer (netlist old.now) (netlist new.now) traces.old place t }
+    requires end { ForSome (get nat_cmp traces.old place) (λ patch. end_of patch.line ≤ t) }
+    requires state { state ≡ state_after S.answer (netlist new.now) (gate_at (netlist new.now) place) t }
+    requires can { CanStore t state }
+    ensures put { OnOk result (IsTrace S.answer (netlist old.now) (netlist new.now) traces.new place (suc t)) }
+    ensures own { OnOk result (IsOwn (get nat_cmp traces.new place)) }
+    ensures end { OnOk result (ForSome (get nat_cmp traces.new place) (λ patch. end_of patch.line ≤ suc t)) }
+    ensures others { OnOk result ((q : ℕ) → nat_eq place q ≡ false → get nat_cmp traces.new q ≡ get nat_cmp traces.old q) }
+{
+    old.lawful();
+    new.lawful();
+    let name = new.gate_at(place).name().as_str();
+    put(
+        traces,
+        alloc,
+        place,
+        old_trace(old, run, name, blank),
+        t,
+        state,
+    )
+}

@@ -1,0 +1,191 @@
+//! What comes of one gate at one moment: whether it is dirty, whether it is stirred, and its task or its state.
+
+ghost use Rattle.std.specs.Prelude.{◌≡◌, ◌<◌, ◌≤◌, ℕ, suc, [], ◌∷◌, Some, map, length};
+ghost use Rattle.gatestep.specs.Step.{initial};
+ghost use Rattle.gatestep.specs.Tasks.{PendingFrom};
+ghost use Rattle.design.specs.Keys.{IsConnected, entry_in, netlist};
+ghost use Rattle.design.specs.Netlist.{GateEntry, gate_named};
+ghost use Rattle.waveform.specs.Entries.{CanStore};
+ghost use Rattle.scratch.specs.Run.{IsRun, state_after, state_before};
+ghost use Rattle.rundiff.specs.Dirty.{is_dirty};
+ghost use Rattle.rundiff.specs.Fronts.{AreTraces, AreWaves, IsOutcome, gate_at};
+ghost use Rattle.scratch.specs.Work.{is_due, is_stirred, same_values, task_at};
+
+use crate::old::old_trace;
+use crate::reading::{gate_state, inputs_at, old_inputs_at};
+use crate::same::{is_new_gate, same_values};
+use design::{Design, Gate};
+use fourstate::Value;
+use gatestep::{Driver, Stepper, Task};
+use std::collections::BTreeMap;
+use waveform::{Patch, Run, Sample, Trace, Wave, laws};
+
+/// What comes of a gate at a moment.
+#[derive(Drop)]
+pub enum Outcome {
+    /// It is evaluated.
+    Working(Task),
+    /// It is not, and this is its state after the moment.
+    Resting(Driver),
+}
+
+/// The state after the moment `t` of the gate of this name in the old run.
+fn old_state<S: Stepper>(blank: &Trace, old: &Design, run: &Run, name: &str, t: u64) -> Driver
+    requires blank { blank.now ≡ (0, initial) ∷ [] }
+    requires within { t ≤ (netlist old.now).horizon }
+    requires run { IsRun S.answer old.now run.now }
+    ensures state { (g : GateEntry) → gate_named (netlist old.now) name.now ≡ Some g → result ≡ state_after S.answer (netlist old.now) g t }
+    ensures can { CanStore t result }
+{
+    old.lawful();
+    laws::value_of_changes::<Driver>();
+    old_trace(old, run, name, blank).at(t)
+}
+
+/// The state before the moment `t` of the gate of this name in the old run.
+fn old_state_before<S: Stepper>(
+    blank: &Trace,
+    old: &Design,
+    run: &Run,
+    name: &str,
+    t: u64,
+) -> Driver
+    requires blank { blank.now ≡ (0, initial) ∷ [] }
+    requires within { t ≤ (netlist old.now).horizon }
+    requires run { IsRun S.answer old.now run.now }
+    ensures { (g : GateEntry) → gate_named (netlist old.now) name.now ≡ Some g → result ≡ state_before S.answer (netlist old.now) t g }
+{
+    if t == 0 {
+        return Driver::start();
+    }
+    old_state::<S>(blank, old, run, name, t - 1)
+}
+
+/// Whether a gate of the new design is dirty at the moment `t`; its state before it and its inputs at it are given.
+fn is_dirty<S: Stepper>(
+    blank_wave: &Wave,
+    blank_trace: &Trace,
+    old: &Design,
+    run: &Run,
+    new: &Design,
+    gate: &Gate,
+    state: Driver,
+    inputs: &[Value],
+    t: u64,
+) -> bool
+    requires blank_wave { blank_wave.now ≡ (0, Value.Unknown) ∷ [] }
+    requires blank_trace { blank_trace.now ≡ (0, initial) ∷ [] }
+    requires connected { IsConnected new.now.nets gate.now }
+    requires within { t ≤ (netlist old.now).horizon }
+    requires run { IsRun S.answer old.now run.now }
+    requires state { state ≡ (task_at S.answer (netlist new.now) (entry_in new.now.nets gate.now) t).state }
+    requires inputs { inputs.now ≡ (task_at S.answer (netlist new.now) (entry_in new.now.nets gate.now) t).inputs }
+    ensures { result ≡ is_dirty S.answer (netlist old.now) (netlist new.now) (entry_in new.now.nets gate.now) t }
+{
+    old.lawful();
+    if is_new_gate(old, new, gate) {
+        return true;
+    }
+    let former = old_state_before::<S>(blank_trace, old, run, gate.name().as_str(), t);
+    if !former.is_same(state) {
+        return true;
+    }
+    let former_inputs = old_inputs_at::<S>(blank_wave, old, run, new, gate, t);
+    !same_values(former_inputs.as_slice(), inputs)
+}
+
+/// Whether a gate is stirred at the moment `t`; its state before it and its inputs at it are given.
+fn is_stirred<S: Stepper>(
+    waves: &BTreeMap<usize, Patch<Value>>,
+    blank: &Wave,
+    old: &Design,
+    run: &Run,
+    new: &Design,
+    gate: &Gate,
+    state: Driver,
+    inputs: &[Value],
+    t: u64,
+) -> bool
+    requires blank { blank.now ≡ (0, Value.Unknown) ∷ [] }
+    requires connected { IsConnected new.now.nets gate.now }
+    requires within { t ≤ (netlist old.now).horizon }
+    requires run { IsRun S.answer old.now run.now }
+    requires waves { AreWaves S.answer (netlist old.now) (netlist new.now) waves.now (suc t) }
+    requires state { state ≡ (task_at S.answer (netlist new.now) (entry_in new.now.nets gate.now) t).state }
+    requires inputs { inputs.now ≡ (task_at S.answer (netlist new.now) (entry_in new.now.nets gate.now) t).inputs }
+    ensures { result ≡ is_stirred S.answer (netlist new.now) (entry_in new.now.nets gate.now) t }
+{
+    if t == 0 {
+        return true;
+    }
+    if is_due(state, t) {
+        return true;
+    }
+    let before = inputs_at::<S>(waves, blank, old, run, new, gate, t - 1, t);
+    !same_values(inputs, before.as_slice())
+}
+
+/// Whether an event of the state is due at the moment `t`.
+fn is_due(state: Driver, t: u64) -> bool
+    ensures { result ≡ is_due state t }
+{
+    match state.pend {
+        Some((_, due)) => due <= t,
+        None => false,
+    }
+}
+
+/// What comes of the gate at a place at the moment `t`, where all before `t` is known, and what each net has at `t`.
+pub fn look<S: Stepper>(
+    waves: &BTreeMap<usize, Patch<Value>>,
+    traces: &BTreeMap<usize, Patch<Driver>>,
+    blank_wave: &Wave,
+    blank_trace: &Trace,
+    old: &Design,
+    run: &Run,
+    new: &Design,
+    place: usize,
+    t: u64,
+) -> Outcome
+    requires blank_wave { blank_wave.now ≡ (0, Value.Unknown) ∷ [] }
+    requires blank_trace { blank_trace.now ≡ (0, initial) ∷ [] }
+    requires there { place < length (netlist new.now).gates }
+    requires within { t ≤ (netlist old.now).horizon }
+    requires run { IsRun S.answer old.now run.now }
+    requires waves { AreWaves S.answer (netlist old.now) (netlist new.now) waves.now (suc t) }
+    requires traces { AreTraces S.answer (netlist old.now) (netlist new.now) traces.now t }
+    ensures { IsOutcome S.answer (netlist old.now) (netlist new.now) t place result }
+{
+    old.lawful();
+    new.lawful();
+    let gate = new.gate_at(place);
+    let state = gate_state::<S>(traces, blank_trace, old, run, new, place, t);
+    let inputs = inputs_at::<S>(waves, blank_wave, old, run, new, gate, t, t);
+    if !is_dirty::<S>(
+        blank_wave,
+        blank_trace,
+        old,
+        run,
+        new,
+        gate,
+        state,
+        inputs.as_slice(),
+        t,
+    ) {
+        return Outcome::Resting(old_state::<S>(blank_trace, old, run, gate.name().as_str(), t));
+    }
+    if !is_stirred::<S>(
+        waves,
+        blank_wave,
+        old,
+        run,
+        new,
+        gate,
+        state,
+        inputs.as_slice(),
+        t,
+    ) {
+        return Outcome::Resting(state);
+    }
+    Outcome::Working(Task::new(gate.kind(), gate.delays(), state, inputs))
+}

@@ -1,0 +1,200 @@
+//! The live nets at one moment: what they have, and whose readers differ.
+
+ghost use Rattle.std.specs.Prelude.{◌≡◌, ◌<◌, ◌≤◌, ℕ, suc, true, false, nat_eq, [], ◌∷◌, All, AllPairs, IfOk, OnOk, length};
+ghost use Rattle.std.specs.Option.{ForSome};
+ghost use Rattle.std.specs.BTreeMap.{get};
+ghost use Rattle.std.specs.Ordering.{nat_cmp};
+ghost use Rattle.gatestep.specs.Step.{initial};
+ghost use Rattle.design.specs.Connections.{to_net};
+ghost use Rattle.design.specs.Keys.{netlist};
+ghost use Rattle.design.specs.Netlist.{reads};
+ghost use Rattle.waveform.specs.Timelines.{end_of};
+ghost use Rattle.scratch.specs.Run.{IsRun, value};
+ghost use Rattle.rundiff.specs.Fronts.{AreTraces, AreWaves, EndBy, IsAlike, IsOwn, IsWave, gate_at, is_among, is_live, net_at};
+ghost use Rattle.rundiff.specs.Kept.{read_at};
+
+use crate::old::old_wave;
+use crate::patches::{put, value_at};
+use crate::reading::driven_value;
+use design::Design;
+use fourstate::Value;
+use gatestep::{Driver, Stepper};
+use std::alloc::{AllocError, Global};
+use std::collections::BTreeMap;
+use waveform::{Patch, Run, Sample, Trace, Wave, laws};
+
+/// Puts the value at the moment `t` of each of these nets, where all before `t` is known.
+pub fn put_values<S: Stepper>(
+    alloc: Global,
+    waves: &mut BTreeMap<usize, Patch<Value>>,
+    traces: &BTreeMap<usize, Patch<Driver>>,
+    blank_wave: &Wave,
+    blank_trace: &Trace,
+    old: &Design,
+    run: &Run,
+    new: &Design,
+    live: &[usize],
+    t: u64,
+) -> Result<(), AllocError>
+    requires blank_wave { blank_wave.now ≡ (0, Value.Unknown) ∷ [] }
+    requires blank_trace { blank_trace.now ≡ (0, initial) ∷ [] }
+    requires there { (p : ℕ) → is_among live.now p ≡ true → p < length (netlist new.now).nets }
+    requires rising { AllPairs (λ p q. p < q) live.now }
+    requires within { t ≤ (netlist old.now).horizon }
+    requires run { IsRun S.answer old.now run.now }
+    requires waves { AreWaves S.answer (netlist old.now) (netlist new.now) waves.old t }
+    requires ends { EndBy waves.old t }
+    requires traces { AreTraces S.answer (netlist old.now) (netlist new.now) traces.now t }
+    ensures put { OnOk result ((p : ℕ) → is_among live.now p ≡ true → IsWave S.answer (netlist old.now) (netlist new.now) waves.new p (suc t)) }
+    ensures own { OnOk result ((p : ℕ) → is_among live.now p ≡ true → IsOwn (get nat_cmp waves.new p)) }
+    ensures ends { OnOk result (EndBy waves.new (suc t)) }
+    ensures others { OnOk result ((p : ℕ) → is_among live.now p ≡ false → get nat_cmp waves.new p ≡ get nat_cmp waves.old p) }
+{
+    for place in live {
+        put_value::<S>(
+            alloc,
+            waves,
+            traces,
+            blank_wave,
+            blank_trace,
+            old,
+            run,
+            new,
+            *place,
+            t,
+        )?;
+    }
+    Ok(())
+}
+
+/// Puts the value at the moment `t` of one net.
+fn put_value<S: Stepper>(
+    alloc: Global,
+    waves: &mut BTreeMap<usize, Patch<Value>>,
+    traces: &BTreeMap<usize, Patch<Driver>>,
+    blank_wave: &Wave,
+    blank_trace: &Trace,
+    old: &Design,
+    run: &Run,
+    new: &Design,
+    place: usize,
+    t: u64,
+) -> Result<(), AllocError>
+    requires blank_wave { blank_wave.now ≡ (0, Value.Unknown) ∷ [] }
+    requires blank_trace { blank_trace.now ≡ (0, initial) ∷ [] }
+    requires there { place < length (netlist new.now).nets }
+    requires within { t ≤ (netlist old.now).horizon }
+    requires run { IsRun S.answer old.now run.now }
+    requires wave { IsWave S.answer (netlist old.now) (netlist new.now) waves.old place t }
+    requires end { ForSome (get nat_cmp waves.old place) (λ patch. end_of patch.line ≤ t) }
+    requires traces { AreTraces S.answer (netlist old.now) (netlist new.now) traces.now t }
+    ensures put { OnOk result (IsWave S.answer (netlist old.now) (netlist new.now) waves.new place (suc t)) }
+    ensures own { OnOk result (IsOwn (get nat_cmp waves.new place)) }
+    ensures end { OnOk result (ForSome (get nat_cmp waves.new place) (λ patch. end_of patch.line ≤ suc t)) }
+    ensures others { OnOk result ((q : ℕ) → nat_eq place q ≡ false → get nat_cmp waves.new q ≡ get nat_cmp waves.old q) }
+{
+    let value = driven_value::<S>(alloc, traces, blank_trace, old, run, new, place, t)?;
+    let name = new.net_at(place).name().as_str();
+    put(
+        waves,
+        alloc,
+        place,
+        old_wave(old, run, name, blank_wave),
+        t,
+        value,
+    )
+}
+
+/// The nets that the readers of those of these nets drive that have another value at the moment `t` than in the old run.
+pub fn find_differing<S: Stepper>(
+    alloc: Global,
+    waves: &BTreeMap<usize, Patch<Value>>,
+    blank: &Wave,
+    old: &Design,
+    run: &Run,
+    new: &Design,
+    live: &[usize],
+    t: u64,
+) -> Result<Vec<usize>, AllocError>
+    requires blank { blank.now ≡ (0, Value.Unknown) ∷ [] }
+    requires there { (p : ℕ) → is_among live.now p ≡ true → p < length (netlist new.now).nets }
+    requires within { t ≤ (netlist old.now).horizon }
+    requires run { IsRun S.answer old.now run.now }
+    requires waves { (p : ℕ) → is_among live.now p ≡ true → IsWave S.answer (netlist old.now) (netlist new.now) waves.now p (suc t) }
+    ensures there { IfOk result (λ found. All (λ p. p < length (netlist new.now).nets) found.items) }
+    ensures alike { IfOk result (λ found. (p : ℕ) → is_among live.now p ≡ true → IsAlike S.answer (netlist old.now) (netlist new.now) (is_among found.items) t p) }
+{
+    let mut found = Vec::new(alloc);
+    for place in live {
+        add_differing::<S>(waves, blank, old, run, new, *place, t, &mut found)?;
+    }
+    Ok(found)
+}
+
+/// Adds the nets that the readers of a net drive, where it has another value at the moment `t` than in the old run.
+fn add_differing<S: Stepper>(
+    waves: &BTreeMap<usize, Patch<Value>>,
+    blank: &Wave,
+    old: &Design,
+    run: &Run,
+    new: &Design,
+    place: usize,
+    t: u64,
+    found: &mut Vec<usize>,
+) -> Result<(), AllocError>
+    requires blank { blank.now ≡ (0, Value.Unknown) ∷ [] }
+    requires there { place < length (netlist new.now).nets }
+    requires within { t ≤ (netlist old.now).horizon }
+    requires run { IsRun S.answer old.now run.now }
+    requires wave { IsWave S.answer (netlist old.now) (netlist new.now) waves.now place (suc t) }
+    ensures there { OnOk result (All (λ p. p < length (netlist new.now).nets) found.old.items → All (λ p. p < length (netlist new.now).nets) found.new.items) }
+    ensures more { OnOk result ((p : ℕ) → is_among found.old.items p ≡ true → is_among found.new.items p ≡ true) }
+    ensures alike { OnOk result (IsAlike S.answer (netlist old.now) (netlist new.now) (is_among found.new.items) t place) }
+{
+    if differs::<S>(waves, blank, old, run, new, place, t) {
+        return add_readers(new, place, found);
+    }
+    Ok(())
+}
+
+/// Whether a net has another value at the moment `t` than in the old run.
+fn differs<S: Stepper>(
+    waves: &BTreeMap<usize, Patch<Value>>,
+    blank: &Wave,
+    old: &Design,
+    run: &Run,
+    new: &Design,
+    place: usize,
+    t: u64,
+) -> bool
+    requires blank { blank.now ≡ (0, Value.Unknown) ∷ [] }
+    requires there { place < length (netlist new.now).nets }
+    requires within { t ≤ (netlist old.now).horizon }
+    requires run { IsRun S.answer old.now run.now }
+    requires wave { IsWave S.answer (netlist old.now) (netlist new.now) waves.now place (suc t) }
+    ensures { result ≡ false → read_at S.answer (netlist old.now) (to_net (net_at (netlist new.now) place).name) t ≡ value S.answer (netlist new.now) (net_at (netlist new.now) place) t }
+{
+    laws::value_of_changes::<Value>();
+    let former = old_wave(old, run, new.net_at(place).name().as_str(), blank);
+    !value_at(waves, place, former, t).is_same(former.at(t))
+}
+
+/// Adds the nets that the readers of a net drive.
+fn add_readers(new: &Design, place: usize, found: &mut Vec<usize>) -> Result<(), AllocError>
+    requires there { place < length (netlist new.now).nets }
+    ensures there { OnOk result (All (λ p. p < length (netlist new.now).nets) found.old.items → All (λ p. p < length (netlist new.now).nets) found.new.items) }
+    ensures more { OnOk result ((p : ℕ) → is_among found.old.items p ≡ true → is_among found.new.items p ≡ true) }
+    ensures readers { OnOk result ((q : ℕ) → q < length (netlist new.now).gates → reads (gate_at (netlist new.now) q) (net_at (netlist new.now) place).name ≡ true
+        → is_live (netlist new.now) (is_among found.new.items) (gate_at (netlist new.now) q).output ≡ true) }
+{
+    new.lawful();
+    new.places_are_keys();
+    let readers = new.fanout(new.net_key_at(place));
+    for reader in readers {
+        let Some(output) = new.net_place_of(new.gate_of(*reader).output()) else {
+            unreachable!();
+        };
+        found.push(output)?;
+    }
+    Ok(())
+}

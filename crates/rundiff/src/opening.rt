@@ -1,0 +1,94 @@
+//! A front before moment 0: what edits touched is live.
+
+ghost use Rattle.std.specs.Prelude.{◌≡◌, ◌<◌, ℕ, All, IfOk, OnOk, Some, length, true};
+ghost use Rattle.catalog.specs.Catalog.{place_of};
+ghost use Rattle.gatestep.specs.Step.{Evaluation, State};
+ghost use Rattle.design.specs.Keys.{KeyedGate, gate_by_key, netlist};
+ghost use Rattle.edits.specs.Touched.{IsTouched};
+ghost use Rattle.rundiff.specs.Fronts.{AreTouched, IsFront, is_among};
+
+use crate::front::Front;
+use crate::holding::hold;
+use design::{Design, GateKey, NetKey};
+use edits::Touched;
+use fourstate::Value;
+use gatestep::Driver;
+use std::alloc::{AllocError, Global};
+use std::collections::{BTreeMap, BTreeSet};
+use waveform::Timeline;
+
+impl Front {
+    /// The front before moment 0, where the new design is the old one with edits that touched this. It fails where memory
+    /// runs out.
+    pub fn open(
+        alloc: Global,
+        old: &Design,
+        new: &Design,
+        touched: &Touched,
+    ) -> Result<Front, AllocError>
+        requires { IsTouched old.now new.now touched.now.nets.items touched.now.gates.items }
+        ensures front { IfOk result (λ front. (answer : Evaluation → ℕ → State) → IsFront answer (netlist old.now) (netlist new.now) front 0) }
+        ensures done { IfOk result (λ front. front.done ≡ 0) }
+    {
+        old.lawful();
+        new.lawful();
+        old.names_are_keys();
+        new.names_are_keys();
+        new.places_are_keys();
+        let found = touched_places(alloc, new, touched)?;
+        let blank_wave = Timeline::open(alloc, Value::Unknown)?;
+        let blank_trace = Timeline::open(alloc, Driver::start())?;
+        let mut live = BTreeSet::new(alloc);
+        let mut held = BTreeSet::new(alloc);
+        hold(&mut live, &mut held, new, found.as_slice())?;
+        Ok(Front {
+            live,
+            held,
+            waves: BTreeMap::new(alloc),
+            traces: BTreeMap::new(alloc),
+            working: Vec::new(alloc),
+            blank_wave,
+            blank_trace,
+            done: 0,
+        })
+    }
+}
+
+/// The places of the nets of the new design that are touched, and of those that gates drive that are touched.
+fn touched_places(alloc: Global, new: &Design, touched: &Touched) -> Result<Vec<usize>, AllocError>
+    ensures there { IfOk result (λ places. All (λ p. p < length (netlist new.now).nets) places.items) }
+    ensures touched { IfOk result (λ places. AreTouched new.now touched.now.nets.items touched.now.gates.items places.items) }
+{
+    let mut places = Vec::new(alloc);
+    for net in &touched.nets {
+        add_net(new, *net, &mut places)?;
+    }
+    for gate in &touched.gates {
+        add_output(new, *gate, &mut places)?;
+    }
+    Ok(places)
+}
+
+/// Adds the place of a net, if it is there.
+fn add_net(new: &Design, net: NetKey, places: &mut Vec<usize>) -> Result<(), AllocError>
+    ensures there { OnOk result (All (λ p. p < length (netlist new.now).nets) places.old.items → All (λ p. p < length (netlist new.now).nets) places.new.items) }
+    ensures more { OnOk result ((p : ℕ) → is_among places.old.items p ≡ true → is_among places.new.items p ≡ true) }
+    ensures net { OnOk result ((p : ℕ) → place_of new.now.nets net ≡ Some p → is_among places.new.items p ≡ true) }
+{
+    if let Some(place) = new.net_place_of(net) {
+        places.push(place)?;
+    }
+    Ok(())
+}
+
+/// Adds the place of the net that a gate drives, if the gate is there.
+fn add_output(new: &Design, gate: GateKey, places: &mut Vec<usize>) -> Result<(), AllocError>
+    ensures there { OnOk result (All (λ p. p < length (netlist new.now).nets) places.old.items → All (λ p. p < length (netlist new.now).nets) places.new.items) }
+    ensures more { OnOk result ((p : ℕ) → is_among places.old.items p ≡ true → is_among places.new.items p ≡ true) }
+    ensures output { OnOk result ((g : KeyedGate) → gate_by_key new.now gate ≡ Some g → (p : ℕ) → place_of new.now.nets g.output ≡ Some p → is_among places.new.items p ≡ true) }
+{
+    if new.gate_place_of(gate).is_none() {
+        return Ok(());
+    }
+    add_net(new, new.gate_of(gate).output(), places)
+}

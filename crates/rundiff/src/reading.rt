@@ -1,0 +1,198 @@
+//! What nets have, and in which state gates are, at one moment of the new run.
+
+ghost use Rattle.std.specs.Prelude.{◌≡◌, ◌<◌, ◌≤◌, ℕ, suc, [], ◌∷◌, map, length, IfOk};
+ghost use Rattle.gatestep.specs.Step.{Evaluation, State, initial};
+ghost use Rattle.gatestep.specs.Tasks.{PendingFrom};
+ghost use Rattle.design.specs.Connections.{to_net};
+ghost use Rattle.design.specs.Keys.{IsConnected, IsThere, connection_in, netlist};
+ghost use Rattle.scratch.specs.Run.{IsRun, state_before, value};
+ghost use Rattle.rundiff.specs.Fronts.{AreTraces, AreWaves, gate_at, net_at};
+ghost use Rattle.rundiff.specs.Kept.{read_at};
+
+use crate::old::{old_trace, old_wave};
+use crate::patches::value_at;
+use arrayvec::ArrayVec;
+use design::{Design, Gate, Terminal};
+use fourstate::{MAX_INPUTS, Value, resolve};
+use gatestep::{Driver, Stepper};
+use std::alloc::{AllocError, Global};
+use std::collections::BTreeMap;
+use waveform::{Patch, Run, Trace, Wave, laws};
+
+/// The value of a net at `m`, a moment at which it is known.
+pub fn net_value(
+    waves: &BTreeMap<usize, Patch<Value>>,
+    blank: &Wave,
+    old: &Design,
+    run: &Run,
+    new: &Design,
+    place: usize,
+    m: u64,
+) -> Value
+    requires blank { blank.now ≡ (0, Value.Unknown) ∷ [] }
+    requires there { place < length (netlist new.now).nets }
+    requires within { m ≤ (netlist old.now).horizon }
+    ensures { (answer : Evaluation → ℕ → State) (n : ℕ) → IsRun answer old.now run.now → AreWaves answer (netlist old.now) (netlist new.now) waves.now n → m < n
+        → result ≡ value answer (netlist new.now) (net_at (netlist new.now) place) m }
+{
+    let name = new.net_at(place).name().as_str();
+    value_at(waves, place, old_wave(old, run, name, blank), m)
+}
+
+/// The value of what a gate input is connected to, at `m`.
+pub fn connection_value(
+    waves: &BTreeMap<usize, Patch<Value>>,
+    blank: &Wave,
+    old: &Design,
+    run: &Run,
+    new: &Design,
+    terminal: Terminal,
+    m: u64,
+) -> Value
+    requires blank { blank.now ≡ (0, Value.Unknown) ∷ [] }
+    requires there { IsThere new.now.nets terminal }
+    requires within { m ≤ (netlist old.now).horizon }
+    ensures { (answer : Evaluation → ℕ → State) (n : ℕ) → IsRun answer old.now run.now → AreWaves answer (netlist old.now) (netlist new.now) waves.now n → m < n
+        → result ≡ read_at answer (netlist new.now) (connection_in new.now.nets terminal) m }
+{
+    new.names_are_keys();
+    match terminal {
+        Terminal::Net(net) => match new.net_place_of(net) {
+            Some(place) => net_value(waves, blank, old, run, new, place, m),
+            None => unreachable!(),
+        },
+        Terminal::Constant(value) => value,
+    }
+}
+
+/// The value of the same connection in the old run.
+pub fn old_connection_value(
+    blank: &Wave,
+    old: &Design,
+    run: &Run,
+    new: &Design,
+    terminal: Terminal,
+    m: u64,
+) -> Value
+    requires blank { blank.now ≡ (0, Value.Unknown) ∷ [] }
+    requires there { IsThere new.now.nets terminal }
+    requires within { m ≤ (netlist old.now).horizon }
+    ensures { (answer : Evaluation → ℕ → State) → IsRun answer old.now run.now
+        → result ≡ read_at answer (netlist old.now) (connection_in new.now.nets terminal) m }
+{
+    laws::value_of_changes::<Value>();
+    match terminal {
+        Terminal::Net(net) => old_wave(old, run, new.name_of(net).as_str(), blank).at(m),
+        Terminal::Constant(value) => value,
+    }
+}
+
+/// The values of a gate's inputs at `m`, where all up to `t` is known.
+pub fn inputs_at<S: Stepper>(
+    waves: &BTreeMap<usize, Patch<Value>>,
+    blank: &Wave,
+    old: &Design,
+    run: &Run,
+    new: &Design,
+    gate: &Gate,
+    m: u64,
+    t: u64,
+) -> ArrayVec<Value, MAX_INPUTS>
+    requires blank { blank.now ≡ (0, Value.Unknown) ∷ [] }
+    requires connected { IsConnected new.now.nets gate.now }
+    requires order { m ≤ t }
+    requires within { t ≤ (netlist old.now).horizon }
+    requires run { IsRun S.answer old.now run.now }
+    requires waves { AreWaves S.answer (netlist old.now) (netlist new.now) waves.now (suc t) }
+    ensures { result.items ≡ map (λ terminal. read_at S.answer (netlist new.now) (connection_in new.now.nets terminal) m) gate.now.inputs }
+{
+    let mut values = ArrayVec::new();
+    for terminal in gate.inputs() {
+        values.push(connection_value(waves, blank, old, run, new, *terminal, m));
+    }
+    values
+}
+
+/// The values of the same inputs in the old run.
+pub fn old_inputs_at<S: Stepper>(
+    blank: &Wave,
+    old: &Design,
+    run: &Run,
+    new: &Design,
+    gate: &Gate,
+    m: u64,
+) -> ArrayVec<Value, MAX_INPUTS>
+    requires blank { blank.now ≡ (0, Value.Unknown) ∷ [] }
+    requires connected { IsConnected new.now.nets gate.now }
+    requires within { m ≤ (netlist old.now).horizon }
+    requires run { IsRun S.answer old.now run.now }
+    ensures { result.items ≡ map (λ terminal. read_at S.answer (netlist old.now) (connection_in new.now.nets terminal) m) gate.now.inputs }
+{
+    let mut values = ArrayVec::new();
+    for terminal in gate.inputs() {
+        values.push(old_connection_value(blank, old, run, new, *terminal, m));
+    }
+    values
+}
+
+/// The state of a gate before the moment `t`, where all before `t` is known.
+pub fn gate_state<S: Stepper>(
+    traces: &BTreeMap<usize, Patch<Driver>>,
+    blank: &Trace,
+    old: &Design,
+    run: &Run,
+    new: &Design,
+    place: usize,
+    t: u64,
+) -> Driver
+    requires blank { blank.now ≡ (0, initial) ∷ [] }
+    requires there { place < length (netlist new.now).gates }
+    requires within { t ≤ (netlist old.now).horizon }
+    requires run { IsRun S.answer old.now run.now }
+    requires traces { AreTraces S.answer (netlist old.now) (netlist new.now) traces.now t }
+    ensures state { result ≡ state_before S.answer (netlist new.now) t (gate_at (netlist new.now) place) }
+    ensures ready { PendingFrom t result }
+{
+    old.lawful();
+    new.lawful();
+    if t == 0 {
+        return Driver::start();
+    }
+    let name = new.gate_at(place).name().as_str();
+    value_at(traces, place, old_trace(old, run, name, blank), t - 1)
+}
+
+/// The value that a net has at the moment `t` from its stimulus or its drivers, where all before `t` is known.
+pub fn driven_value<S: Stepper>(
+    alloc: Global,
+    traces: &BTreeMap<usize, Patch<Driver>>,
+    blank: &Trace,
+    old: &Design,
+    run: &Run,
+    new: &Design,
+    place: usize,
+    t: u64,
+) -> Result<Value, AllocError>
+    requires blank { blank.now ≡ (0, initial) ∷ [] }
+    requires there { place < length (netlist new.now).nets }
+    requires within { t ≤ (netlist old.now).horizon }
+    requires run { IsRun S.answer old.now run.now }
+    requires traces { AreTraces S.answer (netlist old.now) (netlist new.now) traces.now t }
+    ensures { IfOk result (λ v. v ≡ value S.answer (netlist new.now) (net_at (netlist new.now) place) t) }
+{
+    new.places_are_keys();
+    let net = new.net_at(place);
+    if net.is_input() {
+        return Ok(net.stimulus_at(t));
+    }
+    let drivers = new.drivers(new.net_key_at(place));
+    let mut values = Vec::with_capacity(alloc, drivers.len())?;
+    for driver in drivers {
+        let Some(gate) = new.gate_place_of(*driver) else {
+            unreachable!();
+        };
+        let state = gate_state::<S>(traces, blank, old, run, new, gate, t);
+        values.push(state.due(t).cur)?;
+    }
+    Ok(resolve(net.kind(), values.as_slice()))
+}
