@@ -8,7 +8,7 @@ use Rattle.std.proofs.lemmas.Bool.Decides.{nat_tests}
 use Rattle.std.proofs.lemmas.List.Elements.{All-filter}
 use Rattle.fourstate.specs.declared.gate.GateKind.{GateKind}
 use Rattle.fourstate.specs.declared.gate.GateKind.TheVariants.{And, Or, Xor, Nand, Nor, Xnor, Buf, Not, Bufif1, Bufif0, Notif1, Notif0}
-use Rattle.waveform.specs.SampleLaws.{same_self}
+use Rattle.fourstate.specs.ValueLaws.{same_self}
 use Rattle.catalog.specs.Catalog.{keys_of, place_of, record_at, records_of}
 use Rattle.design.specs.Connections.{Connection, to_net, to_constant}
 use Rattle.design.specs.Keys.{AreKeys, Keyed, KeyedGate, driver_keys, drives_key, entry_in, gate_by_key, name_of, net_by_key, netlist}

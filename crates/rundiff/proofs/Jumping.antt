@@ -14,7 +14,8 @@ use Rattle.design.specs.Netlist.{GateEntry, Netlist}
 use Rattle.waveform.specs.Changes.{trace_below, wave_changes_below}
 use Rattle.waveform.specs.Entries.{same_state, standing}
 use Rattle.waveform.specs.Patches.{IsMended, Keeps, PatchRecord}
-use Rattle.waveform.specs.SampleLaws.{same_self, same_state_self}
+use Rattle.fourstate.specs.ValueLaws.{same_self}
+use Rattle.waveform.specs.SampleLaws.{same_state_self}
 use Rattle.waveform.specs.Timelines.{changes_below, is_change}
 use Rattle.scratch.specs.Run.{state_after, value}
 use Rattle.rundiff.specs.Dirty.{rework_below}

@@ -12,7 +12,7 @@ use Rattle.fourstate.specs.Values.{same_value}
 use Rattle.gatestep.specs.Step.{State, Evaluation, due, due_of}
 use Rattle.gatestep.specs.Tasks.{NothingDue, again}
 use Rattle.design.specs.Netlist.{NetEntry, GateEntry, Netlist, drivers_of, stimulus, has_point}
-use Rattle.waveform.specs.SampleLaws.{is_same, same_self}
+use Rattle.fourstate.specs.ValueLaws.{is_same, same_self}
 use Rattle.scratch.specs.Run.{state_before, value}
 use Rattle.scratch.specs.Work.{is_due, is_stirred, same_values, task_at}
 

@@ -6,7 +6,7 @@ use Rattle.design.specs.Keys.{netlist}
 use Rattle.design.specs.Netlist.{NetEntry}
 use Rattle.waveform.specs.Changes.{wave_changes_below}
 use Rattle.waveform.specs.Entries.{standing}
-use Rattle.waveform.specs.SampleLaws.{is_same}
+use Rattle.fourstate.specs.ValueLaws.{is_same}
 use Rattle.waveform.specs.Timelines.{value_by}
 use Rattle.scratch.specs.Run.{value}
 use Rattle.rundiff.specs.Fronts.{blank_net, net_at}
