@@ -16,6 +16,8 @@ mod edit_lists;
 #[cfg(test)]
 mod patches;
 #[cfg(test)]
+mod shortened;
+#[cfg(test)]
 mod steps;
 #[cfg(test)]
 mod tables;
