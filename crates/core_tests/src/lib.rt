@@ -18,6 +18,8 @@ mod event_queues;
 #[cfg(test)]
 mod patches;
 #[cfg(test)]
+mod shortened;
+#[cfg(test)]
 mod steps;
 #[cfg(test)]
 mod tables;

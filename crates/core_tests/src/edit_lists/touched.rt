@@ -8,7 +8,7 @@ use std::process::Abort;
 
 /// A list of edits, and the nets and the gates that it touches: a name for the one that had it before the list, and
 /// `+` and a name for the one that has it after.
-type Case<'a> = (&'a [&'a str], &'a [&'a str], &'a [&'a str]);
+pub type Case<'a> = (&'a [&'a str], &'a [&'a str], &'a [&'a str]);
 
 fn net_of(rt: &impl Abort, old: &Design, new: &Design, word: &str) -> NetKey {
     match word.strip_prefix('+') {
@@ -24,14 +24,14 @@ fn gate_of(rt: &impl Abort, old: &Design, new: &Design, word: &str) -> GateKey {
     }
 }
 
-fn check_nets(rt: &impl Abort, old: &Design, new: &Design, nets: &[NetKey], want: &[&str]) {
+pub fn check_nets(rt: &impl Abort, old: &Design, new: &Design, nets: &[NetKey], want: &[&str]) {
     assert_eq!(rt; nets.len(), want.len());
     for (net, word) in nets.iter().zip(want) {
         assert_eq!(rt; *net, net_of(rt, old, new, word), "{word}");
     }
 }
 
-fn check_gates(rt: &impl Abort, old: &Design, new: &Design, gates: &[GateKey], want: &[&str]) {
+pub fn check_gates(rt: &impl Abort, old: &Design, new: &Design, gates: &[GateKey], want: &[&str]) {
     assert_eq!(rt; gates.len(), want.len());
     for (gate, word) in gates.iter().zip(want) {
         assert_eq!(rt; *gate, gate_of(rt, old, new, word), "{word}");
@@ -58,7 +58,7 @@ fn check_cases(rt: &impl Abort, alloc: Global, first: &[&str], cases: &[Case<'_>
     drop(old);
 }
 
-const BUFFER: [&str; 5] = [
+pub const BUFFER: [&str; 5] = [
     "input a",
     "net y wire",
     "net u wire",
