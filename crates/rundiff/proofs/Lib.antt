@@ -11,6 +11,7 @@ pub mod OneGate
 pub mod Alike
 pub mod ByPlace
 pub mod Outcoming
+pub mod Putting
 pub mod ReaderKeys
 pub mod Readers
 pub mod Resting

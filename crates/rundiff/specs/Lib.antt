@@ -1,3 +1,4 @@
 pub mod Dirty
+pub mod Finishing
 pub mod Fronts
 pub mod Kept

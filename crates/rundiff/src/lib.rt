@@ -1,6 +1,7 @@
 //! What differs between two runs, and when.
 #![tactic(auto)]
 
+mod finishing;
 mod front;
 mod gates;
 mod holding;

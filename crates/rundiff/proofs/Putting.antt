@@ -1,0 +1,96 @@
+-- Lines taken away or put, one after another.
+use Rattle.std.proofs.Common.{◌≡◌, ◌≤◌, ◌∙◌, ap, sym, refl, subst, ℕ, ◌+◌, Bool, true, false, cond, List, [], ◌∷◌, Option, Some, None, Result, Ok, Err, IfOk, arith, take, length, inl, inr}
+use Rattle.std.specs.Prelude.{◌⊎◌, ◌==◌, ◌||◌, nat_eq, slice_get}
+use Rattle.std.proofs.lemmas.Bool.{eqb-true}
+use Rattle.std.proofs.lemmas.Bool.Decides.{nat_tests}
+use Rattle.edits.specs.Touched.{is_touched}
+use Rattle.waveform.specs.Tables.{IsChangedAt, line_at}
+use Rattle.rundiff.specs.Finishing.{AreCleared, ArePut}
+use Rattle.rundiff.specs.Fronts.{is_among}
+use Rattle.rundiff.proofs.Driven.{take_whole}
+use Rattle.rundiff.proofs.Sets.{any_more, flips}
+use Rattle.rundiff.proofs.Steps.{among_more, or_splits, same_place}
+
+pub if_mapped : {A E : Type 0} (r : Result A E) (P Q : A → Type 0) → IfOk r P → ((x : A) → P x → Q x) → IfOk r Q
+if_mapped (Ok x) P Q p follows = follows x p
+if_mapped (Err e) P Q p follows = tt
+
+module _ {X : Type 0} where
+  pub none_cleared : (keys : List ℕ) (old : List (Option X)) → AreCleared (take 0 keys) old old
+  none_cleared [] old k = refl
+  none_cleared (x ∷ keys) old k = refl
+
+  one_more : (a b : Bool) (line : Option X) → cond b None (cond a None line) ≡ cond (a || b) None line
+  one_more true true line = refl
+  one_more false true line = refl
+  one_more true false line = refl
+  one_more false false line = refl
+
+  -- one key more
+  pub clear_more : (keys : List ℕ) (i x : ℕ) (old now new : List (Option X)) → slice_get keys i ≡ Some x → AreCleared (take i keys) old now → IsChangedAt x None now new → AreCleared (take (i + 1) keys) old new
+  clear_more keys i x old now new at so_far changed k =
+      changed k
+      ∙ ap (λ (o : Option X). cond (k == x) None o) (so_far k)
+      ∙ ap (λ (b : Bool). cond b None (cond (is_touched (take i keys) k) None (line_at old k))) (flips k x)
+      ∙ one_more (is_touched (take i keys) k) (x == k) (line_at old k)
+      ∙ ap (λ (b : Bool). cond b None (line_at old k)) (sym (any_more (λ q. q == k) keys i x at))
+
+  pub all_cleared : (keys : List ℕ) (i : ℕ) (old new : List (Option X)) → length keys ≤ i → AreCleared (take i keys) old new → AreCleared keys old new
+  all_cleared keys i old new past are = subst (λ (l : List ℕ). AreCleared l old new) (take_whole keys i past) are
+
+  module _ (due : ℕ → Option X) (keys : List ℕ) where
+    pub none_put : (places : List ℕ) (old : List (Option X)) → ArePut due keys (take 0 places) old old
+    none_put [] old = record { put = λ p k among at. absurd (cc); others = λ k. inr refl }
+    none_put (x ∷ places) old = record { put = λ p k among at. absurd (cc); others = λ k. inr refl }
+
+    sole : (b : Bool) → (b || false) ≡ true → b ≡ true
+    sole true h = refl
+    sole false h = cc
+
+    -- the line of one place
+    pub put_one : (place key : ℕ) (line : X) (old new : List (Option X)) → slice_get keys place ≡ Some key → due key ≡ Some line → IsChangedAt key (Some line) old new → ArePut due keys (place ∷ []) old new
+    put_one place key line old new here is changed = record {
+      put = λ p k among at.
+          let e : place ≡ p = eqb-true place p (sole (place == p) among) in
+          let both : Some k ≡ Some key = sym at ∙ ap (slice_get keys) (sym e) ∙ here in
+          let same : k ≡ key = cc in
+          put_there k same;
+      others = λ k. by_test k (k == key) refl;
+    }
+      where
+        itself : (k : ℕ) → (k == k) ≡ true
+        itself k = grind (arith, nat_tests)
+
+        put_there : (k : ℕ) → k ≡ key → line_at new k ≡ due k
+        put_there k same = changed k ∙ ap (λ (b : Bool). cond b (Some line) (line_at old k)) (ap (λ (n : ℕ). k == n) (sym same) ∙ itself k) ∙ sym is ∙ ap due (sym same)
+
+        by_test : (k : ℕ) (b : Bool) → (k == key) ≡ b → (line_at new k ≡ due k) ⊎ (line_at new k ≡ line_at old k)
+        by_test k true same = inl (put_there k (eqb-true k key same))
+        by_test k false other = inr (changed k ∙ ap (λ (b : Bool). cond b (Some line) (line_at old k)) other)
+
+    -- one place more
+    pub put_next : (places : List ℕ) (i x : ℕ) (old now new : List (Option X)) → slice_get places i ≡ Some x → ArePut due keys (take i places) old now → ArePut due keys (x ∷ []) now new → ArePut due keys (take (i + 1) places) old new
+    put_next places i x old now new at so_far more = record {
+      put = λ p k among found. put_by p k found (nat_eq x p) refl among;
+      others = λ k. either k (more.others k) (so_far.others k);
+    }
+      where
+        sole_on : (p : ℕ) → x ≡ p → is_among (x ∷ []) p ≡ true
+        sole_on p e = let on : (x == p) ≡ true = grind (arith, nat_tests) in rw on refl
+
+        kept : (k : ℕ) → line_at now k ≡ due k → (line_at new k ≡ due k) ⊎ (line_at new k ≡ line_at now k) → line_at new k ≡ due k
+        kept k is (inl e) = e
+        kept k is (inr e) = e ∙ is
+
+        put_by : (p k : ℕ) → slice_get keys p ≡ Some k → (b : Bool) → nat_eq x p ≡ b → is_among (take (i + 1) places) p ≡ true → line_at new k ≡ due k
+        put_by p k found true same among = more.put p k (sole_on p (same_place x p same)) found
+        put_by p k found false apart among =
+            kept k (so_far.put p k (or_splits (is_among (take i places) p) (nat_eq x p) (sym (among_more places i x p at) ∙ among) apart) found) (more.others k)
+
+        either : (k : ℕ) → (line_at new k ≡ due k) ⊎ (line_at new k ≡ line_at now k) → (line_at now k ≡ due k) ⊎ (line_at now k ≡ line_at old k) → (line_at new k ≡ due k) ⊎ (line_at new k ≡ line_at old k)
+        either k (inl e) before = inl e
+        either k (inr e) (inl d) = inl (e ∙ d)
+        either k (inr e) (inr d) = inr (e ∙ d)
+
+    pub all_put : (places : List ℕ) (i : ℕ) (old new : List (Option X)) → length places ≤ i → ArePut due keys (take i places) old new → ArePut due keys places old new
+    all_put places i old new past are = subst (λ (l : List ℕ). ArePut due keys l old new) (take_whole places i past) are

@@ -1,0 +1,46 @@
+use Rattle.std.proofs.Common.{◌≡◌, ◌∙◌, ◌+◌, ap, sym, refl, suc, ℕ, List, Option, Some, subst, arith}
+use Rattle.std.specs.Option.{option_map}
+use Rattle.fourstate.specs.declared.value.Value.{Value}
+use Rattle.fourstate.specs.Values.{same_value}
+use Rattle.catalog.specs.Catalog.{keys_of}
+use Rattle.design.specs.Connections.{to_net}
+use Rattle.design.specs.Keys.{net_by_key, netlist}
+use Rattle.design.specs.Netlist.{NetEntry}
+use Rattle.waveform.specs.Changes.{wave_changes_below}
+use Rattle.waveform.specs.Entries.{standing}
+use Rattle.waveform.specs.Patches.{Keeps, PatchRecord}
+use Rattle.scratch.specs.Run.{value, wave_of}
+use Rattle.rundiff.specs.Finishing.{new_wave}
+use Rattle.rundiff.specs.Fronts.{blank_net, net_at}
+use Rattle.rundiff.specs.Kept.{read_at}
+use Rattle.rundiff.proofs.ByPlace.{at_place, get_at}
+use Rattle.rundiff.proofs.Putting.{put_one}
+use Rattle.rundiff.proofs.Steps.{mapped}
+use Rattle.rundiff.proofs.finishing.put_wave.Goals as goal
+
+pub returns-clause-waves : goal.returns-clause-waves
+returns-clause-waves g c =
+    let answer = g.S.Stepper.answer in
+    let old = netlist c.args.old.now in
+    let keyed = c.args.new.now in let new = netlist keyed in
+    let place = c.args.place in
+    let x = net_at new place in
+    let at = at_place new.nets place blank_net c.net_at.result.now c.net_at.ensures in
+    let named : c.as_str.result.now ≡ x.name = c.as_str.ensures ∙ c.name.ensures ∙ sym (ap (λ (y : NetEntry). y.name) at) in
+    let end : c.horizon.result + 1 ≡ suc new.horizon = let h = c.horizon.ensures.horizon in omega arith in
+    let same_end : suc old.horizon ≡ c.horizon.result + 1 = let h = c.horizon.ensures.horizon in let e = c.requires.horizon in omega arith in
+    let stored : c.old_wave-former.result.now ≡ wave_changes_below (read_at answer old (to_net x.name)) (c.horizon.result + 1) =
+    c.old_wave-former.ensures answer c.requires.run
+    ∙ ap (λ (name : List ℕ). wave_changes_below (read_at answer old (to_net name)) (suc old.horizon)) named
+    ∙ ap (wave_changes_below (read_at answer old (to_net x.name))) same_end in
+    let Keep : Option (PatchRecord Value) → ℕ → Type 0 = λ o n. Keeps same_value standing (read_at answer old (to_net x.name)) (value answer new x) o n in
+    let keeps : Keep c.remove.result (c.horizon.result + 1) =
+    subst (λ (n : ℕ). Keep c.remove.result n) (sym end) (subst (λ (o : Option (PatchRecord Value)). Keep o (suc new.horizon)) (sym c.remove.ensures.value) c.requires.wave) in
+    let line : c.in_ok-wave.wave ≡ wave_of answer new x =
+    c.in_ok-wave.ensures (value answer new x) (read_at answer old (to_net x.name)) (λ t. refl) (λ t. refl) stored keeps
+    ∙ ap (wave_changes_below (value answer new x)) end in
+    let found : net_by_key keyed c.net_key_at.result ≡ Some x = c.net_key_at.ensures.net ∙ get_at new.nets place blank_net c.requires.there in
+    let due : new_wave answer keyed c.net_key_at.result ≡ Some c.in_ok-wave.wave = ap (option_map (wave_of answer new)) found ∙ ap (λ (w : List (ℕ × Value)). Some w) (sym line) in
+    mapped c.put_wave.result c.put_wave.ensures.ok
+    (λ changed. put_one (new_wave answer keyed) (keys_of keyed.nets) place c.number.result c.in_ok-wave.wave c.args.made.now.waves c.put_wave.new.self.waves
+    (c.net_key_at.ensures.key ∙ ap (λ (k : ℕ). Some k) (sym c.number.ensures)) (ap (new_wave answer keyed) c.number.ensures ∙ due) changed)

@@ -1,0 +1,65 @@
+use Rattle.std.proofs.Common.{◌∙◌, ◌≤◌, sym, subst, refl, suc, Option}
+use Rattle.std.specs.Prelude.{slice_index_or}
+use Rattle.std.specs.Option.{ForSome}
+use Rattle.std.specs.BTreeMap.{get}
+use Rattle.std.specs.Ordering.{nat_cmp}
+use Rattle.fourstate.specs.declared.value.Value.{Value}
+use Rattle.fourstate.specs.Values.{same_value}
+use Rattle.catalog.specs.Catalog.{keys_of}
+use Rattle.design.specs.Connections.{to_net}
+use Rattle.design.specs.Keys.{netlist}
+use Rattle.waveform.specs.Entries.{standing}
+use Rattle.waveform.specs.Patches.{Keeps, PatchRecord}
+use Rattle.waveform.specs.Timelines.{end_of}
+use Rattle.scratch.specs.Run.{value}
+use Rattle.rundiff.specs.Finishing.{new_wave}
+use Rattle.rundiff.specs.Fronts.{net_at}
+use Rattle.rundiff.specs.Kept.{read_at}
+use Rattle.rundiff.proofs.ByPlace.{get_at}
+use Rattle.rundiff.proofs.Putting.{all_put, none_put, put_next}
+use Rattle.rundiff.proofs.Steps.{is_one, not_yet, others_more}
+use Rattle.rundiff.proofs.finishing.put_waves.Goals as goal
+
+pub put_wave-requires-clause-there : goal.put_wave-requires-clause-there
+put_wave-requires-clause-there g c =
+    let xs = c.args.live.now in let i = c.loop-place.place-index in
+    c.requires.there (slice_index_or xs i 0) (is_one xs i (slice_index_or xs i 0) (get_at xs i 0 c.loop-place-test.true))
+
+pub put_wave-requires-clause-wave : goal.put_wave-requires-clause-wave
+put_wave-requires-clause-wave g c =
+    let xs = c.args.live.now in let i = c.loop-place.place-index in let x = slice_index_or xs i 0 in
+    let at = get_at xs i 0 c.loop-place-test.true in
+    let old = netlist c.args.old.now in let new = netlist c.args.new.now in
+    let same = c.loop-place.invariant.patches x (not_yet xs i x c.requires.rising at) in
+    let there = c.requires.there x (is_one xs i x at) in
+    subst (λ (o : Option (PatchRecord Value)). Keeps same_value standing (read_at g.S.Stepper.answer old (to_net (net_at new x).name)) (value g.S.Stepper.answer new (net_at new x)) o (suc new.horizon)) (sym same) (c.requires.waves x there)
+
+pub put_wave-requires-clause-end : goal.put_wave-requires-clause-end
+put_wave-requires-clause-end g c =
+    let xs = c.args.live.now in let i = c.loop-place.place-index in let x = slice_index_or xs i 0 in
+    let same = c.loop-place.invariant.patches x (not_yet xs i x c.requires.rising (get_at xs i 0 c.loop-place-test.true)) in
+    subst (λ (o : Option (PatchRecord Value)). ForSome o (λ patch. end_of patch.line ≤ suc (netlist c.args.new.now).horizon)) (sym same) (c.requires.ends x)
+
+pub loop-place-init : goal.loop-place-init
+loop-place-init g c =
+    record {
+      waves = none_put (new_wave g.S.Stepper.answer c.args.new.now) (keys_of c.args.new.now.nets) c.args.live.now c.args.made.now.waves;
+      patches = λ q off. refl;
+      traces = refl;
+      horizon = refl;
+    }
+
+pub loop-place-preserved : goal.loop-place-preserved
+loop-place-preserved g c =
+    let xs = c.args.live.now in let i = c.loop-place.place-index in let x = slice_index_or xs i 0 in
+    let at = get_at xs i 0 c.loop-place-test.true in
+    record {
+      waves = put_next (new_wave g.S.Stepper.answer c.args.new.now) (keys_of c.args.new.now.nets) xs i x c.args.made.now.waves c.loop-place.made.waves c.put_wave.new.made.waves at c.loop-place.invariant.waves c.in_ok-put_wave.ensures.waves;
+      patches = others_more (λ q o. Unit {0}) (get nat_cmp c.args.waves.now) (get nat_cmp c.loop-place.waves) (get nat_cmp c.put_wave.new.waves) xs i x at c.put_wave.ensures.others c.loop-place.invariant.patches;
+      traces = c.put_wave.ensures.traces ∙ c.loop-place.invariant.traces;
+      horizon = c.put_wave.ensures.horizon ∙ c.loop-place.invariant.horizon;
+    }
+
+pub returns-clause-waves : goal.returns-clause-waves
+returns-clause-waves g c =
+    all_put (new_wave g.S.Stepper.answer c.args.new.now) (keys_of c.args.new.now.nets) c.args.live.now c.loop-place.place-index c.args.made.now.waves c.loop-place.made.waves c.loop-place-test.false c.loop-place.invariant.waves

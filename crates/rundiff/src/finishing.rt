@@ -1,0 +1,170 @@
+//! The new run, once all moments up to the horizon are done.
+
+ghost use Rattle.std.specs.Prelude.{◌≡◌, ◌<◌, ◌≤◌, ℕ, suc, true, false, nat_eq, [], ◌∷◌, AllPairs, IfOk, OnOk, length};
+ghost use Rattle.std.specs.Option.{ForSome};
+ghost use Rattle.std.specs.BTreeMap.{get};
+ghost use Rattle.std.specs.Ordering.{nat_cmp};
+ghost use Rattle.gatestep.specs.Step.{initial};
+ghost use Rattle.design.specs.Keys.{netlist};
+ghost use Rattle.catalog.specs.Catalog.{keys_of};
+ghost use Rattle.waveform.specs.Patches.{Keeps};
+ghost use Rattle.waveform.specs.Timelines.{IsAlwaysSettled, changes_below, end_of};
+ghost use Rattle.scratch.specs.Run.{IsRun};
+ghost use Rattle.rundiff.specs.Finishing.{ArePut, AreCleared, new_trace, new_wave};
+ghost use Rattle.rundiff.specs.Fronts.{AreTraces, AreWaves, EndBy, IsTrace, IsWave, is_among};
+
+use crate::old::{old_trace, old_wave};
+use design::Design;
+use edits::Touched;
+use fourstate::Value;
+use gatestep::{Driver, Stepper};
+use std::alloc::{AllocError, Global};
+use std::collections::BTreeMap;
+use waveform::{Patch, Run, Sample, Timeline, Trace, Wave, laws};
+
+/// Takes away what a run has under keys that edits touched. Where an allocation was refused, which are gone is not known.
+pub fn clear_touched(run: &mut Run, touched: &Touched) -> Result<(), AllocError>
+    ensures waves { OnOk result (AreCleared touched.now.nets.items run.old.waves run.new.waves) }
+    ensures traces { OnOk result (AreCleared touched.now.gates.items run.old.traces run.new.traces) }
+    ensures horizon { run.new.horizon ≡ run.old.horizon }
+{
+    for net in &touched.nets {
+        run.clear_wave(net.number())?;
+    }
+    for gate in &touched.gates {
+        run.clear_trace(gate.number())?;
+    }
+    Ok(())
+}
+
+/// Puts the waves of the nets at these places. Where an allocation was refused, which are put is not known.
+pub fn put_waves<S: Stepper>(
+    alloc: Global,
+    made: &mut Run,
+    waves: &mut BTreeMap<usize, Patch<Value>>,
+    blank: &Wave,
+    old: &Design,
+    run: &Run,
+    new: &Design,
+    live: &[usize],
+) -> Result<(), AllocError>
+    requires blank { blank.now ≡ (0, Value.Unknown) ∷ [] }
+    requires there { (p : ℕ) → is_among live.now p ≡ true → p < length (netlist new.now).nets }
+    requires rising { AllPairs (λ p q. p < q) live.now }
+    requires horizon { (netlist new.now).horizon ≡ (netlist old.now).horizon }
+    requires run { IsRun S.answer old.now run.now }
+    requires waves { AreWaves S.answer (netlist old.now) (netlist new.now) waves.old (suc (netlist new.now).horizon) }
+    requires ends { EndBy waves.old (suc (netlist new.now).horizon) }
+    ensures waves { OnOk result (ArePut (new_wave S.answer new.now) (keys_of new.now.nets) live.now made.old.waves made.new.waves) }
+    ensures traces { made.new.traces ≡ made.old.traces }
+    ensures horizon { made.new.horizon ≡ made.old.horizon }
+{
+    for place in live {
+        put_wave::<S>(alloc, made, waves, blank, old, run, new, *place)?;
+    }
+    Ok(())
+}
+
+/// Puts the wave of the net at a place.
+fn put_wave<S: Stepper>(
+    alloc: Global,
+    made: &mut Run,
+    waves: &mut BTreeMap<usize, Patch<Value>>,
+    blank: &Wave,
+    old: &Design,
+    run: &Run,
+    new: &Design,
+    place: usize,
+) -> Result<(), AllocError>
+    requires blank { blank.now ≡ (0, Value.Unknown) ∷ [] }
+    requires there { place < length (netlist new.now).nets }
+    requires horizon { (netlist new.now).horizon ≡ (netlist old.now).horizon }
+    requires run { IsRun S.answer old.now run.now }
+    requires wave { IsWave S.answer (netlist old.now) (netlist new.now) waves.old place (suc (netlist new.now).horizon) }
+    requires end { ForSome (get nat_cmp waves.old place) (λ patch. end_of patch.line ≤ suc (netlist new.now).horizon) }
+    ensures waves { OnOk result (ArePut (new_wave S.answer new.now) (keys_of new.now.nets) (place ∷ []) made.old.waves made.new.waves) }
+    ensures others { (q : ℕ) → nat_eq place q ≡ false → get nat_cmp waves.new q ≡ get nat_cmp waves.old q }
+    ensures traces { made.new.traces ≡ made.old.traces }
+    ensures horizon { made.new.horizon ≡ made.old.horizon }
+{
+    let former = old_wave(old, run, new.net_at(place).name().as_str(), blank);
+    let wave = whole(waves.remove(&place), alloc, former, new.horizon() + 1)?;
+    made.put_wave(new.net_key_at(place).number(), wave)
+}
+
+/// Puts the traces of the gates at these places. Where an allocation was refused, which are put is not known.
+pub fn put_traces<S: Stepper>(
+    alloc: Global,
+    made: &mut Run,
+    traces: &mut BTreeMap<usize, Patch<Driver>>,
+    blank: &Trace,
+    old: &Design,
+    run: &Run,
+    new: &Design,
+    held: &[usize],
+) -> Result<(), AllocError>
+    requires blank { blank.now ≡ (0, initial) ∷ [] }
+    requires there { (p : ℕ) → is_among held.now p ≡ true → p < length (netlist new.now).gates }
+    requires rising { AllPairs (λ p q. p < q) held.now }
+    requires horizon { (netlist new.now).horizon ≡ (netlist old.now).horizon }
+    requires run { IsRun S.answer old.now run.now }
+    requires traces { AreTraces S.answer (netlist old.now) (netlist new.now) traces.old (suc (netlist new.now).horizon) }
+    requires ends { EndBy traces.old (suc (netlist new.now).horizon) }
+    ensures traces { OnOk result (ArePut (new_trace S.answer new.now) (keys_of new.now.gates) held.now made.old.traces made.new.traces) }
+    ensures waves { made.new.waves ≡ made.old.waves }
+    ensures horizon { made.new.horizon ≡ made.old.horizon }
+{
+    for place in held {
+        put_trace::<S>(alloc, made, traces, blank, old, run, new, *place)?;
+    }
+    Ok(())
+}
+
+/// Puts the trace of the gate at a place.
+fn put_trace<S: Stepper>(
+    alloc: Global,
+    made: &mut Run,
+    traces: &mut BTreeMap<usize, Patch<Driver>>,
+    blank: &Trace,
+    old: &Design,
+    run: &Run,
+    new: &Design,
+    place: usize,
+) -> Result<(), AllocError>
+    requires blank { blank.now ≡ (0, initial) ∷ [] }
+    requires there { place < length (netlist new.now).gates }
+    requires horizon { (netlist new.now).horizon ≡ (netlist old.now).horizon }
+    requires run { IsRun S.answer old.now run.now }
+    requires trace { IsTrace S.answer (netlist old.now) (netlist new.now) traces.old place (suc (netlist new.now).horizon) }
+    requires end { ForSome (get nat_cmp traces.old place) (λ patch. end_of patch.line ≤ suc (netlist new.now).horizon) }
+    ensures traces { OnOk result (ArePut (new_trace S.answer new.now) (keys_of new.now.gates) (place ∷ []) made.old.traces made.new.traces) }
+    ensures others { (q : ℕ) → nat_eq place q ≡ false → get nat_cmp traces.new q ≡ get nat_cmp traces.old q }
+    ensures waves { made.new.waves ≡ made.old.waves }
+    ensures horizon { made.new.horizon ≡ made.old.horizon }
+{
+    old.lawful();
+    new.lawful();
+    let former = old_trace(old, run, new.gate_at(place).name().as_str(), blank);
+    let trace = whole(traces.remove(&place), alloc, former, new.horizon() + 1)?;
+    made.put_trace(new.gate_key_at(place).number(), trace)
+}
+
+/// The whole function below `end`, of which a patch may be kept: with none it is the former one.
+fn whole<V: Sample>(
+    patch: Option<Patch<V>>,
+    alloc: Global,
+    old: &Timeline<V>,
+    end: u64,
+) -> Result<Timeline<V>, AllocError>
+    requires some { 0 < end }
+    requires later { ForSome patch (λ p. end_of p.line ≤ end) }
+    ensures { IfOk result (λ line. (f g : ℕ → V) → IsAlwaysSettled V.drift f → IsAlwaysSettled V.drift g
+        → old.now ≡ changes_below V.same V.drift g end → Keeps V.same V.drift g f patch end → line ≡ changes_below V.same V.drift f end) }
+{
+    laws::same_changes::<V>();
+    laws::cut_of_changes::<V>();
+    match patch {
+        None => old.fork(alloc, end - 1),
+        Some(patch) => patch.finish(old, end),
+    }
+}
