@@ -5,13 +5,13 @@ use Rattle.std.proofs.lemmas.List.Elements.{All-head, All-tail}
 use Rattle.std.specs.List.{filter, find, list_any, position_from, slice_get}
 use Rattle.std.specs.Option.{option_map_or}
 use Rattle.catalog.specs.Catalog.{record_at, records_of}
-use Rattle.design.specs.Keys.{Keyed, drives_key, entry_in, name_of, netlist}
+use Rattle.design.specs.Keys.{Keyed, KeyedGate, drives_key, entry_in, name_of, netlist}
 use Rattle.design.specs.Kept.{IsKept}
 use Rattle.design.specs.Lawful.{IsNet}
 use Rattle.design.specs.Names.{is_name, same_name}
 use Rattle.design.specs.Netlist.{GateEntry, NetEntry, drivers_of, gate_named, has_gate, net_named}
-use Rattle.design.proofs.ConnectionLemmas.{drivers_by_name, named_at, records_named}
-use Rattle.design.proofs.DesignLemmas.{net_keys_apart, nets_apart}
+use Rattle.design.proofs.ConnectionLemmas.{drivers_by_name, named_as, named_at, records_named}
+use Rattle.design.proofs.DesignLemmas.{gate_keys_apart, gates_apart, net_keys_apart, nets_apart}
 use Rattle.design.proofs.EntryLemmas.{Each, any_map, each_from}
 use Rattle.design.proofs.LookLemmas.{find_map}
 
@@ -69,3 +69,8 @@ named_by_key d points read driven key h = step (record_at d.nets key) refl
 pub drivers_by_key : (d : Keyed) (points : ℕ) (read driven : List (List ℕ)) (key : ℕ) → IsKept d points read driven → IsSome (record_at d.nets key) → drivers_of (netlist d) (name_of d.nets key) ≡ map (entry_in d.nets) (filter (λ g. drives_key g key) (records_of d.gates))
 unfolding netlist
 drivers_by_key d points read driven key h there = drivers_by_name d.nets d.gates key (net_keys_apart d points read driven h) (nets_apart d points read driven h) there h.keys.connected
+
+pub gate_by_name : (d : Keyed) (points : ℕ) (read driven : List (List ℕ)) (key : ℕ) (g : KeyedGate) → IsKept d points read driven → record_at d.gates key ≡ Some g → gate_named (netlist d) g.name ≡ Some (entry_in d.nets g)
+gate_by_name d points read driven key g h at =
+    gate_named_is d g.name
+    ∙ ap (λ (o : Option KeyedGate). option_map (entry_in d.nets) o) (named_as (λ (m : KeyedGate). m.name) d.gates key g (gate_keys_apart d points read driven h) (gates_apart d points read driven h) at)

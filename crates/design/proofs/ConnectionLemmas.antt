@@ -24,13 +24,16 @@ eqb_turned a b = step (a == b) refl
 -- Nets by name.
 
 -- the name of a net finds what its key finds
-pub named_at : (nets : List (ℕ × NetEntry)) (key : ℕ) (n : NetEntry) → Apart (λ e. e.0) nets → Apart (λ e. e.1.name) nets → record_at nets key ≡ Some n → find (λ m. same_name m.name n.name) (records_of nets) ≡ Some n
-named_at nets key n keys names there =
-    record_named (λ (m : NetEntry). m.name) nets n.name
-    ∙ ap (λ (o : Option (ℕ × NetEntry)). option_map (λ (p : ℕ × NetEntry). p.1) o)
-    (find_within (λ e. same_name e.1.name n.name) (λ e. e.0 == key) nets
-    (each_weaker (λ e. ((e.0 == key) ≡ same_name e.1.name n.name) × ((e.0 == key) ≡ true → e.1 ≡ n)) (λ e. same_name e.1.name n.name ≡ (e.0 == key)) (λ e at. sym at.0) nets (alone (λ (m : NetEntry). m.name) nets key n keys names there)))
+pub named_as : {X : Type 0} (name : X → List ℕ) (xs : List (ℕ × X)) (key : ℕ) (x : X) → Apart (λ e. e.0) xs → Apart (λ e. name e.1) xs → record_at xs key ≡ Some x → find (λ y. same_name (name y) (name x)) (records_of xs) ≡ Some x
+named_as {X} name xs key x keys names there =
+    record_named name xs (name x)
+    ∙ ap (λ (o : Option (ℕ × X)). option_map (λ (p : ℕ × X). p.1) o)
+    (find_within (λ e. same_name (name e.1) (name x)) (λ e. e.0 == key) xs
+    (each_weaker (λ e. ((e.0 == key) ≡ same_name (name e.1) (name x)) × ((e.0 == key) ≡ true → e.1 ≡ x)) (λ e. same_name (name e.1) (name x) ≡ (e.0 == key)) (λ e at. sym at.0) xs (alone name xs key x keys names there)))
     ∙ there
+
+pub named_at : (nets : List (ℕ × NetEntry)) (key : ℕ) (n : NetEntry) → Apart (λ e. e.0) nets → Apart (λ e. e.1.name) nets → record_at nets key ≡ Some n → find (λ m. same_name m.name n.name) (records_of nets) ≡ Some n
+named_at nets key n keys names there = named_as (λ (m : NetEntry). m.name) nets key n keys names there
 
 -- two nets have the same name where they have the same key
 same_named : (nets : List (ℕ × NetEntry)) (key j : ℕ) (n m : NetEntry) → Apart (λ e. e.0) nets → Apart (λ e. e.1.name) nets → record_at nets key ≡ Some n → record_at nets j ≡ Some m → same_name m.name n.name ≡ (key == j)

@@ -4,11 +4,11 @@ ghost use Rattle.std.specs.Prelude.{◌≡◌, ◌≤◌, ◌<◌, ℕ, IsSome, 
 ghost use Rattle.std.specs.List.{filter, position_from};
 ghost use Rattle.fourstate.specs.declared.limits.TheConstants.{MAX_TIME};
 ghost use Rattle.catalog.specs.Catalog.{keys_of, place_of, records_of};
-ghost use Rattle.design.specs.Keys.{AreKeys, IsConnected, driver_keys, drives_key, empty_design, entry_in, gate_by_key, name_of, net_by_key, netlist};
+ghost use Rattle.design.specs.Keys.{AreKeys, KeyedGate, IsConnected, driver_keys, drives_key, empty_design, entry_in, gate_by_key, name_of, net_by_key, netlist};
 ghost use Rattle.design.specs.Lawful.{IsDesign};
 ghost use Rattle.design.specs.Names.{same_name};
 ghost use Rattle.design.specs.Places.{driver_places};
-ghost use Rattle.design.specs.Netlist.{drivers_of, empty_netlist, net_named, point_total};
+ghost use Rattle.design.specs.Netlist.{drivers_of, empty_netlist, gate_named, net_named, point_total};
 
 use crate::gate::Gate;
 use crate::key::{GateKey, NetKey};
@@ -201,6 +201,7 @@ impl Design {
     /// The law of keys and names: a key's name finds what the key finds, and the drivers of a net are those of its key;
     /// nothing runs.
     pub fn names_are_keys(&self)
+        ensures gates { (key : ℕ) (gate : KeyedGate) → gate_by_key self.now key ≡ Some gate → gate_named (netlist self.now) gate.name ≡ Some (entry_in self.now.nets gate) }
         ensures nets { (key : ℕ) → net_named (netlist self.now) (name_of self.now.nets key) ≡ net_by_key self.now key }
         ensures drivers { (key : ℕ) → IsSome (net_by_key self.now key) → drivers_of (netlist self.now) (name_of self.now.nets key) ≡ map (entry_in self.now.nets) (filter (λ g. drives_key g key) (records_of self.now.gates)) }
     {

@@ -1,7 +1,9 @@
--- Delays within the limits.
-use Rattle.std.specs.Prelude.{ℕ}
+-- Delays within the limits, and delays that are the same.
+use Rattle.std.specs.Prelude.{◌≡◌, ◌&&◌, ◌==◌, Bool, true, false, ℕ, refl}
 use Rattle.std.proofs.Common.{arith}
-use Rattle.fourstate.specs.Delays.{AreDelays, IsDelay, delay_to, uniform_delays, with_fall}
+use Rattle.std.proofs.lemmas.Bool.{eqb-true}
+use Rattle.std.proofs.lemmas.Bool.Decides.{nat_tests}
+use Rattle.fourstate.specs.Delays.{AreDelays, IsDelay, delay_to, same_delays, uniform_delays, with_fall}
 use Rattle.fourstate.specs.declared.delay_times.DelayTimes.{DelayTimes}
 use Rattle.fourstate.specs.declared.value.Value.{Value}
 use Rattle.fourstate.specs.declared.value.Value.TheVariants.{Zero, One, Unknown, HighZ}
@@ -20,3 +22,25 @@ uniform_in_range delay is = record { rise = is; fall = is }
 -- delays within the limits stay so with another fall within them
 pub with_fall_in_range : (delays : DelayTimes) (fall : ℕ) → AreDelays delays → IsDelay fall → AreDelays (with_fall delays fall)
 with_fall_in_range delays fall are is = record { rise = are.rise; fall = is }
+
+first_of : (a b : Bool) → (a && b) ≡ true → a ≡ true
+first_of true b both = refl
+first_of false b both = cc
+
+second_of : (a b : Bool) → (a && b) ≡ true → b ≡ true
+second_of true b both = both
+second_of false b both = cc
+
+-- delays that are the same are equal
+pub same_delays_equal : (a b : DelayTimes) → same_delays a b ≡ true → a ≡ b
+same_delays_equal a b same =
+    let rise = eqb-true a.rise b.rise (first_of (a.rise == b.rise) (a.fall == b.fall) same) in
+    let fall = eqb-true a.fall b.fall (second_of (a.rise == b.rise) (a.fall == b.fall) same) in
+    λ i. record { rise = rise i; fall = fall i }
+
+number_itself : (n : ℕ) → (n == n) ≡ true
+number_itself n = grind (arith, nat_tests)
+
+-- delays are the same as themselves
+pub delays_itself : (delays : DelayTimes) → same_delays delays delays ≡ true
+delays_itself delays = rw (number_itself delays.rise, number_itself delays.fall) refl

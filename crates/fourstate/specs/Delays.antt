@@ -1,5 +1,5 @@
 -- How long a gate takes (IEEE 1364-2005, 7.14).
-use Rattle.std.specs.Prelude.{Bool, ℕ, ◌≤◌, ◌==◌, ◌||◌, min, nat_lt}
+use Rattle.std.specs.Prelude.{Bool, ℕ, ◌≤◌, ◌==◌, ◌&&◌, ◌||◌, min, nat_lt}
 use Rattle.fourstate.specs.declared.delay_times.DelayTimes.{DelayTimes}
 use Rattle.fourstate.specs.declared.limits.TheConstants.{MAX_DELAY}
 use Rattle.fourstate.specs.declared.value.Value.{Value}
@@ -39,3 +39,7 @@ IsDelay n = (1 ≤ n) × (n ≤ MAX_DELAY)
 pub record AreDelays (delays : DelayTimes) : Type 0 where
   pub rise : IsDelay delays.rise
   pub fall : IsDelay delays.fall
+
+-- each change takes as long
+abbrev pub same_delays : DelayTimes → DelayTimes → Bool
+same_delays a b = a.rise == b.rise && a.fall == b.fall

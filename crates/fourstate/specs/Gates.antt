@@ -1,5 +1,5 @@
 -- What a gate gives for its inputs (IEEE 1364-2005, 7.2 to 7.4).
-use Rattle.std.specs.Prelude.{Bool, ℕ, ◌%◌, ◌==◌, ◌&&◌, nat_le, if◌then◌else◌, List, [], ◌∷◌, map, count_by}
+use Rattle.std.specs.Prelude.{Bool, true, false, ℕ, ◌%◌, ◌==◌, ◌&&◌, nat_le, if◌then◌else◌, List, [], ◌∷◌, map, count_by}
 use Rattle.fourstate.specs.Values.{same_value, occurs, reading, inverse}
 use Rattle.fourstate.specs.declared.limits.TheConstants.{MAX_INPUTS}
 use Rattle.fourstate.specs.declared.value.Value.{Value}
@@ -64,3 +64,19 @@ takes_inputs Bufif0 n = n == 2
 takes_inputs Notif1 n = n == 2
 takes_inputs Notif0 n = n == 2
 takes_inputs _ n = nat_le 1 n && nat_le n MAX_INPUTS
+
+-- the kinds are the same
+abbrev pub same_kind : GateKind → GateKind → Bool
+same_kind And And = true
+same_kind Nand Nand = true
+same_kind Or Or = true
+same_kind Nor Nor = true
+same_kind Xor Xor = true
+same_kind Xnor Xnor = true
+same_kind Buf Buf = true
+same_kind Not Not = true
+same_kind Bufif1 Bufif1 = true
+same_kind Bufif0 Bufif0 = true
+same_kind Notif1 Notif1 = true
+same_kind Notif0 Notif0 = true
+same_kind _ _ = false

@@ -1,5 +1,6 @@
 pub mod DelayLaws
 pub mod Delays
+pub mod GateLaws
 pub mod Gates
 pub mod Keywords
 pub mod Nets

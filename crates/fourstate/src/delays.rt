@@ -1,7 +1,7 @@
 //! Gate delays (IEEE 1364-2005, 7.14).
 
 ghost use Rattle.std.specs.Prelude.{◌≡◌, ◌↔◌, IsSome, IfSome, false};
-ghost use Rattle.fourstate.specs.Delays.{AreDelays, IsDelay, delay_times, delay_to, exceeds_limit, has_zero};
+ghost use Rattle.fourstate.specs.Delays.{AreDelays, IsDelay, delay_times, delay_to, exceeds_limit, has_zero, same_delays};
 
 use crate::delay_times::DelayTimes;
 use crate::value::Value;
@@ -49,6 +49,13 @@ impl Delays {
             rise: times.rise as u32,
             fall: times.fall as u32,
         })
+    }
+
+    /// Whether each change takes as long as with the other delays.
+    pub fn is_same(self, other: Delays) -> bool
+        ensures { result ≡ same_delays self other }
+    {
+        self == other
     }
 }
 

@@ -1,7 +1,7 @@
 //! Gates (IEEE 1364-2005, 7.2 to 7.4).
 
 ghost use Rattle.std.specs.Prelude.{◌≡◌, IsTrue, length, map};
-ghost use Rattle.fourstate.specs.Gates.{and_of, or_of, xor_of, controlled, gate_of, takes_inputs};
+ghost use Rattle.fourstate.specs.Gates.{and_of, or_of, xor_of, controlled, gate_of, same_kind, takes_inputs};
 ghost use Rattle.fourstate.specs.Values.{reading};
 ghost use Rattle.fourstate.specs.Keywords.{gate_keyword, gate_kind_of};
 
@@ -46,6 +46,13 @@ impl GateKind {
         GateKind::Notif1,
         GateKind::Notif0,
     ];
+
+    /// Whether this is the same kind.
+    pub fn is_same(self, other: GateKind) -> bool
+        ensures { result ≡ same_kind self other }
+    {
+        self == other
+    }
 
     /// The word that writes the kind (IEEE 1364-2005, annex B).
     pub fn keyword(self) -> &'static str

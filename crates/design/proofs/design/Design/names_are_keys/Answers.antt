@@ -1,5 +1,5 @@
 use Rattle.design.specs.Shown.{design_of}
-use Rattle.design.proofs.ByNameLemmas.{drivers_by_key, named_by_key}
+use Rattle.design.proofs.ByNameLemmas.{drivers_by_key, gate_by_name, named_by_key}
 use Rattle.design.proofs.design.Design.names_are_keys.Goals as goal
 
 pub returns-clause-nets : goal.returns-clause-nets
@@ -11,3 +11,8 @@ pub returns-clause-drivers : goal.returns-clause-drivers
 returns-clause-drivers c =
     let a = c.self.inside in
     rw (← c.self.view_is) (λ key there. drivers_by_key (design_of a) a.points a.wires.fanout a.wires.drivers key c.self.invariant there)
+
+pub returns-clause-gates : goal.returns-clause-gates
+returns-clause-gates c =
+    let a = c.self.inside in
+    rw (← c.self.view_is) (λ key gate there. gate_by_name (design_of a) a.points a.wires.fanout a.wires.drivers key gate c.self.invariant there)
