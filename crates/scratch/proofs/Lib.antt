@@ -1,7 +1,10 @@
 pub mod Among
+pub mod Asked
 pub mod Between
+pub mod Copies
 pub mod GateSteps
 pub mod Keyed
+pub mod Later
 pub mod Lists
 pub mod Moments
 pub mod NetSteps

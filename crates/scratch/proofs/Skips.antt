@@ -1,5 +1,5 @@
 -- The moments before the next one for which something is noted are skipped.
-use Rattle.std.proofs.Common.{◌≡◌, ◌≢◌, ◌<◌, ◌≤◌, ◌∙◌, sym, ap, subst, refl, Bool, true, false, ℕ, zero, suc, ◌+◌, ◌-◌, List, [], ◌∷◌, ◌++◌, append_assoc, map, Option, Some, None, slice_get, slice_index_or, length, All, arith, ◌⊎◌, inl, inr}
+use Rattle.std.proofs.Common.{◌≡◌, ◌≢◌, ◌<◌, ◌≤◌, ◌∙◌, sym, ap, subst, refl, Bool, true, false, ℕ, zero, suc, ◌+◌, ◌-◌, List, [], ◌∷◌, map, Option, Some, None, slice_get, slice_index_or, length, All, arith, ◌⊎◌, inl, inr}
 use Rattle.std.specs.Prelude.{nat_eq, nat_le}
 use Rattle.std.specs.Option.{option_map_or, option_map, ForSome}
 use Rattle.std.proofs.lemmas.Bool.{cases_lt}
@@ -19,7 +19,7 @@ use Rattle.scratch.specs.Places.{Announces, Covers, has, pends_at, point_at}
 use Rattle.scratch.specs.Quiet.{IsQuiet}
 use Rattle.scratch.specs.Run.{state_after, state_before, value}
 use Rattle.scratch.specs.Stands.{Stands}
-use Rattle.scratch.specs.Work.{HasGrownOrNot, is_due, is_stirred, work_at, work_below}
+use Rattle.scratch.specs.Work.{is_due, is_stirred, work_below}
 use Rattle.scratch.specs.declared.engine.Engine.{Engine}
 use Rattle.scratch.proofs.Runs.{map_where, ready_all}
 use Rattle.scratch.proofs.Still.{Stays, quiet_gate, quiet_idle, quiet_net, still_after, trace_stays, wave_stays}
@@ -161,19 +161,3 @@ module _ (answer : Evaluation → ℕ → State) (d : Netlist)
   -- a moment for which something is noted is still to come
   pub not_before : (e : Engine) (n t : ℕ) → Stands answer d e n → (noted e.events t ≡ [] → noted e.points t ≢ []) → n ≤ t
   not_before e n t s some = noted_by e n t s some (cases_lt t n)
-
--- What was asked so far, where the moments from n to t asked nothing.
-module _ (answer : Evaluation → ℕ → State) (d : Netlist) (base : List (Evaluation × ℕ)) where
-  -- all that was asked is the work below some moment, up to the horizon
-  abbrev pub IsPart : ℕ → List (Evaluation × ℕ) → Type 0
-  IsPart horizon now = (n : ℕ) × (n ≤ suc horizon) × (now ≡ base ++ work_below answer d n)
-
-  module _ (old new : List (Evaluation × ℕ)) (n t : ℕ) (idle : work_below answer d t ≡ work_below answer d n) (was : old ≡ base ++ work_below answer d n) where
-    -- the work of t more
-    pub one_more : new ≡ old ++ work_at answer d t → new ≡ base ++ work_below answer d (suc t)
-    one_more more = more ∙ ap (λ l. l ++ work_at answer d t) (was ∙ ap (λ l. base ++ l) (sym idle)) ∙ append_assoc base (work_below answer d t) (work_at answer d t)
-
-    -- a fault came at t
-    pub part : (horizon : ℕ) → t ≤ horizon → n ≤ t → HasGrownOrNot old new (work_at answer d t) → IsPart horizon new
-    part horizon within from (inl same) = (n, omega arith, same ∙ was)
-    part horizon within from (inr more) = (suc t, omega arith, one_more more)

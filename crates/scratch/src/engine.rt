@@ -66,11 +66,31 @@ impl Engine {
         design.lawful();
         let mut moment = Moment::before(alloc, design)?;
         moment.pass(design, wiring, stepper, 0)?;
-        let Recording { waves, traces } = Recording::open(alloc, &moment)?;
+        let recording = Recording::open(alloc, &moment)?;
         let events = list_events(alloc, moment.states.as_slice())?;
-        let points = list_points(alloc, design)?;
+        let points = list_points(alloc, design, 0)?;
         let (states, values) = moment.parts();
-        Ok(Engine {
+        Ok(Engine::new(alloc, states, values, recording, events, points))
+    }
+
+    /// What stands with these states, values and lines, and is to happen at these moments.
+    pub fn new(
+        alloc: Global,
+        states: Vec<Driver>,
+        values: Vec<Value>,
+        recording: Recording,
+        events: EventQueue,
+        points: EventQueue,
+    ) -> Engine
+        ensures states { result.states ≡ states }
+        ensures values { result.values ≡ values }
+        ensures waves { result.waves ≡ recording.waves }
+        ensures traces { result.traces ≡ recording.traces }
+        ensures events { result.events ≡ events }
+        ensures points { result.points ≡ points }
+    {
+        let Recording { waves, traces } = recording;
+        Engine {
             states,
             values,
             waves,
@@ -84,7 +104,7 @@ impl Engine {
             driven: Vec::new(alloc),
             tasks: Vec::new(alloc),
             answers: Vec::new(alloc),
-        })
+        }
     }
 
     /// The next moment for which something is noted.

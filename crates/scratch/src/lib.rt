@@ -2,13 +2,16 @@
 #![tactic(auto)]
 
 mod asking;
+mod continuing;
 mod engine;
+mod extending;
 mod moment;
 mod opening;
 #[cfg(test)]
 mod plain;
 mod recording;
 mod resolving;
+mod resuming;
 mod run;
 mod settling;
 mod stirring;
@@ -17,5 +20,6 @@ mod tests;
 mod waves;
 mod wiring;
 
+pub use extending::extend;
 pub use run::simulate;
 pub use waves::{wave_at, wave_named};

@@ -1,4 +1,4 @@
-//! What is noted before a run goes on from moment 0, and the next point of a net.
+//! What is noted before a run goes on from a moment, and the next point of a net.
 
 ghost use Rattle.std.specs.Prelude.{◌≡◌, ◌<◌, ◌≤◌, ◌+◌, [], ℕ, true, All, IfOk, OnOk};
 ghost use Rattle.event_queue.specs.Noted.{noted};
@@ -13,9 +13,8 @@ use std::alloc::{AllocError, Global};
 
 /// The gates at the moments of their pending events.
 pub fn list_events(alloc: Global, states: &[Driver]) -> Result<EventQueue, AllocError>
-    requires { All (PendingFrom 1) states.now }
-    ensures covers { IfOk result (λ events. Covers (pends_at states.now) (noted events) 1) }
-    ensures early { IfOk result (λ events. noted events 0 ≡ []) }
+    ensures covers { IfOk result (λ events. Covers (pends_at states.now) (noted events) 0) }
+    ensures early { IfOk result (λ events. (n : ℕ) → All (PendingFrom n) states.now → (u : ℕ) → u < n → noted events u ≡ []) }
 {
     let mut events = EventQueue::new(alloc);
     for place in 0..states.len() {
@@ -27,14 +26,14 @@ pub fn list_events(alloc: Global, states: &[Driver]) -> Result<EventQueue, Alloc
     Ok(events)
 }
 
-/// Each net at the moment of its first stimulus point after 0.
-pub fn list_points(alloc: Global, design: &Design) -> Result<EventQueue, AllocError>
-    ensures announces { IfOk result (λ points. Announces (point_at (netlist design.now).nets) (noted points) 1) }
-    ensures early { IfOk result (λ points. noted points 0 ≡ []) }
+/// Each net at the moment of its first stimulus point after the moment `t`.
+pub fn list_points(alloc: Global, design: &Design, t: u64) -> Result<EventQueue, AllocError>
+    ensures announces { IfOk result (λ points. Announces (point_at (netlist design.now).nets) (noted points) (t + 1)) }
+    ensures early { IfOk result (λ points. (u : ℕ) → u ≤ t → noted points u ≡ []) }
 {
     let mut points = EventQueue::new(alloc);
     for place in 0..design.net_count() {
-        note_next_point(alloc, design, place, 0, &mut points)?;
+        note_next_point(alloc, design, place, t, &mut points)?;
     }
     Ok(points)
 }

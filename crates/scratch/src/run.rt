@@ -6,13 +6,13 @@ ghost use Rattle.scratch.specs.Lost.{loses_a_worker};
 ghost use Rattle.scratch.specs.Run.{IsRun};
 ghost use Rattle.scratch.specs.Work.{work_below};
 
+use crate::continuing::run_on;
 use crate::engine::Engine;
 use crate::wiring::wire;
 use design::Design;
-use fourstate::Value;
-use gatestep::{Driver, StepFault, Stepper};
+use gatestep::{StepFault, Stepper};
 use std::alloc::Global;
-use waveform::{Run, laws};
+use waveform::Run;
 
 /// The run of the design by this stepper, from moment 0 to the horizon, both included: only changes are stored. It goes from
 /// one moment at which something happens to the next, and there asks for the stirred gates alone; a step is made only where
@@ -29,19 +29,7 @@ pub fn simulate<S: Stepper>(
         × (S.asked stepper.new ≡ S.asked stepper.old ++ work_below S.answer (netlist design.now) n)) }
     ensures lost { S.losses stepper.new ≡ S.losses stepper.old + (if loses_a_worker result then 1 else 0) }
 {
-    design.lawful();
-    laws::no_change::<Value>();
-    laws::no_change::<Driver>();
-    let horizon = design.horizon();
     let wiring = wire(alloc, design)?;
-    let mut engine = Engine::open(alloc, design, &wiring, stepper)?;
-    let mut done = 1;
-    while let Some(t) = engine.next() {
-        if t > horizon {
-            break;
-        }
-        engine.pass(alloc, design, &wiring, stepper, t)?;
-        done = t + 1;
-    }
-    Ok(engine.into_recording().finish(alloc, design)?)
+    let engine = Engine::open(alloc, design, &wiring, stepper)?;
+    run_on(alloc, design, &wiring, engine, 1, stepper)
 }

@@ -2,6 +2,7 @@
 
 mod build;
 mod count;
+mod extension;
 mod keyed;
 mod reference;
 mod runs;

@@ -13,15 +13,15 @@ use std::process::Abort;
 
 /// Passes steps on to `Serial` and counts them.
 #[derive(Drop)]
-struct Counting {
+pub struct Counting {
     inner: Serial,
     history: Record,
-    steps: u64,
-    tasks: u64,
+    pub steps: u64,
+    pub tasks: u64,
 }
 
 impl Counting {
-    fn new() -> Counting {
+    pub fn new() -> Counting {
         Counting {
             inner: Serial::new(),
             history: Record::new(),

@@ -24,7 +24,7 @@ fn check_change(rt: &impl Abort, change: &Change, wanted: (u64, Value)) {
 }
 
 /// A wave as its net's name and its changes.
-type Named<'a> = (&'a str, &'a [(u64, Value)]);
+pub type Named<'a> = (&'a str, &'a [(u64, Value)]);
 
 /// The waves of the named nets are these.
 fn check(rt: &impl Abort, alloc: Global, design: &Design, wanted: &[Named<'_>]) {

@@ -35,16 +35,17 @@ loop-place-preserved c =
       | in-Some+in_ok-add w ↦
           let event : Value × ℕ = (w.in-Some.field-0-0, w.in-Some.t) in
           let pending : s.pending ≡ Some event = sym (ap (λ (x : State). x.pending) c.state.view_is) ∙ w.in-Some.is in
-          let later : 1 ≤ event.1 = all_at (PendingFrom 1) states place s c.requires at event pending in
           record {
             covers = rw w.events-is (λ k u low h. some_by states place s at c.loop-place.events w.add.new.self c.loop-place.invariant.covers event pending w.in_ok-add.ensures.ok k u h (search arith));
-            early = ap (λ q. noted q 0) w.events-is ∙ elsewhere event.1 place c.loop-place.events w.add.new.self w.in_ok-add.ensures.ok 0 (nat_beyond event.1 0 (omega arith)) ∙ c.loop-place.invariant.early;
+            early = λ n all u low.
+                let later : n ≤ event.1 = all_at (PendingFrom n) states place s all at event pending in
+                ap (λ q. noted q u) w.events-is ∙ elsewhere event.1 place c.loop-place.events w.add.new.self w.in_ok-add.ensures.ok u (nat_beyond event.1 u (omega arith)) ∙ c.loop-place.invariant.early n all u low;
           }
       | in_default w ↦
           let pending : s.pending ≡ None = sym (ap (λ (x : State). x.pending) c.state.view_is) ∙ w.in_default.is in
           record {
             covers = rw w.events-is (λ k u low h. none_by states place s at c.loop-place.events c.loop-place.invariant.covers pending k u h (search arith));
-            early = ap (λ q. noted q 0) w.events-is ∙ c.loop-place.invariant.early;
+            early = λ n all u low. ap (λ q. noted q u) w.events-is ∙ c.loop-place.invariant.early n all u low;
           }
     ]
 

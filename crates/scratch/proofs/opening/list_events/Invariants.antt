@@ -1,4 +1,5 @@
-use Rattle.std.proofs.Common.{◌≡◌, ◌<◌, ℕ, true, []}
+use Rattle.std.proofs.Common.{◌≡◌, ◌<◌, ℕ, true, [], All}
+use Rattle.gatestep.specs.Tasks.{PendingFrom}
 use Rattle.event_queue.specs.Noted.{noted}
 use Rattle.scratch.specs.Places.{has, pends_at}
 use Rattle.scratch.proofs.opening.list_events.Given as goal
@@ -8,5 +9,5 @@ abbrev pub invariant-loop-place : goal.invariant-loop-place
 invariant-loop-place l =
     record {
       covers : (k u : ℕ) → k < l.place → pends_at l.states k u ≡ true → has k (noted l.events u) ≡ true;
-      early : noted l.events 0 ≡ [];
+      early : (n : ℕ) → All (PendingFrom n) l.states → (u : ℕ) → u < n → noted l.events u ≡ [];
     }

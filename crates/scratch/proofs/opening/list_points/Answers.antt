@@ -1,4 +1,4 @@
-use Rattle.std.proofs.Common.{◌≡◌, ◌<◌, ◌∙◌, ap, sym, subst, ℕ, true, ◌⊎◌, inl, inr, List, arith}
+use Rattle.std.proofs.Common.{◌≡◌, ◌<◌, ◌+◌, ◌∙◌, ap, sym, subst, ℕ, true, ◌⊎◌, inl, inr, List, arith}
 use Rattle.event_queue.specs.Noted.{noted}
 use Rattle.design.specs.Keys.{netlist}
 use Rattle.design.specs.Netlist.{NetEntry, has_point}
@@ -7,17 +7,17 @@ use Rattle.scratch.proofs.Notes.{within_on}
 use Rattle.scratch.proofs.Passing.{in_list}
 use Rattle.scratch.proofs.opening.list_points.Goals as goal
 
-next_by : (nets : List NetEntry) (p : ℕ) (old new : List (ℕ × List ℕ)) → Keeps (noted old) (noted new) → ((m u : ℕ) → m < p → 0 < u → point_at nets m u ≡ true → IsNotedWithin (noted old) m 1 u) →
-    ((u : ℕ) → 0 < u → point_at nets p u ≡ true → IsNotedWithin (noted new) p 1 u) → (m u : ℕ) → 0 < u → point_at nets m u ≡ true → (m < p) ⊎ (m ≡ p) → IsNotedWithin (noted new) m 1 u
-next_by nets p old new stay before here m u above h (inl low) = within_on (noted old) (noted new) m 1 u stay (before m u low above h)
-next_by nets p old new stay before here m u above h (inr same) = subst (λ k. IsNotedWithin (noted new) k 1 u) (sym same) (here u above (ap (λ k. point_at nets k u) (sym same) ∙ h))
+next_by : (nets : List NetEntry) (t p : ℕ) (old new : List (ℕ × List ℕ)) → Keeps (noted old) (noted new) → ((m u : ℕ) → m < p → t < u → point_at nets m u ≡ true → IsNotedWithin (noted old) m (t + 1) u) →
+    ((u : ℕ) → t < u → point_at nets p u ≡ true → IsNotedWithin (noted new) p (t + 1) u) → (m u : ℕ) → t < u → point_at nets m u ≡ true → (m < p) ⊎ (m ≡ p) → IsNotedWithin (noted new) m (t + 1) u
+next_by nets t p old new stay before here m u above h (inl low) = within_on (noted old) (noted new) m (t + 1) u stay (before m u low above h)
+next_by nets t p old new stay before here m u above h (inr same) = subst (λ k. IsNotedWithin (noted new) k (t + 1) u) (sym same) (here u above (ap (λ k. point_at nets k u) (sym same) ∙ h))
 
 pub loop-place-preserved : goal.loop-place-preserved
 loop-place-preserved c =
     record {
-      next = λ m u low above h. next_by (netlist c.args.design.now).nets c.loop-place.place c.loop-place.points c.note_next_point.new.points c.in_ok-note_next_point.ensures.kept c.loop-place.invariant.next
+      next = λ m u low above h. next_by (netlist c.args.design.now).nets c.args.t c.loop-place.place c.loop-place.points c.note_next_point.new.points c.in_ok-note_next_point.ensures.kept c.loop-place.invariant.next
           (λ v later at. c.in_ok-note_next_point.ensures.next v later at) m u above h (search arith);
-      early = c.in_ok-note_next_point.ensures.early 0 (omega arith) ∙ c.loop-place.invariant.early;
+      early = λ u low. c.in_ok-note_next_point.ensures.early u low ∙ c.loop-place.invariant.early u low;
     }
 
 pub returns-clause-announces : goal.returns-clause-announces

@@ -1,4 +1,4 @@
-use Rattle.std.proofs.Common.{◌≡◌, ◌<◌, ℕ, true, []}
+use Rattle.std.proofs.Common.{◌≡◌, ◌<◌, ◌≤◌, ◌+◌, ℕ, true, []}
 use Rattle.event_queue.specs.Noted.{noted}
 use Rattle.design.specs.Keys.{netlist}
 use Rattle.scratch.specs.Places.{IsNotedWithin, point_at}
@@ -8,6 +8,6 @@ use Rattle.scratch.proofs.opening.list_points.Given as goal
 abbrev pub invariant-loop-place : goal.invariant-loop-place
 invariant-loop-place l =
     record {
-      next : (m u : ℕ) → m < l.place → 0 < u → point_at (netlist l.design).nets m u ≡ true → IsNotedWithin (noted l.points) m 1 u;
-      early : noted l.points 0 ≡ [];
+      next : (m u : ℕ) → m < l.place → l.t < u → point_at (netlist l.design).nets m u ≡ true → IsNotedWithin (noted l.points) m (l.t + 1) u;
+      early : (u : ℕ) → u ≤ l.t → noted l.points u ≡ [];
     }

@@ -1,9 +1,9 @@
-use Rattle.std.proofs.Common.{◌≡◌, ◌<◌, ◌++◌, ◌∷◌, ◌∙◌, ap, sym, subst, ℕ, List, [], inr, map, Result, Ok, Err, OnErr, arith}
+use Rattle.std.proofs.Common.{◌≡◌, ◌++◌, ◌∷◌, ◌∙◌, ap, sym, subst, [], inr, map, Result, Ok, Err, OnErr, All, arith}
 use Rattle.event_queue.specs.Noted.{noted}
 use Rattle.gatestep.specs.Step.{initial}
 use Rattle.gatestep.specs.Tasks.{PendingFrom}
 use Rattle.design.specs.Keys.{netlist}
-use Rattle.scratch.specs.Places.{Covers, pends_at}
+use Rattle.scratch.specs.Places.{has, pends_at}
 use Rattle.scratch.specs.Run.{state_after, value}
 use Rattle.scratch.specs.Work.{HasGrownOrNot}
 use Rattle.scratch.proofs.Moments.{map_twice}
@@ -14,9 +14,6 @@ use Rattle.scratch.proofs.engine.Engine.open.Goals as goal
 held_err : {A E P : Type 0} (r : Result A E) → P → OnErr r P
 held_err (Ok x) p = tt
 held_err (Err e) p = p
-
-none_before : (queue : List (ℕ × List ℕ)) → noted queue 0 ≡ [] → (t : ℕ) → t < 1 → noted queue t ≡ []
-none_before queue first t low = let z : t ≡ 0 = omega arith in ap (noted queue) z ∙ first
 
 pub pass-requires-clause-ready : goal.pass-requires-clause-ready
 pass-requires-clause-ready g c =
@@ -32,9 +29,9 @@ returns-in_err-pass-clause-part g c =
     held_err c.from_residual-in_err-pass.result
     (subst (HasGrownOrNot (g.S.Stepper.asked c.args.stepper.now) (g.S.Stepper.asked c.pass.new.stepper)) (first_work g.S.Stepper.answer (netlist c.args.design.now)) c.in_err-pass.ensures.asked)
 
-pub returns-in_err-waves-clause-part : goal.returns-in_err-waves-clause-part
-returns-in_err-waves-clause-part g c =
-    held_err c.from_residual-in_err-waves.result
+pub returns-in_err-recording-clause-part : goal.returns-in_err-recording-clause-part
+returns-in_err-recording-clause-part g c =
+    held_err c.from_residual-in_err-recording.result
     (inr (c.in_ok-pass.ensures.asked ∙ ap (λ l. g.S.Stepper.asked c.args.stepper.now ++ l) (first_work g.S.Stepper.answer (netlist c.args.design.now))))
 
 pub returns-in_err-events-clause-part : goal.returns-in_err-events-clause-part
@@ -50,16 +47,17 @@ returns-in_err-points-clause-part g c =
 pub returns-clause-stands : goal.returns-clause-stands
 returns-clause-stands g c =
     let d = netlist c.args.design.now in let answer = g.S.Stepper.answer in
+    let states : c.as_slice.result.now ≡ c.new.result.states.items = c.as_slice.ensures.value ∙ sym c.parts-states.ensures.states ∙ sym (ap (λ v. v.items) c.new.ensures.states) in
     record {
       begun = omega arith;
-      states = c.parts-states.ensures.states ∙ c.in_ok-pass.ensures.states;
-      values = c.parts-states.ensures.values ∙ c.in_ok-pass.ensures.values;
-      waves = c.in_ok-waves.ensures.waves ∙ ap (map (λ v. (0, v) ∷ [])) c.in_ok-pass.ensures.values ∙ map_twice (λ n. value answer d n 0) (λ v. (0, v) ∷ []) d.nets;
-      traces = c.in_ok-waves.ensures.traces ∙ ap (map (λ s. (0, s) ∷ [])) c.in_ok-pass.ensures.states ∙ map_twice (λ gate. state_after answer d gate 0) (λ s. (0, s) ∷ []) d.gates;
-      events = subst (λ l. Covers (pends_at l) (noted c.in_ok-events.events) 1) (c.as_slice.ensures.value ∙ sym c.parts-states.ensures.states) c.in_ok-events.ensures.covers;
-      points = c.in_ok-points.ensures.announces;
-      no_early_event = none_before c.in_ok-events.events c.in_ok-events.ensures.early;
-      no_early_point = none_before c.in_ok-points.points c.in_ok-points.ensures.early;
+      states = ap (λ v. v.items) c.new.ensures.states ∙ c.parts-states.ensures.states ∙ c.in_ok-pass.ensures.states;
+      values = ap (λ v. v.items) c.new.ensures.values ∙ c.parts-states.ensures.values ∙ c.in_ok-pass.ensures.values;
+      waves = ap (λ v. v.items) c.new.ensures.waves ∙ c.in_ok-recording.ensures.waves ∙ ap (map (λ v. (0, v) ∷ [])) c.in_ok-pass.ensures.values ∙ map_twice (λ n. value answer d n 0) (λ v. (0, v) ∷ []) d.nets;
+      traces = ap (λ v. v.items) c.new.ensures.traces ∙ c.in_ok-recording.ensures.traces ∙ ap (map (λ s. (0, s) ∷ [])) c.in_ok-pass.ensures.states ∙ map_twice (λ gate. state_after answer d gate 0) (λ s. (0, s) ∷ []) d.gates;
+      events = λ k t from h. ap (λ q. has k (noted q t)) c.new.ensures.events ∙ c.in_ok-events.ensures.covers k t (omega arith) (ap (λ l. pends_at l k t) states ∙ h);
+      points = rw c.new.ensures.points c.in_ok-points.ensures.announces;
+      no_early_event = λ t low. ap (λ q. noted q t) c.new.ensures.events ∙ c.in_ok-events.ensures.early 1 (subst (All (PendingFrom 1)) (sym c.as_slice.ensures.value) c.in_ok-pass.ensures.ready) t low;
+      no_early_point = λ t low. ap (λ q. noted q t) c.new.ensures.points ∙ c.in_ok-points.ensures.early t (omega arith);
     }
 
 pub returns-clause-asked : goal.returns-clause-asked

@@ -1,8 +1,8 @@
 use Rattle.std.proofs.Common.{◌≡◌, ◌≤◌, ◌-◌, ◌++◌, suc}
 use Rattle.design.specs.Keys.{netlist}
 use Rattle.scratch.specs.Stands.{Stands}
-use Rattle.scratch.specs.Work.{work_below}
-use Rattle.scratch.proofs.run.simulate.Given as goal
+use Rattle.scratch.specs.Work.{work_from}
+use Rattle.scratch.proofs.continuing.run_on.Given as goal
 
 -- the moments below `done` are done
 abbrev pub invariant-loop-t : goal.invariant-loop-t
@@ -11,8 +11,9 @@ invariant-loop-t g l =
     let d = netlist l.fn.design in
     record {
       stands : Stands answer d l.engine l.done;
+      begun : l.fn.start ≤ l.done;
       within : l.done ≤ suc l.horizon;
-      asked : g.S.Stepper.asked l.stepper ≡ g.S.Stepper.asked l.fn.stepper ++ work_below answer d l.done;
+      asked : g.S.Stepper.asked l.stepper ≡ g.S.Stepper.asked l.fn.stepper ++ work_from answer d l.fn.start l.done;
       losses : g.S.Stepper.losses l.stepper ≡ g.S.Stepper.losses l.fn.stepper;
     }
 

@@ -1,0 +1,82 @@
+-- What is asked from one moment on.
+use Rattle.std.proofs.Common.{◌≡◌, ◌<◌, ◌≤◌, ◌∙◌, sym, ap, refl, Bool, true, false, cond, ℕ, zero, suc, List, [], ◌++◌, append_assoc, append-nil, arith, ◌⊎◌, inl, inr, Result, Ok, Err, OnErr, OnOk}
+use Rattle.std.specs.Prelude.{nat_le}
+use Rattle.std.proofs.lemmas.Bool.{cases_lt}
+use Rattle.std.proofs.lemmas.Bool.Decides.{nat_tests}
+use Rattle.std.proofs.lemmas.List.{append_cancel_left}
+use Rattle.gatestep.specs.Step.{State, Evaluation}
+use Rattle.design.specs.Netlist.{Netlist}
+use Rattle.scratch.specs.Work.{HasGrownOrNot, work_at, work_below, work_from}
+
+-- what follows from what an answer says
+pub ok_on : {A E : Type 0} {P Q : Type 0} (r : Result A E) → (P → Q) → OnOk r P → OnOk r Q
+ok_on (Ok x) follows p = follows p
+ok_on (Err e) follows p = p
+
+pub err_on : {A E : Type 0} {P Q : Type 0} (r : Result A E) → (P → Q) → OnErr r P → OnErr r Q
+err_on (Ok x) follows p = p
+err_on (Err e) follows p = follows p
+
+holds : (n t : ℕ) → n ≤ t → nat_le n t ≡ true
+holds n t le = grind (arith, nat_tests)
+
+fails : (n : ℕ) → nat_le (suc n) n ≡ false
+fails n = grind (arith, nat_tests)
+
+module _ (answer : Evaluation → ℕ → State) (d : Netlist) where
+  -- a moment more
+  pub grown : (n t : ℕ) → n ≤ t → work_from answer d n (suc t) ≡ work_from answer d n t ++ work_at answer d t
+  grown n t le = ap (λ (b : Bool). cond b (work_from answer d n t ++ work_at answer d t) []) (holds n t le)
+
+  -- no moment
+  pub none : (n : ℕ) → work_from answer d n n ≡ []
+  none zero = refl
+  none (suc n) = ap (λ (b : Bool). cond b (work_from answer d (suc n) n ++ work_at answer d n) []) (fails n)
+
+  -- the work of all moments is that of the earlier ones and that of the later ones
+  pub whole : (n m : ℕ) → n ≤ m → work_below answer d m ≡ work_below answer d n ++ work_from answer d n m
+  whole n zero le =
+      let same : 0 ≡ n = omega arith in
+      ap (work_below answer d) same ∙ sym (append-nil (work_below answer d n))
+  whole n (suc m) le = by (whole n m) (cases_lt m n)
+    where
+      by : (n ≤ m → work_below answer d m ≡ work_below answer d n ++ work_from answer d n m) → (m < n) ⊎ (n ≤ m) → work_below answer d (suc m) ≡ work_below answer d n ++ work_from answer d n (suc m)
+      by before (inl high) =
+          let same : suc m ≡ n = omega arith in
+          ap (work_below answer d) same ∙ sym (append-nil (work_below answer d n))
+          ∙ ap (λ l. work_below answer d n ++ l) (sym (none n) ∙ ap (work_from answer d n) (sym same))
+      by before (inr low) =
+          ap (λ l. l ++ work_at answer d m) (before low)
+          ∙ append_assoc (work_below answer d n) (work_from answer d n m) (work_at answer d m)
+          ∙ ap (λ l. work_below answer d n ++ l) (sym (grown n m low))
+
+  -- moments that ask nothing
+  pub unmoved : (a n u : ℕ) → a ≤ n → n ≤ u → work_below answer d u ≡ work_below answer d n → work_from answer d a u ≡ work_from answer d a n
+  unmoved a n u low high idle =
+      append_cancel_left (work_below answer d a) (work_from answer d a u) (work_from answer d a n)
+      (sym (whole a u (omega arith)) ∙ idle ∙ whole a n low)
+
+  -- What was asked so far by a run that goes on from the moment a, where the moments from n to t asked nothing.
+  module _ (base : List (Evaluation × ℕ)) (a : ℕ) where
+    -- all that was asked is the work below some moment, up to the horizon
+    abbrev pub IsPart : ℕ → List (Evaluation × ℕ) → Type 0
+    IsPart horizon now = (n : ℕ) × (a ≤ n) × (n ≤ suc horizon) × (now ≡ base ++ work_from answer d a n)
+
+    module _ (old new : List (Evaluation × ℕ)) (n t : ℕ) (begun : a ≤ n) (from : n ≤ t) (idle : work_below answer d t ≡ work_below answer d n) (was : old ≡ base ++ work_from answer d a n) where
+      -- the work of t more
+      pub one_more : new ≡ old ++ work_at answer d t → new ≡ base ++ work_from answer d a (suc t)
+      one_more more =
+          more ∙ ap (λ l. l ++ work_at answer d t) (was ∙ ap (λ l. base ++ l) (sym (unmoved a n t begun from idle)))
+          ∙ append_assoc base (work_from answer d a t) (work_at answer d t) ∙ ap (λ l. base ++ l) (sym (grown a t (omega arith)))
+
+      -- a fault came at t
+      pub part : (horizon : ℕ) → t ≤ horizon → HasGrownOrNot old new (work_at answer d t) → IsPart horizon new
+      part horizon within (inl same) = (n, begun, omega arith, same ∙ was)
+      part horizon within (inr more) = (suc t, omega arith, omega arith, one_more more)
+
+  -- What was asked by a run from scratch.
+  module _ (base : List (Evaluation × ℕ)) (old new : List (Evaluation × ℕ)) (n : ℕ) (begun : 1 ≤ n) (was : old ≡ base ++ work_at answer d 0) where
+    pub from_scratch : new ≡ old ++ work_from answer d 1 n → new ≡ base ++ work_below answer d n
+    from_scratch more =
+        more ∙ ap (λ l. l ++ work_from answer d 1 n) was
+        ∙ append_assoc base (work_at answer d 0) (work_from answer d 1 n) ∙ ap (λ l. base ++ l) (sym (whole 1 n begun))

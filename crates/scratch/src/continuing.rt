@@ -1,0 +1,53 @@
+//! A run that goes on from what stands up to the horizon.
+
+ghost use Rattle.std.specs.Prelude.{◌≡◌, ◌≤◌, ◌+◌, ◌++◌, ℕ, suc, IfOk, OnErr, OnOk, if◌then◌else◌};
+ghost use Rattle.design.specs.Keys.{netlist};
+ghost use Rattle.scratch.specs.Kept.{IsWiring};
+ghost use Rattle.scratch.specs.Lost.{loses_a_worker};
+ghost use Rattle.scratch.specs.Run.{IsRun};
+ghost use Rattle.scratch.specs.Stands.{Stands};
+ghost use Rattle.scratch.specs.Work.{work_from};
+
+use crate::engine::Engine;
+use crate::wiring::Wiring;
+use design::Design;
+use fourstate::Value;
+use gatestep::{Driver, StepFault, Stepper};
+use std::alloc::Global;
+use waveform::{Run, laws};
+
+/// The run of the design by an engine of which the moments below `start` are done. It goes from one moment at which something
+/// happens to the next, and there asks for the stirred gates alone; a step is made only where there is one. After a fault what
+/// was asked is the work up to some moment.
+pub fn run_on<S: Stepper>(
+    alloc: Global,
+    design: &Design,
+    wiring: &Wiring,
+    engine: Engine,
+    start: u64,
+    stepper: &mut S,
+) -> Result<Run, StepFault>
+    requires wired { IsWiring (netlist design.now) wiring.now }
+    requires stands { Stands S.answer (netlist design.now) engine start }
+    requires within { start ≤ suc (netlist design.now).horizon }
+    ensures run { IfOk result (IsRun S.answer design.now) }
+    ensures asked { OnOk result (S.asked stepper.new ≡ S.asked stepper.old ++ work_from S.answer (netlist design.now) start (suc (netlist design.now).horizon)) }
+    ensures part { OnErr result ((n : ℕ) × (start ≤ n) × (n ≤ suc (netlist design.now).horizon)
+        × (S.asked stepper.new ≡ S.asked stepper.old ++ work_from S.answer (netlist design.now) start n)) }
+    ensures lost { S.losses stepper.new ≡ S.losses stepper.old + (if loses_a_worker result then 1 else 0) }
+{
+    design.lawful();
+    laws::no_change::<Value>();
+    laws::no_change::<Driver>();
+    let horizon = design.horizon();
+    let mut engine = engine;
+    let mut done = start;
+    while let Some(t) = engine.next() {
+        if t > horizon {
+            break;
+        }
+        engine.pass(alloc, design, wiring, stepper, t)?;
+        done = t + 1;
+    }
+    Ok(engine.into_recording().finish(alloc, design)?)
+}

@@ -1,0 +1,41 @@
+//! The run of a design up to a later horizon.
+
+ghost use Rattle.std.specs.Prelude.{◌≡◌, ◌≤◌, ◌+◌, ◌++◌, ℕ, suc, IfOk, OnErr, OnOk, if◌then◌else◌};
+ghost use Rattle.design.specs.Keys.{netlist};
+ghost use Rattle.scratch.specs.Lost.{loses_a_worker};
+ghost use Rattle.scratch.specs.Run.{IsRun};
+ghost use Rattle.scratch.specs.Work.{work_from};
+
+use crate::continuing::run_on;
+use crate::resuming::resume;
+use crate::wiring::wire;
+use design::Design;
+use gatestep::{StepFault, Stepper};
+use std::alloc::Global;
+use waveform::Run;
+
+/// The run of a design from the run of the same design up to an earlier horizon: only the moments after that one are gone
+/// through. `OutOfMemory` where an allocation was refused, here or in a step; `WorkerLost` where a step answered so: then what
+/// was asked is the work up to some moment.
+pub fn extend<S: Stepper>(
+    alloc: Global,
+    former: &Design,
+    run: &Run,
+    design: &Design,
+    stepper: &mut S,
+) -> Result<Run, StepFault>
+    requires same { former.now ≡ record design.now { horizon = former.now.horizon } }
+    requires later { (netlist former.now).horizon ≤ (netlist design.now).horizon }
+    requires run { IsRun S.answer former.now run.now }
+    ensures run { IfOk result (IsRun S.answer design.now) }
+    ensures asked { OnOk result (S.asked stepper.new ≡ S.asked stepper.old
+        ++ work_from S.answer (netlist design.now) (suc (netlist former.now).horizon) (suc (netlist design.now).horizon)) }
+    ensures part { OnErr result ((n : ℕ) × (n ≤ suc (netlist design.now).horizon)
+        × (S.asked stepper.new ≡ S.asked stepper.old ++ work_from S.answer (netlist design.now) (suc (netlist former.now).horizon) n)) }
+    ensures lost { S.losses stepper.new ≡ S.losses stepper.old + (if loses_a_worker result then 1 else 0) }
+{
+    let wiring = wire(alloc, design)?;
+    let engine = resume::<S>(alloc, former, run)?;
+    let start = former.horizon() + 1;
+    run_on(alloc, design, &wiring, engine, start, stepper)
+}
