@@ -10,7 +10,7 @@ use Rattle.design.specs.Names.{same_name}
 use Rattle.design.specs.Netlist.{GateEntry, NetEntry, Netlist, net_named}
 use Rattle.design.specs.Places.{driver_places}
 use Rattle.scratch.specs.Run.{value}
-use Rattle.rundiff.specs.Fronts.{blank_net, blank_gate, gate_at, is_live, net_at}
+use Rattle.rundiff.specs.Places.{blank_net, blank_gate, gate_at, is_live, net_at}
 use Rattle.rundiff.specs.Kept.{read_at}
 use Rattle.rundiff.proofs.Lists.{name_itself, same_name_equal}
 

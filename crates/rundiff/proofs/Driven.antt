@@ -10,7 +10,7 @@ use Rattle.design.specs.Keys.{Keyed, driver_keys, name_of, net_by_key, netlist}
 use Rattle.design.specs.Netlist.{GateEntry, NetEntry, drivers_of, stimulus}
 use Rattle.design.specs.Places.{driver_places}
 use Rattle.scratch.specs.Run.{state_before, value}
-use Rattle.rundiff.specs.Fronts.{blank_net, gate_at, net_at}
+use Rattle.rundiff.specs.Places.{blank_net, gate_at, net_at}
 use Rattle.rundiff.proofs.ByPlace.{at_place, drivers_at, map_twice, same_put}
 
 -- an element that was read

@@ -4,10 +4,9 @@ use Rattle.std.specs.Prelude.{◌||◌, ◌==◌, ◌≢◌, AllPairs, IsSome}
 use Rattle.std.specs.Cmp.Lexicographic.{pointwise}
 use Rattle.std.specs.List.{filter, find, list_any, position_from}
 use Rattle.std.specs.Option.{option_map, option_map_or}
-use Rattle.std.proofs.lemmas.Bool.Decides.{nat_tests}
 use Rattle.std.proofs.lemmas.List.Elements.{All-filter}
-use Rattle.fourstate.specs.declared.gate.GateKind.{GateKind}
-use Rattle.fourstate.specs.declared.gate.GateKind.TheVariants.{And, Or, Xor, Nand, Nor, Xnor, Buf, Not, Bufif1, Bufif0, Notif1, Notif0}
+use Rattle.fourstate.specs.DelayLaws.{delays_itself}
+use Rattle.fourstate.specs.GateLaws.{kind_itself}
 use Rattle.fourstate.specs.ValueLaws.{same_self}
 use Rattle.catalog.specs.Catalog.{keys_of, place_of, record_at, records_of}
 use Rattle.design.specs.Connections.{Connection, to_net, to_constant}
@@ -15,8 +14,9 @@ use Rattle.design.specs.Keys.{AreKeys, Keyed, KeyedGate, driver_keys, drives_key
 use Rattle.design.specs.Names.{same_name}
 use Rattle.design.specs.Netlist.{GateEntry, NetEntry, drivers_of, net_named}
 use Rattle.edits.specs.Touched.{IsTouched, is_touched}
-use Rattle.rundiff.specs.Dirty.{is_new, same_connection, same_gate, same_kind}
-use Rattle.rundiff.specs.Fronts.{AreTouched, blank_gate, blank_net, is_among, is_live, net_at}
+use Rattle.rundiff.specs.Dirty.{is_new, same_connection, same_gate}
+use Rattle.rundiff.specs.Fronts.{AreTouched}
+use Rattle.rundiff.specs.Places.{blank_gate, blank_net, is_among, is_live, net_at}
 use Rattle.rundiff.specs.Kept.{IsClosed, IsSameNet}
 use Rattle.rundiff.proofs.ByPlace.{live_at, map_twice, position_at, same_put}
 use Rattle.rundiff.proofs.Filtering.{map_filter}
@@ -24,23 +24,6 @@ use Rattle.rundiff.proofs.Lists.{filter_where, name_itself}
 use Rattle.rundiff.proofs.NetsDone.{same_default}
 use Rattle.rundiff.proofs.ReaderKeys.{entry_at, found_at, net_entry_at, placed, same_number}
 use Rattle.rundiff.proofs.Still.{map_all}
-
-number_itself : (k : ℕ) → (k == k) ≡ true
-number_itself k = grind (arith, nat_tests)
-
-kind_itself : (k : GateKind) → same_kind k k ≡ true
-kind_itself And = refl
-kind_itself Or = refl
-kind_itself Xor = refl
-kind_itself Nand = refl
-kind_itself Nor = refl
-kind_itself Xnor = refl
-kind_itself Buf = refl
-kind_itself Not = refl
-kind_itself Bufif1 = refl
-kind_itself Bufif0 = refl
-kind_itself Notif1 = refl
-kind_itself Notif0 = refl
 
 connection_itself : (c : Connection) → same_connection c c ≡ true
 connection_itself (to_net name) = name_itself name
@@ -51,7 +34,7 @@ inputs_itself [] = refl
 inputs_itself (c ∷ cs) = let one = connection_itself c in rw one (inputs_itself cs)
 
 gate_itself : (g : GateEntry) → same_gate g g ≡ true
-gate_itself g = rw (name_itself g.name, kind_itself g.kind, number_itself g.delays.rise, number_itself g.delays.fall, name_itself g.output, inputs_itself g.inputs) refl
+gate_itself g = rw (name_itself g.name, kind_itself g.kind, delays_itself g.delays, name_itself g.output, inputs_itself g.inputs) refl
 
 or_true : (a b : Bool) → b ≡ true → (a || b) ≡ true
 or_true true b h = refl

@@ -3,7 +3,9 @@ use Rattle.std.proofs.Common.{◌≡◌, ℕ, zero, suc, ◌<◌, ◌≤◌, ◌
 use Rattle.std.specs.BTreeMap.{get}
 use Rattle.std.specs.Option.{option_map_or}
 use Rattle.std.specs.Ordering.{nat_cmp}
+use Rattle.std.specs.Prelude.{◌&&◌}
 use Rattle.std.proofs.lemmas.Bool.{cases_lt}
+use Rattle.event_queue.specs.Noted.{noted}
 use Rattle.fourstate.specs.declared.value.Value.{Value}
 use Rattle.fourstate.specs.Values.{same_value}
 use Rattle.gatestep.specs.Step.{State, Evaluation, due, initial}
@@ -17,16 +19,19 @@ use Rattle.waveform.specs.Patches.{IsMended, Keeps, PatchRecord}
 use Rattle.fourstate.specs.ValueLaws.{same_self}
 use Rattle.waveform.specs.SampleLaws.{same_state_self}
 use Rattle.waveform.specs.Timelines.{changes_below, is_change}
-use Rattle.scratch.specs.Run.{state_after, value}
+use Rattle.scratch.specs.Run.{state_after, state_before, value}
 use Rattle.rundiff.specs.Dirty.{rework_below}
-use Rattle.rundiff.specs.Fronts.{IsFront, IsOwn, blank_gate, blank_net, gate_at, held_in, is_live, live_in, named_state, net_at}
+use Rattle.rundiff.specs.Noting.{IsNoted, pends, wants_gate, wants_net}
+use Rattle.rundiff.specs.Fronts.{IsFront, IsOwn, held_in, live_in, named_state}
+use Rattle.rundiff.specs.Places.{blank_gate, blank_net, gate_at, is_live, net_at}
 use Rattle.rundiff.specs.Kept.{IsClear, read_at}
 use Rattle.rundiff.specs.declared.front.Front.{Front}
 use Rattle.rundiff.proofs.ByPlace.{live_at}
 use Rattle.rundiff.proofs.Known.{known_gate}
+use Rattle.rundiff.proofs.Noted.{NoneBefore, later_announced}
 use Rattle.rundiff.proofs.OldLines.{NoChange, keeps_none}
 use Rattle.rundiff.proofs.Skipping.{Jumped, jump}
-use Rattle.rundiff.proofs.Still.{none_due}
+use Rattle.rundiff.proofs.Still.{both, none_due}
 use Rattle.rundiff.proofs.Wired.{inputs_there}
 
 -- without a patch, both functions go on alike
@@ -51,7 +56,7 @@ module _ (answer : Evaluation → ℕ → State) (old new : Netlist)
     (stays : (e : Evaluation) (t u : ℕ) → t < u → NothingDue u (answer e t) → answer (again e (answer e t)) u ≡ answer e t)
     (wave_law : NoChange same_value standing) (trace_law : NoChange same_state due) (is_old : IsDesign old) (is : IsDesign new)
     (front : Front) (r u l : ℕ) (right : IsFront answer old new front (suc r)) (clear : IsClear answer old new (is_live new (live_in front)) r u)
-    (order : r ≤ l) (low : l < u) (within : u ≤ suc old.horizon) where
+    (none : NoneBefore front u) (order : r ≤ l) (low : l < u) (within : u ≤ suc old.horizon) where
   jumped : Jumped answer old new current stays (inputs_there new is) (is_live new (live_in front)) right.closed r l
   jumped = jump answer old new current stays (inputs_there new is) (is_live new (live_in front)) right.closed r u clear l order low right.agrees
 
@@ -126,6 +131,25 @@ module _ (answer : Evaluation → ℕ → State) (old new : Netlist)
             sym (jumped.free_states p blank_gate there off m (omega arith) until) ∙ sym (ap (λ (q : Option GateEntry). option_map_or (λ h. state_after answer old h m) q initial) found))
       ] refl
 
+  -- what was noted is still noted, and early enough
+  awaits_on : IsNoted answer old new (live_in front) (held_in front) (held_in front) (suc l) (noted front.events) (noted front.inputs) (noted front.nets) (suc l)
+  awaits_on =
+      record {
+        events = λ p t from wanted.
+            let gate = gate_at new p in
+            let parts = both (held_in front p) (pends (state_before answer new (suc l) gate) t) wanted in
+            let there = right.drivers.gates p parts.0 in
+            let same : state_before answer new (suc l) gate ≡ state_before answer new (suc r) gate = jumped.states p blank_gate there (sym (right.drivers.drivers p there) ∙ parts.0) l order (omega arith) in
+            right.awaits.events p t (omega arith) (ap (λ (b : Bool). b && pends (state_before answer new (suc r) gate) t) parts.0 ∙ ap (λ (s : State). pends s t) (sym same) ∙ parts.1);
+        inputs =
+            later_announced (wants_gate answer old new (live_in front) (held_in front)) (noted front.inputs) (suc r) (suc l) right.awaits.inputs (omega arith)
+            (λ v early. none.inputs v (omega arith));
+        nets = later_announced (wants_net answer old new (live_in front)) (noted front.nets) (suc r) (suc l) right.awaits.nets (omega arith) (λ v early. none.nets v (omega arith));
+        no_early_event = λ v early. none.events v (omega arith);
+        no_early_input = λ v early. none.inputs v (omega arith);
+        no_early_net = λ v early. none.nets v (omega arith);
+      }
+
   -- the front is right after the moments up to l
   pub front_on : IsFront answer old new front (suc l)
   front_on =
@@ -142,6 +166,7 @@ module _ (answer : Evaluation → ℕ → State) (old new : Netlist)
         other_waves = right.other_waves;
         other_traces = right.other_traces;
         blank = right.blank;
+        awaits = awaits_on;
       }
 
   -- and nothing is evaluated at them

@@ -1,44 +1,22 @@
 -- Which gates the old design has.
 use Rattle.std.proofs.Common.{◌≡◌, ℕ, zero, suc, ◌+◌, ◌∙◌, ap, sym, refl, List, [], ◌∷◌, Bool, true, false, cond, map, take, Option, Some, None, arith, add-one, not, All}
-use Rattle.std.specs.Prelude.{slice_get, slice_index_or, ◌≢◌, ◌&&◌, ◌||◌, ◌==◌, AllPairs, IsSome}
+use Rattle.std.specs.Prelude.{slice_get, slice_index_or, ◌≢◌, ◌&&◌, ◌||◌, AllPairs, IfSome, IsSome, is_some}
 use Rattle.std.specs.Cmp.Lexicographic.{pointwise}
 use Rattle.std.specs.List.{find, list_any}
 use Rattle.std.specs.Option.{option_map}
 use Rattle.std.proofs.lemmas.List.Elements.{All-head, All-tail}
-use Rattle.std.proofs.lemmas.Bool.{eqb-true}
-use Rattle.fourstate.specs.declared.delay_times.DelayTimes.{DelayTimes}
-use Rattle.fourstate.specs.declared.gate.GateKind.{GateKind}
-use Rattle.fourstate.specs.declared.gate.GateKind.TheVariants.{And, Or, Xor, Nand, Nor, Xnor, Buf, Not, Bufif1, Bufif0, Notif1, Notif0}
+use Rattle.fourstate.specs.DelayLaws.{same_delays_equal}
+use Rattle.fourstate.specs.Delays.{same_delays}
+use Rattle.fourstate.specs.GateLaws.{same_kind_equal}
+use Rattle.fourstate.specs.Gates.{same_kind}
 use Rattle.fourstate.specs.ValueLaws.{is_same}
 use Rattle.design.specs.Connections.{Connection, to_net, to_constant}
 use Rattle.design.specs.Lawful.{IsDesign}
 use Rattle.design.specs.Names.{same_name}
 use Rattle.design.specs.Netlist.{GateEntry, Netlist, gate_named, has_gate}
-use Rattle.rundiff.specs.Dirty.{is_new, same_connection, same_delays, same_gate, same_kind}
+use Rattle.rundiff.specs.Dirty.{is_new, same_connection, same_gate}
 use Rattle.rundiff.proofs.Lists.{found_any, found_in, name_itself, same_name_equal}
 use Rattle.rundiff.proofs.Still.{both, not_false}
-
-same_kind_equal : (a b : GateKind) → same_kind a b ≡ true → a ≡ b
-same_kind_equal And And e = refl
-same_kind_equal Or Or e = refl
-same_kind_equal Xor Xor e = refl
-same_kind_equal Nand Nand e = refl
-same_kind_equal Nor Nor e = refl
-same_kind_equal Xnor Xnor e = refl
-same_kind_equal Buf Buf e = refl
-same_kind_equal Not Not e = refl
-same_kind_equal Bufif1 Bufif1 e = refl
-same_kind_equal Bufif0 Bufif0 e = refl
-same_kind_equal Notif1 Notif1 e = refl
-same_kind_equal Notif0 Notif0 e = refl
-same_kind_equal _ _ e = cc
-
-same_delays_equal : (a b : DelayTimes) → same_delays a b ≡ true → a ≡ b
-same_delays_equal a b is =
-    let parts = both (a.rise == b.rise) (a.fall == b.fall) is in
-    let rise = eqb-true a.rise b.rise parts.0 in
-    let fall = eqb-true a.fall b.fall parts.1 in
-    λ i. record { rise = rise i; fall = fall i }
 
 same_connection_equal : (a b : Connection) → same_connection a b ≡ true → a ≡ b
 same_connection_equal (to_net a) (to_net b) is = ap to_net (same_name_equal a b is)
@@ -163,11 +141,16 @@ module _ (d : Netlist) (is : IsDesign d) (g : GateEntry) where
       ∙ ap (λ (x : GateEntry). Some x) (sym e)
 
 -- a key under which a gate was found by name
-pub key_there : {X : Type 0} (f : X → GateEntry) (o : Option X) (d : Netlist) (name : List ℕ) → option_map f o ≡ gate_named d name → true ≡ has_gate d name → IsSome o
+key_there : {X : Type 0} (f : X → GateEntry) (o : Option X) (d : Netlist) (name : List ℕ) → option_map f o ≡ gate_named d name → true ≡ has_gate d name → IsSome o
 key_there f None d name found there =
     let some = found_any (λ g. same_name g.name name) d.gates (sym there) in
     let no : ◌≡◌ {A = Option GateEntry} None (Some some.0) = found ∙ some.1 in absurd (cc)
 key_there f (Some x) d name found there = refl
+
+pub keys_there : {X : Type 0} (f : X → GateEntry) (at : ℕ → Option X) (d : Netlist) (name : List ℕ) (o : Option ℕ) →
+    IfSome o (λ key. option_map f (at key) ≡ gate_named d name) → is_some o ≡ has_gate d name → IfSome o (λ key. IsSome (at key))
+keys_there f at d name None found there = tt
+keys_there f at d name (Some key) found there = key_there f (at key) d name found there
 
 -- Two lists, element by element.
 

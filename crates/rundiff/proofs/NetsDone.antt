@@ -11,7 +11,8 @@ use Rattle.waveform.specs.Entries.{standing}
 use Rattle.waveform.specs.Patches.{Keeps, PatchRecord}
 use Rattle.scratch.specs.Run.{value}
 use Rattle.rundiff.specs.Dirty.{is_dirty}
-use Rattle.rundiff.specs.Fronts.{AreDrivers, IsAlike, blank_gate, blank_net, gate_at, is_live, net_at}
+use Rattle.rundiff.specs.Fronts.{AreDrivers, IsAlike}
+use Rattle.rundiff.specs.Places.{blank_gate, blank_net, gate_at, is_live, net_at}
 use Rattle.rundiff.specs.Kept.{Agrees, IsClosed, read_at}
 use Rattle.rundiff.proofs.Alike.{live_grows, off_shrinks}
 use Rattle.rundiff.proofs.ByPlace.{live_at}

@@ -24,29 +24,50 @@ or_false true = refl
 or_false false = refl
 
 module _ (answer : Evaluation → ℕ → State) (old new : Netlist) (g : GateEntry) (t : ℕ) where
-  -- of a gate of both designs the tasks decide
-  by_task : t ≤ old.horizon → is_new old g ≡ false → is_dirty answer old new g t ≡ not (same_task (task_at answer old g t) (task_at answer new g t))
-  by_task within known =
+  -- at a moment that the old run has, the tasks decide, but for a gate that is new
+  by_task : t ≤ old.horizon → is_dirty answer old new g t ≡ (is_new old g || not (same_task (task_at answer old g t) (task_at answer new g t)))
+  by_task within =
       let o = task_at answer old g t in let n = task_at answer new g t in
-      ap (λ (b : Bool). not b || (is_new old g || not (same_task o n))) (early t old.horizon within) ∙ ap (λ (b : Bool). b || not (same_task o n)) known
+      ap (λ (b : Bool). not b || (is_new old g || not (same_task o n))) (early t old.horizon within)
 
-  pub state_differs : t ≤ old.horizon → is_new old g ≡ false → (o s : State) → o ≡ state_before answer old t g → s ≡ state_before answer new t g → same_state o s ≡ false → true ≡ is_dirty answer old new g t
-  state_differs within known o s of_old of_new off =
+  -- the state in the old run is asked of a gate of both designs alone: a new one is dirty whatever the comparison says
+  unless_new : t ≤ old.horizon → (b : Bool) → (is_new old g ≡ true → b ≡ true) →
+      (is_new old g ≡ false → b ≡ not (same_task (task_at answer old g t) (task_at answer new g t))) → b ≡ is_dirty answer old new g t
+  unless_new within b when_new when_known =
+      let differs = not (same_task (task_at answer old g t) (task_at answer new g t)) in
+      elim (is_new old g) as (λ n. (n ≡ true → b ≡ true) → (n ≡ false → b ≡ differs) → b ≡ (n || differs)) [
+        | true ↦ λ yes no. yes refl
+        | false ↦ λ yes no. no refl
+      ] when_new when_known ∙ sym (by_task within)
+
+  -- the comparison of the states and of the inputs, by what is known of them
+  by_parts : (o s : State) → o ≡ state_before answer old t g → s ≡ state_before answer new t g →
+      (vs ws : List Value) → vs ≡ (task_at answer old g t).inputs → ws ≡ (task_at answer new g t).inputs →
+      not (same_state o s && same_values vs ws) ≡ not (same_task (task_at answer old g t) (task_at answer new g t))
+  by_parts o s of_old of_new vs ws read_old read_new =
+      ap (λ (q : State). not (same_state q s && same_values vs ws)) of_old
+      ∙ ap (λ (q : State). not (same_state (state_before answer old t g) q && same_values vs ws)) of_new
+      ∙ ap (λ (qs : List Value). not (same_state (state_before answer old t g) (state_before answer new t g) && same_values qs ws)) read_old
+      ∙ ap (λ (qs : List Value). not (same_state (state_before answer old t g) (state_before answer new t g) && same_values (task_at answer old g t).inputs qs)) read_new
+
+  pub state_differs : t ≤ old.horizon → (o s : State) → (is_new old g ≡ false → o ≡ state_before answer old t g) → s ≡ state_before answer new t g → same_state o s ≡ false → true ≡ is_dirty answer old new g t
+  state_differs within o s of_old of_new off =
       let vs = (task_at answer old g t).inputs in let ws = (task_at answer new g t).inputs in
-      sym (by_task within known
-      ∙ ap (λ (q : State). not (same_state q (state_before answer new t g) && same_values vs ws)) (sym of_old)
-      ∙ ap (λ (q : State). not (same_state o q && same_values vs ws)) (sym of_new)
-      ∙ ap (λ (b : Bool). not (b && same_values vs ws)) off)
+      unless_new within true (λ fresh. refl) (λ known.
+      sym (ap (λ (b : Bool). not (b && same_values vs ws)) off) ∙ by_parts o s (of_old known) of_new vs ws refl refl)
 
-  pub inputs_decide : t ≤ old.horizon → is_new old g ≡ false → (o s : State) → o ≡ state_before answer old t g → s ≡ state_before answer new t g → same_state o s ≡ true →
-      (vs ws : List Value) → vs ≡ (task_at answer old g t).inputs → ws ≡ (task_at answer new g t).inputs → not (same_values vs ws) ≡ is_dirty answer old new g t
-  inputs_decide within known o s of_old of_new on vs ws read_old read_new =
-      sym (by_task within known
-      ∙ ap (λ (q : State). not (same_state q (state_before answer new t g) && same_values (task_at answer old g t).inputs (task_at answer new g t).inputs)) (sym of_old)
-      ∙ ap (λ (q : State). not (same_state o q && same_values (task_at answer old g t).inputs (task_at answer new g t).inputs)) (sym of_new)
-      ∙ ap (λ (b : Bool). not (b && same_values (task_at answer old g t).inputs (task_at answer new g t).inputs)) on
-      ∙ ap (λ (qs : List Value). not (same_values qs (task_at answer new g t).inputs)) (sym read_old)
-      ∙ ap (λ (qs : List Value). not (same_values vs qs)) (sym read_new))
+  module _ (within : t ≤ old.horizon) (o s : State) (of_old : is_new old g ≡ false → o ≡ state_before answer old t g) (of_new : s ≡ state_before answer new t g) (on : same_state o s ≡ true)
+      (vs ws : List Value) (read_old : vs ≡ (task_at answer old g t).inputs) (read_new : ws ≡ (task_at answer new g t).inputs) where
+    -- of a gate of both designs, with the same state in both runs, the inputs decide
+    inputs_decide : is_new old g ≡ false → not (same_values vs ws) ≡ not (same_task (task_at answer old g t) (task_at answer new g t))
+    inputs_decide known = sym (ap (λ (b : Bool). not (b && same_values vs ws)) on) ∙ by_parts o s (of_old known) of_new vs ws read_old read_new
+
+    pub inputs_differ : same_values vs ws ≡ false → true ≡ is_dirty answer old new g t
+    inputs_differ off = unless_new within true (λ fresh. refl) (λ known. sym (ap not off) ∙ inputs_decide known)
+
+    -- where nothing differs, a gate is dirty if it is new
+    pub new_decides : same_values vs ws ≡ true → is_new old g ≡ is_dirty answer old new g t
+    new_decides same = unless_new within (is_new old g) (λ fresh. fresh) (λ known. known ∙ sym (ap not same) ∙ inputs_decide known)
 
   -- a gate that is not dirty is not new
   pub clean_known : is_dirty answer old new g t ≡ false → is_new old g ≡ false

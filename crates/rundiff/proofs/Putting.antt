@@ -6,7 +6,7 @@ use Rattle.std.proofs.lemmas.Bool.Decides.{nat_tests}
 use Rattle.edits.specs.Touched.{is_touched}
 use Rattle.waveform.specs.Tables.{IsChangedAt, line_at}
 use Rattle.rundiff.specs.Finishing.{AreCleared, ArePut}
-use Rattle.rundiff.specs.Fronts.{is_among}
+use Rattle.rundiff.specs.Places.{is_among}
 use Rattle.rundiff.proofs.Driven.{take_whole}
 use Rattle.rundiff.proofs.Sets.{any_more, flips}
 use Rattle.rundiff.proofs.Steps.{among_more, or_splits, same_place}

@@ -11,7 +11,7 @@ use Rattle.design.specs.declared.terminal.Terminal.TheVariants.{Net, Constant}
 use Rattle.design.specs.Keys.{AreKeys, IsConnected, IsThere, Keyed, KeyedGate, connection_in, entry_in, gate_by_key, is_at, name_of, net_by_key, netlist, reader_keys, reads_key}
 use Rattle.design.specs.Names.{same_name}
 use Rattle.design.specs.Netlist.{GateEntry, NetEntry, is_at_net, reads}
-use Rattle.rundiff.specs.Fronts.{blank_gate, blank_net, gate_at, is_among, net_at}
+use Rattle.rundiff.specs.Places.{blank_gate, blank_net, gate_at, is_among, net_at}
 use Rattle.rundiff.proofs.Lists.{same_name_equal}
 use Rattle.rundiff.proofs.Readers.{position_found}
 
@@ -88,6 +88,23 @@ found_at {X} (e ∷ es) (suc q) d apart low =
     within (x ∷ es) zero low = omega arith
     within (x ∷ es) (suc q) low = let rest = within es q (omega arith) in omega arith
 
+-- the place of a key
+position_key : {X : Type 0} (es : List (ℕ × X)) (start q : ℕ) (d : ℕ × X) → AllPairs (λ a b. a ≢ b) (keys_of es) → q < length es →
+    position_from (λ e. e.0 == (slice_index_or es q d).0) start es ≡ Some (start + q)
+position_key [] start q d apart low = absurd (omega arith)
+position_key (e ∷ es) start zero d apart low = let on = number_itself e.0 in let n : start ≡ start + 0 = omega arith in rw on (ap (λ (i : ℕ). Some i) n)
+position_key {X} (e ∷ es) start (suc q) d apart low =
+    let k = (slice_index_or es q d).0 in
+    let head : e.0 ≢ k = λ same. apart 0 (suc q) 0 (omega arith) (within es q low) (same ∙ sym (index_map (λ (p : ℕ × X). p.0) es q d 0 (omega arith))) in
+    let off = other_number e.0 k head in
+    let n : start + 1 + q ≡ start + suc q = omega arith in
+    rw off (position_key es (start + 1) q d (λ i j m order inside. apart (suc i) (suc j) m (omega arith) (omega arith)) (omega arith) ∙ ap (λ (i : ℕ). Some i) n)
+  where
+    within : (es : List (ℕ × X)) (q : ℕ) → suc q < length (e ∷ es) → suc q < length (keys_of (e ∷ es))
+    within [] q low = absurd (omega arith)
+    within (x ∷ es) zero low = omega arith
+    within (x ∷ es) (suc q) low = let rest = within es q (omega arith) in omega arith
+
 listed_at : {X : Type 0} (test : ℕ × X → Bool) (es : List (ℕ × X)) (q : ℕ) (d : ℕ × X) → q < length es → test (slice_index_or es q d) ≡ true → is_among (keys_of (filter test es)) (slice_index_or es q d).0 ≡ true
 listed_at test [] q d low on = absurd (omega arith)
 listed_at test (e ∷ es) zero d low on = rw on (or_left (e.0 == e.0) (is_among (keys_of (filter test es)) e.0) (number_itself e.0))
@@ -99,7 +116,7 @@ listed_at {X} test (e ∷ es) (suc q) d low on =
       | false ↦ rest
     ]
 
-some_of : {X : Type 0} (o : Option X) (P : X → Type 0) → IsSomeAnd o P → IsSome o
+pub some_of : {X : Type 0} (o : Option X) (P : X → Type 0) → IsSomeAnd o P → IsSome o
 some_of None P is = absurd is
 some_of (Some x) P is = refl
 
@@ -107,6 +124,7 @@ some_of (Some x) P is = refl
 pub record IsReader (d : Keyed) (key place k : ℕ) (g : KeyedGate) : Type 0 where
   pub found : gate_by_key d k ≡ Some g
   pub among : is_among (reader_keys d key) k ≡ true
+  pub position : place_of d.gates k ≡ Some place
   pub entry : gate_at (netlist d) place ≡ entry_in d.nets g
   pub there : IsSome (net_by_key d g.output)
 
@@ -122,7 +140,8 @@ reader_at d keys law blank none key place there low reading =
     let connected : IsConnected d.nets e.1 =
     subst (IsConnected d.nets) (index_map (λ (p : ℕ × KeyedGate). p.1) d.gates place none none.1 inside) (keys.connected place none.1 (records d.gates place inside)) in
     let on : reads_key e.1 key ≡ true = any_at_key d law blank e.1.inputs key connected.inputs there (sym (ap (λ (g : GateEntry). reads g (name_of d.nets key)) entry) ∙ reading) in
-    (e.0, e.1, record { found = found_at d.gates place none keys.distinct_gates inside; among = listed_at (λ p. reads_key p.1 key) d.gates place none inside on; entry = entry; there = some_of (net_by_key d e.1.output) (λ n. n.is_input ≡ false) connected.output })
+    let zero_on : 0 + place ≡ place = omega arith in
+    (e.0, e.1, record { found = found_at d.gates place none keys.distinct_gates inside; position = position_key d.gates 0 place none keys.distinct_gates inside ∙ ap (λ (i : ℕ). Some i) zero_on; among = listed_at (λ p. reads_key p.1 key) d.gates place none inside on; entry = entry; there = some_of (net_by_key d e.1.output) (λ n. n.is_input ≡ false) connected.output })
   where
     lengths : (es : List (ℕ × KeyedGate)) (p : ℕ) → p < length (map (λ (q : ℕ × GateEntry). q.1) (map (λ q. (q.0, entry_in d.nets q.1)) es)) → p < length es
     lengths [] p low = absurd (omega arith)

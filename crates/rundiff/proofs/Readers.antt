@@ -7,7 +7,8 @@ use Rattle.std.proofs.lemmas.Bool.Decides.{nat_tests}
 use Rattle.design.specs.Names.{same_name}
 use Rattle.design.specs.Netlist.{Netlist}
 use Rattle.design.specs.Places.{driver_places}
-use Rattle.rundiff.specs.Fronts.{AreDrivers, blank_gate, blank_net, gate_at, is_among, is_live, net_at}
+use Rattle.rundiff.specs.Fronts.{AreDrivers}
+use Rattle.rundiff.specs.Places.{blank_gate, blank_net, gate_at, is_among, is_live, net_at}
 use Rattle.rundiff.proofs.ByPlace.{live_at}
 use Rattle.rundiff.proofs.Lists.{name_itself, same_name_equal}
 

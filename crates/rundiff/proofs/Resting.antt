@@ -5,7 +5,7 @@ use Rattle.std.specs.List.{filter}
 use Rattle.std.proofs.lemmas.Bool.{cases_lt}
 use Rattle.std.proofs.lemmas.List.Elements.{All-map}
 use Rattle.fourstate.specs.declared.limits.TheConstants.{MAX_DELAY}
-use Rattle.gatestep.specs.Tasks.{IsTask, NothingDue, PendingBefore}
+use Rattle.gatestep.specs.Tasks.{IsTask, NothingDue, PendingBefore, PendingFrom}
 use Rattle.waveform.specs.Entries.{CanStore}
 use Rattle.std.specs.Option.{option_map_or}
 use Rattle.gatestep.specs.Step.{State, Evaluation, initial}
@@ -13,11 +13,10 @@ use Rattle.design.specs.Lawful.{IsDesign}
 use Rattle.design.specs.Netlist.{GateEntry, Netlist}
 use Rattle.waveform.specs.Patches.{Keeps, PatchRecord}
 use Rattle.scratch.specs.Run.{state_after}
-use Rattle.rundiff.specs.Dirty.{is_dirty, working_at}
-use Rattle.rundiff.specs.Fronts.{ArePlaces, blank_gate, gate_at, is_among, is_working, named_state}
+use Rattle.rundiff.specs.Fronts.{ArePlaces, named_state}
+use Rattle.rundiff.specs.Places.{blank_gate, gate_at, is_among}
 use Rattle.rundiff.specs.Kept.{Agrees, IsClosed}
-use Rattle.scratch.specs.Work.{is_stirred}
-use Rattle.rundiff.proofs.Filtering.{filter_places, passing}
+use Rattle.rundiff.proofs.Filtering.{filter_places}
 use Rattle.rundiff.proofs.Known.{known_gate}
 use Rattle.rundiff.proofs.ByPlace.{get_at}
 use Rattle.rundiff.proofs.Still.{both}
@@ -48,18 +47,6 @@ none_more {A} same drift f g t o none kept now =
     (λ u low. ⊎_elim (λ early. keeps_none same drift f g t o none kept u early) (λ late. let e : u ≡ t = omega arith in ap f e ∙ now ∙ ap g (sym e)) (cases_lt u t))
 
 module _ (answer : Evaluation → ℕ → State) (old new : Netlist) where
-  -- the gates that are evaluated are held
-  pub all_working : (t : ℕ) (slice working : List ℕ) (held : ℕ → Bool) → ArePlaces slice held → ((p : ℕ) → held p ≡ true → p < length new.gates) →
-      ((p : ℕ) → p < length new.gates → held p ≡ false → is_dirty answer old new (gate_at new p) t ≡ false) → working ≡ filter (is_working answer old new t) slice →
-      working_at answer old new t ≡ map (gate_at new) working
-  all_working t slice working held are gates clean is =
-      passing new.gates blank_gate (λ g. is_dirty answer old new g t && is_stirred answer new g t) slice are.rising (λ p among. gates p (sym (are.all p) ∙ among))
-      (λ p low on. are.all p ∙ elim (held p) as (λ b. held p ≡ b → b ≡ true) [
-        | true ↦ λ yes. refl
-        | false ↦ λ no. let never : true ≡ false = sym (both (is_dirty answer old new (gate_at new p) t) (is_stirred answer new (gate_at new p) t) on).0 ∙ clean p low no in absurd (cc)
-      ] refl)
-      ∙ ap (map (gate_at new)) (sym is)
-
   -- a gate that is not held has the state of the old run
   pub free_state : (live : List ℕ → Bool) (t : ℕ) → IsDesign old → IsClosed old new live → Agrees answer old new live (suc t) → (p : ℕ) → p < length new.gates → live (gate_at new p).output ≡ false →
       state_after answer new (gate_at new p) t ≡ named_state answer old (gate_at new p).name t
@@ -83,3 +70,7 @@ stored_each answer d pending near is t places gates states those =
     (λ k e within.
     let p = slice_index_or places k e in
     can_store answer d pending near (gate_at d p) (is.gates p blank_gate (gates p (is_one places k p (get_at places k e within)))) t))
+
+-- what can be stored at a moment is pending for later
+pub stored_later : (t : ℕ) (states : List State) → All (CanStore t) states → All (PendingFrom (suc t)) states
+stored_later t states can = λ k e within event is. let after = (can k e within event is).0 in omega arith

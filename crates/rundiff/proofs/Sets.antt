@@ -10,7 +10,8 @@ use Rattle.std.specs.declared.cmp.Ordering.TheVariants.{Less, Equal, Greater}
 use Rattle.std.proofs.lemmas.Bool.{cases_lt}
 use Rattle.std.proofs.lemmas.Bool.Decides.{nat_tests}
 use Rattle.std.proofs.lemmas.Map.Keys.{below_from_sorted}
-use Rattle.rundiff.specs.Fronts.{ArePlaces, is_among}
+use Rattle.rundiff.specs.Fronts.{ArePlaces}
+use Rattle.rundiff.specs.Places.{is_among}
 
 less_off : (p q : ℕ) → p < q → (q == p) ≡ false
 less_off p q low = grind (arith, nat_tests)
@@ -44,7 +45,7 @@ set_places s places same sorted =
     } in
     subst (λ (l : List ℕ). ArePlaces l (contains nat_cmp s)) (sym same) those
 
-or_assoc : (a b c : Bool) → ((a || b) || c) ≡ (a || (b || c))
+pub or_assoc : (a b c : Bool) → ((a || b) || c) ≡ (a || (b || c))
 or_assoc true b c = refl
 or_assoc false b c = refl
 

@@ -1,10 +1,9 @@
 -- What is evaluated beside a former run: the gates that are dirty and stirred.
-use Rattle.std.specs.Prelude.{Bool, true, false, ℕ, zero, suc, not, ◌==◌, ◌&&◌, ◌||◌, nat_le, List, [], ◌++◌, map}
+use Rattle.std.specs.Prelude.{Bool, false, ℕ, zero, suc, not, ◌&&◌, ◌||◌, nat_le, List, [], ◌++◌, map}
 use Rattle.std.specs.Cmp.Lexicographic.{pointwise}
 use Rattle.std.specs.List.{filter, list_any}
-use Rattle.fourstate.specs.declared.delay_times.DelayTimes.{DelayTimes}
-use Rattle.fourstate.specs.declared.gate.GateKind.{GateKind}
-use Rattle.fourstate.specs.declared.gate.GateKind.TheVariants.{And, Or, Xor, Nand, Nor, Xnor, Buf, Not, Bufif1, Bufif0, Notif1, Notif0}
+use Rattle.fourstate.specs.Delays.{same_delays}
+use Rattle.fourstate.specs.Gates.{same_kind}
 use Rattle.fourstate.specs.Values.{same_value}
 use Rattle.gatestep.specs.Record.{at_moment}
 use Rattle.gatestep.specs.Step.{State, Evaluation}
@@ -15,24 +14,6 @@ use Rattle.waveform.specs.Entries.{same_state}
 use Rattle.scratch.specs.Work.{is_stirred, same_values, task_at}
 
 -- Two gates are the same: they have the same name, kind, delays, output and inputs.
-
-abbrev pub same_kind : GateKind → GateKind → Bool
-same_kind And And = true
-same_kind Or Or = true
-same_kind Xor Xor = true
-same_kind Nand Nand = true
-same_kind Nor Nor = true
-same_kind Xnor Xnor = true
-same_kind Buf Buf = true
-same_kind Not Not = true
-same_kind Bufif1 Bufif1 = true
-same_kind Bufif0 Bufif0 = true
-same_kind Notif1 Notif1 = true
-same_kind Notif0 Notif0 = true
-same_kind _ _ = false
-
-abbrev pub same_delays : DelayTimes → DelayTimes → Bool
-same_delays a b = a.rise == b.rise && a.fall == b.fall
 
 abbrev pub same_connection : Connection → Connection → Bool
 same_connection (to_net a) (to_net b) = same_name a b

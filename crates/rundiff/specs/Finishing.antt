@@ -6,7 +6,7 @@ use Rattle.design.specs.Keys.{Keyed, entry_in, gate_by_key, net_by_key, netlist}
 use Rattle.edits.specs.Touched.{is_touched}
 use Rattle.waveform.specs.Tables.{line_at}
 use Rattle.scratch.specs.Run.{trace_of, wave_of}
-use Rattle.rundiff.specs.Fronts.{is_among}
+use Rattle.rundiff.specs.Places.{is_among}
 
 -- what the run of a design has under a key
 abbrev pub new_wave : (Evaluation → ℕ → State) → Keyed → ℕ → Option (List (ℕ × Value))

@@ -1,12 +1,10 @@
 -- What a front keeps of a new run beside an old one, and what is known of it.
-use Rattle.std.specs.Prelude.{◌≡◌, ◌==◌, ◌⊎◌, ◌&&◌, ◌∷◌, ◌<◌, ◌≤◌, Bool, true, false, ℕ, suc, List, [], map, length, Option, Some, None, not}
-use Rattle.std.specs.List.{All, AllPairs, filter, list_any, position_from, slice_index_or}
+use Rattle.std.specs.Prelude.{◌≡◌, ◌⊎◌, ◌&&◌, ◌∷◌, ◌<◌, ◌≤◌, Bool, true, false, ℕ, suc, List, [], map, length, Option, Some, None, not}
+use Rattle.std.specs.List.{All, AllPairs, filter}
 use Rattle.std.specs.Option.{option_map_or, ForSome}
 use Rattle.std.specs.Ordering.{nat_cmp}
 use Rattle.std.specs.BTreeMap.{BTreeMap, get}
 use Rattle.std.specs.BTreeSet.{contains}
-use Rattle.fourstate.specs.declared.gate.GateKind.TheVariants.{Buf}
-use Rattle.fourstate.specs.declared.net.NetKind.TheVariants.{Wire}
 use Rattle.fourstate.specs.declared.value.Value.{Value}
 use Rattle.fourstate.specs.declared.value.Value.TheVariants.{Unknown}
 use Rattle.fourstate.specs.Values.{same_value}
@@ -15,42 +13,22 @@ use Rattle.gatestep.specs.Tasks.{IsReady}
 use Rattle.catalog.specs.Catalog.{place_of}
 use Rattle.design.specs.Connections.{to_net}
 use Rattle.design.specs.Keys.{Keyed, KeyedGate, gate_by_key}
-use Rattle.design.specs.Names.{same_name}
-use Rattle.design.specs.Netlist.{GateEntry, NetEntry, Netlist, gate_named, reads}
+use Rattle.design.specs.Netlist.{Netlist, gate_named, reads}
 use Rattle.edits.specs.Touched.{is_touched}
 use Rattle.waveform.specs.Entries.{CanStore, same_state, standing}
 use Rattle.waveform.specs.Patches.{Keeps, PatchRecord}
 use Rattle.waveform.specs.Timelines.{end_of}
 use Rattle.scratch.specs.Run.{state_after, value}
 use Rattle.rundiff.specs.Dirty.{is_dirty, working_at}
+use Rattle.event_queue.specs.Noted.{noted}
 use Rattle.rundiff.specs.Kept.{Agrees, IsClosed, read_at}
+use Rattle.rundiff.specs.Noting.{IsNoted}
+use Rattle.rundiff.specs.Places.{gate_at, is_among, is_live, net_at}
 use Rattle.scratch.specs.Work.{is_stirred, task_at}
 use Rattle.rundiff.specs.declared.front.Front.{Front}
 use Rattle.rundiff.specs.declared.gates.Outcomes.{Outcomes}
 use Rattle.rundiff.specs.declared.looking.Outcome.{Outcome}
 use Rattle.rundiff.specs.declared.looking.Outcome.TheVariants.{Working, Resting}
-
--- Nets and gates by their places in the order of the new design.
-
-abbrev pub blank_net : NetEntry
-blank_net = record { name = []; kind = Wire; is_input = false; points = [] }
-
-abbrev pub blank_gate : GateEntry
-blank_gate = record { name = []; kind = Buf; delays = record { rise = 0; fall = 0 }; output = []; inputs = [] }
-
-abbrev pub net_at : Netlist → ℕ → NetEntry
-net_at d p = slice_index_or d.nets p blank_net
-
-abbrev pub gate_at : Netlist → ℕ → GateEntry
-gate_at d p = slice_index_or d.gates p blank_gate
-
--- the place is among these
-abbrev pub is_among : List ℕ → ℕ → Bool
-is_among places p = list_any (λ q. q == p) places
-
--- the net of this name is at one of the places that are live
-abbrev pub is_live : Netlist → (live : ℕ → Bool) → List ℕ → Bool
-is_live d live name = option_map_or live (position_from (λ n. same_name n.name name) 0 d.nets) false
 
 -- the state of the gate of this name after t, x with nothing pending where there is none
 abbrev pub named_state : (Evaluation → ℕ → State) → Netlist → List ℕ → ℕ → State
@@ -128,8 +106,13 @@ pub record IsFront (answer : Evaluation → ℕ → State) (old new : Netlist) (
   pub other_waves : (p : ℕ) → live_in front p ≡ false → get nat_cmp front.waves p ≡ None
   pub other_traces : (p : ℕ) → held_in front p ≡ false → get nat_cmp front.traces p ≡ None
   pub blank : AreBlank front
+  pub awaits : IsNoted answer old new (live_in front) (held_in front) (held_in front) n (noted front.events) (noted front.inputs) (noted front.nets) n
 
--- the front is right at the moment t, at which all nets are done, and no gate
+-- the held gates that are not looked at
+abbrev pub passed_in : Front → ℕ → Bool
+passed_in front p = held_in front p && not (is_among front.gates.items p)
+
+-- the front is right at the moment t, at which all nets are done, and no gate; which gates are to be looked at is known
 pub record AreNetsDone (answer : Evaluation → ℕ → State) (old new : Netlist) (front : Front) (t : ℕ) : Type 0 where
   pub drivers : AreDrivers new (live_in front) (held_in front)
   pub closed : IsClosed old new (is_live new (live_in front))
@@ -143,6 +126,15 @@ pub record AreNetsDone (answer : Evaluation → ℕ → State) (old new : Netlis
   pub other_waves : (p : ℕ) → live_in front p ≡ false → get nat_cmp front.waves p ≡ None
   pub other_traces : (p : ℕ) → held_in front p ≡ false → get nat_cmp front.traces p ≡ None
   pub blank : AreBlank front
+  pub chosen : ArePlaces front.gates.items (is_among front.gates.items)
+  pub chosen_held : (p : ℕ) → is_among front.gates.items p ≡ true → held_in front p ≡ true
+  pub quiet : (p : ℕ) → p < length new.gates → passed_in front p ≡ true → is_stirred answer new (gate_at new p) t ≡ false
+  pub own_traces : (p : ℕ) → passed_in front p ≡ true → IsOwn (get nat_cmp front.traces p)
+  pub awaits : IsNoted answer old new (live_in front) (passed_in front) (passed_in front) t (noted front.events) (noted front.inputs) (noted front.nets) (suc t)
+
+-- the held gates that are not evaluated
+abbrev pub resting_in : (Evaluation → ℕ → State) → (old new : Netlist) → Front → ℕ → ℕ → Bool
+resting_in answer old new front t p = held_in front p && not (is_working answer old new t p)
 
 -- the front is right at the moment t, which is done but for the states of the gates that are evaluated
 pub record IsWaiting (answer : Evaluation → ℕ → State) (old new : Netlist) (front : Front) (t : ℕ) : Type 0 where
@@ -162,6 +154,7 @@ pub record IsWaiting (answer : Evaluation → ℕ → State) (old new : Netlist)
   pub blank : AreBlank front
   pub places : ArePlaces front.working.items (λ p. held_in front p && is_working answer old new t p)
   pub tasks : working_at answer old new t ≡ map (gate_at new) front.working.items
+  pub awaits : IsNoted answer old new (live_in front) (resting_in answer old new front t) (held_in front) (suc t) (noted front.events) (noted front.inputs) (noted front.nets) (suc t)
 
 -- what comes of the gate at a place at t: it is evaluated, or it is not, and its state after t is known
 abbrev pub IsOutcome : (Evaluation → ℕ → State) → (old new : Netlist) → ℕ → ℕ → Outcome → Type 0

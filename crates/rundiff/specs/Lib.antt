@@ -2,3 +2,6 @@ pub mod Dirty
 pub mod Finishing
 pub mod Fronts
 pub mod Kept
+pub mod Noting
+pub mod Places
+pub mod Steady

@@ -11,7 +11,8 @@ ghost use Rattle.waveform.specs.Patches.{Keeps};
 ghost use Rattle.waveform.specs.Timelines.{IsAlwaysSettled, changes_below, end_of};
 ghost use Rattle.scratch.specs.Run.{IsRun};
 ghost use Rattle.rundiff.specs.Finishing.{ArePut, AreCleared, new_trace, new_wave};
-ghost use Rattle.rundiff.specs.Fronts.{AreTraces, AreWaves, EndBy, IsTrace, IsWave, is_among};
+ghost use Rattle.rundiff.specs.Fronts.{AreTraces, AreWaves, EndBy, IsTrace, IsWave};
+ghost use Rattle.rundiff.specs.Places.{is_among};
 
 use crate::old::{old_trace, old_wave};
 use design::Design;
@@ -87,9 +88,10 @@ fn put_wave<S: Stepper>(
     ensures traces { made.new.traces ≡ made.old.traces }
     ensures horizon { made.new.horizon ≡ made.old.horizon }
 {
-    let former = old_wave(old, run, new.net_at(place).name().as_str(), blank);
+    let key = new.net_key_at(place);
+    let former = old_wave(old, run, key, new.net_at(place).name().as_str(), blank);
     let wave = whole(waves.remove(&place), alloc, former, new.horizon() + 1)?;
-    made.put_wave(new.net_key_at(place).number(), wave)
+    made.put_wave(key.number(), wave)
 }
 
 /// Puts the traces of the gates at these places. Where an allocation was refused, which are put is not known.
@@ -144,9 +146,10 @@ fn put_trace<S: Stepper>(
 {
     old.lawful();
     new.lawful();
-    let former = old_trace(old, run, new.gate_at(place).name().as_str(), blank);
+    let key = new.gate_key_at(place);
+    let former = old_trace(old, run, key, new.gate_at(place).name().as_str(), blank);
     let trace = whole(traces.remove(&place), alloc, former, new.horizon() + 1)?;
-    made.put_trace(new.gate_key_at(place).number(), trace)
+    made.put_trace(key.number(), trace)
 }
 
 /// The whole function below `end`, of which a patch may be kept: with none it is the former one.

@@ -5,14 +5,13 @@ ghost use Rattle.gatestep.specs.Tasks.{IsReady};
 ghost use Rattle.design.specs.Keys.{netlist};
 ghost use Rattle.scratch.specs.Run.{IsRun, state_after};
 ghost use Rattle.rundiff.specs.Dirty.{working_at};
-ghost use Rattle.rundiff.specs.Fronts.{AreNetsDone, IsFront, IsWaiting};
+ghost use Rattle.rundiff.specs.Fronts.{IsFront, IsWaiting};
 ghost use Rattle.scratch.specs.Work.{task_at};
 
-use crate::gates::{Outcomes, look_at, put_states};
-use crate::holding::hold;
-use crate::nets::{find_differing, put_values};
-use crate::places::places_of;
+use crate::gate_notes::note_events;
+use crate::gates::put_states;
 use design::Design;
+use event_queue::EventQueue;
 use fourstate::Value;
 use gatestep::{Driver, Stepper, Task};
 use std::alloc::{AllocError, Global};
@@ -31,6 +30,15 @@ pub struct Front {
     pub waves: BTreeMap<usize, Patch<Value>>,
     /// The traces of their drivers.
     pub traces: BTreeMap<usize, Patch<Driver>>,
+    /// Held gates, at the moments of their pending events; also of events that were descheduled.
+    pub events: EventQueue,
+    /// Held gates, each at the next moment at which an input that is at no live net changes in the old run, or at an earlier
+    /// one.
+    pub inputs: EventQueue,
+    /// Live nets, each at the next moment at which it has a stimulus point or changes in the old run, or at an earlier one.
+    pub nets: EventQueue,
+    /// In `due`, the gates that are looked at.
+    pub gates: Vec<usize>,
     /// Between `due` and `settle`, the gates that are evaluated.
     pub working: Vec<usize>,
     /// The wave of a net that the old design has not.
@@ -94,102 +102,8 @@ impl Front {
             answers,
             t,
         )?;
+        note_events(alloc, &mut self.events, self.working.as_slice(), answers, t)?;
         self.done = t + 1;
         Ok(())
-    }
-
-    /// What the nets have at the moment `t`, and which nets become live.
-    fn look_at_nets<S: Stepper>(
-        &mut self,
-        alloc: Global,
-        old: &Design,
-        run: &Run,
-        new: &Design,
-        t: u64,
-    ) -> Result<(), AllocError>
-        requires run { IsRun S.answer old.now run.now }
-        requires front { IsFront S.answer (netlist old.now) (netlist new.now) self.old t }
-        requires within { t ≤ (netlist old.now).horizon }
-        ensures { OnOk result (AreNetsDone S.answer (netlist old.now) (netlist new.now) self.new t) }
-    {
-        new.lawful();
-        let live = places_of(alloc, &self.live)?;
-        put_values::<S>(
-            alloc,
-            &mut self.waves,
-            &self.traces,
-            &self.blank_wave,
-            &self.blank_trace,
-            old,
-            run,
-            new,
-            live.as_slice(),
-            t,
-        )?;
-        let found = find_differing::<S>(
-            alloc,
-            &self.waves,
-            &self.blank_wave,
-            old,
-            run,
-            new,
-            live.as_slice(),
-            t,
-        )?;
-        hold(&mut self.live, &mut self.held, new, found.as_slice())?;
-        Ok(())
-    }
-
-    /// What comes of the held gates at the moment `t`.
-    fn look_at_gates<S: Stepper>(
-        &mut self,
-        alloc: Global,
-        old: &Design,
-        run: &Run,
-        new: &Design,
-        t: u64,
-    ) -> Result<Vec<Task>, AllocError>
-        requires run { IsRun S.answer old.now run.now }
-        requires front { AreNetsDone S.answer (netlist old.now) (netlist new.now) self.old t }
-        requires within { t ≤ (netlist old.now).horizon }
-        ensures tasks { IfOk result (λ tasks. tasks.items ≡ map (λ g. task_at S.answer (netlist new.now) g t) (working_at S.answer (netlist old.now) (netlist new.now) t)) }
-        ensures ready { IfOk result (λ tasks. All (IsReady t) tasks.items) }
-        ensures front { OnOk result (IsWaiting S.answer (netlist old.now) (netlist new.now) self.new t) }
-    {
-        old.lawful();
-        new.lawful();
-        let held = places_of(alloc, &self.held)?;
-        let mut out = Outcomes::new(alloc);
-        look_at::<S>(
-            &self.waves,
-            &self.traces,
-            &self.blank_wave,
-            &self.blank_trace,
-            old,
-            run,
-            new,
-            held.as_slice(),
-            t,
-            &mut out,
-        )?;
-        let Outcomes {
-            tasks,
-            working,
-            resting,
-            states,
-        } = out;
-        put_states::<S>(
-            alloc,
-            &mut self.traces,
-            &self.blank_trace,
-            old,
-            run,
-            new,
-            resting.as_slice(),
-            states.as_slice(),
-            t,
-        )?;
-        self.working = working;
-        Ok(tasks)
     }
 }

@@ -11,7 +11,8 @@ ghost use Rattle.design.specs.Netlist.{Netlist};
 ghost use Rattle.waveform.specs.Entries.{CanStore};
 ghost use Rattle.waveform.specs.Timelines.{end_of};
 ghost use Rattle.scratch.specs.Run.{IsRun, state_after};
-ghost use Rattle.rundiff.specs.Fronts.{AreOutcomes, AreTraces, AreWaves, IsOutcome, IsOwn, IsTrace, gate_at, is_among, is_working};
+ghost use Rattle.rundiff.specs.Fronts.{AreOutcomes, AreTraces, AreWaves, IsOutcome, IsOwn, IsTrace, is_working};
+ghost use Rattle.rundiff.specs.Places.{gate_at, is_among};
 ghost use Rattle.scratch.specs.Work.{task_at};
 
 use crate::looking::{Outcome, look};
@@ -181,12 +182,13 @@ fn put_state<S: Stepper>(
 {
     old.lawful();
     new.lawful();
+    let key = new.gate_key_at(place);
     let name = new.gate_at(place).name().as_str();
     put(
         traces,
         alloc,
         place,
-        old_trace(old, run, name, blank),
+        old_trace(old, run, key, name, blank),
         t,
         state,
     )

@@ -5,7 +5,8 @@ ghost use Rattle.std.specs.BTreeSet.{contains};
 ghost use Rattle.std.specs.Ordering.{nat_cmp};
 ghost use Rattle.design.specs.Keys.{netlist};
 ghost use Rattle.design.specs.Places.{driver_places};
-ghost use Rattle.rundiff.specs.Fronts.{AreDrivers, is_among, net_at};
+ghost use Rattle.rundiff.specs.Fronts.{AreDrivers};
+ghost use Rattle.rundiff.specs.Places.{is_among, net_at};
 
 use design::Design;
 use std::alloc::AllocError;

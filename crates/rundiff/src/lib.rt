@@ -1,17 +1,25 @@
 //! What differs between two runs, and when.
 #![tactic(auto)]
 
+mod choosing;
+mod finish;
 mod finishing;
 mod front;
+mod front_gates;
+mod front_nets;
+mod gate_notes;
 mod gates;
 mod holding;
 mod looking;
 mod nets;
+mod next;
+mod noting;
 mod old;
 mod opening;
 mod patches;
 mod places;
 mod reading;
 mod same;
+mod spreading;
 
 pub use front::Front;

@@ -8,13 +8,14 @@ ghost use Rattle.design.specs.Netlist.{GateEntry, gate_named};
 ghost use Rattle.waveform.specs.Entries.{CanStore};
 ghost use Rattle.scratch.specs.Run.{IsRun, state_after, state_before};
 ghost use Rattle.rundiff.specs.Dirty.{is_dirty};
-ghost use Rattle.rundiff.specs.Fronts.{AreTraces, AreWaves, IsOutcome, gate_at};
+ghost use Rattle.rundiff.specs.Fronts.{AreTraces, AreWaves, IsOutcome};
+ghost use Rattle.rundiff.specs.Places.{gate_at};
 ghost use Rattle.scratch.specs.Work.{is_due, is_stirred, same_values, task_at};
 
 use crate::old::old_trace;
 use crate::reading::{gate_state, inputs_at, old_inputs_at};
 use crate::same::{is_new_gate, same_values};
-use design::{Design, Gate};
+use design::{Design, Gate, GateKey};
 use fourstate::Value;
 use gatestep::{Driver, Stepper, Task};
 use std::collections::BTreeMap;
@@ -29,8 +30,15 @@ pub enum Outcome {
     Resting(Driver),
 }
 
-/// The state after the moment `t` of the gate of this name in the old run.
-fn old_state<S: Stepper>(blank: &Trace, old: &Design, run: &Run, name: &str, t: u64) -> Driver
+/// The state after the moment `t` of the gate of this name in the old run; it most likely has this key.
+fn old_state<S: Stepper>(
+    blank: &Trace,
+    old: &Design,
+    run: &Run,
+    gate: GateKey,
+    name: &str,
+    t: u64,
+) -> Driver
     requires blank { blank.now ≡ (0, initial) ∷ [] }
     requires within { t ≤ (netlist old.now).horizon }
     requires run { IsRun S.answer old.now run.now }
@@ -39,14 +47,15 @@ fn old_state<S: Stepper>(blank: &Trace, old: &Design, run: &Run, name: &str, t: 
 {
     old.lawful();
     laws::value_of_changes::<Driver>();
-    old_trace(old, run, name, blank).at(t)
+    old_trace(old, run, gate, name, blank).at(t)
 }
 
-/// The state before the moment `t` of the gate of this name in the old run.
+/// The state before the moment `t` of the gate of this name in the old run; it most likely has this key.
 fn old_state_before<S: Stepper>(
     blank: &Trace,
     old: &Design,
     run: &Run,
+    gate: GateKey,
     name: &str,
     t: u64,
 ) -> Driver
@@ -58,16 +67,18 @@ fn old_state_before<S: Stepper>(
     if t == 0 {
         return Driver::start();
     }
-    old_state::<S>(blank, old, run, name, t - 1)
+    old_state::<S>(blank, old, run, gate, name, t - 1)
 }
 
-/// Whether a gate of the new design is dirty at the moment `t`; its state before it and its inputs at it are given.
+/// Whether a gate of the new design, which has this key, is dirty at the moment `t`; its state before it and its inputs at
+/// it are given.
 fn is_dirty<S: Stepper>(
     blank_wave: &Wave,
     blank_trace: &Trace,
     old: &Design,
     run: &Run,
     new: &Design,
+    key: GateKey,
     gate: &Gate,
     state: Driver,
     inputs: &[Value],
@@ -83,15 +94,15 @@ fn is_dirty<S: Stepper>(
     ensures { result ≡ is_dirty S.answer (netlist old.now) (netlist new.now) (entry_in new.now.nets gate.now) t }
 {
     old.lawful();
-    if is_new_gate(old, new, gate) {
-        return true;
-    }
-    let former = old_state_before::<S>(blank_trace, old, run, gate.name().as_str(), t);
+    let former = old_state_before::<S>(blank_trace, old, run, key, gate.name().as_str(), t);
     if !former.is_same(state) {
         return true;
     }
     let former_inputs = old_inputs_at::<S>(blank_wave, old, run, new, gate, t);
-    !same_values(former_inputs.as_slice(), inputs)
+    if !same_values(former_inputs.as_slice(), inputs) {
+        return true;
+    }
+    is_new_gate(old, new, key, gate)
 }
 
 /// Whether a gate is stirred at the moment `t`; its state before it and its inputs at it are given.
@@ -158,6 +169,7 @@ pub fn look<S: Stepper>(
 {
     old.lawful();
     new.lawful();
+    let key = new.gate_key_at(place);
     let gate = new.gate_at(place);
     let state = gate_state::<S>(traces, blank_trace, old, run, new, place, t);
     let inputs = inputs_at::<S>(waves, blank_wave, old, run, new, gate, t, t);
@@ -167,12 +179,20 @@ pub fn look<S: Stepper>(
         old,
         run,
         new,
+        key,
         gate,
         state,
         inputs.as_slice(),
         t,
     ) {
-        return Outcome::Resting(old_state::<S>(blank_trace, old, run, gate.name().as_str(), t));
+        return Outcome::Resting(old_state::<S>(
+            blank_trace,
+            old,
+            run,
+            key,
+            gate.name().as_str(),
+            t,
+        ));
     }
     if !is_stirred::<S>(
         waves,

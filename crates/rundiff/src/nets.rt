@@ -10,7 +10,8 @@ ghost use Rattle.design.specs.Keys.{netlist};
 ghost use Rattle.design.specs.Netlist.{reads};
 ghost use Rattle.waveform.specs.Timelines.{end_of};
 ghost use Rattle.scratch.specs.Run.{IsRun, value};
-ghost use Rattle.rundiff.specs.Fronts.{AreTraces, AreWaves, EndBy, IsAlike, IsOwn, IsWave, gate_at, is_among, is_live, net_at};
+ghost use Rattle.rundiff.specs.Fronts.{AreTraces, AreWaves, EndBy, IsAlike, IsOwn, IsWave};
+ghost use Rattle.rundiff.specs.Places.{gate_at, is_among, is_live, net_at};
 ghost use Rattle.rundiff.specs.Kept.{read_at};
 
 use crate::old::old_wave;
@@ -94,12 +95,13 @@ fn put_value<S: Stepper>(
     ensures others { OnOk result ((q : ℕ) → nat_eq place q ≡ false → get nat_cmp waves.new q ≡ get nat_cmp waves.old q) }
 {
     let value = driven_value::<S>(alloc, traces, blank_trace, old, run, new, place, t)?;
+    let key = new.net_key_at(place);
     let name = new.net_at(place).name().as_str();
     put(
         waves,
         alloc,
         place,
-        old_wave(old, run, name, blank_wave),
+        old_wave(old, run, key, name, blank_wave),
         t,
         value,
     )
@@ -175,7 +177,8 @@ fn differs<S: Stepper>(
     ensures { result ≡ false → read_at S.answer (netlist old.now) (to_net (net_at (netlist new.now) place).name) t ≡ value S.answer (netlist new.now) (net_at (netlist new.now) place) t }
 {
     laws::value_of_changes::<Value>();
-    let former = old_wave(old, run, new.net_at(place).name().as_str(), blank);
+    let key = new.net_key_at(place);
+    let former = old_wave(old, run, key, new.net_at(place).name().as_str(), blank);
     !value_at(waves, place, former, t).is_same(former.at(t))
 }
 

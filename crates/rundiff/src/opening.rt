@@ -1,16 +1,23 @@
 //! A front before moment 0: what edits touched is live.
 
 ghost use Rattle.std.specs.Prelude.{◌≡◌, ◌<◌, ℕ, All, IfOk, OnOk, Some, length, true};
+ghost use Rattle.std.specs.BTreeSet.{contains};
+ghost use Rattle.std.specs.Ordering.{nat_cmp};
 ghost use Rattle.catalog.specs.Catalog.{place_of};
+ghost use Rattle.event_queue.specs.Noted.{noted};
 ghost use Rattle.gatestep.specs.Step.{Evaluation, State};
 ghost use Rattle.design.specs.Keys.{KeyedGate, gate_by_key, netlist};
 ghost use Rattle.edits.specs.Touched.{IsTouched};
-ghost use Rattle.rundiff.specs.Fronts.{AreTouched, IsFront, is_among};
+ghost use Rattle.rundiff.specs.Fronts.{AreTouched, IsFront};
+ghost use Rattle.rundiff.specs.Places.{is_among};
+ghost use Rattle.scratch.specs.Places.{has};
 
 use crate::front::Front;
 use crate::holding::hold;
+use crate::places::places_of;
 use design::{Design, GateKey, NetKey};
 use edits::Touched;
+use event_queue::EventQueue;
 use fourstate::Value;
 use gatestep::Driver;
 use std::alloc::{AllocError, Global};
@@ -41,11 +48,17 @@ impl Front {
         let mut live = BTreeSet::new(alloc);
         let mut held = BTreeSet::new(alloc);
         hold(&mut live, &mut held, new, found.as_slice())?;
+        let inputs = note_all(alloc, &held)?;
+        let nets = note_all(alloc, &live)?;
         Ok(Front {
             live,
             held,
             waves: BTreeMap::new(alloc),
             traces: BTreeMap::new(alloc),
+            events: EventQueue::new(alloc),
+            inputs,
+            nets,
+            gates: Vec::new(alloc),
             working: Vec::new(alloc),
             blank_wave,
             blank_trace,
@@ -54,8 +67,24 @@ impl Front {
     }
 }
 
+/// The places of a set, each noted for moment 0.
+fn note_all(alloc: Global, places: &BTreeSet<usize>) -> Result<EventQueue, AllocError>
+    ensures { IfOk result (λ queue. (p : ℕ) → contains nat_cmp places.now p ≡ true → has p (noted queue 0) ≡ true) }
+{
+    let listed = places_of(alloc, places)?;
+    let mut queue = EventQueue::new(alloc);
+    for place in &listed {
+        queue.add(alloc, 0, *place)?;
+    }
+    Ok(queue)
+}
+
 /// The places of the nets of the new design that are touched, and of those that gates drive that are touched.
-fn touched_places(alloc: Global, new: &Design, touched: &Touched) -> Result<Vec<usize>, AllocError>
+pub fn touched_places(
+    alloc: Global,
+    new: &Design,
+    touched: &Touched,
+) -> Result<Vec<usize>, AllocError>
     ensures there { IfOk result (λ places. All (λ p. p < length (netlist new.now).nets) places.items) }
     ensures touched { IfOk result (λ places. AreTouched new.now touched.now.nets.items touched.now.gates.items places.items) }
 {

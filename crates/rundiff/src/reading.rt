@@ -6,7 +6,8 @@ ghost use Rattle.gatestep.specs.Tasks.{PendingFrom};
 ghost use Rattle.design.specs.Connections.{to_net};
 ghost use Rattle.design.specs.Keys.{IsConnected, IsThere, connection_in, netlist};
 ghost use Rattle.scratch.specs.Run.{IsRun, state_before, value};
-ghost use Rattle.rundiff.specs.Fronts.{AreTraces, AreWaves, gate_at, net_at};
+ghost use Rattle.rundiff.specs.Fronts.{AreTraces, AreWaves};
+ghost use Rattle.rundiff.specs.Places.{gate_at, net_at};
 ghost use Rattle.rundiff.specs.Kept.{read_at};
 
 use crate::old::{old_trace, old_wave};
@@ -35,8 +36,9 @@ pub fn net_value(
     ensures { (answer : Evaluation → ℕ → State) (n : ℕ) → IsRun answer old.now run.now → AreWaves answer (netlist old.now) (netlist new.now) waves.now n → m < n
         → result ≡ value answer (netlist new.now) (net_at (netlist new.now) place) m }
 {
+    let key = new.net_key_at(place);
     let name = new.net_at(place).name().as_str();
-    value_at(waves, place, old_wave(old, run, name, blank), m)
+    value_at(waves, place, old_wave(old, run, key, name, blank), m)
 }
 
 /// The value of what a gate input is connected to, at `m`.
@@ -82,7 +84,7 @@ pub fn old_connection_value(
 {
     laws::value_of_changes::<Value>();
     match terminal {
-        Terminal::Net(net) => old_wave(old, run, new.name_of(net).as_str(), blank).at(m),
+        Terminal::Net(net) => old_wave(old, run, net, new.name_of(net).as_str(), blank).at(m),
         Terminal::Constant(value) => value,
     }
 }
@@ -158,8 +160,9 @@ pub fn gate_state<S: Stepper>(
     if t == 0 {
         return Driver::start();
     }
+    let key = new.gate_key_at(place);
     let name = new.gate_at(place).name().as_str();
-    value_at(traces, place, old_trace(old, run, name, blank), t - 1)
+    value_at(traces, place, old_trace(old, run, key, name, blank), t - 1)
 }
 
 /// The value that a net has at the moment `t` from its stimulus or its drivers, where all before `t` is known.

@@ -3,27 +3,16 @@
 ghost use Rattle.std.specs.Prelude.{◌≡◌, map};
 ghost use Rattle.std.specs.Cmp.Lexicographic.{pointwise};
 ghost use Rattle.design.specs.Keys.{IsConnected, IsThere, connection_in, entry_in, netlist};
-ghost use Rattle.rundiff.specs.Dirty.{is_new, same_connection, same_delays, same_gate, same_kind};
+ghost use Rattle.rundiff.specs.Dirty.{is_new, same_connection, same_gate};
 ghost use Rattle.scratch.specs.Work.{same_values};
 
-use design::{Design, Gate, Terminal};
-use fourstate::{Delays, GateKind, Value};
+use crate::old::old_gate;
+use design::{Design, Gate, GateKey, Terminal};
+use fourstate::Value;
 
 /// Whether two lists have the same values.
 pub fn same_values(a: &[Value], b: &[Value]) -> bool
     ensures { result ≡ same_values a.now b.now }
-{
-    a == b
-}
-
-fn same_kind(a: GateKind, b: GateKind) -> bool
-    ensures { result ≡ same_kind a b }
-{
-    a == b
-}
-
-fn same_delays(a: Delays, b: Delays) -> bool
-    ensures { result ≡ same_delays a b }
 {
     a == b
 }
@@ -72,20 +61,20 @@ fn same_gate(old: &Design, former: &Gate, new: &Design, gate: &Gate) -> bool
     ensures { result ≡ same_gate (entry_in new.now.nets gate.now) (entry_in old.now.nets former.now) }
 {
     gate.name().as_str() == former.name().as_str()
-        && same_kind(gate.kind(), former.kind())
-        && same_delays(gate.delays(), former.delays())
+        && gate.kind().is_same(former.kind())
+        && gate.delays().is_same(former.delays())
         && new.name_of(gate.output()).as_str() == old.name_of(former.output()).as_str()
         && same_inputs(old, former, new, gate)
 }
 
-/// Whether the old design has no such gate as this one of the new design.
-pub fn is_new_gate(old: &Design, new: &Design, gate: &Gate) -> bool
+/// Whether the old design has no such gate as this one of the new design, which has this key.
+pub fn is_new_gate(old: &Design, new: &Design, key: GateKey, gate: &Gate) -> bool
     requires connected { IsConnected new.now.nets gate.now }
     ensures { result ≡ is_new (netlist old.now) (entry_in new.now.nets gate.now) }
 {
     old.lawful();
-    let Some(key) = old.gate(gate.name().as_str()) else {
+    let Some(former) = old_gate(old, key, gate.name().as_str()) else {
         return true;
     };
-    !same_gate(old, old.gate_of(key), new, gate)
+    !same_gate(old, old.gate_of(former), new, gate)
 }

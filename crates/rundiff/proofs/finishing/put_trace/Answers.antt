@@ -9,7 +9,8 @@ use Rattle.waveform.specs.Entries.{same_state}
 use Rattle.waveform.specs.Patches.{Keeps, PatchRecord}
 use Rattle.scratch.specs.Run.{state_after, trace_of}
 use Rattle.rundiff.specs.Finishing.{new_trace}
-use Rattle.rundiff.specs.Fronts.{blank_gate, gate_at, named_state}
+use Rattle.rundiff.specs.Fronts.{named_state}
+use Rattle.rundiff.specs.Places.{blank_gate, gate_at}
 use Rattle.rundiff.proofs.ByPlace.{at_place}
 use Rattle.rundiff.proofs.Putting.{put_one}
 use Rattle.rundiff.proofs.Steps.{mapped}
@@ -40,10 +41,10 @@ returns-clause-traces g c =
     let line : c.in_ok-trace.trace ≡ trace_of answer new x =
     c.in_ok-trace.ensures (state_after answer new x) (named_state answer old x.name) (settled answer new pending x is) (old_settled answer old pending x.name c.lawful.ensures.design.gates) stored keeps
     ∙ ap (trace_below (state_after answer new x)) end in
-    let found : gate_by_key keyed c.gate_key_at.result ≡ Some c.gate_at.result.now = c.gate_key_at.ensures.gate ∙ c.gate_at.ensures.gate in
+    let found : gate_by_key keyed c.gate_key_at-key.result ≡ Some c.gate_at.result.now = c.gate_key_at-key.ensures.gate ∙ c.gate_at.ensures.gate in
     let trace : KeyedGate → List (ℕ × State) = λ gate. trace_of answer new (entry_in keyed.nets gate) in
-    let due_there : new_trace answer keyed c.gate_key_at.result ≡ Some c.in_ok-trace.trace =
+    let due_there : new_trace answer keyed c.gate_key_at-key.result ≡ Some c.in_ok-trace.trace =
     ap (option_map trace) found ∙ ap (λ (gate : GateEntry). Some (trace_of answer new gate)) (sym at) ∙ ap (λ (w : List (ℕ × State)). Some w) (sym line) in
     mapped c.put_trace.result c.put_trace.ensures.ok
     (λ changed. put_one (new_trace answer keyed) (keys_of keyed.gates) place c.number.result c.in_ok-trace.trace c.args.made.now.traces c.put_trace.new.self.traces
-    (c.gate_key_at.ensures.key ∙ ap (λ (k : ℕ). Some k) (sym c.number.ensures)) (ap (new_trace answer keyed) c.number.ensures ∙ due_there) changed)
+    (c.gate_key_at-key.ensures.key ∙ ap (λ (k : ℕ). Some k) (sym c.number.ensures)) (ap (new_trace answer keyed) c.number.ensures ∙ due_there) changed)

@@ -11,7 +11,8 @@ use Rattle.waveform.specs.Patches.{Keeps, PatchRecord}
 use Rattle.waveform.specs.Timelines.{end_of}
 use Rattle.scratch.specs.Run.{state_after}
 use Rattle.rundiff.specs.Finishing.{new_trace}
-use Rattle.rundiff.specs.Fronts.{gate_at, named_state}
+use Rattle.rundiff.specs.Fronts.{named_state}
+use Rattle.rundiff.specs.Places.{gate_at}
 use Rattle.rundiff.proofs.ByPlace.{get_at}
 use Rattle.rundiff.proofs.Putting.{all_put, none_put, put_next}
 use Rattle.rundiff.proofs.Steps.{is_one, not_yet, others_more}

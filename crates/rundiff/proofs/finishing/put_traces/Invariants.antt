@@ -3,7 +3,7 @@ use Rattle.std.specs.BTreeMap.{get}
 use Rattle.std.specs.Ordering.{nat_cmp}
 use Rattle.catalog.specs.Catalog.{keys_of}
 use Rattle.rundiff.specs.Finishing.{ArePut, new_trace}
-use Rattle.rundiff.specs.Fronts.{is_among}
+use Rattle.rundiff.specs.Places.{is_among}
 use Rattle.rundiff.proofs.finishing.put_traces.Given as goal
 
 -- the traces so far are put, the other patches are as they were

@@ -11,7 +11,7 @@ use Rattle.waveform.specs.Entries.{standing}
 use Rattle.waveform.specs.Patches.{Keeps, PatchRecord}
 use Rattle.scratch.specs.Run.{value, wave_of}
 use Rattle.rundiff.specs.Finishing.{new_wave}
-use Rattle.rundiff.specs.Fronts.{blank_net, net_at}
+use Rattle.rundiff.specs.Places.{blank_net, net_at}
 use Rattle.rundiff.specs.Kept.{read_at}
 use Rattle.rundiff.proofs.ByPlace.{at_place, get_at}
 use Rattle.rundiff.proofs.Putting.{put_one}
@@ -39,8 +39,8 @@ returns-clause-waves g c =
     let line : c.in_ok-wave.wave ≡ wave_of answer new x =
     c.in_ok-wave.ensures (value answer new x) (read_at answer old (to_net x.name)) (λ t. refl) (λ t. refl) stored keeps
     ∙ ap (wave_changes_below (value answer new x)) end in
-    let found : net_by_key keyed c.net_key_at.result ≡ Some x = c.net_key_at.ensures.net ∙ get_at new.nets place blank_net c.requires.there in
-    let due : new_wave answer keyed c.net_key_at.result ≡ Some c.in_ok-wave.wave = ap (option_map (wave_of answer new)) found ∙ ap (λ (w : List (ℕ × Value)). Some w) (sym line) in
+    let found : net_by_key keyed c.net_key_at-key.result ≡ Some x = c.net_key_at-key.ensures.net ∙ get_at new.nets place blank_net c.requires.there in
+    let due : new_wave answer keyed c.net_key_at-key.result ≡ Some c.in_ok-wave.wave = ap (option_map (wave_of answer new)) found ∙ ap (λ (w : List (ℕ × Value)). Some w) (sym line) in
     mapped c.put_wave.result c.put_wave.ensures.ok
     (λ changed. put_one (new_wave answer keyed) (keys_of keyed.nets) place c.number.result c.in_ok-wave.wave c.args.made.now.waves c.put_wave.new.self.waves
-    (c.net_key_at.ensures.key ∙ ap (λ (k : ℕ). Some k) (sym c.number.ensures)) (ap (new_wave answer keyed) c.number.ensures ∙ due) changed)
+    (c.net_key_at-key.ensures.key ∙ ap (λ (k : ℕ). Some k) (sym c.number.ensures)) (ap (new_wave answer keyed) c.number.ensures ∙ due) changed)

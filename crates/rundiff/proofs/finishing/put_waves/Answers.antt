@@ -13,7 +13,7 @@ use Rattle.waveform.specs.Patches.{Keeps, PatchRecord}
 use Rattle.waveform.specs.Timelines.{end_of}
 use Rattle.scratch.specs.Run.{value}
 use Rattle.rundiff.specs.Finishing.{new_wave}
-use Rattle.rundiff.specs.Fronts.{net_at}
+use Rattle.rundiff.specs.Places.{net_at}
 use Rattle.rundiff.specs.Kept.{read_at}
 use Rattle.rundiff.proofs.ByPlace.{get_at}
 use Rattle.rundiff.proofs.Putting.{all_put, none_put, put_next}

@@ -3,7 +3,7 @@ use Rattle.std.specs.BTreeMap.{get}
 use Rattle.std.specs.Ordering.{nat_cmp}
 use Rattle.catalog.specs.Catalog.{keys_of}
 use Rattle.rundiff.specs.Finishing.{ArePut, new_wave}
-use Rattle.rundiff.specs.Fronts.{is_among}
+use Rattle.rundiff.specs.Places.{is_among}
 use Rattle.rundiff.proofs.finishing.put_waves.Given as goal
 
 -- the waves so far are put, the other patches are as they were

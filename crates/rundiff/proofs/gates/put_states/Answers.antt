@@ -10,7 +10,8 @@ use Rattle.waveform.specs.Entries.{CanStore, same_state}
 use Rattle.waveform.specs.Patches.{Keeps, PatchRecord}
 use Rattle.waveform.specs.Timelines.{end_of}
 use Rattle.scratch.specs.Run.{state_after}
-use Rattle.rundiff.specs.Fronts.{IsOwn, gate_at, is_among, named_state}
+use Rattle.rundiff.specs.Fronts.{IsOwn, named_state}
+use Rattle.rundiff.specs.Places.{gate_at, is_among}
 use Rattle.rundiff.proofs.ByPlace.{at_place, get_at}
 use Rattle.rundiff.proofs.Driven.{read_get, take_whole}
 use Rattle.rundiff.proofs.Steps.{is_one, not_yet, others_more, put_more}

@@ -8,7 +8,7 @@ use Rattle.catalog.specs.Catalog.{place_of}
 use Rattle.design.specs.Keys.{driver_keys, name_of, net_by_key, netlist}
 use Rattle.design.specs.Netlist.{NetEntry}
 use Rattle.design.specs.Places.{driver_places}
-use Rattle.rundiff.specs.Fronts.{blank_net, is_among, net_at}
+use Rattle.rundiff.specs.Places.{blank_net, is_among, net_at}
 use Rattle.rundiff.proofs.ByPlace.{get_at}
 use Rattle.rundiff.proofs.Driven.{is_there, read_get, take_whole}
 use Rattle.rundiff.proofs.Sets.{any_map, any_more, flips, held_more, test_is}

@@ -1,10 +1,10 @@
-use Rattle.std.proofs.Common.{◌≡◌, ◌∙◌, ap, sym, Some, false, not}
+use Rattle.std.proofs.Common.{◌≡◌, ◌∙◌, ap, sym, Some, false}
 use Rattle.design.specs.Keys.{connection_in, entry_in, netlist}
 use Rattle.design.specs.Netlist.{gate_named}
 use Rattle.rundiff.specs.Dirty.{is_new}
 use Rattle.rundiff.specs.Kept.{read_at}
 use Rattle.rundiff.proofs.Known.{known_gate}
-use Rattle.rundiff.proofs.OneGate.{inputs_decide, state_differs}
+use Rattle.rundiff.proofs.OneGate.{inputs_differ, new_decides, state_differs}
 use Rattle.rundiff.proofs.ByPlace.{map_twice}
 use Rattle.rundiff.proofs.looking.is_dirty.Goals as goal
 
@@ -13,10 +13,23 @@ returns-then-not-is_same g c =
     let answer = g.S.Stepper.answer in
     let old = netlist c.args.old.now in
     let gate = entry_in c.args.new.now.nets c.args.gate.now in
-    let known : is_new old gate ≡ false = sym c.is_new_gate.ensures ∙ c.if-is_new_gate.false in
-    let named : gate_named old c.as_str.result.now ≡ Some gate = ap (gate_named old) (c.as_str.ensures ∙ c.name.ensures) ∙ known_gate old c.lawful.ensures.design gate known in
-    state_differs answer old (netlist c.args.new.now) gate c.args.t c.requires.within known c.old_state_before-former.result c.args.state (c.old_state_before-former.ensures gate named) c.requires.state
-    (sym c.is_same.ensures ∙ c.if-not-is_same.true)
+    let named : is_new old gate ≡ false → gate_named old c.as_str.result.now ≡ Some gate =
+    λ known. ap (gate_named old) (c.as_str.ensures ∙ c.name.ensures) ∙ known_gate old c.lawful.ensures.design gate known in
+    state_differs answer old (netlist c.args.new.now) gate c.args.t c.requires.within c.old_state_before-former.result c.args.state
+    (λ known. c.old_state_before-former.ensures gate (named known)) c.requires.state (sym c.is_same.ensures ∙ c.if-not-is_same.true)
+
+pub returns-then-not-same_values : goal.returns-then-not-same_values
+returns-then-not-same_values g c =
+    let answer = g.S.Stepper.answer in
+    let old = netlist c.args.old.now in
+    let nets = c.args.new.now.nets in
+    let gate = entry_in nets c.args.gate.now in
+    let named : is_new old gate ≡ false → gate_named old c.as_str.result.now ≡ Some gate =
+    λ known. ap (gate_named old) (c.as_str.ensures ∙ c.name.ensures) ∙ known_gate old c.lawful.ensures.design gate known in
+    let read = c.as_slice.ensures.value ∙ c.old_inputs_at-former_inputs.ensures ∙ sym (map_twice (connection_in nets) (λ x. read_at answer old x c.args.t) c.args.gate.now.inputs) in
+    inputs_differ answer old (netlist c.args.new.now) gate c.args.t c.requires.within c.old_state_before-former.result c.args.state
+    (λ known. c.old_state_before-former.ensures gate (named known)) c.requires.state (sym c.is_same.ensures ∙ c.if-not-is_same.false)
+    c.as_slice.result.now c.args.inputs.now read c.requires.inputs (sym c.same_values.ensures ∙ c.if-not-same_values.true)
 
 pub returns : goal.returns
 returns g c =
@@ -24,9 +37,10 @@ returns g c =
     let old = netlist c.args.old.now in
     let nets = c.args.new.now.nets in
     let gate = entry_in nets c.args.gate.now in
-    let known : is_new old gate ≡ false = sym c.is_new_gate.ensures ∙ c.if-is_new_gate.false in
-    let named : gate_named old c.as_str.result.now ≡ Some gate = ap (gate_named old) (c.as_str.ensures ∙ c.name.ensures) ∙ known_gate old c.lawful.ensures.design gate known in
+    let named : is_new old gate ≡ false → gate_named old c.as_str.result.now ≡ Some gate =
+    λ known. ap (gate_named old) (c.as_str.ensures ∙ c.name.ensures) ∙ known_gate old c.lawful.ensures.design gate known in
     let read = c.as_slice.ensures.value ∙ c.old_inputs_at-former_inputs.ensures ∙ sym (map_twice (connection_in nets) (λ x. read_at answer old x c.args.t) c.args.gate.now.inputs) in
-    ap not c.same_values.ensures
-    ∙ inputs_decide answer old (netlist c.args.new.now) gate c.args.t c.requires.within known c.old_state_before-former.result c.args.state (c.old_state_before-former.ensures gate named) c.requires.state
-    (sym c.is_same.ensures ∙ c.if-not-is_same.false) c.as_slice.result.now c.args.inputs.now read c.requires.inputs
+    c.is_new_gate.ensures
+    ∙ new_decides answer old (netlist c.args.new.now) gate c.args.t c.requires.within c.old_state_before-former.result c.args.state
+    (λ known. c.old_state_before-former.ensures gate (named known)) c.requires.state (sym c.is_same.ensures ∙ c.if-not-is_same.false)
+    c.as_slice.result.now c.args.inputs.now read c.requires.inputs (sym c.same_values.ensures ∙ c.if-not-same_values.false)

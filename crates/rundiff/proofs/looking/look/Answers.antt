@@ -9,7 +9,8 @@ use Rattle.design.specs.Netlist.{GateEntry, gate_named}
 use Rattle.waveform.specs.Entries.{CanStore}
 use Rattle.scratch.specs.Run.{state_after, state_before}
 use Rattle.rundiff.specs.Dirty.{is_dirty}
-use Rattle.rundiff.specs.Fronts.{blank_gate, gate_at, is_working}
+use Rattle.rundiff.specs.Fronts.{is_working}
+use Rattle.rundiff.specs.Places.{blank_gate, gate_at}
 use Rattle.rundiff.specs.Kept.{read_at}
 use Rattle.scratch.specs.Work.{is_stirred, task_at}
 use Rattle.rundiff.proofs.Clean.{clean_after}

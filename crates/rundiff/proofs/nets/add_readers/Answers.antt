@@ -6,7 +6,7 @@ use Rattle.catalog.specs.Catalog.{place_of}
 use Rattle.design.specs.Keys.{KeyedGate, gate_by_key, name_of, net_by_key, netlist}
 use Rattle.fourstate.specs.declared.gate.GateKind.TheVariants.{Buf}
 use Rattle.design.specs.Netlist.{GateEntry, NetEntry, reads}
-use Rattle.rundiff.specs.Fronts.{blank_net, gate_at, is_among, is_live, net_at}
+use Rattle.rundiff.specs.Places.{blank_net, gate_at, is_among, is_live, net_at}
 use Rattle.rundiff.proofs.ByPlace.{get_at}
 use Rattle.rundiff.proofs.Driven.{is_there, read_get, take_whole}
 use Rattle.rundiff.proofs.OldLines.{some_equal}

@@ -9,7 +9,7 @@ use Rattle.waveform.specs.Entries.{standing}
 use Rattle.fourstate.specs.ValueLaws.{is_same}
 use Rattle.waveform.specs.Timelines.{value_by}
 use Rattle.scratch.specs.Run.{value}
-use Rattle.rundiff.specs.Fronts.{blank_net, net_at}
+use Rattle.rundiff.specs.Places.{blank_net, net_at}
 use Rattle.rundiff.specs.Kept.{read_at}
 use Rattle.rundiff.proofs.ByPlace.{at_place}
 use Rattle.rundiff.proofs.Still.{not_false}

@@ -1,7 +1,8 @@
 use Rattle.std.proofs.Common.{◌≡◌, ◌∙◌, ap, sym, subst, refl, ℕ, List, true, false, take}
 use Rattle.std.specs.Prelude.{slice_index_or, nat_eq}
 use Rattle.design.specs.Keys.{netlist}
-use Rattle.rundiff.specs.Fronts.{IsAlike, is_among}
+use Rattle.rundiff.specs.Fronts.{IsAlike}
+use Rattle.rundiff.specs.Places.{is_among}
 use Rattle.rundiff.proofs.Alike.{alike_grows}
 use Rattle.rundiff.proofs.ByPlace.{get_at}
 use Rattle.rundiff.proofs.Driven.{take_whole}

@@ -1,6 +1,7 @@
 use Rattle.std.proofs.Common.{◌≡◌, ◌<◌, ℕ, true, take, All, length}
 use Rattle.design.specs.Keys.{netlist}
-use Rattle.rundiff.specs.Fronts.{IsAlike, is_among}
+use Rattle.rundiff.specs.Fronts.{IsAlike}
+use Rattle.rundiff.specs.Places.{is_among}
 use Rattle.rundiff.proofs.nets.find_differing.Given as goal
 
 -- what is found for the nets so far

@@ -4,7 +4,7 @@ use Rattle.design.specs.Keys.{netlist}
 use Rattle.design.specs.Netlist.{NetEntry}
 use Rattle.waveform.specs.Changes.{wave_changes_below}
 use Rattle.scratch.specs.Run.{value}
-use Rattle.rundiff.specs.Fronts.{blank_net, net_at}
+use Rattle.rundiff.specs.Places.{blank_net, net_at}
 use Rattle.rundiff.specs.Kept.{read_at}
 use Rattle.rundiff.proofs.ByPlace.{at_place}
 use Rattle.rundiff.proofs.Steps.{mapped}

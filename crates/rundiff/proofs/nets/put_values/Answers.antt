@@ -11,7 +11,8 @@ use Rattle.waveform.specs.Entries.{standing}
 use Rattle.waveform.specs.Patches.{Keeps, PatchRecord}
 use Rattle.waveform.specs.Timelines.{end_of}
 use Rattle.scratch.specs.Run.{value}
-use Rattle.rundiff.specs.Fronts.{IsOwn, is_among, net_at}
+use Rattle.rundiff.specs.Fronts.{IsOwn}
+use Rattle.rundiff.specs.Places.{is_among, net_at}
 use Rattle.rundiff.specs.Kept.{read_at}
 use Rattle.rundiff.proofs.ByPlace.{get_at}
 use Rattle.rundiff.proofs.Driven.{take_whole}

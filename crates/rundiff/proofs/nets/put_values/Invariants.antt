@@ -4,7 +4,8 @@ use Rattle.std.specs.BTreeMap.{get}
 use Rattle.std.specs.Ordering.{nat_cmp}
 use Rattle.waveform.specs.Timelines.{end_of}
 use Rattle.design.specs.Keys.{netlist}
-use Rattle.rundiff.specs.Fronts.{IsOwn, IsWave, is_among}
+use Rattle.rundiff.specs.Fronts.{IsOwn, IsWave}
+use Rattle.rundiff.specs.Places.{is_among}
 use Rattle.rundiff.proofs.nets.put_values.Given as goal
 
 -- the nets so far are put, the others are as they were

@@ -8,7 +8,7 @@ use Rattle.rundiff.proofs.old.old_trace.Goals as goal
 pub returns-in_default : goal.returns-in_default
 returns-in_default c = λ answer run.
     let d = netlist c.args.old.now in
-    unnamed_trace answer d c.no_change.ensures c.args.blank.now c.args.name.now c.requires (rw c.in_default.is at c.gate.ensures.absent)
+    unnamed_trace answer d c.no_change.ensures c.args.blank.now c.args.name.now c.requires (rw c.in_default.is at c.old_gate.ensures.absent)
 
 pub returns-in-Some-trace : goal.returns-in-Some-trace
 returns-in-Some-trace c = λ answer run.

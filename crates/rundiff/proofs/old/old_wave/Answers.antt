@@ -1,13 +1,27 @@
 use Rattle.std.proofs.Common.{◌∙◌, ap, sym}
-use Rattle.std.specs.Option.{option_copied}
-use Rattle.design.specs.Keys.{netlist}
+use Rattle.std.specs.Option.{option_copied, option_map}
+use Rattle.design.specs.Keys.{net_by_key, netlist}
+use Rattle.scratch.specs.Run.{wave_of}
 use Rattle.rundiff.proofs.OldLines.{named_wave, unnamed_wave}
 use Rattle.rundiff.proofs.old.old_wave.Goals as goal
 
-pub returns-in-Some : goal.returns-in-Some
-returns-in-Some c = λ answer run.
-    named_wave answer (netlist c.args.old.now) c.in-Some.wave.now c.args.name.now (sym (ap option_copied c.in-Some.is) ∙ c.wave_named.ensures answer run)
+pub returns-in_default : goal.returns-in_default
+returns-in_default c = λ answer run.
+    let d = netlist c.args.old.now in
+    unnamed_wave answer d c.no_change.ensures c.args.blank.now c.args.name.now c.requires (sym (ap (option_map (wave_of answer d)) (rw c.in_default.is at c.old_net.ensures.absent)))
+
+pub returns-in-Some-wave : goal.returns-in-Some-wave
+returns-in-Some-wave c = λ answer run.
+    let old = c.args.old.now in
+    let d = netlist old in
+    named_wave answer d c.in-Some-wave.wave.now c.args.name.now
+    (sym (ap option_copied c.in-Some-wave.is) ∙ c.wave.ensures ∙ run.waves c.number.result ∙ ap (λ k. option_map (wave_of answer d) (net_by_key old k)) c.number.ensures
+    ∙ ap (option_map (wave_of answer d)) c.in-Some.ensures.net)
 
 pub returns-in-None : goal.returns-in-None
 returns-in-None c = λ answer run.
-    unnamed_wave answer (netlist c.args.old.now) c.no_change.ensures c.args.blank.now c.args.name.now c.requires (sym (ap option_copied c.in-None.is) ∙ c.wave_named.ensures answer run)
+    let old = c.args.old.now in
+    let d = netlist old in
+    unnamed_wave answer d c.no_change.ensures c.args.blank.now c.args.name.now c.requires
+    (sym (ap option_copied c.in-None.is) ∙ c.wave.ensures ∙ run.waves c.number.result ∙ ap (λ k. option_map (wave_of answer d) (net_by_key old k)) c.number.ensures
+    ∙ ap (option_map (wave_of answer d)) c.in-Some.ensures.net)

@@ -1,7 +1,7 @@
 use Rattle.std.proofs.Common.{◌≡◌, ◌<◌, ℕ, true, take, Some, All, length}
 use Rattle.catalog.specs.Catalog.{place_of}
 use Rattle.design.specs.Keys.{KeyedGate, gate_by_key, netlist}
-use Rattle.rundiff.specs.Fronts.{is_among}
+use Rattle.rundiff.specs.Places.{is_among}
 use Rattle.rundiff.proofs.opening.touched_places.Given as goal
 
 -- the nets so far

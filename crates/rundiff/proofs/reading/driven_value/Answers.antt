@@ -6,7 +6,7 @@ use Rattle.gatestep.specs.Step.{due}
 use Rattle.catalog.specs.Catalog.{place_of}
 use Rattle.design.specs.Keys.{netlist}
 use Rattle.scratch.specs.Run.{state_before}
-use Rattle.rundiff.specs.Fronts.{gate_at}
+use Rattle.rundiff.specs.Places.{gate_at}
 use Rattle.rundiff.proofs.Driven.{driven_is, take_whole}
 use Rattle.rundiff.proofs.reading.driven_value.Goals as goal
 

@@ -3,7 +3,8 @@ use Rattle.design.specs.Keys.{entry_in, netlist}
 use Rattle.design.specs.Netlist.{GateEntry}
 use Rattle.waveform.specs.Changes.{trace_below}
 use Rattle.scratch.specs.Run.{state_after, state_before}
-use Rattle.rundiff.specs.Fronts.{blank_gate, gate_at, named_state}
+use Rattle.rundiff.specs.Fronts.{named_state}
+use Rattle.rundiff.specs.Places.{blank_gate, gate_at}
 use Rattle.rundiff.proofs.ByPlace.{at_place}
 use Rattle.rundiff.proofs.Tasks.{next_one, old_settled, settled, stored_ready}
 use Rattle.rundiff.proofs.reading.gate_state.Goals as goal

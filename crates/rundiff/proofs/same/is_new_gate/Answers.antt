@@ -1,8 +1,8 @@
 use Rattle.std.proofs.Common.{◌≡◌, ◌∙◌, ap, sym, Some, not}
 use Rattle.std.specs.Option.{option_map}
-use Rattle.design.specs.Keys.{entry_in, gate_by_key, netlist}
+use Rattle.design.specs.Keys.{entry_in, netlist}
 use Rattle.design.specs.Netlist.{gate_named}
-use Rattle.rundiff.proofs.Known.{key_there, new_by_name, unnamed_new}
+use Rattle.rundiff.proofs.Known.{new_by_name, unnamed_new}
 use Rattle.rundiff.proofs.same.is_new_gate.Goals as goal
 
 pub returns-in_default : goal.returns-in_default
@@ -10,12 +10,7 @@ returns-in_default c =
     let d = netlist c.args.old.now in
     let gate = entry_in c.args.new.now.nets c.args.gate.now in
     let named : c.as_str.result.now ≡ gate.name = c.as_str.ensures ∙ c.name.ensures in
-    sym (unnamed_new d c.lawful.ensures.design gate (ap (gate_named d) (sym named) ∙ rw c.in_default.is at c.gate.ensures.absent))
-
-pub gate_of-requires : goal.gate_of-requires
-gate_of-requires c =
-    let old = c.args.old.now in
-    key_there (entry_in old.nets) (gate_by_key old c.in-Some.key) (netlist old) c.as_str.result.now c.in-Some.ensures.gate c.in-Some.ensures.there
+    sym (unnamed_new d c.lawful.ensures.design gate (ap (gate_named d) (sym named) ∙ rw c.in_default.is at c.old_gate.ensures.absent))
 
 pub returns : goal.returns
 returns c =

@@ -1,50 +1,57 @@
-use Rattle.std.proofs.Common.{◌≡◌, ◌∙◌, ◌≤◌, ap, sym, subst, refl, suc, ℕ, List, All, Bool, true, false, not, map, Option, arith}
+use Rattle.std.proofs.Common.{◌≡◌, ◌∙◌, ◌≤◌, ap, sym, subst, refl, suc, ℕ, List, All, Bool, true, false, not, map, length, Option, arith}
 use Rattle.std.specs.Prelude.{◌&&◌}
 use Rattle.std.specs.BTreeMap.{get}
 use Rattle.std.specs.BTreeSet.{contains}
+use Rattle.std.specs.List.{filter}
 use Rattle.std.specs.Option.{ForSome}
 use Rattle.std.specs.Ordering.{nat_cmp}
+use Rattle.std.proofs.lemmas.List.{length-map}
+use Rattle.event_queue.specs.Noted.{noted}
 use Rattle.gatestep.specs.Step.{State, due}
+use Rattle.gatestep.specs.Tasks.{PendingFrom}
 use Rattle.design.specs.Keys.{netlist}
 use Rattle.waveform.specs.Entries.{CanStore, same_state}
 use Rattle.waveform.specs.Patches.{Keeps, PatchRecord}
 use Rattle.waveform.specs.Timelines.{end_of}
 use Rattle.scratch.specs.Run.{state_after}
 use Rattle.rundiff.specs.Dirty.{working_at}
-use Rattle.rundiff.specs.Fronts.{ArePlaces, gate_at, is_among, is_live, is_working, named_state}
+use Rattle.rundiff.specs.Fronts.{ArePlaces, IsOwn, is_working, named_state}
+use Rattle.rundiff.specs.Places.{gate_at, is_among, is_live}
 use Rattle.scratch.specs.Work.{is_stirred, task_at}
+use Rattle.rundiff.proofs.Awaited.{looked_noted}
 use Rattle.rundiff.proofs.ByPlace.{map_twice}
+use Rattle.rundiff.proofs.Chosen.{calm, calm_state, chosen_all, chosen_working, not_chosen, still_trace}
 use Rattle.rundiff.proofs.Filtering.{filter_places}
-use Rattle.rundiff.proofs.Resting.{all_working, free_state, none_more, not_resting, rests_on, resting_held, resting_off}
+use Rattle.rundiff.proofs.Resting.{free_state, none_more, not_resting, resting_held, resting_off, rests_on, stored_later}
 use Rattle.rundiff.proofs.Still.{both}
 use Rattle.rundiff.proofs.front.Front.look_at_gates.Goals as goal
 
 pub look_at-requires-clause-there : goal.look_at-requires-clause-there
 look_at-requires-clause-there g c = λ p among.
-    c.requires.front.drivers.gates p (sym (c.in_ok-held.ensures.all p) ∙ ap (λ (l : List ℕ). is_among l p) (sym c.as_slice.ensures.value) ∙ among)
+    c.requires.front.drivers.gates p (c.requires.front.chosen_held p (ap (λ (l : List ℕ). is_among l p) (sym c.as_slice.ensures.value) ∙ among))
 
 pub look_at-requires-clause-empty : goal.look_at-requires-clause-empty
 look_at-requires-clause-empty g c = c.new-out.ensures g.S.Stepper.answer (netlist c.args.old.now) (netlist c.args.new.now) c.args.t
 
 pub put_states-requires-clause-there : goal.put_states-requires-clause-there
 put_states-requires-clause-there g c = λ p among.
-    let t = c.args.t in let test = is_working g.S.Stepper.answer (netlist c.args.old.now) (netlist c.args.new.now) t in
-    let held = contains nat_cmp c.args.self.now.held in
-    let are = resting_held c.as_slice.result.now c.in_ok-held.held.items c.as_slice-2.result.now c.look_at.new.out.resting.items held test c.as_slice.ensures.value c.as_slice-2.ensures.value c.in_ok-held.ensures c.in_ok-look_at.ensures.resting in
-    c.requires.front.drivers.gates p (both (held p) (not (test p)) (sym (are.all p) ∙ among)).0
+    let test = is_working g.S.Stepper.answer (netlist c.args.old.now) (netlist c.args.new.now) c.args.t in
+    let chosen = c.args.self.now.gates.items in
+    let are = resting_held c.as_slice.result.now chosen c.as_slice-2.result.now c.look_at.new.out.resting.items (is_among chosen) test c.as_slice.ensures.value c.as_slice-2.ensures.value c.requires.front.chosen c.in_ok-look_at.ensures.resting in
+    c.requires.front.drivers.gates p (c.requires.front.chosen_held p (both (is_among chosen p) (not (test p)) (sym (are.all p) ∙ among)).0)
 
 pub put_states-requires-clause-rising : goal.put_states-requires-clause-rising
 put_states-requires-clause-rising g c =
-    let t = c.args.t in let test = is_working g.S.Stepper.answer (netlist c.args.old.now) (netlist c.args.new.now) t in
-    let held = contains nat_cmp c.args.self.now.held in
-    (resting_held c.as_slice.result.now c.in_ok-held.held.items c.as_slice-2.result.now c.look_at.new.out.resting.items held test c.as_slice.ensures.value c.as_slice-2.ensures.value c.in_ok-held.ensures c.in_ok-look_at.ensures.resting).rising
+    let test = is_working g.S.Stepper.answer (netlist c.args.old.now) (netlist c.args.new.now) c.args.t in
+    let chosen = c.args.self.now.gates.items in
+    (resting_held c.as_slice.result.now chosen c.as_slice-2.result.now c.look_at.new.out.resting.items (is_among chosen) test c.as_slice.ensures.value c.as_slice-2.ensures.value c.requires.front.chosen c.in_ok-look_at.ensures.resting).rising
 
 pub put_states-requires-clause-traces : goal.put_states-requires-clause-traces
 put_states-requires-clause-traces g c = λ p among.
-    let t = c.args.t in let test = is_working g.S.Stepper.answer (netlist c.args.old.now) (netlist c.args.new.now) t in
-    let held = contains nat_cmp c.args.self.now.held in
-    let are = resting_held c.as_slice.result.now c.in_ok-held.held.items c.as_slice-2.result.now c.look_at.new.out.resting.items held test c.as_slice.ensures.value c.as_slice-2.ensures.value c.in_ok-held.ensures c.in_ok-look_at.ensures.resting in
-    c.requires.front.traces p (c.requires.front.drivers.gates p (both (held p) (not (test p)) (sym (are.all p) ∙ among)).0)
+    let test = is_working g.S.Stepper.answer (netlist c.args.old.now) (netlist c.args.new.now) c.args.t in
+    let chosen = c.args.self.now.gates.items in
+    let are = resting_held c.as_slice.result.now chosen c.as_slice-2.result.now c.look_at.new.out.resting.items (is_among chosen) test c.as_slice.ensures.value c.as_slice-2.ensures.value c.requires.front.chosen c.in_ok-look_at.ensures.resting in
+    c.requires.front.traces p (c.requires.front.drivers.gates p (c.requires.front.chosen_held p (both (is_among chosen p) (not (test p)) (sym (are.all p) ∙ among)).0))
 
 pub put_states-requires-clause-ends : goal.put_states-requires-clause-ends
 put_states-requires-clause-ends g c = λ p among. c.requires.front.trace_ends p
@@ -57,16 +64,32 @@ put_states-requires-clause-states g c =
 pub put_states-requires-clause-can : goal.put_states-requires-clause-can
 put_states-requires-clause-can g c = subst (All (CanStore c.args.t)) (sym c.as_slice-3.ensures.value) c.in_ok-look_at.ensures.can
 
+pub note_events-requires-clause-many : goal.note_events-requires-clause-many
+note_events-requires-clause-many g c =
+    let new = netlist c.args.new.now in
+    let gates = c.look_at.new.out.resting.items in
+    ap (λ (l : List State). length l) (c.as_slice-5.ensures.value ∙ c.in_ok-look_at.ensures.states)
+    ∙ length-map gates (λ p. state_after g.S.Stepper.answer new (gate_at new p) c.args.t) ∙ ap (λ (l : List ℕ). length l) (sym c.as_slice-4.ensures.value)
+
+pub note_events-requires-clause-later : goal.note_events-requires-clause-later
+note_events-requires-clause-later g c = subst (All (PendingFrom (suc c.args.t))) (sym c.as_slice-5.ensures.value) (stored_later c.args.t c.look_at.new.out.states.items c.in_ok-look_at.ensures.can)
+
+pub note_all_inputs-requires-clause-there : goal.note_all_inputs-requires-clause-there
+note_all_inputs-requires-clause-there g c = λ p among.
+    c.requires.front.drivers.gates p (c.requires.front.chosen_held p (ap (λ (l : List ℕ). is_among l p) (sym c.as_slice-6.ensures.value) ∙ among))
+
 pub returns-clause-tasks : goal.returns-clause-tasks
 returns-clause-tasks g c =
     let answer = g.S.Stepper.answer in
     let old = netlist c.args.old.now in let new = netlist c.args.new.now in let t = c.args.t in
+    let before = c.requires.front in
     let out = c.in_ok-look_at.ensures in
     let held = contains nat_cmp c.args.self.now.held in
-    let are : ArePlaces c.as_slice.result.now held = subst (λ (l : List ℕ). ArePlaces l held) (sym c.as_slice.ensures.value) c.in_ok-held.ensures in
-    let those : working_at answer old new t ≡ map (gate_at new) c.look_at.new.out.working.items =
-    all_working answer old new t c.as_slice.result.now c.look_at.new.out.working.items held are c.requires.front.drivers.gates c.requires.front.clean out.working in
-    out.tasks ∙ sym (map_twice (gate_at new) (λ h. task_at answer new h t) c.look_at.new.out.working.items) ∙ ap (map (λ h. task_at answer new h t)) (sym those)
+    let chosen = c.args.self.now.gates.items in
+    let working = c.look_at.new.out.working.items in
+    let those : working_at answer old new t ≡ map (gate_at new) working =
+    chosen_all answer old new t held chosen before.drivers.gates before.chosen_held before.clean before.quiet working before.chosen.rising (out.working ∙ ap (filter (is_working answer old new t)) c.as_slice.ensures.value) in
+    out.tasks ∙ sym (map_twice (gate_at new) (λ h. task_at answer new h t) working) ∙ ap (map (λ h. task_at answer new h t)) (sym those)
 
 pub returns-clause-ready : goal.returns-clause-ready
 returns-clause-ready g c = c.in_ok-look_at.ensures.ready
@@ -74,19 +97,24 @@ returns-clause-ready g c = c.in_ok-look_at.ensures.ready
 pub returns-clause-front : goal.returns-clause-front
 returns-clause-front g c =
     let answer = g.S.Stepper.answer in
+    let laws = g.met.S.Stepper in
     let old = netlist c.args.old.now in let new = netlist c.args.new.now in let t = c.args.t in
     let test = is_working answer old new t in
     let held = contains nat_cmp c.args.self.now.held in
+    let chosen = c.args.self.now.gates.items in
     let before = c.requires.front in
     let out = c.in_ok-look_at.ensures in
     let done = c.in_ok-put_states.ensures in
-    let slice = c.as_slice.result.now in
-    let are : ArePlaces slice held = subst (λ (l : List ℕ). ArePlaces l held) (sym c.as_slice.ensures.value) c.in_ok-held.ensures in
-    let resting = resting_held slice c.in_ok-held.held.items c.as_slice-2.result.now c.look_at.new.out.resting.items held test c.as_slice.ensures.value c.as_slice-2.ensures.value c.in_ok-held.ensures out.resting in
+    let working = c.look_at.new.out.working.items in
+    let evaluated : working ≡ filter test chosen = out.working ∙ ap (filter test) c.as_slice.ensures.value in
+    let resting = resting_held c.as_slice.result.now chosen c.as_slice-2.result.now c.look_at.new.out.resting.items (is_among chosen) test c.as_slice.ensures.value c.as_slice-2.ensures.value before.chosen out.resting in
     let was : ℕ → Option (PatchRecord State) = get nat_cmp c.args.self.now.traces in
     let now : ℕ → Option (PatchRecord State) = get nat_cmp c.put_states.new.traces in
     let Keep : ℕ → Option (PatchRecord State) → ℕ → Type 0 = λ p o n. Keeps same_state due (named_state answer old (gate_at new p).name) (state_after answer new (gate_at new p)) o n in
-    let End : ℕ → Option (PatchRecord State) → Type 0 = λ n o. ForSome o (λ patch. end_of patch.line ≤ n) in
+    let untouched : (p : ℕ) → held p ≡ false → now p ≡ was p = λ p free. done.others p (resting.all p ∙ resting_off (is_among chosen p) (test p) (not_chosen held chosen before.chosen_held p free)) in
+    let passed : (p : ℕ) → is_among chosen p ≡ false → now p ≡ was p = λ p off. done.others p (resting.all p ∙ resting_off (is_among chosen p) (test p) off) in
+    let quiet : (p : ℕ) → held p ≡ true → is_among chosen p ≡ false → is_stirred answer new (gate_at new p) t ≡ false =
+    calm answer old new t held chosen before.drivers.gates before.chosen_held before.clean before.quiet in
     record {
       drivers = before.drivers;
       closed = before.closed;
@@ -94,31 +122,56 @@ returns-clause-front g c =
       waves = before.waves;
       rested = λ p low off.
           elim (held p) as (λ b. held p ≡ b → Keep p (now p) (suc t)) [
-            | true ↦ λ on. done.put p (resting.all p ∙ rests_on (held p) (test p) on off)
+            | true ↦ λ on.
+                elim (is_among chosen p) as (λ b. is_among chosen p ≡ b → Keep p (now p) (suc t)) [
+                  | true ↦ λ among. done.put p (resting.all p ∙ rests_on (is_among chosen p) (test p) among off)
+                  | false ↦ λ past.
+                      subst (λ (o : Option (PatchRecord State)). Keep p o (suc t)) (sym (passed p past))
+                      (still_trace answer old new laws.answer_stays c.no_change_by_drift.ensures p t (was p) (quiet p on past) (before.own_traces p (rests_on (held p) (is_among chosen p) on past)) (before.traces p low))
+                ] refl
             | false ↦ λ free.
-                let same = done.others p (resting.all p ∙ resting_off (held p) (test p) free) in
-                subst (λ (o : Option (PatchRecord State)). Keep p o (suc t)) (sym same)
+                subst (λ (o : Option (PatchRecord State)). Keep p o (suc t)) (sym (untouched p free))
                 (none_more same_state due (state_after answer new (gate_at new p)) (named_state answer old (gate_at new p).name) t (was p) (before.other_traces p free) (before.traces p low)
                 (free_state answer old new (is_live new (contains nat_cmp c.args.self.now.live)) t c.lawful.ensures.design before.closed before.agrees p low (sym (before.drivers.drivers p low) ∙ free)))
           ] refl;
-      working = λ p low on. subst (λ (o : Option (PatchRecord State)). Keep p o t) (sym (done.others p (resting.all p ∙ not_resting (held p) (test p) on))) (before.traces p low);
+      working = λ p low on. subst (λ (o : Option (PatchRecord State)). Keep p o t) (sym (done.others p (resting.all p ∙ not_resting (is_among chosen p) (test p) on))) (before.traces p low);
       clean = λ p low free. ap (λ (b : Bool). b && is_stirred answer new (gate_at new p) t) (before.clean p low free);
       wave_ends = before.wave_ends;
       trace_ends = λ p.
           elim (is_among c.as_slice-2.result.now p) as (λ b. is_among c.as_slice-2.result.now p ≡ b → ForSome (now p) (λ patch. (end_of patch.line ≤ suc t) × (test p ≡ true → end_of patch.line ≤ t))) [
             | true ↦ λ among patch is. (
               done.ends p among patch is,
-              λ on. let no : true ≡ false = sym among ∙ resting.all p ∙ not_resting (held p) (test p) on in absurd (cc),
+              λ on. let no : true ≡ false = sym among ∙ resting.all p ∙ not_resting (is_among chosen p) (test p) on in absurd (cc),
             )
             | false ↦ λ off.
                 subst (λ (o : Option (PatchRecord State)). ForSome o (λ patch. (end_of patch.line ≤ suc t) × (test p ≡ true → end_of patch.line ≤ t))) (sym (done.others p off))
                 (λ patch is. let low = before.trace_ends p patch is in let high : end_of patch.line ≤ suc t = omega arith in (high, λ on. low))
           ] refl;
-      own_traces = λ p on off. done.own p (resting.all p ∙ rests_on (held p) (test p) on off);
+      own_traces = λ p on off.
+          elim (is_among chosen p) as (λ b. is_among chosen p ≡ b → IsOwn (now p)) [
+            | true ↦ λ among. done.own p (resting.all p ∙ rests_on (is_among chosen p) (test p) among off)
+            | false ↦ λ past. subst (λ (o : Option (PatchRecord State)). IsOwn o) (sym (passed p past)) (before.own_traces p (rests_on (held p) (is_among chosen p) on past))
+          ] refl;
       kept_waves = before.kept_waves;
       other_waves = before.other_waves;
-      other_traces = λ p free. done.others p (resting.all p ∙ resting_off (held p) (test p) free) ∙ before.other_traces p free;
+      other_traces = λ p free. untouched p free ∙ before.other_traces p free;
       blank = record { wave = before.blank.wave; trace = before.blank.trace };
-      places = subst (λ (l : List ℕ). ArePlaces l (λ p. held p && test p)) (sym out.working) (filter_places slice held test are);
-      tasks = all_working answer old new t slice c.look_at.new.out.working.items held are before.drivers.gates before.clean out.working;
+      places =
+          let those = filter_places chosen (is_among chosen) test before.chosen in
+          let same = chosen_working answer old new t held chosen before.drivers.gates before.chosen_held before.clean before.quiet in
+          subst (λ (l : List ℕ). ArePlaces l (λ p. held p && test p)) (sym evaluated) (record { rising = those.rising; all = λ p. those.all p ∙ same p });
+      tasks = chosen_all answer old new t held chosen before.drivers.gates before.chosen_held before.clean before.quiet working before.chosen.rising evaluated;
+      awaits =
+          let f : ℕ → State = λ p. state_after answer new (gate_at new p) t in
+          let listed = c.look_at.new.out.resting.items in
+          let notes = c.in_ok-note_events.ensures in
+          let more = c.in_ok-note_all_inputs.ensures in
+          looked_noted answer old new t (contains nat_cmp c.args.self.now.live) held (noted c.args.self.now.events) (noted c.args.self.now.inputs) (noted c.args.self.now.nets) (noted c.note_events.new.queue)
+          notes.kept notes.early chosen listed (noted c.note_all_inputs.new.queue)
+          (λ p. ap (λ (l : List ℕ). is_among l p) (sym c.as_slice-2.ensures.value) ∙ resting.all p)
+          (calm_state answer old new t held chosen before.drivers.gates before.chosen_held before.clean before.quiet laws.answer_stays)
+          before.awaits
+          (λ p u on. notes.events f (c.as_slice-5.ensures.value ∙ out.states ∙ ap (map f) (sym c.as_slice-4.ensures.value)) p u (ap (λ (l : List ℕ). is_among l p) c.as_slice-4.ensures.value ∙ on))
+          more.kept more.early
+          (λ p u among after h. more.next p u (ap (λ (l : List ℕ). is_among l p) c.as_slice-6.ensures.value ∙ among) after h);
     }

@@ -1,5 +1,5 @@
-use Rattle.std.proofs.Common.{◌≡◌, ◌∙◌, ◌<◌, ap, sym, subst, refl, suc, ℕ, List, All, true, false, length, Option, None, ◌⊎◌, inl, inr}
-use Rattle.std.specs.Prelude.{◌||◌, AllPairs}
+use Rattle.std.proofs.Common.{◌≡◌, ◌∙◌, ◌<◌, ap, sym, subst, refl, suc, ℕ, List, true, false, length, not, Option, None, ◌⊎◌, inr}
+use Rattle.std.specs.Prelude.{◌&&◌, AllPairs}
 use Rattle.std.specs.BTreeMap.{get}
 use Rattle.std.specs.BTreeSet.{contains}
 use Rattle.std.specs.Ordering.{nat_cmp}
@@ -7,76 +7,140 @@ use Rattle.fourstate.specs.declared.value.Value.{Value}
 use Rattle.fourstate.specs.Values.{same_value}
 use Rattle.design.specs.Connections.{to_net}
 use Rattle.design.specs.Keys.{netlist}
+use Rattle.event_queue.specs.Noted.{noted}
 use Rattle.waveform.specs.Entries.{standing}
 use Rattle.waveform.specs.Patches.{Keeps, PatchRecord}
 use Rattle.scratch.specs.Run.{value}
-use Rattle.rundiff.specs.Fronts.{IsAlike, IsOwn, is_among, net_at}
+use Rattle.rundiff.specs.Fronts.{IsAlike, IsOwn}
+use Rattle.rundiff.specs.Places.{is_among, net_at}
 use Rattle.rundiff.specs.Kept.{read_at}
+use Rattle.rundiff.specs.Steady.{IsSteady}
 use Rattle.rundiff.proofs.Alike.{alike_grows}
+use Rattle.rundiff.proofs.Awaiting.{noted_now}
+use Rattle.rundiff.proofs.LookedAt.{IsPassed, alike_all, calm_all, own_all, passed_by, wave_all}
 use Rattle.rundiff.proofs.NetsDone.{agrees_now, clean_now, closed_now, free_before, free_wave}
+use Rattle.rundiff.proofs.Quiet.{AreLookedAt, not_so}
 use Rattle.rundiff.proofs.Sets.{or_first, or_none, or_second}
 use Rattle.rundiff.proofs.front.Front.look_at_nets.Goals as goal
 
 pub put_values-requires-clause-there : goal.put_values-requires-clause-there
 put_values-requires-clause-there g c = λ p among.
-    c.requires.front.drivers.nets p (sym (c.in_ok-live.ensures.all p) ∙ ap (λ (l : List ℕ). is_among l p) (sym c.as_slice.ensures.value) ∙ among)
+    c.requires.front.drivers.nets p (c.in_ok-choose_nets.ensures.live p (ap (λ (l : List ℕ). is_among l p) (sym c.as_slice.ensures.value) ∙ among))
 
 pub put_values-requires-clause-rising : goal.put_values-requires-clause-rising
-put_values-requires-clause-rising g c = subst (AllPairs (λ p q. p < q)) (sym c.as_slice.ensures.value) c.in_ok-live.ensures.rising
+put_values-requires-clause-rising g c = subst (AllPairs (λ p q. p < q)) (sym c.as_slice.ensures.value) c.in_ok-choose_nets.ensures.rising
+
+pub add_changed-requires-clause-there : goal.add_changed-requires-clause-there
+add_changed-requires-clause-there g c = λ p among.
+    c.requires.front.drivers.nets p (c.in_ok-choose_nets.ensures.live p (ap (λ (l : List ℕ). is_among l p) (sym c.as_slice-2.ensures.value) ∙ among))
+
+pub add_changed-requires-clause-waves : goal.add_changed-requires-clause-waves
+add_changed-requires-clause-waves g c = λ p among.
+    c.in_ok-put_values.ensures.put p (ap (λ (l : List ℕ). is_among l p) (c.as_slice.ensures.value ∙ sym c.as_slice-2.ensures.value) ∙ among)
 
 pub find_differing-requires-clause-there : goal.find_differing-requires-clause-there
 find_differing-requires-clause-there g c = λ p among.
-    c.requires.front.drivers.nets p (sym (c.in_ok-live.ensures.all p) ∙ ap (λ (l : List ℕ). is_among l p) (sym c.as_slice-2.ensures.value) ∙ among)
+    c.requires.front.drivers.nets p (c.in_ok-choose_nets.ensures.live p (ap (λ (l : List ℕ). is_among l p) (sym c.as_slice-3.ensures.value) ∙ among))
 
 pub find_differing-requires-clause-waves : goal.find_differing-requires-clause-waves
 find_differing-requires-clause-waves g c = λ p among.
-    c.in_ok-put_values.ensures.put p (ap (λ (l : List ℕ). is_among l p) (c.as_slice.ensures.value ∙ sym c.as_slice-2.ensures.value) ∙ among)
+    c.in_ok-put_values.ensures.put p (ap (λ (l : List ℕ). is_among l p) (c.as_slice.ensures.value ∙ sym c.as_slice-3.ensures.value) ∙ among)
 
-pub hold-requires-clause-there : goal.hold-requires-clause-there
-hold-requires-clause-there g c = subst (All (λ p. p < length (netlist c.args.new.now).nets)) (sym c.as_slice-3.ensures.value) c.in_ok-found.ensures.there
+pub hold_found-requires-clause-there : goal.hold_found-requires-clause-there
+hold_found-requires-clause-there g c = c.in_ok-found.ensures.there
+
+pub note_nets-requires-clause-there : goal.note_nets-requires-clause-there
+note_nets-requires-clause-there g c = λ p among.
+    let added = ap (λ (l : List ℕ). is_among l p) (sym c.as_slice-4.ensures.value) ∙ among in
+    let nets = c.choose_nets.new.nets.items in
+    let holds = c.in_ok-hold_found.ensures in
+    elim (is_among nets p) as (λ b. is_among nets p ≡ b → p < length (netlist c.args.new.now).nets) [
+      | true ↦ λ on. c.requires.front.drivers.nets p (c.in_ok-choose_nets.ensures.live p on)
+      | false ↦ λ off. holds.drivers.nets p (holds.nets_live p off added)
+    ] refl
 
 pub returns : goal.returns
 returns g c =
     let answer = g.S.Stepper.answer in
+    let current = g.met.S.Stepper.answer_current in
+    let pending = g.met.S.Stepper.answer_pending in
     let old = netlist c.args.old.now in let new = netlist c.args.new.now in let t = c.args.t in
+    let front = c.args.self.now in
     let before = c.requires.front in
     let is = c.lawful.ensures.design in
-    let live = contains nat_cmp c.args.self.now.live in
-    let later = contains nat_cmp c.hold.new.live in
-    let slice = c.as_slice.result.now in
+    let live = contains nat_cmp front.live in
+    let held = contains nat_cmp front.held in
+    let later = contains nat_cmp c.hold_found.new.live in
+    let kept = contains nat_cmp c.hold_found.new.held in
+    let chose = c.in_ok-choose_nets.ensures in
     let put = c.in_ok-put_values.ensures in
-    let among : (p : ℕ) → is_among slice p ≡ live p = λ p. ap (λ (l : List ℕ). is_among l p) c.as_slice.ensures.value ∙ c.in_ok-live.ensures.all p in
-    let among_too : (p : ℕ) → is_among c.as_slice-2.result.now p ≡ live p = λ p. ap (λ (l : List ℕ). is_among l p) c.as_slice-2.ensures.value ∙ c.in_ok-live.ensures.all p in
-    let adds : (p : ℕ) → later p ≡ (is_among c.in_ok-found.found.items p || live p) = λ p.
-    c.in_ok-hold.ensures.live p ∙ ap (λ (l : List ℕ). is_among l p || live p) c.as_slice-3.ensures.value in
-    let grows : (p : ℕ) → live p ≡ true → later p ≡ true = λ p on. adds p ∙ or_second (is_among c.in_ok-found.found.items p) (live p) on in
-    let alike : (p : ℕ) → live p ≡ true → IsAlike answer old new later t p = λ p on.
-    alike_grows answer old new (is_among c.in_ok-found.found.items) later t p (λ q found. adds q ∙ or_first (is_among c.in_ok-found.found.items q) (live q) found) (c.in_ok-found.ensures.alike p (among_too p ∙ on)) in
-    let was : ℕ → Option (PatchRecord Value) = get nat_cmp c.args.self.now.waves in
+    let marks = c.in_ok-add_changed.ensures in
+    let holds = c.in_ok-hold_found.ensures in
+    let gates = c.in_ok-choose_gates.ensures in
+    let notes = c.in_ok-note_nets.ensures in
+    let looked = is_among c.choose_nets.new.nets.items in
+    let marked = is_among c.add_changed.new.gates.items in
+    let chosen = is_among c.choose_gates.new.gates.items in
+    let found = is_among c.in_ok-found.found.items in
+    let events_at = noted front.events in let inputs_at = noted front.inputs in let nets_at = noted front.nets in
+    let are : AreLookedAt answer old new live held events_at inputs_at nets_at t looked =
+    record { within = c.requires.within; drivers = before.drivers; closed = before.closed; agrees = before.agrees; awaits = before.awaits; noted = chose.noted; driven = chose.driven } in
+    let grows : (p : ℕ) → live p ≡ true → later p ≡ true = λ p on. holds.live p ∙ or_second (found p) (live p) on in
+    let alike : (p : ℕ) → live p ≡ true → IsAlike answer old new later t p =
+    alike_all answer old new current pending is live held events_at inputs_at nets_at looked t are later grows
+    (λ p at. alike_grows answer old new found later t p (λ q on. holds.live q ∙ or_first (found q) (live q) on) (c.in_ok-found.ensures.alike p (ap (λ (l : List ℕ). is_among l p) c.as_slice-3.ensures.value ∙ at))) in
+    let steady : (p : ℕ) → looked p ≡ true → IsSteady answer new marked t p = λ p at. marks.steady p (ap (λ (l : List ℕ). is_among l p) c.as_slice-2.ensures.value ∙ at) in
+    let passed : (q : ℕ) → (kept q && not (chosen q)) ≡ true → IsPassed held marked (events_at t) (inputs_at t) q =
+    passed_by held kept marked (is_among c.hold_found.new.gates.items) chosen (events_at t) (inputs_at t) (λ q on there. marks.more q (chose.gates q on there)) holds.gates_more holds.gates gates.more gates.noted in
+    let was : ℕ → Option (PatchRecord Value) = get nat_cmp front.waves in
     let now : ℕ → Option (PatchRecord Value) = get nat_cmp c.put_values.new.waves in
     let Keep : ℕ → Option (PatchRecord Value) → ℕ → Type 0 = λ p o n. Keeps same_value standing (read_at answer old (to_net (net_at new p).name)) (value answer new (net_at new p)) o n in
+    let others : (p : ℕ) → looked p ≡ false → now p ≡ was p = λ p off. put.others p (ap (λ (l : List ℕ). is_among l p) c.as_slice.ensures.value ∙ off) in
+    let unlooked : (p : ℕ) → live p ≡ false → looked p ≡ false = λ p free. not_so (looked p) (live p) (chose.live p) free in
     record {
-      drivers = c.in_ok-hold.ensures.drivers;
+      drivers = holds.drivers;
       closed = closed_now answer old new is t c.requires.within live later grows before.closed before.agrees alike;
       agrees = agrees_now answer old new is t c.requires.within live later grows before.closed before.agrees alike;
-      clean = clean_now answer old new is t c.requires.within live later grows before.closed before.agrees alike (contains nat_cmp c.hold.new.held) c.in_ok-hold.ensures.drivers;
+      clean = clean_now answer old new is t c.requires.within live later grows before.closed before.agrees alike kept holds.drivers;
       waves = λ p low.
-          elim (live p) as (λ b. live p ≡ b → Keep p (now p) (suc t)) [
-            | true ↦ λ on. put.put p (among p ∙ on)
-            | false ↦ λ free.
-                subst (λ (o : Option (PatchRecord Value)). Keep p o (suc t)) (sym (put.others p (among p ∙ free)))
-                (free_wave answer old new is t c.requires.within live later grows before.closed before.agrees alike p (was p) low free (before.other_waves p free) (before.waves p low))
+          elim (looked p) as (λ b. looked p ≡ b → Keep p (now p) (suc t)) [
+            | true ↦ λ at. put.put p (ap (λ (l : List ℕ). is_among l p) c.as_slice.ensures.value ∙ at)
+            | false ↦ λ off.
+                subst (λ (o : Option (PatchRecord Value)). Keep p o (suc t)) (sym (others p off))
+                (elim (live p) as (λ b. live p ≡ b → Keep p (was p) (suc t)) [
+                  | true ↦ λ on. wave_all answer old new current pending is live held events_at inputs_at nets_at looked c.no_change.ensures t are p on off (was p) (before.kept_waves p) (before.waves p low)
+                  | false ↦ λ free. free_wave answer old new is t c.requires.within live later grows before.closed before.agrees alike p (was p) low free (before.other_waves p free) (before.waves p low)
+                ] refl)
           ] refl;
       traces = before.traces;
       wave_ends = put.ends;
       trace_ends = before.trace_ends;
       kept_waves = λ p.
-          elim (live p) as (λ b. live p ≡ b → (now p ≡ None) ⊎ IsOwn (now p)) [
-            | true ↦ λ on. inr (put.own p (among p ∙ on))
-            | false ↦ λ free. inl (put.others p (among p ∙ free) ∙ before.other_waves p free)
+          elim (looked p) as (λ b. looked p ≡ b → (now p ≡ None) ⊎ IsOwn (now p)) [
+            | true ↦ λ at. inr (put.own p (ap (λ (l : List ℕ). is_among l p) c.as_slice.ensures.value ∙ at))
+            | false ↦ λ off. subst (λ (o : Option (PatchRecord Value)). (o ≡ None) ⊎ IsOwn o) (sym (others p off)) (before.kept_waves p)
           ] refl;
-      other_waves = λ p off. let free = (or_none (is_among c.in_ok-found.found.items p) (live p) (sym (adds p) ∙ off)).1 in put.others p (among p ∙ free) ∙ before.other_waves p free;
+      other_waves = λ p off. let free = (or_none (found p) (live p) (sym (holds.live p) ∙ off)).1 in others p (unlooked p free) ∙ before.other_waves p free;
       other_traces = λ p off.
-          before.other_traces p (free_before answer old new is t c.requires.within live later grows before.closed before.agrees alike (contains nat_cmp c.args.self.now.held) (contains nat_cmp c.hold.new.held) before.drivers c.in_ok-hold.ensures.drivers p off);
+          before.other_traces p (free_before answer old new is t c.requires.within live later grows before.closed before.agrees alike held kept before.drivers holds.drivers p off);
       blank = record { wave = before.blank.wave; trace = before.blank.trace };
+      chosen = gates.rising;
+      chosen_held = gates.held;
+      quiet = λ q low on.
+          let facts = passed q on in
+          calm_all answer old new current pending is live held events_at inputs_at nets_at looked t are marked steady q facts.held_before facts.no_event facts.no_input facts.no_mark;
+      own_traces = λ q on.
+          let facts = passed q on in
+          own_all answer old new current pending is live held events_at inputs_at nets_at looked t are q facts.held_before facts.no_input (IsOwn (get nat_cmp front.traces q)) (before.own_traces q facts.held_before);
+      awaits =
+          noted_now answer old new live later held (λ q. kept q && not (chosen q)) t grows (λ q on. (passed q on).held_before)
+          front.events c.choose_nets.new.events front.inputs c.choose_gates.new.queue front.nets c.choose_nets.new.queue c.note_nets.new.queue
+          before.awaits chose.events gates.queue chose.queue (λ q on there. sym (passed q on).no_input ∙ there) notes.kept notes.early
+          (λ p u on there after moves.
+          notes.next p u
+          (ap (λ (l : List ℕ). is_among l p) c.as_slice-4.ensures.value
+          ∙ elim (live p) as (λ b. live p ≡ b → is_among c.hold_found.new.nets.items p ≡ true) [
+            | true ↦ λ lives. holds.nets_more p (chose.noted p lives (there lives))
+            | false ↦ λ free. holds.nets p on free
+          ] refl) after moves);
     }

@@ -6,13 +6,16 @@ use Rattle.std.specs.Ordering.{nat_cmp}
 use Rattle.fourstate.specs.declared.gate.GateKind.TheVariants.{Buf}
 use Rattle.fourstate.specs.Values.{same_value}
 use Rattle.gatestep.specs.Step.{State, due}
+use Rattle.event_queue.specs.Noted.{noted}
 use Rattle.design.specs.Connections.{to_net}
 use Rattle.design.specs.Keys.{netlist}
 use Rattle.waveform.specs.Entries.{same_state, standing}
 use Rattle.waveform.specs.Patches.{Keeps, PatchRecord}
 use Rattle.scratch.specs.Run.{state_after, value}
-use Rattle.rundiff.specs.Fronts.{blank_net, gate_at, is_among, named_state, net_at}
+use Rattle.rundiff.specs.Fronts.{named_state}
+use Rattle.rundiff.specs.Places.{blank_net, gate_at, is_among, net_at}
 use Rattle.rundiff.specs.Kept.{read_at}
+use Rattle.rundiff.proofs.Awaited.{opened_noted}
 use Rattle.rundiff.proofs.FirstLive.{first_closed}
 use Rattle.rundiff.proofs.Sets.{or_first}
 use Rattle.rundiff.proofs.front.Front.open.Goals as goal
@@ -52,5 +55,7 @@ returns-clause-front c = λ answer.
       own_traces = λ p on. inl refl;
       other_waves = λ p off. no_wave p;
       other_traces = λ p off. no_trace p;
+      awaits =
+          opened_noted answer old new later (contains nat_cmp c.hold.new.held) (noted c.new-3.result) (noted c.in_ok-inputs.inputs) (noted c.in_ok-nets.nets) c.in_ok-inputs.ensures c.in_ok-nets.ensures;
       blank = record { wave = c.in_ok-blank_wave.ensures; trace = c.in_ok-blank_trace.ensures ∙ ap (λ (s : State). (0, s) ∷ []) c.start.ensures };
     }

@@ -1,19 +1,23 @@
-use Rattle.std.proofs.Common.{◌≡◌, ◌∙◌, ◌<◌, ◌≤◌, ap, sym, subst, refl, suc, ℕ, List, Bool, true, false, map, Option, arith, inr}
+use Rattle.std.proofs.Common.{◌≡◌, ◌∙◌, ◌<◌, ◌≤◌, ap, sym, subst, refl, suc, ℕ, List, Bool, true, false, length, map, Option, arith, inr}
 use Rattle.std.specs.Prelude.{◌&&◌, AllPairs}
 use Rattle.std.specs.BTreeMap.{get}
 use Rattle.std.specs.BTreeSet.{contains}
 use Rattle.std.specs.Option.{ForSome}
 use Rattle.std.specs.Ordering.{nat_cmp}
+use Rattle.std.proofs.lemmas.List.{length-map}
 use Rattle.gatestep.specs.Step.{State, due}
+use Rattle.event_queue.specs.Noted.{noted}
 use Rattle.design.specs.Keys.{netlist}
 use Rattle.waveform.specs.Entries.{same_state}
 use Rattle.waveform.specs.Patches.{Keeps, PatchRecord}
 use Rattle.waveform.specs.Timelines.{end_of}
 use Rattle.scratch.specs.Run.{state_after}
-use Rattle.rundiff.specs.Fronts.{IsOwn, gate_at, is_among, is_working, named_state}
+use Rattle.rundiff.specs.Fronts.{IsOwn, is_working, named_state}
+use Rattle.rundiff.specs.Places.{gate_at, is_among}
+use Rattle.rundiff.proofs.Awaited.{settled_noted}
 use Rattle.rundiff.proofs.ByPlace.{map_twice}
 use Rattle.rundiff.proofs.OneGate.{and_false}
-use Rattle.rundiff.proofs.Resting.{idle, stored_each}
+use Rattle.rundiff.proofs.Resting.{idle, stored_each, stored_later}
 use Rattle.rundiff.proofs.Still.{both}
 use Rattle.rundiff.proofs.front.Front.settle.Goals as goal
 
@@ -56,6 +60,23 @@ put_states-requires-clause-can g c =
     stored_each answer new laws.answer_pending laws.answer_near c.lawful-2.ensures.design t c.args.self.now.working.items
     (λ p among. c.requires.front.drivers.gates p (both (held p) (test p) (sym (c.requires.front.places.all p) ∙ among)).0) c.args.answers.now those
 
+pub note_events-requires-clause-many : goal.note_events-requires-clause-many
+note_events-requires-clause-many g c =
+    let answer = g.S.Stepper.answer in let new = netlist c.args.new.now in let t = c.args.t in
+    let gates = c.args.self.now.working.items in
+    let those = c.requires.answers ∙ ap (map (λ h. state_after answer new h t)) c.requires.front.tasks ∙ map_twice (gate_at new) (λ h. state_after answer new h t) gates in
+    ap (λ (l : List State). length l) those ∙ length-map gates (λ p. state_after answer new (gate_at new p) t) ∙ ap (λ (l : List ℕ). length l) (sym c.as_slice-2.ensures.value)
+
+pub note_events-requires-clause-later : goal.note_events-requires-clause-later
+note_events-requires-clause-later g c =
+    let answer = g.S.Stepper.answer in let laws = g.met.S.Stepper in let new = netlist c.args.new.now in let t = c.args.t in
+    let test = is_working answer (netlist c.args.old.now) new t in
+    let held = contains nat_cmp c.args.self.now.held in
+    let those = c.requires.answers ∙ ap (map (λ h. state_after answer new h t)) c.requires.front.tasks ∙ map_twice (gate_at new) (λ h. state_after answer new h t) c.args.self.now.working.items in
+    stored_later t c.args.answers.now
+    (stored_each answer new laws.answer_pending laws.answer_near c.lawful-2.ensures.design t c.args.self.now.working.items
+    (λ p among. c.requires.front.drivers.gates p (both (held p) (test p) (sym (c.requires.front.places.all p) ∙ among)).0) c.args.answers.now those)
+
 pub overflow_add-self : goal.overflow_add-self
 overflow_add-self g c = let most = c.lawful.ensures.design.horizon in let h = c.requires.within in omega arith
 
@@ -67,6 +88,9 @@ returns-clause-front g c =
     let held = contains nat_cmp c.args.self.now.held in
     let before = c.requires.front in
     let done = c.in_ok-put_states.ensures in
+    let notes = c.in_ok-note_events.ensures in
+    let working = c.args.self.now.working.items in
+    let those = c.requires.answers ∙ ap (map (λ h. state_after answer new h t)) before.tasks ∙ map_twice (gate_at new) (λ h. state_after answer new h t) working in
     let slice = c.as_slice.result.now in
     let was : ℕ → Option (PatchRecord State) = get nat_cmp c.args.self.now.traces in
     let now : ℕ → Option (PatchRecord State) = get nat_cmp c.put_states.new.traces in
@@ -103,4 +127,9 @@ returns-clause-front g c =
       other_waves = before.other_waves;
       other_traces = λ p free. done.others p (among p ∙ off_left (held p) (test p) free) ∙ before.other_traces p free;
       blank = record { wave = before.blank.wave; trace = before.blank.trace };
+      awaits =
+          settled_noted answer old new t (contains nat_cmp c.args.self.now.live) held (noted c.args.self.now.events) (noted c.args.self.now.inputs) (noted c.args.self.now.nets) (noted c.note_events.new.queue)
+          notes.kept notes.early working before.places.all before.awaits
+          (λ p u on. notes.events (λ q. state_after answer new (gate_at new q) t) (those ∙ ap (map (λ q. state_after answer new (gate_at new q) t)) (sym c.as_slice-2.ensures.value)) p u
+          (ap (λ (l : List ℕ). is_among l p) c.as_slice-2.ensures.value ∙ on));
     }

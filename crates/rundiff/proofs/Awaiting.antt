@@ -1,0 +1,128 @@
+-- What is noted once the nets of a moment are done.
+use Rattle.std.proofs.Common.{◌≡◌, ℕ, suc, ◌<◌, ◌≤◌, ◌∙◌, ap, sym, refl, Bool, true, false, not, cond, List, [], ◌∷◌, arith}
+use Rattle.std.specs.Prelude.{nat_eq, ◌&&◌, ◌||◌, ◌==◌}
+use Rattle.std.specs.List.{list_any}
+use Rattle.std.proofs.lemmas.Bool.Decides.{nat_tests}
+use Rattle.gatestep.specs.Step.{State, Evaluation}
+use Rattle.event_queue.specs.Noted.{IsTaken, noted}
+use Rattle.design.specs.Connections.{Connection, to_net, to_constant}
+use Rattle.design.specs.Netlist.{Netlist}
+use Rattle.scratch.specs.Places.{IsNotedWithin, Keeps, has}
+use Rattle.scratch.specs.Run.{state_before}
+use Rattle.rundiff.specs.Noting.{IsNoted, input_moves, is_at_live, net_moves, old_moves, pends}
+use Rattle.rundiff.specs.Places.{gate_at}
+use Rattle.rundiff.proofs.Alike.{live_grows}
+use Rattle.rundiff.proofs.Quiet.{both_on}
+use Rattle.rundiff.proofs.Sets.{or_second}
+use Rattle.rundiff.proofs.Still.{both}
+
+abbrev Queue : Type 0
+Queue = List (ℕ × List ℕ)
+
+other_moment : (t u : ℕ) → t < u → nat_eq t u ≡ false
+other_moment t u low = grind (arith, nat_tests)
+
+this_moment : (t u : ℕ) → nat_eq t u ≡ true → t ≡ u
+this_moment t u same = grind (arith, nat_tests)
+
+before_this : (t u : ℕ) → nat_eq t u ≡ false → u < suc t → u < t
+before_this t u apart low = grind (arith, nat_tests)
+
+after_this : (t u : ℕ) → nat_eq t u ≡ false → t ≤ u → suc t ≤ u
+after_this t u apart low = grind (arith, nat_tests)
+
+not_first : (u : ℕ) (b : Bool) → 0 < u → (u == 0 || b) ≡ true → b ≡ true
+not_first u b some on = let off : (u == 0) ≡ false = grind (arith, nat_tests) in ap (λ (c : Bool). c || b) (sym off) ∙ on
+
+module _ (t : ℕ) (old new : Queue) (taken : IsTaken t old new) where
+  -- what is noted for later moments stays
+  later_same : (u : ℕ) → t < u → noted new u ≡ noted old u
+  later_same u low = taken u ∙ ap (λ (b : Bool). cond b [] (noted old u)) (other_moment t u low)
+
+  early_by : (u : ℕ) (b : Bool) → nat_eq t u ≡ b → u < suc t → ((v : ℕ) → v < t → noted old v ≡ []) → cond b [] (noted old u) ≡ []
+  early_by u true same low early = refl
+  early_by u false apart low early = early u (before_this t u apart low)
+
+  -- nothing is noted for this moment and those before any more
+  none_early : ((v : ℕ) → v < t → noted old v ≡ []) → (u : ℕ) → u < suc t → noted new u ≡ []
+  none_early early u low = taken u ∙ early_by u (nat_eq t u) refl low early
+
+  -- what is noted for a moment from t on is noted still, or it was noted for t
+  later_within : (after : ℕ → List ℕ) → Keeps (noted new) after → (k u : ℕ) → (has k (noted old t) ≡ true → IsNotedWithin after k (suc t) u) → IsNotedWithin (noted old) k t u → IsNotedWithin after k (suc t) u
+  later_within after stay k u here at = by (nat_eq t at.0) refl
+    where
+      by : (b : Bool) → nat_eq t at.0 ≡ b → IsNotedWithin after k (suc t) u
+      by true same = here (ap (λ (v : ℕ). has k (noted old v)) (this_moment t at.0 same) ∙ at.3)
+      by false apart =
+          let from : t ≤ at.0 = at.1 in
+          let later : suc t ≤ at.0 = after_this t at.0 apart from in
+          let low : t < at.0 = omega arith in
+          (at.0, later, at.2, stay k at.0 (ap (has k) (later_same at.0 low) ∙ at.3))
+
+any_moves : (test more : Connection → Bool) → ((c : Connection) → test c ≡ true → more c ≡ true) → (cs : List Connection) → list_any test cs ≡ true → list_any more cs ≡ true
+any_moves test more says [] on = on
+any_moves test more says (c ∷ cs) on = by (test c) refl on (any_moves test more says cs)
+  where
+    or_left : (a b : Bool) → a ≡ true → (a || b) ≡ true
+    or_left a b on = rw on refl
+
+    by : (b : Bool) → test c ≡ b → (b || list_any test cs) ≡ true → (list_any test cs ≡ true → list_any more cs ≡ true) → (more c || list_any more cs) ≡ true
+    by true here any rest = or_left (more c) (list_any more cs) (says c here)
+    by false off any rest = or_second (more c) (list_any more cs) (rest any)
+
+module _ (answer : Evaluation → ℕ → State) (old new : Netlist) (live later held passed : ℕ → Bool) (t : ℕ) (grows : (p : ℕ) → live p ≡ true → later p ≡ true)
+    (held_before : (q : ℕ) → passed q ≡ true → held q ≡ true)
+    (events events_now inputs inputs_now nets nets_left nets_now : Queue)
+    (awaits : IsNoted answer old new live held held t (noted events) (noted inputs) (noted nets) t)
+    (events_taken : IsTaken t events events_now) (inputs_taken : IsTaken t inputs inputs_now) (nets_taken : IsTaken t nets nets_left)
+    (not_noted : (q : ℕ) → passed q ≡ true → has q (noted inputs t) ≡ true → false ≡ true)
+    (kept : Keeps (noted nets_left) (noted nets_now)) (early : (u : ℕ) → u ≤ t → noted nets_now u ≡ noted nets_left u)
+    (next : (p u : ℕ) → later p ≡ true → (live p ≡ true → has p (noted nets t) ≡ true) → t < u → net_moves answer old new p u ≡ true → IsNotedWithin (noted nets_now) p (suc t) u) where
+  -- where more nets are live, fewer inputs are at no live net
+  fewer_moves : (c : Connection) (u : ℕ) → (not (is_at_live new later c) && old_moves answer old new c u) ≡ true → (not (is_at_live new live c) && old_moves answer old new c u) ≡ true
+  fewer_moves (to_constant v) u moves = moves
+  fewer_moves (to_net name) u moves =
+      let parts = both (not (is_at_live new later (to_net name))) (old_moves answer old new (to_net name) u) moves in
+      both_on (not (is_at_live new live (to_net name))) (old_moves answer old new (to_net name) u) (off_before parts.0) parts.1
+    where
+      flip : (a b : Bool) → (a ≡ true → b ≡ true) → not b ≡ true → not a ≡ true
+      flip true true says off = off
+      flip true false says off = let no : false ≡ true = says refl in absurd (cc)
+      flip false b says off = refl
+
+      off_before : not (is_at_live new later (to_net name)) ≡ true → not (is_at_live new live (to_net name)) ≡ true
+      off_before off = flip (is_at_live new live (to_net name)) (is_at_live new later (to_net name)) (live_grows new live later grows name) off
+
+  nets_noted : (p u : ℕ) → suc t ≤ u → later p ≡ true → net_moves answer old new p u ≡ true → IsNotedWithin (noted nets_now) p (suc t) u
+  nets_noted p u from on moves =
+      elim (live p) as (λ b. live p ≡ b → IsNotedWithin (noted nets_now) p (suc t) u) [
+        | true ↦ λ lives.
+            later_within t nets nets_left nets_taken (noted nets_now) kept p u (λ here. next p u on (λ again. here) (omega arith) moves)
+            (awaits.nets p u (omega arith) (both_on (live p) (u == 0 || net_moves answer old new p u) lives (or_second (u == 0) (net_moves answer old new p u) moves)))
+        | false ↦ λ free. next p u on (λ lives. let no : false ≡ true = sym free ∙ lives in absurd (cc)) (omega arith) moves
+      ] refl
+
+  inputs_noted : (q u : ℕ) → suc t ≤ u → passed q ≡ true → input_moves answer old new later q u ≡ true → IsNotedWithin (noted inputs_now) q (suc t) u
+  inputs_noted q u from on moves =
+      let before = any_moves (λ c. not (is_at_live new later c) && old_moves answer old new c u) (λ c. not (is_at_live new live c) && old_moves answer old new c u) (λ c. fewer_moves c u) (gate_at new q).inputs moves in
+      later_within t inputs inputs_now inputs_taken (noted inputs_now) (λ k v at. at) q u (λ here. let no : false ≡ true = not_noted q on here in absurd (cc))
+      (awaits.inputs q u (omega arith) (both_on (held q) (u == 0 || input_moves answer old new live q u) (held_before q on) (or_second (u == 0) (input_moves answer old new live q u) before)))
+
+  -- what is noted then
+  pub noted_now : IsNoted answer old new later passed passed t (noted events_now) (noted inputs_now) (noted nets_now) (suc t)
+  noted_now =
+      record {
+        events = λ k u from wants.
+            let s = state_before answer new t (gate_at new k) in
+            let parts = both (passed k) (pends s u) wants in
+            ap (has k) (later_same t events events_now events_taken u (omega arith)) ∙ awaits.events k u (omega arith) (both_on (held k) (pends s u) (held_before k parts.0) parts.1);
+        inputs = λ k u from wants.
+            let parts = both (passed k) (u == 0 || input_moves answer old new later k u) wants in
+            inputs_noted k u from parts.0 (not_first u (input_moves answer old new later k u) (omega arith) parts.1);
+        nets = λ k u from wants.
+            let parts = both (later k) (u == 0 || net_moves answer old new k u) wants in
+            nets_noted k u from parts.0 (not_first u (net_moves answer old new k u) (omega arith) parts.1);
+        no_early_event = none_early t events events_now events_taken awaits.no_early_event;
+        no_early_input = none_early t inputs inputs_now inputs_taken awaits.no_early_input;
+        no_early_net = λ u low. early u (omega arith) ∙ none_early t nets nets_left nets_taken awaits.no_early_net u low;
+      }

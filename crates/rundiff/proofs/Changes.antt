@@ -1,0 +1,55 @@
+-- The next change of a wave.
+use Rattle.std.proofs.Common.{◌≡◌, ◌<◌, ◌≤◌, ◌∙◌, sym, ap, subst, refl, Bool, true, false, cond, not, ℕ, suc, ◌-◌, nat_lt, List, [], ◌∷◌, Option, Some, None, arith, ⊎_elim}
+use Rattle.std.specs.Prelude.{IfSome, nat_le, ◌&&◌}
+use Rattle.std.specs.List.{find}
+use Rattle.std.proofs.lemmas.Bool.{cases_lt}
+use Rattle.std.proofs.lemmas.Bool.Decides.{nat_tests}
+use Rattle.fourstate.specs.declared.value.Value.{Value}
+use Rattle.fourstate.specs.ValueLaws.{same_self}
+use Rattle.fourstate.specs.Values.{same_value}
+use Rattle.waveform.specs.Changes.{wave_changes_below}
+use Rattle.waveform.specs.Entries.{standing}
+use Rattle.waveform.specs.Timelines.{IsAlwaysSettled, first_after}
+use Rattle.rundiff.proofs.Still.{both}
+
+-- `waveform::laws::drift_between`
+abbrev pub StandsBetween : Type 0
+StandsBetween =
+    (f : ℕ → Value) → IsAlwaysSettled standing f → (n t k u : ℕ) → t ≤ k → k < u → u ≤ suc n →
+    IfSome (first_after (wave_changes_below f (suc n)) t) (λ e. u ≤ e.0) → f k ≡ standing (f t) k
+
+-- the first entry after a moment lies after it
+pub found_after : {A : Type 0} (es : List (ℕ × A)) (t : ℕ) (e : ℕ × A) → first_after es t ≡ Some e → t < e.0
+found_after [] t e is = absurd (cc)
+found_after {A} (d ∷ es) t e is = by (nat_lt t d.0) refl (found_after es t e) is
+  where
+    by : (b : Bool) → nat_lt t d.0 ≡ b → (first_after es t ≡ Some e → t < e.0) → cond {A = Option (ℕ × A)} b (Some d) (find (λ q. nat_lt t q.0) es) ≡ Some e → t < e.0
+    by true later rest here = let same : d ≡ e = cc in let high : t < d.0 = grind (arith, nat_tests) in rw (← same) high
+    by false early rest there = rest there
+
+module _ (law : StandsBetween) (f : ℕ → Value) (n t : ℕ) where
+  -- the function has another value at u than before
+  abbrev moves : ℕ → Bool
+  moves u = nat_le u n && not (same_value (f u) (f (u - 1)))
+
+  stays : (u : ℕ) → t < u → u ≤ n → IfSome (first_after (wave_changes_below f (suc n)) t) (λ e. suc u ≤ e.0) → same_value (f u) (f (u - 1)) ≡ true
+  stays u later within none =
+      let now : f u ≡ f t = law f (λ _. refl) n t u (suc u) (omega arith) (omega arith) (omega arith) none in
+      let before : f (u - 1) ≡ f t = law f (λ _. refl) n t (u - 1) (suc u) (omega arith) (omega arith) (omega arith) none in
+      ap (λ (v : Value). same_value v (f (u - 1))) (now ∙ sym before) ∙ same_self (f (u - 1))
+
+  not_missed : (u : ℕ) → t < u → IfSome (first_after (wave_changes_below f (suc n)) t) (λ e. suc u ≤ e.0) → moves u ≡ true → ⊥
+  not_missed u later none moved =
+      let parts = both (nat_le u n) (not (same_value (f u) (f (u - 1)))) moved in
+      let low : nat_le u n ≡ true = parts.0 in
+      let within : u ≤ n = grind (arith, nat_tests) in
+      let never : true ≡ false = sym parts.1 ∙ ap not (stays u later within none) in cc
+
+  -- a function does not change after t and before its next entry
+  pub change_first : (e : ℕ × Value) → first_after (wave_changes_below f (suc n)) t ≡ Some e → (u : ℕ) → t < u → moves u ≡ true → e.0 ≤ u
+  change_first e is u later moved =
+      ⊎_elim (λ low. absurd (not_missed u later (subst (λ o. IfSome o (λ e. suc u ≤ e.0)) (sym is) (let le : suc u ≤ e.0 = omega arith in le)) moved)) (λ le. le) (cases_lt u e.0)
+
+  -- nor after its last one
+  pub change_never : first_after (wave_changes_below f (suc n)) t ≡ None → (u : ℕ) → t < u → moves u ≡ true → ⊥
+  change_never is u later moved = not_missed u later (subst (λ o. IfSome o (λ e. suc u ≤ e.0)) (sym is) tt) moved

@@ -1,0 +1,221 @@
+-- What stays at a moment: live nets and held gates that are not looked at.
+use Rattle.std.proofs.Common.{◌≡◌, ℕ, zero, suc, ◌-◌, ◌<◌, ◌≤◌, ◌∙◌, ap, sym, refl, subst, Bool, true, false, not, List, [], ◌∷◌, length, Option, Some, None, ◌⊎◌, inl, inr, arith, All}
+use Rattle.std.specs.Prelude.{slice_index_or, nat_eq, nat_le, ◌&&◌, ◌||◌, ◌==◌, ◌≢◌, AllPairs}
+use Rattle.std.specs.List.{find, list_any}
+use Rattle.std.specs.Option.{option_map_or, ForSome}
+use Rattle.std.proofs.lemmas.Bool.Decides.{nat_tests}
+use Rattle.std.proofs.lemmas.List.Elements.{All-head, All-tail}
+use Rattle.fourstate.specs.declared.value.Value.{Value}
+use Rattle.fourstate.specs.ValueLaws.{is_same, same_self}
+use Rattle.fourstate.specs.Values.{same_value}
+use Rattle.gatestep.specs.Step.{State, Evaluation, due}
+use Rattle.gatestep.specs.Tasks.{IsTask, NothingDue, PendingFrom}
+use Rattle.design.specs.Connections.{Connection, to_net, to_constant}
+use Rattle.design.specs.Lawful.{IsDesign}
+use Rattle.design.specs.Names.{same_name}
+use Rattle.design.specs.Netlist.{GateEntry, NetEntry, Netlist, has_point, is_at_net}
+use Rattle.waveform.specs.Entries.{standing}
+use Rattle.waveform.specs.Patches.{IsMended, Keeps, PatchRecord}
+use Rattle.waveform.specs.Timelines.{changes_below, is_change}
+use Rattle.scratch.specs.Places.{has}
+use Rattle.scratch.specs.Run.{evaluation_at, state_before, value}
+use Rattle.scratch.specs.Work.{is_due}
+use Rattle.rundiff.specs.Fronts.{AreDrivers, IsAlike, IsOwn}
+use Rattle.rundiff.specs.Kept.{Agrees, IsClosed, read_at}
+use Rattle.rundiff.specs.Noting.{IsNoted, net_moves, old_moves, pends}
+use Rattle.rundiff.specs.Places.{blank_gate, blank_net, gate_at, is_live, net_at}
+use Rattle.rundiff.proofs.ByPlace.{live_at}
+use Rattle.rundiff.proofs.Lists.{filter_where, name_itself, same_name_equal}
+use Rattle.rundiff.proofs.NetsDone.{same_default}
+use Rattle.rundiff.proofs.OldLines.{NoChange, keeps_none}
+use Rattle.rundiff.proofs.Resting.{none_more}
+use Rattle.rundiff.proofs.Sets.{or_none, or_second}
+use Rattle.rundiff.proofs.Still.{not_false, still_net}
+use Rattle.rundiff.proofs.Tasks.{is_task}
+use Rattle.rundiff.proofs.Wired.{reads_net}
+
+-- what would be true if another were is not where the other is not
+pub not_so : (a b : Bool) → (a ≡ true → b ≡ true) → b ≡ false → a ≡ false
+not_so true b says off = let no : true ≡ false = sym (says refl) ∙ off in absurd (cc)
+not_so false b says off = refl
+
+pub both_on : (a b : Bool) → a ≡ true → b ≡ true → (a && b) ≡ true
+both_on a b on too = rw (on, too) refl
+
+pub off_by : (a b : Bool) → a ≡ true → (a && b) ≡ false → b ≡ false
+off_by true b on off = off
+off_by false b on off = absurd (cc)
+
+due_now : (p : Option (Value × ℕ)) (t : ℕ) → ForSome p (λ event. t ≤ event.1) → option_map_or (λ event. nat_le event.1 t) p false ≡ true → option_map_or (λ event. nat_eq event.1 t) p false ≡ true
+due_now None t later on = absurd (cc)
+due_now (Some event) t later on = let after = later event refl in grind (arith, nat_tests)
+
+early : (t h : ℕ) → t ≤ h → nat_le t h ≡ true
+early t h low = grind (arith, nat_tests)
+
+-- what is said of each connection holds of the one to a net that is read
+read_of : (P : Connection → Type 0) (name : List ℕ) (cs : List Connection) → All P cs → list_any (is_at_net name) cs ≡ true → P (to_net name)
+read_of P name [] all on = absurd (cc)
+read_of P name (c ∷ cs) all on = by c (All-head P c cs all) (read_of P name cs (All-tail P c cs all)) on
+  where
+    by : (c : Connection) → P c → (list_any (is_at_net name) cs ≡ true → P (to_net name)) → (is_at_net name c || list_any (is_at_net name) cs) ≡ true → P (to_net name)
+    by (to_constant v) one rest on = rest on
+    by (to_net read) one rest on =
+        elim (same_name read name) as (λ b. same_name read name ≡ b → (b || list_any (is_at_net name) cs) ≡ true → P (to_net name)) [
+          | true ↦ λ same any. subst (λ (m : List ℕ). P (to_net m)) (same_name_equal read name same) one
+          | false ↦ λ apart any. rest any
+        ] refl on
+
+pairs_head : {X : Type 0} (R : X → X → Type 0) (y : X) (ys : List X) → AllPairs R (y ∷ ys) → All (R y) ys
+pairs_head R y ys all = λ k d within. all 0 (suc k) d (omega arith) (omega arith)
+
+pairs_tail : {X : Type 0} (R : X → X → Type 0) (y : X) (ys : List X) → AllPairs R (y ∷ ys) → AllPairs R ys
+pairs_tail R y ys all = λ i j d order within. all (suc i) (suc j) d (omega arith) (omega arith)
+
+not_same : (a b : List ℕ) → a ≢ b → same_name a b ≡ false
+not_same a b apart = elim (same_name a b) as (λ t. same_name a b ≡ t → t ≡ false) [ true ↦ λ is. absurd (apart (same_name_equal a b is)) | false ↦ λ is. refl ] refl
+
+-- a net is found by its name
+pub found_at_name : (ns : List NetEntry) (k : ℕ) (d : NetEntry) → AllPairs (λ n m. n.name ≢ m.name) ns → k < length ns → find (λ n. same_name n.name (slice_index_or ns k d).name) ns ≡ Some (slice_index_or ns k d)
+found_at_name [] k d apart low = absurd (omega arith)
+found_at_name (n ∷ ns) zero d apart low = let is = name_itself n.name in rw is refl
+found_at_name (n ∷ ns) (suc k) d apart low =
+    let other = not_same n.name (slice_index_or ns k d).name (pairs_head (λ n m. n.name ≢ m.name) n ns apart k d (omega arith)) in
+    rw other (found_at_name ns k d (pairs_tail (λ n m. n.name ≢ m.name) n ns apart) (omega arith))
+
+-- a function with a patch of its own, a moment more
+own_more : {A : Type 0} (same : A → A → Bool) (drift : A → ℕ → A) (f g : ℕ → A) (t : ℕ) (o : Option (PatchRecord A)) → IsOwn o → Keeps same drift g f o t → changes_below same drift f (suc t) ≡ changes_below same drift f t → Keeps same drift g f o (suc t)
+own_more {A} same drift f g t o own kept none =
+    let patch : PatchRecord A = own.0 in
+    let is : o ≡ Some patch = own.1 in
+    let whole : patch.since ≡ None = own.2 in
+    let at : Keeps same drift g f (Some patch) t = subst (λ (o : Option (PatchRecord A)). Keeps same drift g f o t) is kept in
+    let now : IsMended same drift g f patch.line None t = subst (λ (s : Option ℕ). IsMended same drift g f patch.line s t) whole at in
+    let then : IsMended same drift g f patch.line None (suc t) = now ∙ sym none in
+    subst (λ (o : Option (PatchRecord A)). Keeps same drift g f o (suc t)) (sym is) (subst (λ (s : Option ℕ). IsMended same drift g f patch.line s (suc t)) (sym whole) then)
+
+-- what is known when the nets to be looked at are known: all is right before t, and these are the live nets that are noted for
+-- t, and the outputs of the held gates that are
+pub record AreLookedAt (answer : Evaluation → ℕ → State) (old new : Netlist) (live held : ℕ → Bool) (events_at inputs_at nets_at : ℕ → List ℕ) (t : ℕ) (looked : ℕ → Bool) : Type 0 where
+  pub within : t ≤ old.horizon
+  pub drivers : AreDrivers new live held
+  pub closed : IsClosed old new (is_live new live)
+  pub agrees : Agrees answer old new (is_live new live) t
+  pub awaits : IsNoted answer old new live held held t events_at inputs_at nets_at t
+  pub noted : (p : ℕ) → live p ≡ true → has p (nets_at t) ≡ true → looked p ≡ true
+  pub driven : (q : ℕ) → held q ≡ true → has q (events_at t) ≡ true → is_live new looked (gate_at new q).output ≡ true
+
+-- at moment 0 all live nets are
+pub all_looked : (answer : Evaluation → ℕ → State) (old new : Netlist) (live held : ℕ → Bool) (events_at inputs_at nets_at : ℕ → List ℕ) (looked : ℕ → Bool) →
+    AreLookedAt answer old new live held events_at inputs_at nets_at 0 looked → (p : ℕ) → live p ≡ true → looked p ≡ true
+all_looked answer old new live held events_at inputs_at nets_at looked are p on =
+    let at = are.awaits.nets p 0 (omega arith) (both_on (live p) (0 == 0 || net_moves answer old new p 0) on refl) in
+    let low : at.0 ≤ 0 = at.2 in
+    let first : at.0 ≡ 0 = omega arith in
+    are.noted p on (ap (λ (u : ℕ). has p (nets_at u)) (sym first) ∙ at.3)
+
+module _ (answer : Evaluation → ℕ → State) (old new : Netlist)
+    (current : (e : Evaluation) (t : ℕ) → (answer e t).current ≡ (due e.state t).current) (pending : (e : Evaluation) (t : ℕ) → IsTask e → NothingDue t (answer e t))
+    (is : IsDesign new) (live held : ℕ → Bool) (events_at inputs_at nets_at : ℕ → List ℕ) (r : ℕ) (looked : ℕ → Bool)
+    (are : AreLookedAt answer old new live held events_at inputs_at nets_at (suc r) looked) where
+  abbrev now : ℕ
+  now = suc r
+
+  -- what is noted for a moment up to now is noted for now
+  pub at_now : (k : ℕ) (noted : ℕ → List ℕ) → (u : ℕ) × (now ≤ u) × (u ≤ now) × (has k (noted u) ≡ true) → has k (noted now) ≡ true
+  at_now k noted at =
+      let from : now ≤ at.0 = at.1 in let until : at.0 ≤ now = at.2 in
+      let same : now ≡ at.0 = omega arith in
+      ap (λ (u : ℕ). has k (noted u)) same ∙ at.3
+
+  pending_from : (g : ℕ) → g < length new.gates → PendingFrom now (state_before answer new now (gate_at new g))
+  pending_from g low = λ event some.
+      let late = pending (evaluation_at new (state_before answer new r) (gate_at new g) r) r (is_task answer new pending (gate_at new g) (is.gates g blank_gate low) r) event some in omega arith
+
+  -- a held gate of which no event is noted for now has none due
+  pub none_due : (q : ℕ) → held q ≡ true → has q (events_at now) ≡ false → is_due (state_before answer new now (gate_at new q)) now ≡ false
+  none_due q on off =
+      let s = state_before answer new now (gate_at new q) in
+      not_so (is_due s now) (has q (events_at now))
+      (λ at. are.awaits.events q now (omega arith) (both_on (held q) (pends s now) on (due_now s.pending now (pending_from q (are.drivers.gates q on)) at))) off
+
+  -- what does not move in the old run stays there
+  pub stays_in_old : (c : Connection) → old_moves answer old new c now ≡ false → read_at answer old c now ≡ read_at answer old c r
+  stays_in_old c off =
+      let before : now - 1 ≡ r = omega arith in
+      let same = not_false (same_value (read_at answer old c now) (read_at answer old c (now - 1))) (off_by (nat_le now old.horizon) (not (same_value (read_at answer old c now) (read_at answer old c (now - 1)))) (early now old.horizon are.within) off) in
+      is_same (read_at answer old c now) (read_at answer old c (now - 1)) same ∙ ap (read_at answer old c) before
+
+  -- Live nets that are not looked at.
+
+  module _ (p : ℕ) (on : live p ≡ true) (off : looked p ≡ false) where
+    there : p < length new.nets
+    there = are.drivers.nets p on
+
+    unmoved : net_moves answer old new p now ≡ false
+    unmoved =
+        not_so (net_moves answer old new p now) (looked p)
+        (λ moves. are.noted p on (at_now p nets_at (are.awaits.nets p now (omega arith) (both_on (live p) (now == 0 || net_moves answer old new p now) on (or_second (now == 0) (net_moves answer old new p now) moves))))) off
+
+    pub quiet_old : read_at answer old (to_net (net_at new p).name) now ≡ read_at answer old (to_net (net_at new p).name) r
+    quiet_old = stays_in_old (to_net (net_at new p).name) (or_none (has_point (net_at new p).points now) (old_moves answer old new (to_net (net_at new p).name) now) unmoved).1
+
+    quiet_driver : (k : ℕ) → k < length new.gates → same_name (gate_at new k).output (net_at new p).name ≡ true → is_due (state_before answer new now (gate_at new k)) now ≡ false
+    quiet_driver k low drives =
+        let named = same_name_equal (gate_at new k).output (net_at new p).name drives in
+        let holds : held k ≡ true = are.drivers.drivers k low ∙ ap (is_live new live) named ∙ live_at new live p is.distinct_nets there ∙ on in
+        none_due k holds
+        (not_so (has k (events_at now)) (looked p) (λ at. sym (live_at new looked p is.distinct_nets there) ∙ ap (is_live new looked) (sym named) ∙ are.driven k holds at) off)
+
+    pub quiet_value : value answer new (net_at new p) now ≡ value answer new (net_at new p) r
+    quiet_value =
+        let P : GateEntry → Type 0 = λ g. is_due (state_before answer new now g) now ≡ false in
+        still_net answer new current (net_at new p) r (or_none (has_point (net_at new p).points now) (old_moves answer old new (to_net (net_at new p).name) now) unmoved).0
+        (filter_where (λ g. same_name g.output (net_at new p).name) P new.gates
+        (λ k d low drives.
+        let same = same_default new.gates k blank_gate d low in
+        subst P same (quiet_driver k low (ap (λ (g : GateEntry). same_name g.output (net_at new p).name) same ∙ drives))))
+
+    -- it is alike in both runs, or its readers are held already
+    pub quiet_alike : IsAlike answer old new live now p
+    quiet_alike =
+        let n = net_at new p in
+        let theirs = read_at answer old (to_net n.name) in
+        elim (same_value (theirs r) (value answer new n r)) as (λ b. same_value (theirs r) (value answer new n r) ≡ b → IsAlike answer old new live now p) [
+          | true ↦ λ same. inl (quiet_old ∙ is_same (theirs r) (value answer new n r) same ∙ sym quiet_value)
+          | false ↦ λ apart.
+              inr (λ q low reading.
+              elim (is_live new live (gate_at new q).output) as (λ b. is_live new live (gate_at new q).output ≡ b → b ≡ true) [
+                | true ↦ λ lives. refl
+                | false ↦ λ free.
+                    let read = read_of (λ c. read_at answer old c r ≡ read_at answer new c r) n.name (gate_at new q).inputs (are.agrees.inputs q blank_gate low free) reading in
+                    let found = found_at_name new.nets p blank_net is.distinct_nets there in
+                    let same = read ∙ reads_net answer new n.name n r found in
+                    let no : true ≡ false = sym (same_self (value answer new n r)) ∙ ap (λ (v : Value). same_value v (value answer new n r)) (sym same) ∙ apart in absurd (cc)
+              ] refl)
+        ] refl
+
+    -- and its wave goes on
+    pub quiet_wave : NoChange same_value standing → (o : Option (PatchRecord Value)) → (o ≡ None) ⊎ IsOwn o →
+        Keeps same_value standing (read_at answer old (to_net (net_at new p).name)) (value answer new (net_at new p)) o now →
+        Keeps same_value standing (read_at answer old (to_net (net_at new p).name)) (value answer new (net_at new p)) o (suc now)
+    quiet_wave law o kind kept = by kind
+      where
+        f : ℕ → Value
+        f = value answer new (net_at new p)
+
+        g : ℕ → Value
+        g = read_at answer old (to_net (net_at new p).name)
+
+        step : (k : ℕ) → now ≤ k → k < suc now → is_change same_value standing f k ≡ false
+        step zero from until = absurd (omega arith)
+        step (suc k) from until =
+            let e : k ≡ r = omega arith in
+            let same : f (suc k) ≡ f k = ap (λ (m : ℕ). f (suc m)) e ∙ quiet_value ∙ ap f (sym e) in
+            ap (λ (v : Value). not (same_value v (f k))) same ∙ ap not (same_self (f k))
+
+        by : (o ≡ None) ⊎ IsOwn o → Keeps same_value standing g f o (suc now)
+        by (inl none) =
+            let had : f r ≡ g r = keeps_none same_value standing f g now o none kept r (omega arith) in
+            none_more same_value standing f g now o none kept (quiet_value ∙ had ∙ sym quiet_old)
+        by (inr own) = own_more same_value standing f g now o own kept (law f now (suc now) (omega arith) step)

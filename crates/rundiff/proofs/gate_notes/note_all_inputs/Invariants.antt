@@ -1,0 +1,19 @@
+use Rattle.std.proofs.Common.{◌≡◌, ◌<◌, ◌≤◌, ℕ, suc, true, take}
+use Rattle.std.specs.BTreeSet.{contains}
+use Rattle.std.specs.Ordering.{nat_cmp}
+use Rattle.event_queue.specs.Noted.{noted}
+use Rattle.design.specs.Keys.{netlist}
+use Rattle.rundiff.specs.Noting.{input_moves}
+use Rattle.rundiff.specs.Places.{is_among}
+use Rattle.scratch.specs.Places.{IsNotedWithin, Keeps}
+use Rattle.rundiff.proofs.gate_notes.note_all_inputs.Given as goal
+
+-- the inputs of the gates so far are noted
+abbrev pub invariant-loop-place : goal.invariant-loop-place
+invariant-loop-place g l =
+    record {
+      next : (p u : ℕ) → is_among (take l.place-index l.places) p ≡ true → l.t < u → input_moves g.S.Stepper.answer (netlist l.old) (netlist l.new) (contains nat_cmp l.live) p u ≡ true →
+          IsNotedWithin (noted l.queue) p (suc l.t) u;
+      kept : Keeps (noted l.fn.queue) (noted l.queue);
+      early : (u : ℕ) → u ≤ l.t → noted l.queue u ≡ noted l.fn.queue u;
+    }

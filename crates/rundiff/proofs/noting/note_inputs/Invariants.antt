@@ -1,0 +1,17 @@
+use Rattle.std.proofs.Common.{◌≡◌, ◌<◌, ◌≤◌, ℕ, true, not, take}
+use Rattle.std.specs.Prelude.{IfSome, ◌&&◌}
+use Rattle.std.specs.BTreeSet.{contains}
+use Rattle.std.specs.List.{list_any}
+use Rattle.std.specs.Option.{IsSomeAnd}
+use Rattle.std.specs.Ordering.{nat_cmp}
+use Rattle.design.specs.Keys.{connection_in, netlist}
+use Rattle.rundiff.specs.Noting.{is_at_live, old_moves}
+use Rattle.rundiff.proofs.noting.note_inputs.Given as goal
+
+-- the next change of the inputs so far
+abbrev pub invariant-loop-terminal : goal.invariant-loop-terminal
+invariant-loop-terminal g l = record {
+  after : IfSome l.next (λ m. l.t < m);
+  first : (u : ℕ) → l.t < u → list_any (λ terminal. not (is_at_live (netlist l.new) (contains nat_cmp l.live) (connection_in l.new.nets terminal))
+      && old_moves g.S.Stepper.answer (netlist l.old) (netlist l.new) (connection_in l.new.nets terminal) u) (take l.terminal-index l.terminal-items) ≡ true → IsSomeAnd l.next (λ m. m ≤ u);
+}

@@ -1,0 +1,54 @@
+use Rattle.std.proofs.Common.{◌≡◌, ◌∙◌, ap, sym, refl, ℕ, List, [], true, false, take, Option, Some, arith}
+use Rattle.std.specs.Prelude.{◌||◌, nat_eq}
+use Rattle.std.specs.Option.{option_map_or}
+use Rattle.std.proofs.lemmas.Bool.Decides.{nat_tests}
+use Rattle.catalog.specs.Catalog.{place_of}
+use Rattle.design.specs.Keys.{name_of, net_by_key, netlist}
+use Rattle.fourstate.specs.declared.gate.GateKind.TheVariants.{Buf}
+use Rattle.design.specs.Netlist.{NetEntry, reads}
+use Rattle.rundiff.specs.Places.{blank_net, gate_at, is_among, net_at}
+use Rattle.rundiff.proofs.ByPlace.{get_at}
+use Rattle.rundiff.proofs.Driven.{is_there, read_get, take_whole}
+use Rattle.rundiff.proofs.OldLines.{some_equal}
+use Rattle.rundiff.proofs.ReaderKeys.{reader_at}
+use Rattle.rundiff.proofs.Sets.{or_first, or_second}
+use Rattle.rundiff.proofs.Steps.{among_more, among_push, or_splits, same_place}
+use Rattle.rundiff.proofs.spreading.add_readers.Goals as goal
+
+itself : (x y : ℕ) → x ≡ y → nat_eq x y ≡ true
+itself x y e = grind (arith, nat_tests)
+
+pub loop-reader-preserved : goal.loop-reader-preserved
+loop-reader-preserved c =
+    let keys = c.fanout-readers.result.now in let i = c.loop-reader.reader-index in let x = c.reader-item.result in
+    let at = read_get keys i x c.loop-reader-test.true c.reader-item.is in
+    let gates = c.args.new.now.gates in
+    let gate = c.in-Some.gate in
+    let before = c.loop-reader.gates.items in
+    let grown : (q : ℕ) → is_among c.push.new.self.items q ≡ (is_among before q || nat_eq gate q) = λ q. ap (λ (l : List ℕ). is_among l q) c.in_ok-push.ensures.items ∙ among_push before gate q in
+    record {
+      more = λ q on. grown q ∙ or_first (is_among before q) (nat_eq gate q) (c.loop-reader.invariant.more q on);
+      readers = λ key among q place.
+          elim (nat_eq x key) as (λ b. nat_eq x key ≡ b → is_among c.push.new.self.items q ≡ true) [
+            | true ↦ λ same.
+                let e : gate ≡ q = some_equal gate q (c.in-Some.ensures.place ∙ ap (place_of gates) (same_place x key same) ∙ place) in
+                grown q ∙ or_second (is_among before q) (nat_eq gate q) (itself gate q e)
+            | false ↦ λ apart.
+                grown q ∙ or_first (is_among before q) (nat_eq gate q)
+                (c.loop-reader.invariant.readers key (or_splits (is_among (take i keys) key) (nat_eq x key) (sym (among_more keys i x key at) ∙ among) apart) q place)
+          ] refl;
+    }
+
+pub returns-clause-readers : goal.returns-clause-readers
+returns-clause-readers c = λ q low reading.
+    let keyed = c.args.new.now in let d = netlist keyed in
+    let key = c.net_key_at.result in
+    let n = net_at d c.args.place in
+    let there : net_by_key keyed key ≡ Some n = c.net_key_at.ensures.net ∙ get_at d.nets c.args.place blank_net c.requires.there in
+    let named : name_of keyed.nets key ≡ n.name = ap (λ (o : Option NetEntry). option_map_or (λ m. m.name) o []) there in
+    let whole = take_whole c.fanout-readers.result.now c.loop-reader.reader-index c.loop-reader-test.false in
+    let reader = reader_at keyed c.lawful.ensures.keys c.places_are_keys.ensures.nets (0, blank_net) (0, record { name = []; kind = Buf; delays = record { rise = 0; fall = 0 }; output = 0; inputs = [] })
+    key q (is_there (net_by_key keyed key) n there) low (ap (reads (gate_at d q)) named ∙ reading) in
+    let k : ℕ = reader.0 in
+    let facts = reader.2 in
+    c.loop-reader.invariant.readers k (ap (λ (l : List ℕ). is_among l k) (whole ∙ c.fanout-readers.ensures.readers) ∙ facts.among) q facts.position

@@ -1,0 +1,38 @@
+use Rattle.std.proofs.Common.{◌≡◌, ◌∙◌, ◌<◌, ◌-◌, ap, sym, refl, suc, arith, ℕ, List}
+use Rattle.fourstate.specs.declared.value.Value.{Value}
+use Rattle.design.specs.Connections.{to_net}
+use Rattle.design.specs.Keys.{netlist}
+use Rattle.design.specs.Netlist.{NetEntry}
+use Rattle.waveform.specs.Changes.{wave_changes_below}
+use Rattle.fourstate.specs.ValueLaws.{is_same}
+use Rattle.scratch.specs.Run.{value}
+use Rattle.rundiff.specs.Places.{blank_net, net_at}
+use Rattle.rundiff.specs.Kept.{read_at}
+use Rattle.rundiff.proofs.ByPlace.{at_place}
+use Rattle.rundiff.proofs.Still.{not_false}
+use Rattle.rundiff.proofs.spreading.changes.Goals as goal
+
+-- at 0 the moment before is 0 itself
+same_first : (f : ℕ → Value) (t : ℕ) → t ≡ 0 → f t ≡ f (t - 1)
+same_first f t is = let e : t ≡ t - 1 = omega arith in ap f e
+
+pub returns-then-t-eq0 : goal.returns-then-t-eq0
+returns-then-t-eq0 g c = λ off. same_first (value g.S.Stepper.answer (netlist c.args.new.now) (net_at (netlist c.args.new.now) c.args.place)) c.args.t c.if-t-eq0.true
+
+pub returns : goal.returns
+returns g c = λ off.
+    let answer = g.S.Stepper.answer in
+    let old = netlist c.args.old.now in
+    let new = netlist c.args.new.now in
+    let x = net_at new c.args.place in
+    let at = at_place new.nets c.args.place blank_net c.net_at.result.now c.net_at.ensures in
+    let named : c.as_str.result.now ≡ x.name = c.as_str.ensures ∙ c.name.ensures ∙ sym (ap (λ (y : NetEntry). y.name) at) in
+    let stored = c.old_wave-former.ensures answer c.requires.run ∙ ap (λ (name : List ℕ). wave_changes_below (read_at answer old (to_net name)) (suc old.horizon)) named in
+    let below : c.args.t < suc old.horizon = let h = c.requires.within in omega arith in
+    let below_too : c.args.t - 1 < suc old.horizon = let h = c.requires.within in omega arith in
+    let known : c.args.t < suc c.args.t = omega arith in
+    let known_too : c.args.t - 1 < suc c.args.t = omega arith in
+    let now = c.value_at.ensures.value (value answer new x) (read_at answer old (to_net x.name)) (suc old.horizon) (suc c.args.t) (λ t. refl) (λ t. refl) stored below known c.requires.wave in
+    let before = c.value_at-before.ensures.value (value answer new x) (read_at answer old (to_net x.name)) (suc old.horizon) (suc c.args.t) (λ t. refl) (λ t. refl) stored below_too known_too c.requires.wave in
+    let same = is_same c.value_at.result c.value_at-before.result (sym c.is_same.ensures ∙ not_false c.is_same.result off) in
+    sym now ∙ same ∙ before

@@ -1,0 +1,100 @@
+use Rattle.std.proofs.Common.{◌≡◌, ◌∙◌, ◌<◌, ap, sym, subst, refl, ℕ, List, ◌++◌, Bool, true, false, All, length, Result, Ok, Err, OnOk}
+use Rattle.std.specs.Prelude.{◌||◌, ◌&&◌, not}
+use Rattle.std.specs.BTreeSet.{contains}
+use Rattle.std.specs.List.{filter}
+use Rattle.std.specs.Ordering.{nat_cmp}
+use Rattle.std.proofs.lemmas.List.Elements.{All-filter}
+use Rattle.design.specs.Keys.{netlist}
+use Rattle.scratch.specs.Places.{has}
+use Rattle.rundiff.specs.Places.{gate_at, is_among}
+use Rattle.rundiff.proofs.Among.{among_filter, among_has, either_among, live_gained}
+use Rattle.rundiff.proofs.Sets.{or_first, or_second}
+use Rattle.rundiff.proofs.Steps.{mapped, or_splits}
+use Rattle.rundiff.proofs.spreading.hold_found.Goals as goal
+
+with_both : {A E P Q R : Type 0} (r : Result A E) → OnOk r P → OnOk r Q → (P → Q → R) → OnOk r R
+with_both (Ok x) p q follows = follows p q
+with_both (Err e) p q follows = tt
+
+on_ok : {A E P : Type 0} (r : Result A E) → P → OnOk r P
+on_ok (Ok x) p = p
+on_ok (Err e) p = tt
+
+either : (a b : Bool) → ((a && not b) || b) ≡ (a || b)
+either true true = refl
+either true false = refl
+either false b = refl
+
+-- what is live then, by the nets that became live
+module _ (found kept slice : List ℕ) (live later : ℕ → Bool) (same : slice ≡ kept) (adds : (p : ℕ) → later p ≡ (is_among slice p || live p)) where
+  by_kept : (p : ℕ) → later p ≡ (is_among kept p || live p)
+  by_kept p = adds p ∙ ap (λ (l : List ℕ). is_among l p || live p) same
+
+  by_found : kept ≡ filter (λ p. not (live p)) found → (p : ℕ) → later p ≡ (is_among found p || live p)
+  by_found is p =
+      by_kept p ∙ ap (λ (l : List ℕ). is_among l p || live p) is ∙ ap (λ (b : Bool). b || live p) (among_filter (λ q. not (live q)) found p) ∙ either (is_among found p) (live p)
+
+  -- those that became live are added, and no others
+  added : (nets now : List ℕ) → now ≡ nets ++ slice → (p : ℕ) → later p ≡ true → live p ≡ false → is_among now p ≡ true
+  added nets now is p on off =
+      ap (λ (l : List ℕ). is_among l p) is ∙ either_among nets slice p
+      ∙ or_second (is_among nets p) (has p slice) (sym (among_has slice p) ∙ or_splits (is_among slice p) (live p) (sym (adds p) ∙ on) off)
+
+  only_added : (nets now : List ℕ) → now ≡ nets ++ slice → (p : ℕ) → is_among nets p ≡ false → is_among now p ≡ true → later p ≡ true
+  only_added nets now is p off on =
+      let more : (is_among nets p || has p slice) ≡ true = sym (ap (λ (l : List ℕ). is_among l p) is ∙ either_among nets slice p) ∙ on in
+      let here : has p slice ≡ true = ap (λ (b : Bool). b || has p slice) (sym off) ∙ more in
+      adds p ∙ or_first (is_among slice p) (live p) (among_has slice p ∙ here)
+
+pub add_drivers-requires : goal.add_drivers-requires
+add_drivers-requires c =
+    let P : ℕ → Type 0 = λ p. p < length (netlist c.args.new.now).nets in
+    record { there = subst (All P) (sym (c.as_slice-2.ensures.value ∙ c.leave_new.ensures)) (All-filter (λ p. not (contains nat_cmp c.args.live.now p)) P c.args.found.now.items c.requires.there) }
+
+pub hold-requires-clause-there : goal.hold-requires-clause-there
+hold-requires-clause-there c =
+    let P : ℕ → Type 0 = λ p. p < length (netlist c.args.new.now).nets in
+    subst (All P) (sym (c.as_slice-3.ensures.value ∙ c.leave_new.ensures)) (All-filter (λ p. not (contains nat_cmp c.args.live.now p)) P c.args.found.now.items c.requires.there)
+
+pub returns-clause-live : goal.returns-clause-live
+returns-clause-live c =
+    mapped c.hold.result c.hold.ensures.live
+    (λ adds. by_found c.args.found.now.items c.leave_new.new.places.items c.as_slice-3.result.now (contains nat_cmp c.args.live.now) (contains nat_cmp c.hold.new.live) c.as_slice-3.ensures.value adds c.leave_new.ensures)
+
+pub returns-clause-nets : goal.returns-clause-nets
+returns-clause-nets c =
+    let kept = c.leave_new.new.places.items in
+    mapped c.hold.result c.hold.ensures.live
+    (λ adds. added c.args.found.now.items kept c.as_slice-3.result.now (contains nat_cmp c.args.live.now) (contains nat_cmp c.hold.new.live) c.as_slice-3.ensures.value adds c.args.nets.now.items c.extend_from_slice.new.self.items
+    (c.in_ok-extend_from_slice.ensures.items ∙ ap (λ (l : List ℕ). c.args.nets.now.items ++ l) (c.as_slice.ensures.value ∙ sym c.as_slice-3.ensures.value)))
+
+pub returns-clause-nets_more : goal.returns-clause-nets_more
+returns-clause-nets_more c =
+    on_ok c.hold.result
+    (λ p on.
+    ap (λ (l : List ℕ). is_among l p) c.in_ok-extend_from_slice.ensures.items ∙ either_among c.args.nets.now.items c.as_slice.result.now p ∙ or_first (is_among c.args.nets.now.items p) (has p c.as_slice.result.now) on)
+
+pub returns-clause-nets_live : goal.returns-clause-nets_live
+returns-clause-nets_live c =
+    let kept = c.leave_new.new.places.items in
+    mapped c.hold.result c.hold.ensures.live
+    (λ adds. only_added c.args.found.now.items kept c.as_slice-3.result.now (contains nat_cmp c.args.live.now) (contains nat_cmp c.hold.new.live) c.as_slice-3.ensures.value adds c.args.nets.now.items c.extend_from_slice.new.self.items
+    (c.in_ok-extend_from_slice.ensures.items ∙ ap (λ (l : List ℕ). c.args.nets.now.items ++ l) (c.as_slice.ensures.value ∙ sym c.as_slice-3.ensures.value)))
+
+pub returns-clause-gates : goal.returns-clause-gates
+returns-clause-gates c =
+    let d = netlist c.args.new.now in
+    let live = contains nat_cmp c.args.live.now in
+    let later = contains nat_cmp c.hold.new.live in
+    let slice = c.as_slice-3.result.now in
+    with_both c.hold.result c.hold.ensures.live c.hold.ensures.drivers
+    (λ adds drivers q on off.
+    let low = drivers.gates q on in
+    let out = (gate_at d q).output in
+    c.in_ok-add_drivers.ensures.drivers q low
+    (live_gained d later live (is_among c.as_slice-2.result.now)
+    (λ p. adds p ∙ ap (λ (l : List ℕ). is_among l p || live p) (c.as_slice-3.ensures.value ∙ sym c.as_slice-2.ensures.value)) out
+    (sym (drivers.drivers q low) ∙ on) (sym (c.requires.drivers.drivers q low) ∙ off)))
+
+pub returns-clause-gates_more : goal.returns-clause-gates_more
+returns-clause-gates_more c = on_ok c.hold.result c.in_ok-add_drivers.ensures.more

@@ -1,0 +1,174 @@
+//! The new run, once all moments up to the horizon are done.
+
+ghost use Rattle.std.specs.Prelude.{◌≡◌, ◌<◌, ℕ, List, true, suc, [], ◌∷◌, IfOk, OnOk, length};
+ghost use Rattle.std.specs.BTreeSet.{contains};
+ghost use Rattle.std.specs.Ordering.{nat_cmp};
+ghost use Rattle.catalog.specs.Catalog.{keys_of};
+ghost use Rattle.gatestep.specs.Step.{initial};
+ghost use Rattle.design.specs.Keys.{netlist};
+ghost use Rattle.edits.specs.Touched.{IsTouched};
+ghost use Rattle.scratch.specs.Run.{IsRun};
+ghost use Rattle.rundiff.specs.Finishing.{ArePut, AreCleared, new_trace, new_wave};
+ghost use Rattle.rundiff.specs.Fronts.{AreDrivers, ArePlaces, AreTouched, AreTraces, AreWaves, EndBy, IsFront};
+ghost use Rattle.rundiff.specs.Places.{is_among};
+
+use crate::finishing::{clear_touched, put_traces, put_waves};
+use crate::front::Front;
+use crate::holding::hold;
+use crate::opening::touched_places;
+use crate::places::places_of;
+use design::Design;
+use edits::Touched;
+use fourstate::Value;
+use gatestep::{Driver, Stepper};
+use std::alloc::{AllocError, Global};
+use std::collections::{BTreeMap, BTreeSet};
+use waveform::{Patch, Run, Trace, Wave, laws};
+
+impl Front {
+    /// The run of the new design, once all moments up to the horizon, which is that of the old one, are done. What is not
+    /// live is shared with the old run. It fails where memory runs out.
+    pub fn finish<S: Stepper>(
+        self,
+        alloc: Global,
+        old: &Design,
+        run: &Run,
+        new: &Design,
+        touched: &Touched,
+    ) -> Result<Run, AllocError>
+        requires run { IsRun S.answer old.now run.now }
+        requires touched { IsTouched old.now new.now touched.now.nets.items touched.now.gates.items }
+        requires horizon { (netlist new.now).horizon ≡ (netlist old.now).horizon }
+        requires front { IsFront S.answer (netlist old.now) (netlist new.now) self (suc (netlist new.now).horizon) }
+        ensures { IfOk result (λ made. IsRun S.answer new.now made) }
+    {
+        let mut front = self;
+        front.give_run::<S>(alloc, old, run, new, touched)
+    }
+
+    /// The run of the new design; what is touched becomes live, and the patches go into the run.
+    fn give_run<S: Stepper>(
+        &mut self,
+        alloc: Global,
+        old: &Design,
+        run: &Run,
+        new: &Design,
+        touched: &Touched,
+    ) -> Result<Run, AllocError>
+        requires run { IsRun S.answer old.now run.now }
+        requires touched { IsTouched old.now new.now touched.now.nets.items touched.now.gates.items }
+        requires horizon { (netlist new.now).horizon ≡ (netlist old.now).horizon }
+        requires front { IsFront S.answer (netlist old.now) (netlist new.now) self.old (suc (netlist new.now).horizon) }
+        ensures { IfOk result (λ made. IsRun S.answer new.now made) }
+    {
+        old.lawful();
+        new.lawful();
+        new.places_are_keys();
+        laws::same_changes::<Value>();
+        laws::same_changes::<Driver>();
+        hold_touched(&mut self.live, &mut self.held, alloc, new, touched)?;
+        let mut made = cleared_copy(run, touched)?;
+        put_live::<S>(
+            alloc,
+            &mut made,
+            &mut self.waves,
+            &self.blank_wave,
+            old,
+            run,
+            new,
+            &self.live,
+        )?;
+        put_held::<S>(
+            alloc,
+            &mut made,
+            &mut self.traces,
+            &self.blank_trace,
+            old,
+            run,
+            new,
+            &self.held,
+        )?;
+        Ok(made)
+    }
+}
+
+/// Makes the nets live that edits touched, and those that touched gates drive.
+fn hold_touched(
+    live: &mut BTreeSet<usize>,
+    held: &mut BTreeSet<usize>,
+    alloc: Global,
+    new: &Design,
+    touched: &Touched,
+) -> Result<(), AllocError>
+    requires drivers { AreDrivers (netlist new.now) (contains nat_cmp live.old) (contains nat_cmp held.old) }
+    ensures drivers { OnOk result (AreDrivers (netlist new.now) (contains nat_cmp live.new) (contains nat_cmp held.new)) }
+    ensures more { OnOk result ((p : ℕ) → contains nat_cmp live.old p ≡ true → contains nat_cmp live.new p ≡ true) }
+    ensures touched { OnOk result ((places : List ℕ) × AreTouched new.now touched.now.nets.items touched.now.gates.items places
+        × ((p : ℕ) → is_among places p ≡ true → contains nat_cmp live.new p ≡ true)) }
+{
+    let found = touched_places(alloc, new, touched)?;
+    hold(live, held, new, found.as_slice())
+}
+
+/// A copy of a run without what stands under keys that edits touched.
+fn cleared_copy(run: &Run, touched: &Touched) -> Result<Run, AllocError>
+    ensures waves { IfOk result (λ made. AreCleared touched.now.nets.items run.now.waves made.waves) }
+    ensures traces { IfOk result (λ made. AreCleared touched.now.gates.items run.now.traces made.traces) }
+    ensures horizon { IfOk result (λ made. made.horizon ≡ run.now.horizon) }
+{
+    let mut made = run.try_clone()?;
+    clear_touched(&mut made, touched)?;
+    Ok(made)
+}
+
+/// Puts the waves of the live nets. Where an allocation was refused, which are put is not known.
+fn put_live<S: Stepper>(
+    alloc: Global,
+    made: &mut Run,
+    waves: &mut BTreeMap<usize, Patch<Value>>,
+    blank: &Wave,
+    old: &Design,
+    run: &Run,
+    new: &Design,
+    live: &BTreeSet<usize>,
+) -> Result<(), AllocError>
+    requires blank { blank.now ≡ (0, Value.Unknown) ∷ [] }
+    requires there { (p : ℕ) → contains nat_cmp live.now p ≡ true → p < length (netlist new.now).nets }
+    requires horizon { (netlist new.now).horizon ≡ (netlist old.now).horizon }
+    requires run { IsRun S.answer old.now run.now }
+    requires waves { AreWaves S.answer (netlist old.now) (netlist new.now) waves.old (suc (netlist new.now).horizon) }
+    requires ends { EndBy waves.old (suc (netlist new.now).horizon) }
+    ensures waves { OnOk result ((places : List ℕ) × ArePlaces places (contains nat_cmp live.now)
+        × ArePut (new_wave S.answer new.now) (keys_of new.now.nets) places made.old.waves made.new.waves) }
+    ensures traces { made.new.traces ≡ made.old.traces }
+    ensures horizon { made.new.horizon ≡ made.old.horizon }
+{
+    let places = places_of(alloc, live)?;
+    put_waves::<S>(alloc, made, waves, blank, old, run, new, places.as_slice())
+}
+
+/// Puts the traces of the held gates. Where an allocation was refused, which are put is not known.
+fn put_held<S: Stepper>(
+    alloc: Global,
+    made: &mut Run,
+    traces: &mut BTreeMap<usize, Patch<Driver>>,
+    blank: &Trace,
+    old: &Design,
+    run: &Run,
+    new: &Design,
+    held: &BTreeSet<usize>,
+) -> Result<(), AllocError>
+    requires blank { blank.now ≡ (0, initial) ∷ [] }
+    requires there { (p : ℕ) → contains nat_cmp held.now p ≡ true → p < length (netlist new.now).gates }
+    requires horizon { (netlist new.now).horizon ≡ (netlist old.now).horizon }
+    requires run { IsRun S.answer old.now run.now }
+    requires traces { AreTraces S.answer (netlist old.now) (netlist new.now) traces.old (suc (netlist new.now).horizon) }
+    requires ends { EndBy traces.old (suc (netlist new.now).horizon) }
+    ensures traces { OnOk result ((places : List ℕ) × ArePlaces places (contains nat_cmp held.now)
+        × ArePut (new_trace S.answer new.now) (keys_of new.now.gates) places made.old.traces made.new.traces) }
+    ensures waves { made.new.waves ≡ made.old.waves }
+    ensures horizon { made.new.horizon ≡ made.old.horizon }
+{
+    let places = places_of(alloc, held)?;
+    put_traces::<S>(alloc, made, traces, blank, old, run, new, places.as_slice())
+}

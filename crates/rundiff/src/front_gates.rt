@@ -1,0 +1,91 @@
+//! What comes of gates at the present moment.
+
+ghost use Rattle.std.specs.Prelude.{◌≡◌, ◌≤◌, All, IfOk, OnOk, map};
+ghost use Rattle.gatestep.specs.Tasks.{IsReady};
+ghost use Rattle.design.specs.Keys.{netlist};
+ghost use Rattle.scratch.specs.Run.{IsRun};
+ghost use Rattle.rundiff.specs.Dirty.{working_at};
+ghost use Rattle.rundiff.specs.Fronts.{AreNetsDone, IsWaiting};
+ghost use Rattle.scratch.specs.Work.{task_at};
+
+use crate::front::Front;
+use crate::gate_notes::{note_all_inputs, note_events};
+use crate::gates::{Outcomes, look_at, put_states};
+use design::Design;
+use gatestep::{Driver, Stepper, Task};
+use std::alloc::{AllocError, Global};
+use waveform::{Run, laws};
+
+impl Front {
+    /// What comes of the held gates at the moment `t`: of those that are chosen each is evaluated or rests, and the others
+    /// rest without a look.
+    pub(crate) fn look_at_gates<S: Stepper>(
+        &mut self,
+        alloc: Global,
+        old: &Design,
+        run: &Run,
+        new: &Design,
+        t: u64,
+    ) -> Result<Vec<Task>, AllocError>
+        requires run { IsRun S.answer old.now run.now }
+        requires front { AreNetsDone S.answer (netlist old.now) (netlist new.now) self.old t }
+        requires within { t ≤ (netlist old.now).horizon }
+        ensures tasks { IfOk result (λ tasks. tasks.items ≡ map (λ g. task_at S.answer (netlist new.now) g t) (working_at S.answer (netlist old.now) (netlist new.now) t)) }
+        ensures ready { IfOk result (λ tasks. All (IsReady t) tasks.items) }
+        ensures front { OnOk result (IsWaiting S.answer (netlist old.now) (netlist new.now) self.new t) }
+    {
+        old.lawful();
+        new.lawful();
+        laws::no_change_by_drift::<Driver>();
+        let mut out = Outcomes::new(alloc);
+        look_at::<S>(
+            &self.waves,
+            &self.traces,
+            &self.blank_wave,
+            &self.blank_trace,
+            old,
+            run,
+            new,
+            self.gates.as_slice(),
+            t,
+            &mut out,
+        )?;
+        let Outcomes {
+            tasks,
+            working,
+            resting,
+            states,
+        } = out;
+        put_states::<S>(
+            alloc,
+            &mut self.traces,
+            &self.blank_trace,
+            old,
+            run,
+            new,
+            resting.as_slice(),
+            states.as_slice(),
+            t,
+        )?;
+        note_events(
+            alloc,
+            &mut self.events,
+            resting.as_slice(),
+            states.as_slice(),
+            t,
+        )?;
+        note_all_inputs::<S>(
+            alloc,
+            &mut self.inputs,
+            &self.live,
+            &self.blank_wave,
+            old,
+            run,
+            new,
+            self.gates.as_slice(),
+            t,
+        )?;
+        self.working = working;
+        Ok(tasks)
+    }
+}
