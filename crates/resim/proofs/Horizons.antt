@@ -23,13 +23,13 @@ module _ (answer : Evaluation → ℕ → State) (d : Netlist) (h : ℕ) where
   read_same before t (to_net name) = refl
   read_same before t (to_constant v) = refl
 
-  task_same : (before : GateEntry → State) (g : GateEntry) (t : ℕ) → evaluation_at (with_horizon d h) before g t ≡ evaluation_at d before g t
+  pub task_same : (before : GateEntry → State) (g : GateEntry) (t : ℕ) → evaluation_at (with_horizon d h) before g t ≡ evaluation_at d before g t
   task_same before g t =
       ap (λ (inputs : List Value). record { kind = g.kind; delays = g.delays; state = before g; inputs = inputs })
       (map_alike (λ c. terminal_at (with_horizon d h) before c t) (λ c. terminal_at d before c t) (read_same before t) g.inputs)
 
   -- the states
-  before_same : (t : ℕ) (g : GateEntry) → state_before answer (with_horizon d h) t g ≡ state_before answer d t g
+  pub before_same : (t : ℕ) (g : GateEntry) → state_before answer (with_horizon d h) t g ≡ state_before answer d t g
   before_same zero g = refl
   before_same (suc t) g =
       let states : state_before answer (with_horizon d h) t ≡ state_before answer d t = λ i x. before_same t x i in

@@ -1,5 +1,8 @@
 pub mod Adding
+pub mod Asked
 pub mod Cutting
 pub mod Horizons
+pub mod Levels
 pub mod Pairs
 pub mod Points
+pub mod Reworks

@@ -1,10 +1,14 @@
-//! The run of a design with an earlier horizon, from its run; and what differs between two designs.
+//! The run of a design from the run of a former one: only what differs is evaluated.
 #![tactic(auto)]
 
 mod cut;
+mod incremental;
+mod level;
+mod other_horizon;
 mod same;
 mod same_gates;
 mod touched;
 
 pub use cut::shorten;
+pub use incremental::{rerun, rerun_touched};
 pub use touched::touched_between;

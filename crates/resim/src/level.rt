@@ -1,0 +1,110 @@
+//! The run of a design from the run of a former one with the same horizon.
+
+ghost use Rattle.std.specs.Prelude.{◌≡◌, ◌≤◌, ◌+◌, ◌++◌, ℕ, suc, map, All, IfOk, OnErr, OnOk, if◌then◌else◌};
+ghost use Rattle.fourstate.specs.declared.limits.TheConstants.{MAX_TIME};
+ghost use Rattle.gatestep.specs.Faults.{is_lost};
+ghost use Rattle.gatestep.specs.Record.{at_moment};
+ghost use Rattle.gatestep.specs.Tasks.{IsReady};
+ghost use Rattle.design.specs.Keys.{netlist};
+ghost use Rattle.edits.specs.Touched.{IsTouched};
+ghost use Rattle.scratch.specs.Lost.{loses_a_worker};
+ghost use Rattle.scratch.specs.Run.{IsRun};
+ghost use Rattle.scratch.specs.Work.{HasGrownOrNot};
+ghost use Rattle.rundiff.specs.Dirty.{rework_at, rework_below};
+ghost use Rattle.rundiff.specs.Fronts.{IsFront};
+
+use design::Design;
+use edits::Touched;
+use gatestep::{Driver, StepFault, Stepper, Task};
+use rundiff::Front;
+use std::alloc::Global;
+use waveform::Run;
+
+/// The run of the new design, which has the horizon of the old one: it goes from one moment at which something may differ to
+/// the next.
+pub fn rerun_level<S: Stepper>(
+    alloc: Global,
+    old: &Design,
+    run: &Run,
+    new: &Design,
+    touched: &Touched,
+    stepper: &mut S,
+) -> Result<Run, StepFault>
+    requires run { IsRun S.answer old.now run.now }
+    requires touched { IsTouched old.now new.now touched.now.nets.items touched.now.gates.items }
+    requires horizon { (netlist new.now).horizon ≡ (netlist old.now).horizon }
+    ensures run { IfOk result (IsRun S.answer new.now) }
+    ensures asked { OnOk result (S.asked stepper.new ≡ S.asked stepper.old
+        ++ rework_below S.answer (netlist old.now) (netlist new.now) (suc (netlist new.now).horizon)) }
+    ensures part { OnErr result ((n : ℕ) × (n ≤ suc (netlist new.now).horizon)
+        × (S.asked stepper.new ≡ S.asked stepper.old ++ rework_below S.answer (netlist old.now) (netlist new.now) n)) }
+    ensures lost { S.losses stepper.new ≡ S.losses stepper.old + (if loses_a_worker result then 1 else 0) }
+{
+    new.lawful();
+    let end = new.horizon() + 1;
+    let mut answers = Vec::new(alloc);
+    let mut front = Front::open(alloc, old, new, touched)?;
+    let mut next = front.next_moment::<S>(old, new, end);
+    while next < end {
+        pass(
+            &mut front,
+            alloc,
+            old,
+            run,
+            new,
+            stepper,
+            next,
+            &mut answers,
+        )?;
+        next = front.next_moment::<S>(old, new, end);
+    }
+    Ok(front.finish::<S>(alloc, old, run, new, touched)?)
+}
+
+/// Goes through the moment `t`, before which all is done; a step is made only where a gate is evaluated. After a fault the
+/// front is to be dropped.
+fn pass<S: Stepper>(
+    front: &mut Front,
+    alloc: Global,
+    old: &Design,
+    run: &Run,
+    new: &Design,
+    stepper: &mut S,
+    t: u64,
+    answers: &mut Vec<Driver>,
+) -> Result<(), StepFault>
+    requires run { IsRun S.answer old.now run.now }
+    requires front { IsFront S.answer (netlist old.now) (netlist new.now) front.old t }
+    requires within { t ≤ (netlist old.now).horizon }
+    ensures front { OnOk result (IsFront S.answer (netlist old.now) (netlist new.now) front.new (suc t)) }
+    ensures done { OnOk result (front.new.done ≡ t + 1) }
+    ensures asked { OnOk result (S.asked stepper.new ≡ S.asked stepper.old ++ rework_at S.answer (netlist old.now) (netlist new.now) t) }
+    ensures part { OnErr result (HasGrownOrNot (S.asked stepper.old) (S.asked stepper.new) (rework_at S.answer (netlist old.now) (netlist new.now) t)) }
+    ensures lost { S.losses stepper.new ≡ S.losses stepper.old + (if loses_a_worker result then 1 else 0) }
+{
+    old.lawful();
+    let tasks = front.due::<S>(alloc, old, run, new, t)?;
+    step_some(stepper, tasks.as_slice(), t, answers)?;
+    front.settle::<S>(alloc, old, run, new, t, answers.as_slice())?;
+    Ok(())
+}
+
+/// The answers to some tasks; no step is made where there is none.
+fn step_some<S: Stepper>(
+    stepper: &mut S,
+    tasks: &[Task],
+    t: u64,
+    answers: &mut Vec<Driver>,
+) -> Result<(), StepFault>
+    requires ready { All (IsReady t) tasks.now }
+    requires within { t ≤ MAX_TIME }
+    ensures answers { OnOk result (answers.new.items ≡ map (λ task. S.answer task t) tasks.now) }
+    ensures asked { S.asked stepper.new ≡ S.asked stepper.old ++ at_moment t tasks.now }
+    ensures lost { S.losses stepper.new ≡ S.losses stepper.old + (if is_lost result then 1 else 0) }
+{
+    answers.clear();
+    if !tasks.is_empty() {
+        stepper.step(tasks, t, answers)?;
+    }
+    Ok(())
+}
