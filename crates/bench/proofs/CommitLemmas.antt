@@ -1,5 +1,5 @@
 -- Refused commits.
-use Rattle.std.proofs.Common.{◌≡◌, ◌≢◌, ◌⊎◌, ◌+◌, ℕ, Bool, true, false, if◌then◌else◌, List, refl, sym, inl, inr, arith}
+use Rattle.std.proofs.Common.{◌≡◌, ◌≢◌, ◌⊎◌, ◌+◌, ◌++◌, ℕ, suc, Bool, true, false, if◌then◌else◌, List, refl, sym, inl, inr, arith}
 use Rattle.std.proofs.lemmas.List.{append-nil}
 use Rattle.std.specs.Prelude.{Result, Ok, Err, IfErr}
 use Rattle.gatestep.specs.Step.{Evaluation}
@@ -12,7 +12,7 @@ use Rattle.bench.specs.declared.fault.CommitFault.TheVariants as commit
 use Rattle.bench.specs.Benches.{SnapshotRecord}
 use Rattle.bench.specs.Commits.{commit_of}
 use Rattle.bench.specs.Refusals.{IsRefusal, MayRefuse, loses_a_worker}
-use Rattle.bench.specs.Work.{AskedInPart, AskedByRefused}
+use Rattle.bench.specs.Work.{AskedInPart, AskedByRefused, rework_of}
 
 -- A refused edit.
 
@@ -31,12 +31,16 @@ no_loss place fault commit.WorkerLost losses is = absurd is
 
 -- What was asked in vain.
 
-pub asked_nothing : (made : Result Netlist (ℕ × EditFault)) (asked : List (Evaluation × ℕ)) → AskedByRefused made asked asked
-asked_nothing (Ok d) asked = (0, omega arith, sym (append-nil asked))
-asked_nothing (Err refused) asked = refl
+pub asked_nothing : (old : Netlist) (made : Result Netlist (ℕ × EditFault)) (asked : List (Evaluation × ℕ)) → AskedByRefused old made asked asked
+asked_nothing old (Ok d) asked = (0, omega arith, sym (append-nil asked))
+asked_nothing old (Err refused) asked = refl
 
-pub asked_part : (made : Result Netlist (ℕ × EditFault)) (d : Netlist) (old new : List (Evaluation × ℕ)) → made ≡ Ok d → AskedInPart d old new → AskedByRefused made old new
-asked_part made d old new is part = rw is part
+pub asked_part : (old : Netlist) (made : Result Netlist (ℕ × EditFault)) (d : Netlist) (before now : List (Evaluation × ℕ)) → made ≡ Ok d
+    → AskedInPart old d before now → AskedByRefused old made before now
+asked_part old made d before now is part = rw is part
+
+pub asked_all : (old new : Netlist) (before now : List (Evaluation × ℕ)) → now ≡ before ++ rework_of old new → AskedInPart old new before now
+asked_all old new before now is = (suc new.horizon, omega arith, is)
 
 -- A commit's refusal is never that memory ran out.
 pub refused_for : (last : Bool) (made : Result Netlist (ℕ × EditFault)) → IfErr made (λ refused. refused.1 ≢ OutOfMemory)

@@ -1,19 +1,24 @@
--- What commits ask of a stepper: today the whole run of the new design.
+-- What commits ask of a stepper: of the run of the new design what the old one's run does not tell.
 use Rattle.std.specs.Prelude.{◌≡◌, ◌≤◌, ℕ, suc, List, ◌++◌, Result, Ok, Err}
 use Rattle.gatestep.specs.Step.{Evaluation, advance}
 use Rattle.design.specs.Netlist.{Netlist}
 use Rattle.edits.specs.declared.fault.EditFault.{EditFault}
 use Rattle.scratch.specs.Work.{work_below}
+use Rattle.rundiff.specs.Dirty.{rework_below}
 
--- what is asked for this design, each task with its moment
+-- what is asked for the run of a design from scratch, each task with its moment
 abbrev pub work_of : Netlist → List (Evaluation × ℕ)
 work_of d = work_below advance d (suc d.horizon)
 
--- a stepper was asked for this design, up to some moment
-abbrev pub AskedInPart : Netlist → (old new : List (Evaluation × ℕ)) → Type 0
-AskedInPart d old new = (n : ℕ) × (n ≤ suc d.horizon) × (new ≡ old ++ work_below advance d n)
+-- what is asked for the run of a new design from that of the old one, each task with its moment
+abbrev pub rework_of : (old new : Netlist) → List (Evaluation × ℕ)
+rework_of old new = rework_below advance old new (suc new.horizon)
+
+-- a stepper was asked for the run of a new design from that of the old one, up to some moment
+abbrev pub AskedInPart : (old new : Netlist) → (before now : List (Evaluation × ℕ)) → Type 0
+AskedInPart old new before now = (n : ℕ) × (n ≤ suc new.horizon) × (now ≡ before ++ rework_below advance old new n)
 
 -- a stepper was asked for the design that a commit would have made, up to some moment, and nothing where an edit is refused
-abbrev pub AskedByRefused : Result Netlist (ℕ × EditFault) → (old new : List (Evaluation × ℕ)) → Type 0
-AskedByRefused (Ok d) old new = AskedInPart d old new
-AskedByRefused (Err refused) old new = new ≡ old
+abbrev pub AskedByRefused : Netlist → Result Netlist (ℕ × EditFault) → (before now : List (Evaluation × ℕ)) → Type 0
+AskedByRefused old (Ok new) before now = AskedInPart old new before now
+AskedByRefused old (Err refused) before now = now ≡ before

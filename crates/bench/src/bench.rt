@@ -4,15 +4,16 @@ ghost use Rattle.std.specs.Prelude.{◌≡◌, ◌<◌, ◌+◌, ◌-◌, ◌^�
 ghost use Rattle.std.specs.Arc.{arc_value};
 ghost use Rattle.gatestep.specs.Step.{advance};
 ghost use Rattle.design.specs.Keys.{netlist};
+ghost use Rattle.edits.specs.Touched.{IsTouched};
 ghost use Rattle.bench.specs.Benches.{snapshot_of};
 ghost use Rattle.bench.specs.Commits.{commit_of};
 ghost use Rattle.bench.specs.Refusals.{IsRefusal, MayRefuse, loses_a_worker};
-ghost use Rattle.bench.specs.Work.{AskedInPart, AskedByRefused, work_of};
+ghost use Rattle.bench.specs.Work.{AskedByRefused, rework_of, work_of};
 
 use crate::fault::CommitFault;
 use crate::snapshot::Snapshot;
 use design::Design;
-use edits::{Edit, EditFault, apply_all};
+use edits::{Edit, EditFault, Touched, apply_all_with_touched};
 use gatestep::{StepFault, Stepper};
 use std::alloc::Global;
 use std::marker::Model;
@@ -57,9 +58,9 @@ impl<S: Stepper + Drop> Bench<S> {
         })
     }
 
-    /// Carries out the edits, one after another, and makes the run of the design with them: all of it, or nothing. Gives the
-    /// new version. The empty list is a commit. At the version 2^64 - 1 each commit is refused as `Edit(0, TooMany)`.
-    /// Snapshots that are held stay as they are.
+    /// Carries out the edits, one after another, and makes the run of the design with them from the present one: all of it, or
+    /// nothing. Gives the new version. The empty list is a commit. At the version 2^64 - 1 each commit is refused as
+    /// `Edit(0, TooMany)`. Snapshots that are held stay as they are.
     #[tactic(auto, using(crate::proofs::CommitLemmas::may_refuse, crate::proofs::CommitLemmas::no_loss, crate::proofs::CommitLemmas::asked_nothing, crate::proofs::CommitLemmas::asked_part))]
     pub fn commit(&mut self, edits: &[Edit]) -> Result<u64, CommitFault>
         ensures design { OnOk result (commit_of self.old.snapshot.version self.old.snapshot.design edits.now
@@ -70,13 +71,25 @@ impl<S: Stepper + Drop> Bench<S> {
         ensures unchanged { OnErr result (self.new.snapshot ≡ self.old.snapshot) }
 
         // What the stepper was asked.
-        ensures asked { OnOk result (self.new.asked ≡ self.old.asked ++ work_of self.new.snapshot.design) }
-        ensures part { OnErr result (AskedByRefused (commit_of self.old.snapshot.version self.old.snapshot.design edits.now)
-            self.old.asked self.new.asked) }
+        ensures asked { OnOk result (self.new.asked ≡ self.old.asked ++ rework_of self.old.snapshot.design self.new.snapshot.design) }
+        ensures part { OnErr result (AskedByRefused self.old.snapshot.design
+            (commit_of self.old.snapshot.version self.old.snapshot.design edits.now) self.old.asked self.new.asked) }
         ensures lost { self.new.losses ≡ self.old.losses + (if loses_a_worker result then 1 else 0) }
     {
-        match self.edited(edits) {
-            Ok(design) => self.adopt(design),
+        let version = self.present.version();
+        let (old, run) = self.present.design_and_run();
+        match edited(self.alloc, version, old, edits) {
+            Ok(made) => {
+                self.present = Snapshot::open_from(
+                    self.alloc,
+                    version + 1,
+                    old,
+                    run,
+                    made,
+                    &mut self.stepper,
+                )?;
+                Ok(version + 1)
+            }
             Err((place, fault)) => Err(edit_refusal(place, fault)),
         }
     }
@@ -87,36 +100,25 @@ impl<S: Stepper + Drop> Bench<S> {
     {
         &self.present
     }
+}
 
-    // The design with the edits.
-    fn edited(&self, edits: &[Edit]) -> Result<Design, (usize, EditFault)>
-        ensures design { IfOk result (λ design. commit_of self.now.snapshot.version self.now.snapshot.design edits.now
-            ≡ Ok (netlist design)) }
-        ensures room { OnOk result (self.now.snapshot.version < 2 ^ 64 - 1) }
-        ensures refused { IfErr result (λ refused. (refused.1 ≡ EditFault.OutOfMemory)
-            ⊎ (commit_of self.now.snapshot.version self.now.snapshot.design edits.now ≡ Err refused)) }
-    {
-        if self.present.version() == u64::MAX {
-            return Err((0, EditFault::TooMany));
-        }
-        apply_all(self.alloc, self.present.design(), edits)
+// The design with the edits, which follows a version, and what they touched.
+fn edited(
+    alloc: Global,
+    version: u64,
+    design: &Design,
+    edits: &[Edit],
+) -> Result<(Design, Touched), (usize, EditFault)>
+    ensures design { IfOk result (λ made. commit_of version (netlist design.now) edits.now ≡ Ok (netlist made.0)) }
+    ensures touched { IfOk result (λ made. IsTouched design.now made.0 made.1.nets.items made.1.gates.items) }
+    ensures room { OnOk result (version < 2 ^ 64 - 1) }
+    ensures refused { IfErr result (λ refused. (refused.1 ≡ EditFault.OutOfMemory)
+        ⊎ (commit_of version (netlist design.now) edits.now ≡ Err refused)) }
+{
+    if version == u64::MAX {
+        return Err((0, EditFault::TooMany));
     }
-
-    // Makes the run of a design, and takes both as the next version.
-    fn adopt(&mut self, design: Design) -> Result<u64, CommitFault>
-        requires { self.old.snapshot.version < 2 ^ 64 - 1 }
-        ensures snapshot { OnOk result (self.new.snapshot ≡ snapshot_of (self.old.snapshot.version + 1) (netlist design)) }
-        ensures version { IfOk result (λ version. version ≡ self.old.snapshot.version + 1) }
-        ensures unchanged { OnErr result (self.new.snapshot ≡ self.old.snapshot) }
-        ensures asked { OnOk result (self.new.asked ≡ self.old.asked ++ work_of (netlist design)) }
-        ensures part { OnErr result (AskedInPart (netlist design) self.old.asked self.new.asked) }
-        ensures refused { IfErr result (λ fault. (fault ≡ CommitFault.OutOfMemory) ⊎ (fault ≡ CommitFault.WorkerLost)) }
-        ensures lost { self.new.losses ≡ self.old.losses + (if loses_a_worker result then 1 else 0) }
-    {
-        let version = self.present.version() + 1;
-        self.present = Snapshot::open(self.alloc, version, design, &mut self.stepper)?;
-        Ok(version)
-    }
+    apply_all_with_touched(alloc, design, edits)
 }
 
 // The fault of a commit for the fault of the edit at a place.
