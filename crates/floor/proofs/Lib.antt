@@ -1,0 +1,5 @@
+pub mod Changes
+pub mod Cuts
+pub mod Finishing
+mod Row
+pub mod Standing

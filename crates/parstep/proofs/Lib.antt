@@ -1,0 +1,4 @@
+pub mod Dealt
+pub mod Mapped
+pub mod Same
+pub mod Walks

@@ -1,0 +1,33 @@
+use Rattle.std.proofs.Common.{◌≡◌, ◌+◌, ◌-◌, ◌∙◌, length, take, drop, All, ap, sym, arith}
+use Rattle.std.proofs.lemmas.List.{length-set}
+use Rattle.std.proofs.lemmas.List.Elements.{All-take, All-drop}
+use Rattle.floor.specs.Pieces.{next_piece, after, Deal}
+use Rattle.gatestep.specs.Tasks.{IsReady}
+use Rattle.parstep.proofs.Dealt.{deal_at, bounds_at, some_at}
+use Rattle.parstep.proofs.pool.deal.Goals as goal
+
+pub unreachable-requires : goal.unreachable-requires
+unreachable-requires g c =
+    some_at (length c.args.tasks.now) c.loop-number.number c.args.pieces c.loop-number-test.true
+    (ap next_piece (sym c.loop-number.invariant.dealt) ∙ sym c.deal.ensures.piece ∙ c.in_default.is)
+
+pub part_of-own-requires-clause-ordered : goal.part_of-own-requires-clause-ordered
+part_of-own-requires-clause-ordered g c =
+    (bounds_at (length c.args.tasks.now) c.loop-number.number c.args.pieces c.loop-number-test.true c.in-Some.piece
+    (ap next_piece (sym c.loop-number.invariant.dealt) ∙ sym c.deal.ensures.piece ∙ c.in-Some.is)).0
+
+pub part_of-own-requires-clause-within : goal.part_of-own-requires-clause-within
+part_of-own-requires-clause-within g c =
+    (bounds_at (length c.args.tasks.now) c.loop-number.number c.args.pieces c.loop-number-test.true c.in-Some.piece
+    (ap next_piece (sym c.loop-number.invariant.dealt) ∙ sym c.deal.ensures.piece ∙ c.in-Some.is)).1
+
+pub send-requires-clause-ready : goal.send-requires-clause-ready
+send-requires-clause-ready g c =
+    rw c.part_of-own.ensures (All-take (IsReady c.args.t) (c.in-Some.piece.end - c.in-Some.piece.first) (drop c.in-Some.piece.first c.args.tasks.now) (All-drop (IsReady c.args.t) c.in-Some.piece.first c.args.tasks.now c.requires.ready))
+
+pub loop-number-preserved : goal.loop-number-preserved
+loop-number-preserved g c =
+    record {
+      dealt = c.deal.ensures.state ∙ ap (λ s. after s Deal) c.loop-number.invariant.dealt ∙ deal_at (length c.args.tasks.now) c.loop-number.number c.args.pieces c.loop-number-test.true;
+      seats = length-set c.loop-number.seats c.loop-number.number c.send.new.self ∙ c.loop-number.invariant.seats;
+    }
