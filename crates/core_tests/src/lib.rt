@@ -16,7 +16,11 @@ mod edit_lists;
 #[cfg(test)]
 mod event_queues;
 #[cfg(test)]
+mod floors;
+#[cfg(test)]
 mod patches;
+#[cfg(test)]
+mod reruns;
 #[cfg(test)]
 mod shortened;
 #[cfg(test)]
