@@ -18,7 +18,7 @@ use Rattle.waveform.specs.Tables.{IsChangedAt, line_at}
 use Rattle.waveform.specs.Timelines.{entries_until}
 use Rattle.scratch.specs.Run.{IsRun, trace_of, wave_of}
 use Rattle.resim.specs.Cuts.{AreCut, cut_at}
-use Rattle.resim.proofs.Horizons.{CutsChanges, trace_cut, wave_cut}
+use Rattle.scratch.specs.HorizonLaws.{CutsChanges, trace_cut, wave_cut}
 
 -- nothing lies after the moment
 pub whole_until : {A : Type 0} (h last : ℕ) (xs : List (ℕ × A)) → last ≤ h → All (λ e. e.0 ≤ last) xs → entries_until xs h ≡ xs

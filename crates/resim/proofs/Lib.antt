@@ -1,7 +1,6 @@
 pub mod Adding
 pub mod Asked
 pub mod Cutting
-pub mod Horizons
 pub mod Levels
 pub mod Pairs
 pub mod Points
