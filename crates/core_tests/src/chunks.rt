@@ -41,7 +41,9 @@ fn check(rt: &impl Abort, list: &Chunked<u64>, end: u64) {
 // Chunks have 32 elements, branches 1,024.
 #[test]
 fn lists_grow_over_the_borders_of_chunks_and_branches(rt: HostRuntime) {
-    for end in [0, 1, 31, 32, 33, 64, 1_023, 1_024, 1_025, 1_056, 1_057, 2_048, 2_100] {
+    for end in [
+        0, 1, 31, 32, 33, 64, 1_023, 1_024, 1_025, 1_056, 1_057, 2_048, 2_100,
+    ] {
         let list = count_up(&rt, rt.alloc(), end);
         check(&rt, &list, end);
         drop(list);
