@@ -73,11 +73,15 @@ class Session(Edits[int], Questions):
         if kind is None:
             self.close()
         else:
-            self._channel.kill()
+            self.kill()
 
     def close(self) -> None:
         """Ends the program, and waits for its end. ProgramEnded where it does not end with status 0."""
         self._channel.close()
+
+    def kill(self) -> None:
+        """Ends the program at once."""
+        self._channel.kill()
 
     def ask(self, lines: Sequence[str]) -> List[Reply]:
         """Sends any command lines as one block, and gives the reply of each. A refusal is a reply like another here.
