@@ -13,6 +13,8 @@ WIDTH, MARGIN = 860, 16
 ROW, HEIGHT = 34, 18
 AXIS = 34
 CHARACTER, MARK_PITCH = 8.0, 60
+# What is shorter is drawn as long as this, so that it is seen.
+LEAST = 1.0
 FONT = "ui-monospace, 'DejaVu Sans Mono', Menlo, Consolas, monospace"
 
 STYLE = f"""
@@ -32,7 +34,7 @@ HATCH = (
 
 
 def draw_svg(picture: Picture) -> str:
-    """The picture as the text of an SVG file. Each net has the description of its changes as a tooltip."""
+    """The picture as the text of an SVG file. The tooltip of a net says its changes."""
     return Drawing(picture).text()
 
 
@@ -41,7 +43,7 @@ class Drawing:
 
     def __init__(self, picture: Picture) -> None:
         self.picture = picture
-        longest = max([4, *(len(it.net) for it in picture.waves)])
+        longest = max([7, *(len(it.net) for it in picture.waves)])
         self.left = MARGIN + longest * CHARACTER + 12
         self.right = WIDTH - MARGIN
         self.scale = (self.right - self.left) / picture.moments
@@ -81,13 +83,14 @@ class Drawing:
         found = spans(wave, self.picture.start, self.picture.end)
         for span in found:
             if span.value == "x":
-                width = self.x(span.end) - self.x(span.start)
+                width = max(LEAST, self.x(span.end) - self.x(span.start))
                 yield f'<rect class="x" x="{self.x(span.start):.1f}" y="{top:g}" width="{width:.1f}" height="{HEIGHT}"/>'
         yield f'<path class="wave" d="{self.levels(found, top)}"/>'
         for span in found:
             if span.value == "z":
-                middle = top + HEIGHT / 2
-                yield f'<path class="z" d="M{self.x(span.start):.1f} {middle:g}H{self.x(span.end):.1f}"/>'
+                start = self.x(span.start)
+                end = max(start + LEAST, self.x(span.end))
+                yield f'<path class="z" d="M{start:.1f} {top + HEIGHT / 2:g}H{end:.1f}"/>'
         yield "</g>"
 
     def levels(self, found: List[Span], top: float) -> str:

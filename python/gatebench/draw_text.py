@@ -27,7 +27,7 @@ def draw_text(picture: Picture, width: int = 100, signs: Signs = UNICODE) -> str
     its end; where the net changes in it more than once, it shows that, so no pulse is too short to be seen."""
     label = max([len("moment"), *(len(it.net) for it in picture.waves)]) + 2
     step = -(-picture.moments // max(20, width - label))
-    lines = axis(picture, label, step, signs.mark)
+    lines = axis(picture, label, step, signs.mark, width)
     for wave in picture.waves:
         lines.append(wave.net.ljust(label) + cells(wave, picture, step, signs))
     legend = f"one cell is {step} x {picture.unit}; {signs.several} is more than one change"
@@ -44,12 +44,12 @@ def cells(wave: Wave, picture: Picture, step: int, signs: Signs) -> str:
     return "".join(drawn)
 
 
-def axis(picture: Picture, label: int, step: int, mark: str) -> List[str]:
-    """Two lines: the moments of the marks, and the marks."""
-    numbers, ticks = "moment".ljust(label), " " * label
+def axis(picture: Picture, label: int, step: int, mark: str, width: int) -> List[str]:
+    """Two lines: the moments of the marks, where there is room for them, and the marks."""
+    numbers, marks = "moment".ljust(label - 1), " " * label
     for moment in picture.marks(MARK_CELLS * step):
         column = label + (moment - picture.start) // step
-        if column < len(numbers) and len(numbers) > label:
-            continue
-        numbers, ticks = numbers.ljust(column) + str(moment) + " ", ticks.ljust(column) + mark
-    return [numbers.rstrip(), ticks]
+        marks = marks.ljust(column) + mark
+        if len(numbers) < column and column + len(str(moment)) <= width:
+            numbers = numbers.ljust(column) + str(moment)
+    return [numbers.rstrip(), marks]

@@ -18,7 +18,8 @@ def junit_of(reports: Sequence[Report]) -> bytes:
     top = ElementTree.Element("testsuites")
     for report in reports:
         top.append(suite_of(report))
-    return ElementTree.tostring(top, encoding="utf-8", xml_declaration=True) + b"\n"
+    text: bytes = ElementTree.tostring(top, encoding="utf-8", xml_declaration=True)
+    return text + b"\n"
 
 
 def suite_of(report: Report) -> ElementTree.Element:

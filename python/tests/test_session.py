@@ -1,5 +1,6 @@
 """Each command over the program. The replies are worked out by hand, by the rules of docs/SPEC.md."""
 import os
+from typing import Callable, Tuple
 
 
 from gatebench import Change, Closed, Difference, DesignRefused, Refused, Session, constant, diff
@@ -70,13 +71,14 @@ class Inverter(WithFolder):
         self.assertEqual(self.session.horizon(20), 3)
 
     def test_each_question_is_refused_by_name(self) -> None:
-        for ask in (
+        questions: Tuple[Callable[[], object], ...] = (
             lambda: self.session.wave("q"),
             lambda: self.session.value("q", 0),
             lambda: self.session.next("q", 0),
             lambda: self.session.prev("q", 0),
             lambda: self.session.seek("q", 0, 1),
-        ):
+        )
+        for ask in questions:
             with self.assertRaises(Refused) as caught:
                 ask()
             self.assertEqual(caught.exception.name, "UnknownNet")
@@ -130,8 +132,8 @@ class Inverter(WithFolder):
 
     def test_any_lines_as_one_block(self) -> None:
         replies = self.session.ask(["value y 2", "wibble", "next y 13", "delay g 1 1"])
-        self.assertEqual([(it.lines, it.end) for it in replies],
-                         [(("1",), "ok 2"), ((), "no 16 BadCommand"), (("none",), "ok 2"), ((), "ok 3")])
+        wanted = [(("1",), "ok 2"), ((), "no 16 BadCommand"), (("none",), "ok 2"), ((), "ok 3")]
+        self.assertEqual([(it.lines, it.end) for it in replies], wanted)
 
     def test_a_long_block_of_questions_is_answered_in_order(self) -> None:
         replies = self.session.ask([f"value y {at % 21}" for at in range(2_100)])

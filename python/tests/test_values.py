@@ -1,22 +1,26 @@
 """Values, changes and lines."""
 import unittest
+from typing import Tuple
 
 from gatebench import Change, constant
 from gatebench.lines import checked_line, is_skipped, line_of
-from gatebench.values import change_of, changes_of, value_of
+from gatebench.values import GivenValue, change_of, changes_of, value_of
 
 
 class Values(unittest.TestCase):
     def test_a_value_may_be_given_as_a_number_or_a_truth(self) -> None:
-        self.assertEqual([value_of(it) for it in ("0", "1", "x", "z", 0, 1, False, True)], list("01xz0101"))
+        given: Tuple[GivenValue, ...] = ("0", "1", "x", "z", 0, 1, False, True)
+        self.assertEqual([value_of(it) for it in given], list("01xz0101"))
 
     def test_nothing_else_is_a_value(self) -> None:
-        for wrong in ("X", "", "01", 2, -1):
+        given: Tuple[GivenValue, ...] = ("X", "", "01", 2, -1)
+        for wrong in given:
             with self.assertRaises(ValueError):
                 value_of(wrong)
 
     def test_constants_are_written_as_the_language_has_them(self) -> None:
-        self.assertEqual([constant(it) for it in (0, 1, "x", "z")], ["1'b0", "1'b1", "1'bx", "1'bz"])
+        given: Tuple[GivenValue, ...] = (0, 1, "x", "z")
+        self.assertEqual([constant(it) for it in given], ["1'b0", "1'b1", "1'bx", "1'bz"])
 
     def test_a_line_of_a_wave_is_a_change(self) -> None:
         self.assertEqual(change_of("13 x"), Change(13, "x"))
