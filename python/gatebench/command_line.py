@@ -85,9 +85,13 @@ def check(options: argparse.Namespace) -> int:
 
 
 def summary(reports: List[Report]) -> str:
-    failures = sum(len(it.failures()) for it in reports)
-    steps, expectations = (sum(it.commands for it in reports), sum(it.expectations for it in reports))
-    return f"{len(reports)} files, {steps} lines, {expectations} expectations, {failures} failures"
+    counts = {
+        "files": len(reports),
+        "commands": sum(it.commands for it in reports),
+        "expectations": sum(it.expectations for it in reports),
+        "failures": sum(len(it.failures()) for it in reports),
+    }
+    return ", ".join(f"{what}: {count}" for what, count in counts.items())
 
 
 class DrawError(Exception):

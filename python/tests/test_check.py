@@ -42,12 +42,12 @@ class Checks(WithFolder):
         self.write("commands", "design m.v --horizon 20\n" + text)
         status, printed, _ = self.run_check("commands")
         lines = printed.splitlines()
-        self.assertEqual((status, lines[-1].rpartition(", ")[2]), (int(len(lines) > 1), f"{len(lines) - 1} failures"))
+        self.assertEqual((status, lines[-1].rpartition(", ")[2]), (int(len(lines) > 1), f"failures: {len(lines) - 1}"))
         return lines[:-1]
 
     def test_a_file_that_is_met(self) -> None:
         self.write("well", WELL)
-        self.assertEqual(self.run_check("well"), (0, "1 files, 10 lines, 6 expectations, 0 failures\n", ""))
+        self.assertEqual(self.run_check("well"), (0, "files: 1, commands: 10, expectations: 6, failures: 0\n", ""))
 
     def test_a_value_that_is_another(self) -> None:
         self.assertEqual(self.failures("stim a 0 0\nexpect y 2 0\nexpect y 1 x\n"), ["commands:3: expected 0, got 1"])
@@ -95,7 +95,7 @@ class Checks(WithFolder):
         self.assertEqual(status, 1)
         self.assertEqual(
             printed.splitlines(),
-            ["nobody: can't be read: No such file or directory", "2 files, 10 lines, 6 expectations, 1 failures"],
+            ["nobody: can't be read: No such file or directory", "files: 2, commands: 10, expectations: 6, failures: 1"],
         )
 
     def test_a_file_without_a_design_takes_that_of_the_command_line(self) -> None:
