@@ -24,16 +24,16 @@ class Case(NamedTuple):
 
 
 class Report(NamedTuple):
-    """What came of a file: how many commands it has, and its cases in order. `error` is why it could not be run."""
+    """What came of a file: its steps, and its cases in order. `error` is why it could not be run to its end."""
 
     path: str
-    commands: int
+    steps: List[Step]
     cases: List[Case]
     error: Optional[Failure] = None
 
     @property
     def expectations(self) -> int:
-        return len(self.cases)
+        return sum(it.is_expectation for it in self.steps)
 
     def failures(self) -> List[Failure]:
         found = [it.failure for it in self.cases if it.failure is not None]
@@ -50,12 +50,12 @@ def check_file(path: str, default: Opening, program: Optional[str], timeout: Opt
     try:
         script = read_script(path)
     except BadLine as bad:
-        return Report(path, 0, [], Failure(bad.number, f"expected {bad.wanted}, got {bad.line.strip()}"))
+        return Report(path, [], [], Failure(bad.number, f"expected {bad.wanted}, got {bad.line.strip()}"))
     except OSError as error:
-        return Report(path, 0, [], Failure(0, f"can't be read: {error.strerror}"))
+        return Report(path, [], [], Failure(0, f"can't be read: {error.strerror}"))
     opening = script.opening or default
     if not opening.design:
-        return Report(path, 0, [], Failure(0, "has no line 'design FILE', and no --design was given"))
+        return Report(path, [], [], Failure(0, "has no line 'design FILE', and no --design was given"))
     return run_script(path, script, opening, program, timeout)
 
 
@@ -73,10 +73,10 @@ def run_script(path: str, script: Script, opening: Opening, program: Optional[st
     except NoReply as failure:
         at = steps[len(failure.replies)].number if len(failure.replies) < len(steps) else 0
         cases = list(cases_of(steps, failure.replies, open_session))
-        return Report(path, len(steps), cases, Failure(at, str(failure)))
+        return Report(path, steps, cases, Failure(at, str(failure)))
     except GatebenchError as failure:
-        return Report(path, len(steps), [], Failure(0, str(failure)))
-    return Report(path, len(steps), list(cases_of(steps, replies, open_session)))
+        return Report(path, steps, [], Failure(0, str(failure)))
+    return Report(path, steps, list(cases_of(steps, replies, open_session)))
 
 
 def cases_of(steps: List[Step], replies: List[Reply], open_session: Callable[[], Session]) -> Iterator[Case]:

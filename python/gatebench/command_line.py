@@ -87,7 +87,7 @@ def check(options: argparse.Namespace) -> int:
 def summary(reports: List[Report]) -> str:
     counts = {
         "files": len(reports),
-        "commands": sum(it.commands for it in reports),
+        "commands": sum(len(it.steps) for it in reports),
         "expectations": sum(it.expectations for it in reports),
         "failures": sum(len(it.failures()) for it in reports),
     }

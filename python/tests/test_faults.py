@@ -2,7 +2,7 @@
 import os
 import sys
 import unittest
-from typing import Dict, Optional, Tuple
+from typing import Callable, Dict, List, Optional, Tuple
 
 from .support import EXAMPLES
 
@@ -10,7 +10,7 @@ sys.path.insert(0, os.path.join(EXAMPLES, "faults"))
 import faults as example  # noqa: E402
 from circuit import Circuit, faults, read_circuit  # noqa: E402
 
-TABLES = {
+TABLES: Dict[str, Callable[[List[int]], int]] = {
     "nand": lambda bits: 1 - min(bits),
     "and": min,
     "or": max,
