@@ -1,5 +1,5 @@
 """Runs files of commands, and says where a reply is not the one that is expected."""
-from typing import Callable, Iterator, List, NamedTuple, Optional
+from typing import Callable, Iterator, List, NamedTuple, Optional, Tuple
 
 from .errors import GatebenchError, NoReply
 from .refusal import NO_EDIT, place_at_fault
@@ -69,14 +69,18 @@ def run_script(path: str, script: Script, opening: Opening, program: Optional[st
 
     try:
         with open_session() as session:
-            replies = session.ask([it.line for it in steps])
-    except NoReply as failure:
-        at = steps[len(failure.replies)].number if len(failure.replies) < len(steps) else 0
-        cases = list(cases_of(steps, failure.replies, open_session))
-        return Report(path, steps, cases, Failure(at, str(failure)))
+            replies, error = answers(session, steps)
     except GatebenchError as failure:
         return Report(path, steps, [], Failure(0, str(failure)))
-    return Report(path, steps, list(cases_of(steps, replies, open_session)))
+    return Report(path, steps, list(cases_of(steps, replies, open_session)), error)
+
+
+def answers(session: Session, steps: List[Step]) -> Tuple[List[Reply], Optional[Failure]]:
+    """The replies to the steps; where the program does not give all of them, also why, at the line that it stopped at."""
+    try:
+        return session.ask([it.line for it in steps]), None
+    except NoReply as failure:
+        return failure.replies, Failure(steps[min(len(failure.replies), len(steps) - 1)].number, str(failure))
 
 
 def cases_of(steps: List[Step], replies: List[Reply], open_session: Callable[[], Session]) -> Iterator[Case]:

@@ -115,6 +115,17 @@ class Checks(WithFolder):
             ["commands:3: expected 1, got 0", "commands:4: the program ended with status 3: gone"],
         )
 
+    def test_a_program_that_can_t_be_opened_is_told_of_the_file(self) -> None:
+        program = self.stand_in("sys.stderr.write('read failed\\n')\nsys.exit(3)")
+        self.write("commands", "design m.v\n\nstim a 0 1\n")
+        causes = {
+            program: "the program ended with status 3: read failed",
+            "no-program": "no-program can't be started: No such file or directory",
+        }
+        for path, said in causes.items():
+            status, printed, _ = self.run_check("commands", "--program", path)
+            self.assertEqual((status, printed.splitlines()[0]), (1, f"commands: {said}"))
+
     def test_the_report_for_ci_systems(self) -> None:
         self.write("well", WELL)
         self.write("bad", "design m.v\nexpect y 0 1\nexpect y 0 x\ndrop <h>\n")
