@@ -138,6 +138,15 @@ class Halving(unittest.TestCase):
         for lines in trials:
             self.assertEqual((lines[0], *lines[-2:]), ("begin", "drop '", "commit"))
 
+    def test_each_place_is_found(self) -> None:
+        def exchange(lines: Sequence[str]) -> List[Reply]:
+            return [Reply((), "no 7 WrongArity" if "bad" in lines else "no 2 UnknownGate")]
+
+        for count in range(1, 20):
+            for place in range(count):
+                edits = ["good"] * place + ["bad"] + ["good"] * (count - place - 1)
+                self.assertEqual(place_at_fault(exchange, edits, Reply((), "no 7 WrongArity")), place)
+
     def test_the_probe_has_another_cause_than_the_batch(self) -> None:
         def exchange(lines: Sequence[str]) -> List[Reply]:
             end = "no 2 UnknownGate" if "bad" in lines or "drop '" in lines else "no 1 UnknownNet"

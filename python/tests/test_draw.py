@@ -98,6 +98,7 @@ class Svgs(unittest.TestCase):
         [row] = self.drawing(A).findall(SVG + "g")
         [x0, y0, x1, x2, y2, x3] = self.numbers(row, "wave")
         self.assertEqual((x1, y0 - y2), (x2, HEIGHT))
+        self.assertEqual(str(row.findall(SVG + "path")[0].get("d")).count("M"), 1)
         # 0 for 10 of 21 moments.
         self.assertAlmostEqual((x1 - x0) / (x3 - x0), 10 / 21, places=3)
 

@@ -14,6 +14,7 @@ $var wand 1 " y $end
 $scope module v $end
 $var wire 1 !! y $end
 $upscope $end
+$var wire 1 "! q $end
 $upscope $end
 $upscope $end
 $enddefinitions $end
@@ -22,6 +23,7 @@ $dumpvars
 0!
 x"
 z!!
+1"!
 $end
 #4
 1!
@@ -36,8 +38,8 @@ class Dumps(unittest.TestCase):
     def test_a_dump_has_all_waves_in_the_order_of_the_nets(self) -> None:
         dump = dump_of(TEXT.splitlines())
         self.assertEqual((dump.unit, dump.horizon), ("10 ns", 12))
-        self.assertEqual(list(dump.waves), ["a", "u.y", "u.v.y"])
-        wanted = {"a": "0 0 4 1", "u.y": "0 x 9 0", "u.v.y": "0 z 4 1"}
+        self.assertEqual(list(dump.waves), ["a", "u.y", "u.v.y", "u.q"])
+        wanted = {"a": "0 0 4 1", "u.y": "0 x 9 0", "u.v.y": "0 z 4 1", "u.q": "0 1"}
         for net, words in wanted.items():
             self.assertEqual(dump.waves[net], Wave(net, changes_of(tuple(words.split())), 12))
             self.assertEqual(dump.waves[net].net, net)
