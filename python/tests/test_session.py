@@ -135,9 +135,9 @@ class Inverter(WithFolder):
         wanted = [(("1",), "ok 2"), ((), "no 16 BadCommand"), (("none",), "ok 2"), ((), "ok 3")]
         self.assertEqual([(it.lines, it.end) for it in replies], wanted)
 
-    def test_a_long_block_of_questions_is_answered_in_order(self) -> None:
-        replies = self.session.ask([f"value y {at % 21}" for at in range(2_100)])
-        self.assertEqual([it.lines[0] for it in replies], list("xx" + "1" * 11 + "0" * 8) * 100)
+    def test_210_000_questions_in_one_block_are_answered_in_order(self) -> None:
+        replies = self.session.ask([f"value y {at % 21}" for at in range(210_000)])
+        self.assertEqual([it.lines[0] for it in replies], list("xx" + "1" * 11 + "0" * 8) * 10_000)
 
     def test_quit_gives_the_version_and_ends_the_session(self) -> None:
         self.assertEqual(self.session.quit(), 2)
