@@ -59,7 +59,7 @@ class Channel:
             return
         try:
             self._stdin.close()
-            self._drain()
+            self._see_end()
             status = self._process.wait(self._timeout)
         except subprocess.TimeoutExpired as error:
             failure = TimedOut(error.timeout)
@@ -120,11 +120,11 @@ class Channel:
             raise TimedOut(seconds or 0.0)
         return self._stdout.fileno() in ready, wants_to_write and self._stdin.fileno() in ready
 
-    def _drain(self) -> None:
-        """Reads what still comes, until the program closes its output."""
-        while self._wait(False, self._timeout)[0]:
-            if not os.read(self._stdout.fileno(), PIECE):
-                return
+    def _see_end(self) -> None:
+        """Waits until the program closes its output. All that it had to say was read before."""
+        self._wait(False, self._timeout)
+        if os.read(self._stdout.fileno(), PIECE):
+            raise BadReply("the program wrote more than replies")
 
     def _ended(self) -> ProgramEnded:
         self._stdin.close()

@@ -108,6 +108,11 @@ class BadPrograms(WithFolder):
         with self.assertRaises(TimedOut):
             session.close()
 
+    def test_a_program_that_writes_on_at_its_end(self) -> None:
+        session = self.session("answer(1)\ncommands.read()\nwhile True: replies.write(b'ok 1\\n')")
+        with self.assertRaises(BadReply):
+            session.close()
+
     def test_a_program_that_says_much_on_standard_error(self) -> None:
         session = self.session("sys.stderr.write('e' * 1_000_000)\nsys.stderr.flush()\nanswer(2)\nsys.exit(3)")
         session.command("commit")
