@@ -76,6 +76,15 @@ class Checks(WithFolder):
             self.failures(text), ["commands:9: expected ok, got no 2 UnknownGate for line 7: drop h"]
         )
 
+    def test_a_begin_that_is_refused_begins_no_batch(self) -> None:
+        self.assertEqual(
+            self.failures("begin\ndrop h\nexpect-refused InBatch begin\nbegin\nstim a 5 0\ncommit\n"),
+            [
+                "commands:5: expected ok, got no 20 InBatch",
+                "commands:7: expected ok, got no 2 UnknownGate for line 3: drop h",
+            ],
+        )
+
     def test_a_commit_without_a_batch_names_no_line(self) -> None:
         self.assertEqual(self.failures("stim a 0 1\ncommit\n"), ["commands:3: expected ok, got no 19 NoBatch"])
 
@@ -101,6 +110,8 @@ class Checks(WithFolder):
     def test_a_file_without_a_design_takes_that_of_the_command_line(self) -> None:
         self.write("commands", "stim a 0 0\nexpect y 2 1\nexpect-refused 11 value y 6\n")
         self.assertEqual(self.run_check("commands", "--design", "m.v", "--horizon", "5")[0], 0)
+        self.write("well", WELL)
+        self.assertEqual(self.run_check("well", "--design", "nobody", "--horizon", "5")[0], 0)
         status, printed, _ = self.run_check("commands")
         self.assertEqual(status, 1)
         self.assertIn("commands: has no line 'design FILE'", printed)
