@@ -1,16 +1,13 @@
 -- Beginnings of lists of commits.
-use Rattle.std.proofs.Common.{◌≡◌, ◌<◌, ◌≤◌, ◌+◌, ◌++◌, [], Bool, true, false, ℕ, List, length, take, drop, refl, sym, ap, ◌∙◌, arith, append_assoc, if◌then◌else◌}
+use Rattle.std.proofs.Common.{◌≡◌, ◌<◌, ◌≤◌, ◌++◌, [], Bool, true, false, ℕ, List, length, take, drop, refl, sym, ap, ◌∙◌, arith, append_assoc, if◌then◌else◌}
 use Rattle.std.specs.Prelude.{max, nat_le}
 use Rattle.std.proofs.Math.Seq.{take-append_seam}
 use Rattle.std.proofs.lemmas.Bool.Decides.{nat_tests}
-use Rattle.std.proofs.lemmas.List.{append-nil, length-append, take-append-drop, take-take}
+use Rattle.std.proofs.lemmas.List.{append-nil, take-append-drop, take-take}
 use Rattle.hubcore.specs.Lists.{EntryRecord, StartsWith, longer}
 
 pub starts_same : (xs : List EntryRecord) → StartsWith xs xs
 starts_same xs = ([], sym (append-nil xs))
-
-pub starts_empty : (xs : List EntryRecord) → StartsWith xs []
-starts_empty xs = (xs, refl)
 
 pub starts_take : (xs : List EntryRecord) (n : ℕ) → StartsWith xs (take n xs)
 starts_take xs n = (drop n xs, sym (take-append-drop n xs))

@@ -1,8 +1,8 @@
 -- Whatever happens, the log and what is shown of it grow, and snapshots stay.
-use Rattle.std.proofs.Common.{◌≡◌, ◌<◌, ◌≤◌, ◌+◌, ◌++◌, ◌∷◌, [], Bool, true, false, ℕ, List, length, take, Option, Some, None, Result, Ok, Err, refl, sym, ap, ◌∙◌, subst, arith, append_assoc, nat_lt, if◌then◌else◌}
-use Rattle.std.specs.List.{slice_get, position}
+use Rattle.std.proofs.Common.{◌≡◌, ◌≤◌, ◌+◌, ◌++◌, ◌∷◌, [], Bool, true, false, ℕ, List, length, take, Option, Some, None, Result, Ok, Err, refl, sym, ap, ◌∙◌, subst, arith, append_assoc, nat_lt, if◌then◌else◌}
+use Rattle.std.specs.List.{slice_get}
 use Rattle.std.specs.Result.{IsOk, IsOkAnd, result_map_both}
-use Rattle.std.proofs.lemmas.List.{length-append, length-set, append-nil, take_all, take-append-le}
+use Rattle.std.proofs.lemmas.List.{length-set, append-nil, take_all, take-append-le}
 use Rattle.std.proofs.lemmas.Option.{slice_get_within, slice_get-get_or}
 use Rattle.edits.specs.declared.edit.Edit.{Edit}
 use Rattle.bench.specs.Benches.{SnapshotRecord, snapshot_of}
@@ -11,12 +11,11 @@ use Rattle.hubcore.specs.declared.event.Event.{Event}
 use Rattle.hubcore.specs.declared.event.Event.TheVariants.{Submit, Show, Look, Learn, Release}
 use Rattle.hubcore.specs.declared.fault.CoreFault.{CoreFault}
 use Rattle.hubcore.specs.declared.fault.CoreFault.TheVariants.{AheadOfLog}
-use Rattle.hubcore.specs.declared.reply.Reply.{Reply}
 use Rattle.hubcore.specs.declared.reply.Reply.TheVariants.{Done}
 use Rattle.hubcore.specs.States.{ViewerRecord, CoreRecord, Follows, IsSound, opened}
-use Rattle.hubcore.specs.Steps.{GivesAtLeast, looked, learned, released, released_at, looks, learns, releases, step, taken, state_after, with_viewer}
-use Rattle.hubcore.specs.Snapshots.{Accepts, AreLegal, IsAnswer, IsLegal, snapshot_at}
-use Rattle.hubcore.proofs.Sound.{after_sound, step_sound, taken_sound, viewer_within}
+use Rattle.hubcore.specs.Steps.{GivesAtLeast, looked, learned, released, looks, learns, releases, step, taken, state_after, with_viewer}
+use Rattle.hubcore.specs.Snapshots.{Accepts, AreLegal, IsLegal, snapshot_at}
+use Rattle.hubcore.proofs.Sound.{step_sound, taken_sound, viewer_within}
 
 -- One event.
 

@@ -1,5 +1,5 @@
 -- Lists of commits go on with the state whose lengths they have.
-use Rattle.std.proofs.Common.{◌≡◌, ◌≢◌, ◌<◌, ◌≤◌, ◌+◌, ◌++◌, ◌∷◌, ◌==◌, [], Bool, true, false, ℕ, List, length, map, take, set, get_or, All, Option, Some, None, Result, Ok, Err, refl, sym, ap, ◌∙◌, arith, nat_lt, if◌then◌else◌}
+use Rattle.std.proofs.Common.{◌≡◌, ◌≢◌, ◌<◌, ◌≤◌, ◌+◌, ◌++◌, ◌∷◌, ◌==◌, [], Bool, true, false, ℕ, List, length, map, take, set, get_or, Option, Some, None, Result, Ok, Err, refl, sym, ap, ◌∙◌, arith, nat_lt, if◌then◌else◌}
 use Rattle.std.specs.Prelude.{max}
 use Rattle.std.specs.List.{position, remove, slice_get}
 use Rattle.std.specs.Result.{IfOk, result_map_both}
@@ -20,8 +20,8 @@ use Rattle.hubcore.specs.declared.reply.Reply.TheVariants.{Done}
 use Rattle.hubcore.specs.Lists.{EntryRecord, HasLengths, IsKnown, Known, Stands, StartsWith, commits_of, entry, known, known_after, lists_of, longer}
 use Rattle.hubcore.specs.Snapshots.{snapshot_at}
 use Rattle.hubcore.specs.States.{ViewerRecord, CoreRecord, viewer}
-use Rattle.hubcore.specs.Steps.{learned, learns, looked, looks, released, released_at, releases, step, with_viewer}
-use Rattle.hubcore.proofs.Beginnings.{length_of_longer, longer_begins, starts_empty, starts_more, starts_on, starts_same, starts_take}
+use Rattle.hubcore.specs.Steps.{learned, learns, looked, looks, released_at, releases, step, with_viewer}
+use Rattle.hubcore.proofs.Beginnings.{length_of_longer, longer_begins, starts_more, starts_on, starts_same, starts_take}
 
 abbrev seen_of : ViewerRecord → ℕ
 seen_of v = v.seen

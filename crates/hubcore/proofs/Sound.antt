@@ -1,5 +1,5 @@
 -- Each state that events reach is sound.
-use Rattle.std.proofs.Common.{◌≡◌, ◌≤◌, ◌++◌, ◌∷◌, [], Bool, true, false, ℕ, List, length, Option, Some, None, Result, Ok, Err, refl, subst, arith, nat_lt, if◌then◌else◌}
+use Rattle.std.proofs.Common.{◌≡◌, ◌≤◌, ◌∷◌, [], Bool, true, false, ℕ, List, length, Option, Some, None, Result, Ok, Err, refl, subst, arith, nat_lt, if◌then◌else◌}
 use Rattle.std.specs.List.{slice_get}
 use Rattle.std.specs.Result.{IfOk, result_map_both}
 use Rattle.std.proofs.lemmas.Grind.{common_steps}
