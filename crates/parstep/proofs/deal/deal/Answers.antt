@@ -4,7 +4,7 @@ use Rattle.std.proofs.lemmas.List.Elements.{All-take, All-drop}
 use Rattle.floor.specs.Pieces.{next_piece, after, Deal}
 use Rattle.gatestep.specs.Tasks.{IsReady}
 use Rattle.parstep.proofs.Dealt.{deal_at, bounds_at, some_at}
-use Rattle.parstep.proofs.pool.deal.Goals as goal
+use Rattle.parstep.proofs.deal.deal.Goals as goal
 
 pub unreachable-requires : goal.unreachable-requires
 unreachable-requires g c =
