@@ -26,6 +26,7 @@ pub fn deal<R: Wait>(
     requires ready { All (IsReady t) tasks.now }
     requires within { t ≤ MAX_TIME }
     requires seated { pieces ≤ length seats.old }
+    requires filled { pieces ≤ length tasks.now }
     requires opened { floor.old ≡ opened (length tasks.now) pieces }
     ensures dealt { OnOk result (floor.new ≡ dealing (length tasks.now) pieces 0) }
     ensures seats { length seats.new ≡ length seats.old }

@@ -1,8 +1,8 @@
 //! How the answers of a step are put together.
 
-ghost use Rattle.std.specs.Prelude.{[], ◌≡◌, ◌<◌, ◌≤◌, ◌+◌, length, map, All, OnOk, OnErr, IfOk};
+ghost use Rattle.std.specs.Prelude.{[], ◌≡◌, ◌<◌, ◌≤◌, ◌+◌, length, map, All, OnOk, OnErr, IfOk, Some};
 ghost use Rattle.fourstate.specs.declared.limits.TheConstants.{MAX_TIME};
-ghost use Rattle.floor.specs.Pieces.{opened};
+ghost use Rattle.floor.specs.Pieces.{opened, finished};
 ghost use Rattle.gatestep.specs.Step.{advance};
 ghost use Rattle.gatestep.specs.Tasks.{IsReady, PendingFrom};
 ghost use Rattle.parstep.specs.Dealt.{dealing, gathering};
@@ -82,7 +82,7 @@ fn gather<R: Wait>(
     requires seated { pieces ≤ length seats.old }
     requires some { 0 < pieces }
     requires dealt { floor.old ≡ dealing (length tasks.now) pieces 0 }
-    ensures gathered { OnOk result (floor.new ≡ gathering (length tasks.now) pieces (map (λ task. advance task t) tasks.now) pieces 0) }
+    ensures gathered { OnOk result (finished floor.new ≡ Some (map (λ task. advance task t) tasks.now)) }
     ensures later { OnOk result (All (PendingFrom (t + 1)) (map (λ task. advance task t) tasks.now)) }
     ensures seats { length seats.new ≡ length seats.old }
 {

@@ -6,6 +6,7 @@ mod bulk;
 mod compare;
 mod deal;
 mod gather;
+pub mod laws;
 mod limits;
 mod message;
 mod pool;
