@@ -1,5 +1,5 @@
 -- A floor whose pieces are dealt in order and then answered in order.
-use Rattle.std.proofs.Common.{◌≡◌, ◌<◌, ◌≤◌, ◌+◌, ◌-◌, ◌*◌, ◌++◌, ◌∙◌, ℕ, zero, suc, Bool, true, false, Option, Some, None, Ok, List, [], ◌∷◌, length, map, set, take, drop, replicate, slice_get, slice_range, refl, ap, sym, All, nat_lt, arith}
+use Rattle.std.proofs.Common.{◌≡◌, ◌<◌, ◌≤◌, ◌+◌, ◌-◌, ◌*◌, ◌++◌, ◌∙◌, ℕ, zero, suc, true, false, Some, None, List, [], ◌∷◌, length, set, replicate, slice_get, slice_range, refl, ap, sym, nat_lt, arith}
 use Rattle.std.proofs.lemmas.Grind.{common_steps}
 use Rattle.std.proofs.lemmas.List.{length-append, append_assoc}
 use Rattle.std.proofs.Math.Nat.{div-mul-le_self, le-div_iff_mul-le, suc-mul}
@@ -8,8 +8,8 @@ use Rattle.std.specs.Option.{unwrap_or, option_map}
 use Rattle.floor.proofs.Cuts.{first_rises, first_within}
 use Rattle.floor.specs.declared.piece.Piece.{Piece}
 use Rattle.gatestep.specs.Step.{State}
-use Rattle.parstep.specs.Dealt.{dealing, answered, gathering}
-use Rattle.floor.specs.Pieces.{Dealing, PieceState, Waiting, Out, Answered, Failed, Deal, Answer, first_task, part, first_waiting, all_answered, joined, after, next_piece}
+use Rattle.parstep.specs.Dealt.{dealing, answered}
+use Rattle.floor.specs.Pieces.{PieceState, Waiting, Out, Answered, Failed, Deal, first_task, part, first_waiting, all_answered, after, next_piece}
 
 pub first_of_dealing : (k m : ℕ) → first_waiting (replicate k Out ++ replicate m Waiting) ≡ k
 first_of_dealing zero zero = refl

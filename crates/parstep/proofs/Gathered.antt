@@ -1,13 +1,13 @@
 -- The answers of a step, as they are gathered piece by piece.
-use Rattle.std.proofs.Common.{◌≡◌, ◌<◌, ◌≤◌, ◌+◌, ◌-◌, ◌++◌, ◌∙◌, ℕ, zero, suc, true, false, Some, Ok, List, [], ◌∷◌, length, map, take, drop, replicate, refl, ap, sym, All, slice_range, arith}
+use Rattle.std.proofs.Common.{◌≡◌, ◌<◌, ◌≤◌, ◌+◌, ◌-◌, ◌++◌, ◌∙◌, ℕ, zero, suc, false, Some, Ok, List, [], ◌∷◌, length, map, take, drop, replicate, refl, ap, sym, All, slice_range, arith}
 use Rattle.std.proofs.lemmas.Grind.{common_steps}
 use Rattle.std.proofs.lemmas.List.{take-map, drop-map, take-append-drop, drop-take, length-append, append-nil, append_assoc}
 use Rattle.std.proofs.Math.Seq.{take-length}
 use Rattle.std.proofs.lemmas.List.Elements.{All-append}
 use Rattle.floor.proofs.Cuts.{first_rises, first_within, first_ends, first_begins}
 use Rattle.floor.proofs.Changes.{answer_fits, after_answer}
-use Rattle.floor.specs.Pieces.{PieceState, Out, Answered, Answer, first_task, part, awaited, answer_reply, fail_reply, finished, joined, kept, after}
-use Rattle.gatestep.specs.Step.{State, Evaluation, advance}
+use Rattle.floor.specs.Pieces.{PieceState, Out, Answered, Answer, first_task, part, awaited, answer_reply, finished, joined, kept, after}
+use Rattle.gatestep.specs.Step.{State, Evaluation}
 use Rattle.parstep.proofs.Dealt.{next_out, next_answered, length_answered, all_are, length_range}
 use Rattle.parstep.specs.Dealt.{answered, gathering}
 
@@ -38,7 +38,7 @@ taken_next n p all k m whole count =
     let long : length (gathering n p all k (suc m)).pieces ≡ p = count_at n p all k (suc m) ∙ count in
     let ends : first_task n p (k + 1) ≤ n = first_within n p (k + 1) (omega arith) (omega arith) in
     let fits : length (part n p k all) ≡ first_task n p (k + 1) - first_task n p k =
-      length_range all (first_task n p k) (first_task n p (k + 1)) (first_rises n p k (k + 1) (omega arith)) (omega arith) in
+    length_range all (first_task n p k) (first_task n p (k + 1)) (first_rises n p k (k + 1) (omega arith)) (omega arith) in
     answer_fits (gathering n p all k (suc m)) k (part n p k all) (ap awaited (next_out n p all k m))
     (fits ∙ ap (λ q. first_task n q (k + 1) - first_task n q k) (sym long))
 
@@ -91,7 +91,7 @@ finished_at n p all m whole some none =
     let nil : answered n p all p ++ replicate m Out ≡ answered n p all p = ap (λ it. answered n p all p ++ replicate it Out) none ∙ append-nil (answered n p all p) in
     let yes = all_are n p all p in
     let joined_all : joined (answered n p all p) ≡ all =
-      joined_at n p all p ∙ ap (λ it. take it all) (first_ends n p some ∙ sym whole) ∙ take-length all in
+    joined_at n p all p ∙ ap (λ it. take it all) (first_ends n p some ∙ sym whole) ∙ take-length all in
     rw (nil, yes) (ap Some joined_all)
 
 pub finished_end : (n p : ℕ) (all : List State) (k : ℕ) → length all ≡ n → 0 < p → k ≡ p → finished (gathering n p all k (p - k)) ≡ Some all
@@ -102,5 +102,5 @@ finished_end n p all k whole some end =
 pub all_at : (P : State → Type 0) (n p : ℕ) (all : List State) (k : ℕ) → length all ≡ n → 0 < p → k ≡ p → All P (take (first_task n p k) all) → All P all
 all_at P n p all k whole some end here =
     let same : take (first_task n p k) all ≡ all =
-      ap (λ it. take (first_task n p it) all) end ∙ ap (λ it. take it all) (first_ends n p some ∙ sym whole) ∙ take-length all in
+    ap (λ it. take (first_task n p it) all) end ∙ ap (λ it. take it all) (first_ends n p some ∙ sym whole) ∙ take-length all in
     rw (← same) here

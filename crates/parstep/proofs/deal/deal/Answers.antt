@@ -1,4 +1,4 @@
-use Rattle.std.proofs.Common.{◌≡◌, ◌<◌, ◌+◌, ◌-◌, ◌∙◌, length, take, drop, All, ap, sym, arith}
+use Rattle.std.proofs.Common.{◌-◌, ◌∙◌, length, drop, ap, sym, arith}
 use Rattle.std.proofs.lemmas.List.{length-set}
 use Rattle.std.proofs.lemmas.List.Elements.{All-take, All-drop}
 use Rattle.floor.specs.Pieces.{next_piece, after, Deal}

@@ -1,4 +1,4 @@
-use Rattle.std.proofs.Common.{◌≡◌, ◌+◌, ◌-◌, ◌∙◌, length, map, take, ap, sym, All, slice_range, arith}
+use Rattle.std.proofs.Common.{◌+◌, ◌∙◌, length, map, ap, slice_range, arith}
 use Rattle.std.proofs.lemmas.Grind.{common_steps}
 use Rattle.std.proofs.lemmas.List.{length-map, length-set}
 use Rattle.floor.specs.Pieces.{first_task, answer_reply, after, finished, Answer}
