@@ -22,6 +22,8 @@ mod floors;
 #[cfg(test)]
 mod patches;
 #[cfg(test)]
+mod pools;
+#[cfg(test)]
 mod reruns;
 #[cfg(test)]
 mod shortened;

@@ -7,6 +7,7 @@ mod floor;
 mod piece;
 mod stage;
 
+pub use cut::first_task;
 pub use fault::FloorFault;
 pub use floor::Floor;
 pub use piece::Piece;

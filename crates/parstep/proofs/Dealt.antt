@@ -1,13 +1,15 @@
 -- A floor whose pieces are dealt in order and then answered in order.
-use Rattle.std.proofs.Common.{◌≡◌, ◌<◌, ◌≤◌, ◌+◌, ◌-◌, ◌++◌, ◌∙◌, ℕ, zero, suc, Bool, true, false, Option, Some, None, Ok, List, [], ◌∷◌, length, map, set, take, drop, replicate, slice_get, refl, ap, sym, All, nat_lt, arith}
+use Rattle.std.proofs.Common.{◌≡◌, ◌<◌, ◌≤◌, ◌+◌, ◌-◌, ◌*◌, ◌++◌, ◌∙◌, ℕ, zero, suc, true, false, Some, None, List, [], ◌∷◌, length, set, replicate, slice_get, slice_range, refl, ap, sym, nat_lt, arith}
 use Rattle.std.proofs.lemmas.Grind.{common_steps}
 use Rattle.std.proofs.lemmas.List.{length-append, append_assoc}
+use Rattle.std.proofs.Math.Nat.{div-mul-le_self, le-div_iff_mul-le, suc-mul}
+use Rattle.std.proofs.Math.Numerals.{suc-eq-add-one}
 use Rattle.std.specs.Option.{unwrap_or, option_map}
 use Rattle.floor.proofs.Cuts.{first_rises, first_within}
 use Rattle.floor.specs.declared.piece.Piece.{Piece}
 use Rattle.gatestep.specs.Step.{State}
-use Rattle.parstep.specs.Dealt.{dealing, answered, gathering}
-use Rattle.floor.specs.Pieces.{Dealing, PieceState, Waiting, Out, Answered, Failed, Deal, Answer, first_task, part, first_waiting, all_answered, joined, after, next_piece}
+use Rattle.parstep.specs.Dealt.{dealing, answered}
+use Rattle.floor.specs.Pieces.{PieceState, Waiting, Out, Answered, Failed, Deal, first_task, part, first_waiting, all_answered, after, next_piece}
 
 pub first_of_dealing : (k m : ℕ) → first_waiting (replicate k Out ++ replicate m Waiting) ≡ k
 first_of_dealing zero zero = refl
@@ -88,6 +90,24 @@ bounds_at n k p below piece is =
     let first : piece.first ≡ first_task n p k = ap (λ it. unwrap_or (option_map (λ x. x.first) it) 0) (sym is ∙ dealt_at n k p below) in
     let end : piece.end ≡ first_task n p (k + 1) = ap (λ it. unwrap_or (option_map (λ x. x.end) it) 0) (sym is ∙ dealt_at n k p below) in
     (rw (first, end) (first_rises n p k (k + 1) (omega arith)), rw end (first_within n p (k + 1) (omega arith) (omega arith)))
+
+-- where there are as many tasks as pieces, each piece has a task
+first_apart : (n p k : ℕ) → 0 < p → p ≤ n → first_task n p k < first_task n p (k + 1)
+first_apart n p k some many =
+    let below : first_task n p k * p ≤ k * n = div-mul-le_self (k * n) p in
+    let tasks : (k + 1) * n ≡ k * n + n = ap (λ it. it * n) (sym (suc-eq-add-one k)) ∙ suc-mul k n in
+    let pieces : (first_task n p k + 1) * p ≡ first_task n p k * p + p = ap (λ it. it * p) (sym (suc-eq-add-one (first_task n p k))) ∙ suc-mul (first_task n p k) p in
+    let next : first_task n p k + 1 ≤ first_task n p (k + 1) = (le-div_iff_mul-le {k = p} some).1 (omega (arith, below, tasks, pieces)) in
+    omega arith
+
+pub apart_at : (n k p : ℕ) → k < p → p ≤ n → (piece : Piece) → next_piece (dealing n k (p - k)) ≡ Some piece → piece.first < piece.end
+apart_at n k p below many piece is =
+    let first : piece.first ≡ first_task n p k = ap (λ it. unwrap_or (option_map (λ x. x.first) it) 0) (sym is ∙ dealt_at n k p below) in
+    let end : piece.end ≡ first_task n p (k + 1) = ap (λ it. unwrap_or (option_map (λ x. x.end) it) 0) (sym is ∙ dealt_at n k p below) in
+    rw (first, end) (first_apart n p k (omega arith) many)
+
+pub length_range : {A : Type 0} → (xs : List A) (a b : ℕ) → a ≤ b → b ≤ length xs → length (slice_range xs a b) ≡ b - a
+length_range xs a b le within = grind (arith, common_steps)
 
 -- there is one
 pub some_at : (n k p : ℕ) → k < p → next_piece (dealing n k (p - k)) ≡ None → ⊥

@@ -1,4 +1,5 @@
 pub mod Dealt
+pub mod Gathered
 pub mod Mapped
 pub mod Same
 pub mod Walks

@@ -1,5 +1,5 @@
 -- When two evaluations are the same.
-use Rattle.std.proofs.Common.{◌≡◌, refl}
+use Rattle.std.proofs.Common.{◌≡◌}
 use Rattle.gatestep.specs.Step.{Evaluation}
 
 pub same_parts : (a b : Evaluation) → a.kind ≡ b.kind → a.delays ≡ b.delays → a.state ≡ b.state → a.inputs ≡ b.inputs → a ≡ b

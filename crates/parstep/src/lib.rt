@@ -1,13 +1,22 @@
 //! Steppers that evaluate in several threads.
 #![tactic(auto)]
 
+mod adaptive;
 mod bulk;
 mod compare;
+mod deal;
+mod gather;
+pub mod laws;
+mod limits;
 mod message;
 mod pool;
 mod seat;
 mod shareable;
+mod start;
 mod worker;
 
+pub use adaptive::{Adaptive, LEAST_DEALT};
 pub use bulk::Bulk;
+pub use limits::MAX_WORKERS;
+pub use pool::Pool;
 pub use worker::{Probe, Quiet};

@@ -1,6 +1,6 @@
 //! What goes between a pool and its workers.
 
-ghost use Rattle.std.specs.Prelude.{◌≡◌, ◌≤◌, ◌+◌, [], length, map, All, vec_len, IfOk};
+ghost use Rattle.std.specs.Prelude.{◌≡◌, ◌<◌, ◌≤◌, ◌+◌, [], length, map, All, vec_len, IfOk};
 ghost use Rattle.std.specs.Vec.{vec_capacity};
 ghost use Rattle.fourstate.specs.declared.limits.TheConstants.{MAX_TIME};
 ghost use Rattle.gatestep.specs.Step.{advance};
@@ -9,7 +9,7 @@ ghost use Rattle.gatestep.specs.Tasks.{IsReady, PendingFrom};
 use gatestep::{Driver, Task, next};
 use std::alloc::AllocError;
 
-/// A piece on its way to a worker, with room for its answers.
+/// A piece on its way to a worker, with room for its answers. The type keeps that it is not empty.
 #[derive(Drop)]
 pub struct Errand {
     /// The place of the piece among all pieces of the step.
@@ -20,6 +20,7 @@ pub struct Errand {
     pub tasks: Vec<Task>,
     /// An empty list that has room for the answers.
     pub room: Vec<Driver>,
+    ghost some: { 0 < vec_len tasks },
     ghost within: { t ≤ MAX_TIME },
     ghost ready: { All (IsReady t) tasks.items },
     ghost empty: { room.items ≡ [] },
@@ -50,6 +51,7 @@ pub fn errand_of(
     mut copies: Vec<Task>,
     mut room: Vec<Driver>,
 ) -> Result<Errand, AllocError>
+    requires some { 0 < length tasks.now }
     requires ready { All (IsReady t) tasks.now }
     requires within { t ≤ MAX_TIME }
     ensures number { IfOk result (λ errand. errand.number ≡ number) }

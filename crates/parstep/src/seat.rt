@@ -46,6 +46,7 @@ impl Seat {
         tasks: &[Task],
         t: u64,
     ) -> Result<(), StepFault>
+        requires some { 0 < length tasks.now }
         requires ready { All (IsReady t) tasks.now }
         requires within { t ≤ MAX_TIME }
     {

@@ -1,7 +1,6 @@
-use Rattle.std.proofs.Common.{◌≡◌, true, ◌∙◌, sym, arith}
+use Rattle.std.proofs.Common.{◌≡◌, ◌∙◌, sym, arith}
 use Rattle.std.proofs.lemmas.Grind.{common_steps}
 use Rattle.fourstate.specs.DelayLaws.{same_delays_equal}
-use Rattle.fourstate.specs.Delays.{same_delays}
 use Rattle.parstep.proofs.Same.{same_parts}
 use Rattle.parstep.proofs.compare.same_task.Goals as goal
 

@@ -1,6 +1,6 @@
 use Rattle.std.proofs.Common.{◌≡◌, ◌-◌, length}
 use Rattle.parstep.specs.Dealt.{dealing}
-use Rattle.parstep.proofs.pool.deal.Given as goal
+use Rattle.parstep.proofs.deal.deal.Given as goal
 
 -- the pieces so far are out, and the others wait
 abbrev pub invariant-loop-number : goal.invariant-loop-number

@@ -1,0 +1,85 @@
+//! Random tasks.
+
+ghost use Rattle.std.specs.Prelude.{◌≤◌, ◌<◌, All};
+ghost use Rattle.gatestep.specs.Tasks.{IsReady};
+
+use arrayvec::ArrayVec;
+use fourstate::{Delays, GateKind, Value, fits};
+use gatestep::{Driver, Task};
+use std::alloc::Global;
+use std::process::Abort;
+
+/// The moment of every step.
+pub const MOMENT: u64 = 7;
+
+/// Numbers in a fixed order that looks like none.
+#[derive(Drop)]
+pub struct Dice(pub u64);
+
+impl Dice {
+    pub fn below(&mut self, n: u64) -> u64
+        requires { 0 < n }
+        ensures { result < n }
+    {
+        self.0 = self
+            .0
+            .wrapping_mul(6_364_136_223_846_793_005)
+            .wrapping_add(1_442_695_040_888_963_407);
+        (self.0 >> 33) % n
+    }
+}
+
+const KINDS: [GateKind; 6] = [
+    GateKind::And,
+    GateKind::Nor,
+    GateKind::Xor,
+    GateKind::Nand,
+    GateKind::Bufif1,
+    GateKind::Notif0,
+];
+
+const VALUES: [Value; 4] = [Value::Zero, Value::One, Value::Unknown, Value::HighZ];
+
+fn value(dice: &mut Dice) -> Value {
+    VALUES[dice.below(4) as usize]
+}
+
+/// A state in which what is pending comes at the moment or later.
+fn state(dice: &mut Dice) -> Driver
+    ensures { IsReady MOMENT result }
+{
+    let cur = value(dice);
+    let next = value(dice);
+    if next == cur {
+        return Driver { cur, pend: None };
+    }
+    Driver {
+        cur,
+        pend: Some((next, MOMENT + dice.below(5))),
+    }
+}
+
+fn task(rt: &impl Abort, dice: &mut Dice) -> Task
+    ensures { IsReady MOMENT result }
+{
+    let kind = KINDS[dice.below(6) as usize];
+    let delays = Delays::new(1 + dice.below(9), 1 + dice.below(9)).expect(rt, "lawful delays");
+    let mut inputs = ArrayVec::new();
+    for _ in 0..2 {
+        assert!(rt; inputs.try_push(value(dice)).is_ok());
+    }
+    assert!(rt; fits(kind, inputs.as_slice().len()));
+    Task::new(kind, delays, state(dice), inputs)
+}
+
+/// So many tasks.
+pub fn tasks(rt: &impl Abort, alloc: Global, dice: &mut Dice, count: u64) -> Vec<Task>
+    ensures { All (IsReady MOMENT) result.items }
+{
+    let mut tasks = Vec::new(alloc);
+    for _ in 0..count {
+        let task = task(rt, dice);
+        tasks.push(task).expect(rt, "one task more");
+    }
+    tasks
+}

@@ -1,0 +1,94 @@
+//! The threads of pools: they compute at once, end with the pool and follow it to another thread.
+
+ghost use Rattle.std.specs.Prelude.{◌<◌, ◌≤◌};
+ghost use Rattle.parstep.specs.declared.limits.TheConstants.{MAX_WORKERS};
+
+use super::probes::{Behind, Together};
+use super::tasks::{Dice, MOMENT, tasks};
+use crossbeam_channel::{Sender, bounded};
+use gatestep::{Serial, Stepper};
+use parstep::{Pool, Probe, Quiet};
+use std::alloc::Global;
+use std::process::Abort;
+use std::sync::Wait;
+use std::thread;
+use std::thread::Threads;
+
+/// A step of so many tasks by so many workers, whose pieces pass the probe.
+fn step<
+    P: Probe + Send + Sync + Drop + 'static,
+    R: Threads + Wait + Abort + Copy + Drop + Send + 'static,
+>(rt: R, alloc: Global, workers: u32, count: u64, probe: P)
+    requires some { 0 < workers }
+    requires few { workers ≤ MAX_WORKERS }
+{
+    let mut pool = Pool::open(rt, alloc, workers, probe).expect(&rt, "a pool");
+    let tasks = tasks(&rt, alloc, &mut Dice(2), count);
+    let mut wanted = Vec::new(alloc);
+    assert_eq!(&rt; Serial::new().step(&tasks, MOMENT, &mut wanted), Ok(()));
+    let mut answers = Vec::new(alloc);
+    assert_eq!(&rt; pool.step(&tasks, MOMENT, &mut answers), Ok(()));
+    assert_eq!(&rt; answers.as_slice(), wanted.as_slice());
+}
+
+// Piece 0 is held until piece 1 is done, so they are not computed one after another.
+#[test]
+fn the_second_piece_is_done_first(rt: HostRuntime) {
+    step(rt, rt.alloc(), 2, 2, Behind::new());
+}
+
+#[test]
+fn each_piece_waits_for_the_other(rt: HostRuntime) {
+    step(rt, rt.alloc(), 2, 2, Together::new(2));
+}
+
+#[test]
+fn sixty_four_pieces_at_once(rt: HostRuntime) {
+    step(rt, rt.alloc(), 64, 130, Together::new(64));
+}
+
+/// Keeps an end of a channel for as long as a worker lives.
+#[derive(Drop)]
+struct Alive {
+    _end: Sender<u32>,
+}
+
+impl Probe for Alive {
+    fn at(&self, _piece: u32) -> bool {
+        true
+    }
+
+    fn done(&self, _piece: u32) {}
+}
+
+// The workers alone share the sender, and nothing is sent: `recv` returns once the last of them has ended.
+#[test]
+fn the_threads_of_a_dropped_pool_end(rt: HostRuntime) {
+    let (end, closed) = bounded(rt.alloc(), 1).expect(&rt, "a channel");
+    step(rt, rt.alloc(), 64, 100, Alive { _end: end });
+    assert!(&rt; closed.recv(&rt).is_err());
+}
+
+// A probe that ends the workers, and no step: they end with the pool.
+#[test]
+fn the_threads_of_an_idle_pool_end(rt: HostRuntime) {
+    let (end, closed) = bounded(rt.alloc(), 1).expect(&rt, "a channel");
+    let pool = Pool::open(rt, rt.alloc(), 5, Alive { _end: end }).expect(&rt, "a pool");
+    drop(pool);
+    assert!(&rt; closed.recv(&rt).is_err());
+}
+
+#[test]
+fn a_pool_goes_to_another_thread(rt: HostRuntime) {
+    let alloc = rt.alloc();
+    let tasks = tasks(&rt, alloc, &mut Dice(4), 9);
+    let pool = Pool::open(rt, alloc, 2, Quiet).expect(&rt, "a pool");
+    let there = thread::spawn(&rt, move || {
+        let mut pool = pool;
+        let mut answers = Vec::new(alloc);
+        let result = pool.step(&tasks, MOMENT, &mut answers);
+        result.is_ok() && answers.len() == 9
+    });
+    let there = there.ok().expect(&rt, "a thread");
+    assert!(&rt; there.join(&rt));
+}
