@@ -1,7 +1,6 @@
-use Rattle.std.proofs.Common.{refl, map, take}
+use Rattle.std.proofs.Common.{refl}
 use Rattle.std.proofs.lemmas.List.{map-append}
 use Rattle.design.specs.Keys.{netlist}
-use Rattle.scratch.specs.Kept.{driven_kind}
 use Rattle.scratch.proofs.Lists.{take_next}
 use Rattle.scratch.proofs.wiring.all_kinds.Goals as goal
 
