@@ -12,6 +12,8 @@ ghost use Rattle.rundiff.specs.Finishing.{ArePut, AreCleared, new_trace, new_wav
 ghost use Rattle.rundiff.specs.Fronts.{AreDrivers, ArePlaces, AreTouched, AreTraces, AreWaves, EndBy, IsFront};
 ghost use Rattle.rundiff.specs.Places.{is_among};
 
+use crate::place_map::PlaceMap;
+use crate::place_set::PlaceSet;
 use crate::finishing::{clear_touched, put_traces, put_waves};
 use crate::front::Front;
 use crate::holding::hold;
@@ -22,7 +24,6 @@ use edits::Touched;
 use fourstate::Value;
 use gatestep::{Driver, Stepper};
 use std::alloc::{AllocError, Global};
-use std::collections::{BTreeMap, BTreeSet};
 use waveform::{Patch, Run, Trace, Wave, laws};
 
 impl Front {
@@ -94,8 +95,8 @@ impl Front {
 
 /// Makes the nets live that edits touched, and those that touched gates drive.
 fn hold_touched(
-    live: &mut BTreeSet<usize>,
-    held: &mut BTreeSet<usize>,
+    live: &mut PlaceSet,
+    held: &mut PlaceSet,
     alloc: Global,
     new: &Design,
     touched: &Touched,
@@ -125,12 +126,12 @@ fn cleared_copy(run: &Run, touched: &Touched) -> Result<Run, AllocError>
 fn put_live<S: Stepper>(
     alloc: Global,
     made: &mut Run,
-    waves: &mut BTreeMap<usize, Patch<Value>>,
+    waves: &mut PlaceMap<Patch<Value>>,
     blank: &Wave,
     old: &Design,
     run: &Run,
     new: &Design,
-    live: &BTreeSet<usize>,
+    live: &PlaceSet,
 ) -> Result<(), AllocError>
     requires blank { blank.now ≡ (0, Value.Unknown) ∷ [] }
     requires there { (p : ℕ) → contains nat_cmp live.now p ≡ true → p < length (netlist new.now).nets }
@@ -151,12 +152,12 @@ fn put_live<S: Stepper>(
 fn put_held<S: Stepper>(
     alloc: Global,
     made: &mut Run,
-    traces: &mut BTreeMap<usize, Patch<Driver>>,
+    traces: &mut PlaceMap<Patch<Driver>>,
     blank: &Trace,
     old: &Design,
     run: &Run,
     new: &Design,
-    held: &BTreeSet<usize>,
+    held: &PlaceSet,
 ) -> Result<(), AllocError>
     requires blank { blank.now ≡ (0, initial) ∷ [] }
     requires there { (p : ℕ) → contains nat_cmp held.now p ≡ true → p < length (netlist new.now).gates }
