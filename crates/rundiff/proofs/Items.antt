@@ -1,11 +1,11 @@
 -- An item more in a map by place.
-use Rattle.std.proofs.Common.{◌≡◌, ◌∙◌, ap, sym, refl, ℕ, zero, suc, Bool, true, false, cond, List, [], ◌∷◌, ◌++◌, Option, Some, None, length, nat_eq, arith}
+use Rattle.std.proofs.Common.{◌≡◌, ◌∙◌, ap, refl, ℕ, zero, suc, Bool, true, false, cond, List, [], ◌∷◌, ◌++◌, Option, Some, None, length, nat_eq, arith}
 use Rattle.std.specs.Prelude.{slice_get, ◌==◌}
 use Rattle.std.proofs.lemmas.Bool.Decides.{nat_tests}
 use Rattle.rundiff.specs.PlaceMaps.{item_at, number_at, owned}
 
 itself : (p : ℕ) → (p == p) ≡ true
-itself p = grind (nat_tests)
+itself p = grind (arith, nat_tests)
 
 apart : (p q : ℕ) → nat_eq p q ≡ false → (p == q) ≡ false
 apart p q off = grind (arith, nat_tests)

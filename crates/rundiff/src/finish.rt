@@ -12,12 +12,12 @@ ghost use Rattle.rundiff.specs.Finishing.{ArePut, AreCleared, new_trace, new_wav
 ghost use Rattle.rundiff.specs.Fronts.{AreDrivers, ArePlaces, AreTouched, AreTraces, AreWaves, EndBy, IsFront};
 ghost use Rattle.rundiff.specs.Places.{is_among};
 
-use crate::place_map::PlaceMap;
-use crate::place_set::PlaceSet;
 use crate::finishing::{clear_touched, put_traces, put_waves};
 use crate::front::Front;
 use crate::holding::hold;
 use crate::opening::touched_places;
+use crate::place_map::PlaceMap;
+use crate::place_set::PlaceSet;
 use crate::places::places_of;
 use design::Design;
 use edits::Touched;

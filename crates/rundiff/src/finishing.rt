@@ -13,8 +13,8 @@ ghost use Rattle.rundiff.specs.Finishing.{ArePut, AreCleared, new_trace, new_wav
 ghost use Rattle.rundiff.specs.Fronts.{AreTraces, AreWaves, EndBy, IsTrace, IsWave};
 ghost use Rattle.rundiff.specs.Places.{is_among};
 
-use crate::place_map::PlaceMap;
 use crate::old::{old_trace, old_wave};
+use crate::place_map::PlaceMap;
 use design::Design;
 use edits::Touched;
 use fourstate::Value;

@@ -8,10 +8,10 @@ ghost use Rattle.rundiff.specs.Dirty.{working_at};
 ghost use Rattle.rundiff.specs.Fronts.{IsFront, IsWaiting};
 ghost use Rattle.scratch.specs.Work.{task_at};
 
-use crate::place_map::PlaceMap;
-use crate::place_set::PlaceSet;
 use crate::gate_notes::note_events;
 use crate::gates::put_states;
+use crate::place_map::PlaceMap;
+use crate::place_set::PlaceSet;
 use design::Design;
 use event_queue::EventQueue;
 use fourstate::Value;

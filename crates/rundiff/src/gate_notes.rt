@@ -12,8 +12,8 @@ ghost use Rattle.rundiff.specs.Places.{is_among};
 ghost use Rattle.scratch.specs.Places.{IsNotedWithin, Keeps, has};
 ghost use Rattle.scratch.specs.Run.{IsRun};
 
-use crate::place_set::PlaceSet;
 use crate::noting::{note_event, note_inputs};
+use crate::place_set::PlaceSet;
 use design::Design;
 use event_queue::EventQueue;
 use fourstate::Value;

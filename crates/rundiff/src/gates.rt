@@ -14,10 +14,10 @@ ghost use Rattle.rundiff.specs.Fronts.{AreOutcomes, AreTraces, AreWaves, IsOutco
 ghost use Rattle.rundiff.specs.Places.{gate_at, is_among};
 ghost use Rattle.scratch.specs.Work.{task_at};
 
-use crate::place_map::PlaceMap;
-use crate::looking::{Outcome, look};
 use crate::former::former_trace;
+use crate::looking::{Outcome, look};
 use crate::patches::put;
+use crate::place_map::PlaceMap;
 use design::Design;
 use fourstate::Value;
 use gatestep::{Driver, Stepper, Task};

@@ -12,8 +12,8 @@ ghost use Rattle.rundiff.specs.Fronts.{AreTraces, AreWaves, IsOutcome};
 ghost use Rattle.rundiff.specs.Places.{gate_at};
 ghost use Rattle.scratch.specs.Work.{is_due, is_stirred, same_values, task_at};
 
-use crate::place_map::PlaceMap;
 use crate::old::old_trace;
+use crate::place_map::PlaceMap;
 use crate::reading::{gate_state, inputs_at, old_inputs_at};
 use crate::same::{is_new_gate, same_values};
 use design::{Design, Gate, GateKey};

@@ -13,10 +13,10 @@ ghost use Rattle.rundiff.specs.Fronts.{AreTraces, AreWaves, EndBy, IsAlike, IsOw
 ghost use Rattle.rundiff.specs.Places.{gate_at, is_among, is_live, net_at};
 ghost use Rattle.rundiff.specs.Kept.{read_at};
 
-use crate::place_map::PlaceMap;
 use crate::former::former_wave;
 use crate::old::old_wave;
 use crate::patches::{put, value_at};
+use crate::place_map::PlaceMap;
 use crate::reading::driven_value;
 use design::Design;
 use fourstate::Value;

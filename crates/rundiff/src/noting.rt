@@ -13,8 +13,8 @@ ghost use Rattle.rundiff.specs.Noting.{input_moves, is_at_live, net_moves, old_m
 ghost use Rattle.scratch.specs.Places.{IsNotedWithin, Keeps, has};
 ghost use Rattle.scratch.specs.Run.{IsRun};
 
-use crate::place_set::PlaceSet;
 use crate::old::old_wave;
+use crate::place_set::PlaceSet;
 use design::{Design, NetKey, Terminal};
 use event_queue::EventQueue;
 use fourstate::Value;

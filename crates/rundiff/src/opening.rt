@@ -12,10 +12,10 @@ ghost use Rattle.rundiff.specs.Fronts.{AreTouched, IsFront};
 ghost use Rattle.rundiff.specs.Places.{is_among};
 ghost use Rattle.scratch.specs.Places.{has};
 
-use crate::place_map::PlaceMap;
-use crate::place_set::PlaceSet;
 use crate::front::Front;
 use crate::holding::hold;
+use crate::place_map::PlaceMap;
+use crate::place_set::PlaceSet;
 use crate::places::places_of;
 use design::{Design, GateKey, NetKey};
 use edits::Touched;

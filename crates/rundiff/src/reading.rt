@@ -10,10 +10,10 @@ ghost use Rattle.rundiff.specs.Fronts.{AreTraces, AreWaves};
 ghost use Rattle.rundiff.specs.Places.{gate_at, net_at};
 ghost use Rattle.rundiff.specs.Kept.{read_at};
 
-use crate::place_map::PlaceMap;
 use crate::former::{former_trace, former_wave};
 use crate::old::old_wave;
 use crate::patches::value_at;
+use crate::place_map::PlaceMap;
 use arrayvec::ArrayVec;
 use design::{Design, Gate, Terminal};
 use fourstate::{MAX_INPUTS, Value, resolve};

@@ -12,11 +12,11 @@ ghost use Rattle.rundiff.specs.Fronts.{AreDrivers, IsWave};
 ghost use Rattle.rundiff.specs.Places.{gate_at, is_among, is_live, net_at};
 ghost use Rattle.rundiff.specs.Steady.{IsSteady};
 
+use crate::former::former_wave;
+use crate::holding::hold;
+use crate::patches::value_at;
 use crate::place_map::PlaceMap;
 use crate::place_set::PlaceSet;
-use crate::holding::hold;
-use crate::former::former_wave;
-use crate::patches::value_at;
 use design::Design;
 use fourstate::Value;
 use gatestep::Stepper;

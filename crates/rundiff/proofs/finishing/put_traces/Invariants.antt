@@ -1,6 +1,5 @@
 use Rattle.std.proofs.Common.{◌≡◌, ℕ, false, take}
 use Rattle.rundiff.specs.PlaceMaps.{kept_at}
-use Rattle.std.specs.Ordering.{nat_cmp}
 use Rattle.catalog.specs.Catalog.{keys_of}
 use Rattle.rundiff.specs.Finishing.{ArePut, new_trace}
 use Rattle.rundiff.specs.Places.{is_among}

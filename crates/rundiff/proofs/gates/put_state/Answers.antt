@@ -1,4 +1,4 @@
-use Rattle.std.proofs.Common.{◌≡◌, ◌∙◌, ◌≤◌, ap, sym, suc, arith, ℕ, List}
+use Rattle.std.proofs.Common.{◌≤◌, suc, arith}
 use Rattle.design.specs.Keys.{netlist}
 use Rattle.scratch.specs.Run.{state_after}
 use Rattle.rundiff.specs.Fronts.{named_state}

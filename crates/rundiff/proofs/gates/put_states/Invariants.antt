@@ -1,7 +1,6 @@
 use Rattle.std.proofs.Common.{◌≡◌, ◌≤◌, ℕ, suc, true, false, take}
 use Rattle.std.specs.Option.{ForSome}
 use Rattle.rundiff.specs.PlaceMaps.{kept_at}
-use Rattle.std.specs.Ordering.{nat_cmp}
 use Rattle.waveform.specs.Timelines.{end_of}
 use Rattle.design.specs.Keys.{netlist}
 use Rattle.rundiff.specs.Fronts.{IsOwn, IsTrace}

@@ -2,7 +2,6 @@ use Rattle.std.proofs.Common.{◌≡◌, ◌∙◌, ◌≤◌, ap, sym, subst, s
 use Rattle.std.specs.Prelude.{slice_index_or}
 use Rattle.std.specs.Option.{ForSome}
 use Rattle.rundiff.specs.PlaceMaps.{kept_at}
-use Rattle.std.specs.Ordering.{nat_cmp}
 use Rattle.fourstate.specs.declared.value.Value.{Value}
 use Rattle.fourstate.specs.Values.{same_value}
 use Rattle.design.specs.Connections.{to_net}

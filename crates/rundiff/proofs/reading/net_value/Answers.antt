@@ -1,4 +1,4 @@
-use Rattle.std.proofs.Common.{◌<◌, refl, suc, arith, ℕ}
+use Rattle.std.proofs.Common.{◌<◌, refl, suc, arith}
 use Rattle.design.specs.Connections.{to_net}
 use Rattle.design.specs.Keys.{netlist}
 use Rattle.scratch.specs.Run.{value}

@@ -1,7 +1,6 @@
 use Rattle.std.proofs.Common.{◌≡◌, ◌∙◌, ap, sym, subst, refl, ℕ, List, [], ◌∷◌, Bool, true, false, Option, Some, None, inl, arith}
 use Rattle.std.specs.BTreeSet.{contains}
 use Rattle.std.specs.Option.{option_map_or}
-use Rattle.rundiff.specs.PlaceMaps.{kept_at}
 use Rattle.std.specs.Ordering.{nat_cmp}
 use Rattle.fourstate.specs.declared.gate.GateKind.TheVariants.{Buf}
 use Rattle.fourstate.specs.Values.{same_value}
