@@ -1,8 +1,7 @@
 -- What a front keeps is right as it is after moments at which nothing happens to what is live.
 use Rattle.std.proofs.Common.{◌≡◌, ℕ, zero, suc, ◌<◌, ◌≤◌, ◌∙◌, ap, sym, refl, subst, Bool, true, false, not, length, Option, Some, None, inr, arith, ⊎_elim}
-use Rattle.std.specs.BTreeMap.{get}
+use Rattle.rundiff.specs.PlaceMaps.{kept_at}
 use Rattle.std.specs.Option.{option_map_or}
-use Rattle.std.specs.Ordering.{nat_cmp}
 use Rattle.std.specs.Prelude.{◌&&◌}
 use Rattle.std.proofs.lemmas.Bool.{cases_lt}
 use Rattle.event_queue.specs.Noted.{noted}
@@ -76,11 +75,11 @@ module _ (answer : Evaluation → ℕ → State) (old new : Netlist)
           let before : f k ≡ f r = jumped.values p blank_net there at k (omega arith) (omega arith) in
           ap (λ (v : Value). not (same_value v (f k))) (now ∙ sym before) ∙ ap not (same_self (f k))
 
-  wave_on : (p : ℕ) → p < length new.nets → Keeps same_value standing (read_at answer old (to_net (net_at new p).name)) (value answer new (net_at new p)) (get nat_cmp front.waves p) (suc l)
+  wave_on : (p : ℕ) → p < length new.nets → Keeps same_value standing (read_at answer old (to_net (net_at new p).name)) (value answer new (net_at new p)) (kept_at front.waves p) (suc l)
   wave_on p there =
       let f : ℕ → Value = value answer new (net_at new p) in
       let g : ℕ → Value = read_at answer old (to_net (net_at new p).name) in
-      let o : Option (PatchRecord Value) = get nat_cmp front.waves p in
+      let o : Option (PatchRecord Value) = kept_at front.waves p in
       let at = live_at new (live_in front) p is.distinct_nets there in
       elim (live_in front p) as (λ b. live_in front p ≡ b → Keeps same_value standing g f o (suc l)) [
         | true ↦ λ on.
@@ -115,12 +114,12 @@ module _ (answer : Evaluation → ℕ → State) (old new : Netlist)
           ∙ ap (λ (s : State). not (same_state (f r) (due s (suc k)))) before
           ∙ ap (λ (s : State). not (same_state (f r) s)) none ∙ ap not (same_state_self (f r))
 
-  trace_on : (p : ℕ) → p < length new.gates → Keeps same_state due (named_state answer old (gate_at new p).name) (state_after answer new (gate_at new p)) (get nat_cmp front.traces p) (suc l)
+  trace_on : (p : ℕ) → p < length new.gates → Keeps same_state due (named_state answer old (gate_at new p).name) (state_after answer new (gate_at new p)) (kept_at front.traces p) (suc l)
   trace_on p there =
       let gate = gate_at new p in
       let f : ℕ → State = state_after answer new gate in
       let g : ℕ → State = named_state answer old gate.name in
-      let o : Option (PatchRecord State) = get nat_cmp front.traces p in
+      let o : Option (PatchRecord State) = kept_at front.traces p in
       elim (held_in front p) as (λ b. held_in front p ≡ b → Keeps same_state due g f o (suc l)) [
         | true ↦ λ on. ⊎_elim (λ never. absurd (omega arith)) (λ own. own_on same_state due f g r l o own (right.traces p there) (trace_still p there on)) (right.own_traces p on)
         | false ↦ λ free.

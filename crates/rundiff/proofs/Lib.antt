@@ -13,6 +13,7 @@ pub mod Driven
 pub mod Filtering
 pub mod Finished
 pub mod FirstLive
+pub mod Items
 pub mod Jumping
 pub mod Known
 pub mod Lists

@@ -1,5 +1,5 @@
 -- What is kept of the old run under a name.
-use Rattle.std.proofs.Common.{◌≡◌, ℕ, zero, suc, ◌<◌, ◌≤◌, ◌∙◌, ap, sym, subst, refl, Bool, false, List, [], ◌∷◌, Option, Some, None, arith}
+use Rattle.std.proofs.Common.{◌≡◌, ℕ, zero, suc, ◌<◌, ◌≤◌, ◌∙◌, ap, sym, subst, refl, Bool, true, false, is_some, not, List, [], ◌∷◌, Option, Some, None, arith}
 use Rattle.std.specs.Option.{option_map, option_map_or}
 use Rattle.fourstate.specs.declared.value.Value.{Value}
 use Rattle.fourstate.specs.declared.value.Value.TheVariants.{Unknown}
@@ -10,10 +10,10 @@ use Rattle.design.specs.Keys.{KeyedGate}
 use Rattle.design.specs.Netlist.{GateEntry, NetEntry, Netlist, gate_named, net_named}
 use Rattle.waveform.specs.Changes.{trace_below, wave_changes_below}
 use Rattle.waveform.specs.Entries.{same_state, standing}
-use Rattle.waveform.specs.Patches.{Keeps, PatchRecord}
+use Rattle.waveform.specs.Patches.{IsMended, Keeps, PatchRecord}
 use Rattle.waveform.specs.Timelines.{changes_below, is_change}
 use Rattle.scratch.specs.Run.{state_after, trace_of, value, wave_of}
-use Rattle.rundiff.specs.Fronts.{named_state}
+use Rattle.rundiff.specs.Fronts.{IsOwn, named_state}
 use Rattle.rundiff.specs.Kept.{read_at}
 
 -- `waveform::laws::no_change`
@@ -23,12 +23,32 @@ NoChange {A = A} same drift = (f : ℕ → A) (t u : ℕ) → t ≤ u → ((k : 
 pub keeps_none : {A : Type 0} (same : A → A → Bool) (drift : A → ℕ → A) (f g : ℕ → A) (n : ℕ) (o : Option (PatchRecord A)) → o ≡ None → Keeps same drift g f o n → (u : ℕ) → u < n → f u ≡ g u
 keeps_none {A} same drift f g n o is kept = let at : Keeps same drift g f None n = subst (λ o. Keeps same drift g f o n) is kept in at
 
+pub some_equal : {A : Type 0} (x y : A) → Some x ≡ Some y → x ≡ y
+some_equal x y is = cc
+
+-- a patch of its own says nothing of the former function
+pub any_former : {A : Type 0} (same : A → A → Bool) (drift : A → ℕ → A) (f g other : ℕ → A) (line : List (ℕ × A)) (since : Option ℕ) (n : ℕ) → since ≡ None →
+    IsMended same drift g f line since n → IsMended same drift other f line since n
+any_former same drift f g other line None n none mended = mended
+any_former same drift f g other line (Some s) n none mended = let no : ◌≡◌ {A = Option ℕ} (Some s) None = none in absurd (cc)
+
+pub own_former : {A : Type 0} (same : A → A → Bool) (drift : A → ℕ → A) (f g other : ℕ → A) (o : Option (PatchRecord A)) (n : ℕ) → IsOwn o → Keeps same drift g f o n → Keeps same drift other f o n
+own_former {A} same drift f g other None n own kept = let no : ◌≡◌ {A = Option (PatchRecord A)} None (Some own.0) = own.1 in absurd (cc)
+own_former {A} same drift f g other (Some patch) n own kept =
+    let is : patch ≡ own.0 = some_equal patch own.0 own.1 in
+    any_former same drift f g other patch.line patch.since n (ap (λ (q : PatchRecord A). q.since) is ∙ own.2) kept
+
+pub none_by : {A : Type 0} (o : Option A) (b : Bool) → is_some o ≡ not b → b ≡ true → o ≡ None
+none_by None b is on = refl
+none_by (Some x) true is on = absurd (cc)
+none_by (Some x) false is on = absurd (cc)
+
+pub never_own : {A : Type 0} (o : Option (PatchRecord A)) → o ≡ None → IsOwn o → ⊥
+never_own {A} o none own = let no : ◌≡◌ {A = Option (PatchRecord A)} None (Some own.0) = sym none ∙ own.1 in absurd (cc)
+
 none_mapped : {A B : Type 0} (f : A → B) (o : Option A) → None ≡ option_map f o → o ≡ None
 none_mapped f None is = refl
 none_mapped f (Some x) is = cc
-
-pub some_equal : {A : Type 0} (x y : A) → Some x ≡ Some y → x ≡ y
-some_equal x y is = cc
 
 no_wave : NoChange same_value standing → (h : ℕ) → wave_changes_below (λ t. Unknown) (suc h) ≡ (0, Unknown) ∷ []
 no_wave law h = law (λ t. Unknown) 1 (suc h) (omega arith) step

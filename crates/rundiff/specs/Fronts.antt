@@ -3,7 +3,6 @@ use Rattle.std.specs.Prelude.{◌≡◌, ◌⊎◌, ◌&&◌, ◌∷◌, ◌<◌
 use Rattle.std.specs.List.{All, AllPairs, filter}
 use Rattle.std.specs.Option.{option_map_or, ForSome}
 use Rattle.std.specs.Ordering.{nat_cmp}
-use Rattle.std.specs.BTreeMap.{BTreeMap, get}
 use Rattle.std.specs.BTreeSet.{contains}
 use Rattle.fourstate.specs.declared.value.Value.{Value}
 use Rattle.fourstate.specs.declared.value.Value.TheVariants.{Unknown}
@@ -25,8 +24,10 @@ use Rattle.rundiff.specs.Kept.{Agrees, IsClosed, read_at}
 use Rattle.rundiff.specs.Noting.{IsNoted}
 use Rattle.rundiff.specs.Places.{gate_at, is_among, is_live, net_at}
 use Rattle.scratch.specs.Work.{is_stirred, task_at}
+use Rattle.rundiff.specs.PlaceMaps.{kept_at}
 use Rattle.rundiff.specs.declared.front.Front.{Front}
 use Rattle.rundiff.specs.declared.gates.Outcomes.{Outcomes}
+use Rattle.rundiff.specs.declared.place_map.PlaceMap.{PlaceMap}
 use Rattle.rundiff.specs.declared.looking.Outcome.{Outcome}
 use Rattle.rundiff.specs.declared.looking.Outcome.TheVariants.{Working, Resting}
 
@@ -41,22 +42,22 @@ abbrev pub IsOwn : {A : Type 0} → Option (PatchRecord A) → Type 0
 IsOwn {A} kept = (patch : PatchRecord A) × (kept ≡ Some patch) × (patch.since ≡ None)
 
 -- no patch has an entry at n or later
-abbrev pub EndBy : {A : Type 0} → BTreeMap ℕ (PatchRecord A) → ℕ → Type 0
-EndBy patches n = (p : ℕ) → ForSome (get nat_cmp patches p) (λ patch. end_of patch.line ≤ n)
+abbrev pub EndBy : {A : Type 0} → PlaceMap (PatchRecord A) → ℕ → Type 0
+EndBy patches n = (p : ℕ) → ForSome (kept_at patches p) (λ patch. end_of patch.line ≤ n)
 
 module _ (answer : Evaluation → ℕ → State) (old new : Netlist) where
   -- the value of a net below n, by its patch and the old run
-  abbrev pub IsWave : BTreeMap ℕ (PatchRecord Value) → ℕ → ℕ → Type 0
-  IsWave waves p n = Keeps same_value standing (read_at answer old (to_net (net_at new p).name)) (value answer new (net_at new p)) (get nat_cmp waves p) n
+  abbrev pub IsWave : PlaceMap (PatchRecord Value) → ℕ → ℕ → Type 0
+  IsWave waves p n = Keeps same_value standing (read_at answer old (to_net (net_at new p).name)) (value answer new (net_at new p)) (kept_at waves p) n
 
-  abbrev pub AreWaves : BTreeMap ℕ (PatchRecord Value) → ℕ → Type 0
+  abbrev pub AreWaves : PlaceMap (PatchRecord Value) → ℕ → Type 0
   AreWaves waves n = (p : ℕ) → p < length new.nets → IsWave waves p n
 
   -- the state of a gate below n, by its patch and the old run
-  abbrev pub IsTrace : BTreeMap ℕ (PatchRecord State) → ℕ → ℕ → Type 0
-  IsTrace traces p n = Keeps same_state due (named_state answer old (gate_at new p).name) (state_after answer new (gate_at new p)) (get nat_cmp traces p) n
+  abbrev pub IsTrace : PlaceMap (PatchRecord State) → ℕ → ℕ → Type 0
+  IsTrace traces p n = Keeps same_state due (named_state answer old (gate_at new p).name) (state_after answer new (gate_at new p)) (kept_at traces p) n
 
-  abbrev pub AreTraces : BTreeMap ℕ (PatchRecord State) → ℕ → Type 0
+  abbrev pub AreTraces : PlaceMap (PatchRecord State) → ℕ → Type 0
   AreTraces traces n = (p : ℕ) → p < length new.gates → IsTrace traces p n
 
   -- the gate at a place is evaluated at t
@@ -101,10 +102,10 @@ pub record IsFront (answer : Evaluation → ℕ → State) (old new : Netlist) (
   pub traces : AreTraces answer old new front.traces n
   pub wave_ends : EndBy front.waves n
   pub trace_ends : EndBy front.traces n
-  pub own_traces : (p : ℕ) → held_in front p ≡ true → (n ≡ 0) ⊎ IsOwn (get nat_cmp front.traces p)
-  pub kept_waves : (p : ℕ) → (get nat_cmp front.waves p ≡ None) ⊎ IsOwn (get nat_cmp front.waves p)
-  pub other_waves : (p : ℕ) → live_in front p ≡ false → get nat_cmp front.waves p ≡ None
-  pub other_traces : (p : ℕ) → held_in front p ≡ false → get nat_cmp front.traces p ≡ None
+  pub own_traces : (p : ℕ) → held_in front p ≡ true → (n ≡ 0) ⊎ IsOwn (kept_at front.traces p)
+  pub kept_waves : (p : ℕ) → (kept_at front.waves p ≡ None) ⊎ IsOwn (kept_at front.waves p)
+  pub other_waves : (p : ℕ) → live_in front p ≡ false → kept_at front.waves p ≡ None
+  pub other_traces : (p : ℕ) → held_in front p ≡ false → kept_at front.traces p ≡ None
   pub blank : AreBlank front
   pub awaits : IsNoted answer old new (live_in front) (held_in front) (held_in front) n (noted front.events) (noted front.inputs) (noted front.nets) n
 
@@ -122,14 +123,14 @@ pub record AreNetsDone (answer : Evaluation → ℕ → State) (old new : Netlis
   pub traces : AreTraces answer old new front.traces t
   pub wave_ends : EndBy front.waves (suc t)
   pub trace_ends : EndBy front.traces t
-  pub kept_waves : (p : ℕ) → (get nat_cmp front.waves p ≡ None) ⊎ IsOwn (get nat_cmp front.waves p)
-  pub other_waves : (p : ℕ) → live_in front p ≡ false → get nat_cmp front.waves p ≡ None
-  pub other_traces : (p : ℕ) → held_in front p ≡ false → get nat_cmp front.traces p ≡ None
+  pub kept_waves : (p : ℕ) → (kept_at front.waves p ≡ None) ⊎ IsOwn (kept_at front.waves p)
+  pub other_waves : (p : ℕ) → live_in front p ≡ false → kept_at front.waves p ≡ None
+  pub other_traces : (p : ℕ) → held_in front p ≡ false → kept_at front.traces p ≡ None
   pub blank : AreBlank front
   pub chosen : ArePlaces front.gates.items (is_among front.gates.items)
   pub chosen_held : (p : ℕ) → is_among front.gates.items p ≡ true → held_in front p ≡ true
   pub quiet : (p : ℕ) → p < length new.gates → passed_in front p ≡ true → is_stirred answer new (gate_at new p) t ≡ false
-  pub own_traces : (p : ℕ) → passed_in front p ≡ true → IsOwn (get nat_cmp front.traces p)
+  pub own_traces : (p : ℕ) → passed_in front p ≡ true → IsOwn (kept_at front.traces p)
   pub awaits : IsNoted answer old new (live_in front) (passed_in front) (passed_in front) t (noted front.events) (noted front.inputs) (noted front.nets) (suc t)
 
 -- the held gates that are not evaluated
@@ -146,11 +147,11 @@ pub record IsWaiting (answer : Evaluation → ℕ → State) (old new : Netlist)
   pub working : (p : ℕ) → p < length new.gates → is_working answer old new t p ≡ true → IsTrace answer old new front.traces p t
   pub clean : (p : ℕ) → p < length new.gates → held_in front p ≡ false → is_working answer old new t p ≡ false
   pub wave_ends : EndBy front.waves (suc t)
-  pub trace_ends : (p : ℕ) → ForSome (get nat_cmp front.traces p) (λ patch. (end_of patch.line ≤ suc t) × (is_working answer old new t p ≡ true → end_of patch.line ≤ t))
-  pub own_traces : (p : ℕ) → held_in front p ≡ true → is_working answer old new t p ≡ false → IsOwn (get nat_cmp front.traces p)
-  pub kept_waves : (p : ℕ) → (get nat_cmp front.waves p ≡ None) ⊎ IsOwn (get nat_cmp front.waves p)
-  pub other_waves : (p : ℕ) → live_in front p ≡ false → get nat_cmp front.waves p ≡ None
-  pub other_traces : (p : ℕ) → held_in front p ≡ false → get nat_cmp front.traces p ≡ None
+  pub trace_ends : (p : ℕ) → ForSome (kept_at front.traces p) (λ patch. (end_of patch.line ≤ suc t) × (is_working answer old new t p ≡ true → end_of patch.line ≤ t))
+  pub own_traces : (p : ℕ) → held_in front p ≡ true → is_working answer old new t p ≡ false → IsOwn (kept_at front.traces p)
+  pub kept_waves : (p : ℕ) → (kept_at front.waves p ≡ None) ⊎ IsOwn (kept_at front.waves p)
+  pub other_waves : (p : ℕ) → live_in front p ≡ false → kept_at front.waves p ≡ None
+  pub other_traces : (p : ℕ) → held_in front p ≡ false → kept_at front.traces p ≡ None
   pub blank : AreBlank front
   pub places : ArePlaces front.working.items (λ p. held_in front p && is_working answer old new t p)
   pub tasks : working_at answer old new t ≡ map (gate_at new) front.working.items

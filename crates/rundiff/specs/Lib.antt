@@ -3,5 +3,6 @@ pub mod Finishing
 pub mod Fronts
 pub mod Kept
 pub mod Noting
+pub mod PlaceMaps
 pub mod Places
 pub mod Steady

@@ -9,18 +9,18 @@ ghost use Rattle.rundiff.specs.Fronts.{AreDrivers, ArePlaces};
 ghost use Rattle.rundiff.specs.Places.{gate_at, is_among, is_live};
 ghost use Rattle.scratch.specs.Places.{has};
 
+use crate::place_set::PlaceSet;
 use design::Design;
 use event_queue::EventQueue;
 use std::alloc::AllocError;
-use std::collections::BTreeSet;
 
 /// Leaves those of some places that are in a set, in order, each once.
-fn keep_in_order(places: &mut Vec<usize>, set: &BTreeSet<usize>)
+fn keep_in_order(places: &mut Vec<usize>, set: &PlaceSet)
     ensures { ArePlaces places.new.items (λ p. is_among places.old.items p && contains nat_cmp set.now p) }
 {
     places.sort_unstable();
     places.dedup();
-    places.retain(|place| set.contains(place));
+    places.retain(|place| set.contains(*place));
 }
 
 /// Adds the net that a gate drives.
@@ -54,8 +54,8 @@ fn add_outputs(new: &Design, gates: &[usize], nets: &mut Vec<usize>) -> Result<(
 pub fn choose_nets(
     events: &mut EventQueue,
     queue: &mut EventQueue,
-    live: &BTreeSet<usize>,
-    held: &BTreeSet<usize>,
+    live: &PlaceSet,
+    held: &PlaceSet,
     new: &Design,
     t: u64,
     gates: &mut Vec<usize>,
@@ -85,7 +85,7 @@ pub fn choose_nets(
 /// order, each once.
 pub fn choose_gates(
     queue: &mut EventQueue,
-    held: &BTreeSet<usize>,
+    held: &PlaceSet,
     t: u64,
     gates: &mut Vec<usize>,
 ) -> Result<(), AllocError>

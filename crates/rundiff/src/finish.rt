@@ -16,13 +16,14 @@ use crate::finishing::{clear_touched, put_traces, put_waves};
 use crate::front::Front;
 use crate::holding::hold;
 use crate::opening::touched_places;
+use crate::place_map::PlaceMap;
+use crate::place_set::PlaceSet;
 use crate::places::places_of;
 use design::Design;
 use edits::Touched;
 use fourstate::Value;
 use gatestep::{Driver, Stepper};
 use std::alloc::{AllocError, Global};
-use std::collections::{BTreeMap, BTreeSet};
 use waveform::{Patch, Run, Trace, Wave, laws};
 
 impl Front {
@@ -94,8 +95,8 @@ impl Front {
 
 /// Makes the nets live that edits touched, and those that touched gates drive.
 fn hold_touched(
-    live: &mut BTreeSet<usize>,
-    held: &mut BTreeSet<usize>,
+    live: &mut PlaceSet,
+    held: &mut PlaceSet,
     alloc: Global,
     new: &Design,
     touched: &Touched,
@@ -125,12 +126,12 @@ fn cleared_copy(run: &Run, touched: &Touched) -> Result<Run, AllocError>
 fn put_live<S: Stepper>(
     alloc: Global,
     made: &mut Run,
-    waves: &mut BTreeMap<usize, Patch<Value>>,
+    waves: &mut PlaceMap<Patch<Value>>,
     blank: &Wave,
     old: &Design,
     run: &Run,
     new: &Design,
-    live: &BTreeSet<usize>,
+    live: &PlaceSet,
 ) -> Result<(), AllocError>
     requires blank { blank.now ≡ (0, Value.Unknown) ∷ [] }
     requires there { (p : ℕ) → contains nat_cmp live.now p ≡ true → p < length (netlist new.now).nets }
@@ -151,12 +152,12 @@ fn put_live<S: Stepper>(
 fn put_held<S: Stepper>(
     alloc: Global,
     made: &mut Run,
-    traces: &mut BTreeMap<usize, Patch<Driver>>,
+    traces: &mut PlaceMap<Patch<Driver>>,
     blank: &Trace,
     old: &Design,
     run: &Run,
     new: &Design,
-    held: &BTreeSet<usize>,
+    held: &PlaceSet,
 ) -> Result<(), AllocError>
     requires blank { blank.now ≡ (0, initial) ∷ [] }
     requires there { (p : ℕ) → contains nat_cmp held.now p ≡ true → p < length (netlist new.now).gates }

@@ -2,8 +2,7 @@
 
 ghost use Rattle.std.specs.Prelude.{◌≡◌, ◌<◌, ◌≤◌, ℕ, suc, true, false, nat_eq, [], ◌∷◌, AllPairs, IfOk, OnOk, length};
 ghost use Rattle.std.specs.Option.{ForSome};
-ghost use Rattle.std.specs.BTreeMap.{get};
-ghost use Rattle.std.specs.Ordering.{nat_cmp};
+ghost use Rattle.rundiff.specs.PlaceMaps.{kept_at};
 ghost use Rattle.gatestep.specs.Step.{initial};
 ghost use Rattle.design.specs.Keys.{netlist};
 ghost use Rattle.catalog.specs.Catalog.{keys_of};
@@ -15,12 +14,12 @@ ghost use Rattle.rundiff.specs.Fronts.{AreTraces, AreWaves, EndBy, IsTrace, IsWa
 ghost use Rattle.rundiff.specs.Places.{is_among};
 
 use crate::old::{old_trace, old_wave};
+use crate::place_map::PlaceMap;
 use design::Design;
 use edits::Touched;
 use fourstate::Value;
 use gatestep::{Driver, Stepper};
 use std::alloc::{AllocError, Global};
-use std::collections::BTreeMap;
 use waveform::{Patch, Run, Sample, Timeline, Trace, Wave, laws};
 
 /// Takes away what a run has under keys that edits touched. Where an allocation was refused, which are gone is not known.
@@ -42,7 +41,7 @@ pub fn clear_touched(run: &mut Run, touched: &Touched) -> Result<(), AllocError>
 pub fn put_waves<S: Stepper>(
     alloc: Global,
     made: &mut Run,
-    waves: &mut BTreeMap<usize, Patch<Value>>,
+    waves: &mut PlaceMap<Patch<Value>>,
     blank: &Wave,
     old: &Design,
     run: &Run,
@@ -70,7 +69,7 @@ pub fn put_waves<S: Stepper>(
 fn put_wave<S: Stepper>(
     alloc: Global,
     made: &mut Run,
-    waves: &mut BTreeMap<usize, Patch<Value>>,
+    waves: &mut PlaceMap<Patch<Value>>,
     blank: &Wave,
     old: &Design,
     run: &Run,
@@ -82,15 +81,15 @@ fn put_wave<S: Stepper>(
     requires horizon { (netlist new.now).horizon ≡ (netlist old.now).horizon }
     requires run { IsRun S.answer old.now run.now }
     requires wave { IsWave S.answer (netlist old.now) (netlist new.now) waves.old place (suc (netlist new.now).horizon) }
-    requires end { ForSome (get nat_cmp waves.old place) (λ patch. end_of patch.line ≤ suc (netlist new.now).horizon) }
+    requires end { ForSome (kept_at waves.old place) (λ patch. end_of patch.line ≤ suc (netlist new.now).horizon) }
     ensures waves { OnOk result (ArePut (new_wave S.answer new.now) (keys_of new.now.nets) (place ∷ []) made.old.waves made.new.waves) }
-    ensures others { (q : ℕ) → nat_eq place q ≡ false → get nat_cmp waves.new q ≡ get nat_cmp waves.old q }
+    ensures others { (q : ℕ) → nat_eq place q ≡ false → kept_at waves.new q ≡ kept_at waves.old q }
     ensures traces { made.new.traces ≡ made.old.traces }
     ensures horizon { made.new.horizon ≡ made.old.horizon }
 {
     let key = new.net_key_at(place);
     let former = old_wave(old, run, key, new.net_at(place).name().as_str(), blank);
-    let wave = whole(waves.remove(&place), alloc, former, new.horizon() + 1)?;
+    let wave = whole(waves.take(place), alloc, former, new.horizon() + 1)?;
     made.put_wave(key.number(), wave)
 }
 
@@ -98,7 +97,7 @@ fn put_wave<S: Stepper>(
 pub fn put_traces<S: Stepper>(
     alloc: Global,
     made: &mut Run,
-    traces: &mut BTreeMap<usize, Patch<Driver>>,
+    traces: &mut PlaceMap<Patch<Driver>>,
     blank: &Trace,
     old: &Design,
     run: &Run,
@@ -126,7 +125,7 @@ pub fn put_traces<S: Stepper>(
 fn put_trace<S: Stepper>(
     alloc: Global,
     made: &mut Run,
-    traces: &mut BTreeMap<usize, Patch<Driver>>,
+    traces: &mut PlaceMap<Patch<Driver>>,
     blank: &Trace,
     old: &Design,
     run: &Run,
@@ -138,9 +137,9 @@ fn put_trace<S: Stepper>(
     requires horizon { (netlist new.now).horizon ≡ (netlist old.now).horizon }
     requires run { IsRun S.answer old.now run.now }
     requires trace { IsTrace S.answer (netlist old.now) (netlist new.now) traces.old place (suc (netlist new.now).horizon) }
-    requires end { ForSome (get nat_cmp traces.old place) (λ patch. end_of patch.line ≤ suc (netlist new.now).horizon) }
+    requires end { ForSome (kept_at traces.old place) (λ patch. end_of patch.line ≤ suc (netlist new.now).horizon) }
     ensures traces { OnOk result (ArePut (new_trace S.answer new.now) (keys_of new.now.gates) (place ∷ []) made.old.traces made.new.traces) }
-    ensures others { (q : ℕ) → nat_eq place q ≡ false → get nat_cmp traces.new q ≡ get nat_cmp traces.old q }
+    ensures others { (q : ℕ) → nat_eq place q ≡ false → kept_at traces.new q ≡ kept_at traces.old q }
     ensures waves { made.new.waves ≡ made.old.waves }
     ensures horizon { made.new.horizon ≡ made.old.horizon }
 {
@@ -148,7 +147,7 @@ fn put_trace<S: Stepper>(
     new.lawful();
     let key = new.gate_key_at(place);
     let former = old_trace(old, run, key, new.gate_at(place).name().as_str(), blank);
-    let trace = whole(traces.remove(&place), alloc, former, new.horizon() + 1)?;
+    let trace = whole(traces.take(place), alloc, former, new.horizon() + 1)?;
     made.put_trace(key.number(), trace)
 }
 

@@ -10,12 +10,13 @@ ghost use Rattle.scratch.specs.Work.{task_at};
 
 use crate::gate_notes::note_events;
 use crate::gates::put_states;
+use crate::place_map::PlaceMap;
+use crate::place_set::PlaceSet;
 use design::Design;
 use event_queue::EventQueue;
 use fourstate::Value;
 use gatestep::{Driver, Stepper, Task};
 use std::alloc::{AllocError, Global};
-use std::collections::{BTreeMap, BTreeSet};
 use waveform::{Patch, Run, Trace, Wave};
 
 /// What a new run keeps of its own beside an old one. Nets and gates are known by their places in the order of the new
@@ -23,13 +24,13 @@ use waveform::{Patch, Run, Trace, Wave};
 #[derive(Drop)]
 pub struct Front {
     /// The nets that are live.
-    pub live: BTreeSet<usize>,
+    pub live: PlaceSet,
     /// The gates that drive them.
-    pub held: BTreeSet<usize>,
+    pub held: PlaceSet,
     /// The waves of live nets.
-    pub waves: BTreeMap<usize, Patch<Value>>,
+    pub waves: PlaceMap<Patch<Value>>,
     /// The traces of their drivers.
-    pub traces: BTreeMap<usize, Patch<Driver>>,
+    pub traces: PlaceMap<Patch<Driver>>,
     /// Held gates, at the moments of their pending events; also of events that were descheduled.
     pub events: EventQueue,
     /// Held gates, each at the next moment at which an input that is at no live net changes in the old run, or at an earlier

@@ -13,12 +13,12 @@ ghost use Rattle.scratch.specs.Places.{IsNotedWithin, Keeps, has};
 ghost use Rattle.scratch.specs.Run.{IsRun};
 
 use crate::noting::{note_event, note_inputs};
+use crate::place_set::PlaceSet;
 use design::Design;
 use event_queue::EventQueue;
 use fourstate::Value;
 use gatestep::{Driver, Stepper};
 use std::alloc::{AllocError, Global};
-use std::collections::BTreeSet;
 use waveform::{Run, Wave};
 
 /// Notes for the gates at these places the events that are pending in their states after the moment `t`.
@@ -46,7 +46,7 @@ pub fn note_events(
 pub fn note_all_inputs<S: Stepper>(
     alloc: Global,
     queue: &mut EventQueue,
-    live: &BTreeSet<usize>,
+    live: &PlaceSet,
     blank: &Wave,
     old: &Design,
     run: &Run,

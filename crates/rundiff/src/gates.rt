@@ -2,8 +2,7 @@
 
 ghost use Rattle.std.specs.Prelude.{◌≡◌, ◌<◌, ◌≤◌, ◌++◌, ℕ, suc, true, false, nat_eq, List, [], ◌∷◌, All, AllPairs, OnOk, length, map};
 ghost use Rattle.std.specs.Option.{ForSome};
-ghost use Rattle.std.specs.BTreeMap.{get};
-ghost use Rattle.std.specs.Ordering.{nat_cmp};
+ghost use Rattle.rundiff.specs.PlaceMaps.{kept_at};
 ghost use Rattle.gatestep.specs.Step.{Evaluation, State, initial};
 ghost use Rattle.gatestep.specs.Tasks.{IsReady};
 ghost use Rattle.design.specs.Keys.{netlist};
@@ -15,14 +14,14 @@ ghost use Rattle.rundiff.specs.Fronts.{AreOutcomes, AreTraces, AreWaves, IsOutco
 ghost use Rattle.rundiff.specs.Places.{gate_at, is_among};
 ghost use Rattle.scratch.specs.Work.{task_at};
 
+use crate::former::former_trace;
 use crate::looking::{Outcome, look};
-use crate::old::old_trace;
 use crate::patches::put;
+use crate::place_map::PlaceMap;
 use design::Design;
 use fourstate::Value;
 use gatestep::{Driver, Stepper, Task};
 use std::alloc::{AllocError, Global};
-use std::collections::BTreeMap;
 use waveform::{Patch, Run, Trace, Wave};
 
 /// What comes of each of some gates.
@@ -54,8 +53,8 @@ impl Outcomes {
 
 /// What comes of each of these gates at the moment `t`, where all before `t` is known, and what each net has at `t`.
 pub fn look_at<S: Stepper>(
-    waves: &BTreeMap<usize, Patch<Value>>,
-    traces: &BTreeMap<usize, Patch<Driver>>,
+    waves: &PlaceMap<Patch<Value>>,
+    traces: &PlaceMap<Patch<Driver>>,
     blank_wave: &Wave,
     blank_trace: &Trace,
     old: &Design,
@@ -126,7 +125,7 @@ fn add_resting(out: &mut Outcomes, place: usize, state: Driver) -> Result<(), Al
 /// Puts the states of some gates after the moment `t`, where all before `t` is known.
 pub fn put_states<S: Stepper>(
     alloc: Global,
-    traces: &mut BTreeMap<usize, Patch<Driver>>,
+    traces: &mut PlaceMap<Patch<Driver>>,
     blank: &Trace,
     old: &Design,
     run: &Run,
@@ -141,13 +140,13 @@ pub fn put_states<S: Stepper>(
     requires within { t ≤ (netlist old.now).horizon }
     requires run { IsRun S.answer old.now run.now }
     requires traces { (p : ℕ) → is_among places.now p ≡ true → IsTrace S.answer (netlist old.now) (netlist new.now) traces.old p t }
-    requires ends { (p : ℕ) → is_among places.now p ≡ true → ForSome (get nat_cmp traces.old p) (λ patch. end_of patch.line ≤ t) }
+    requires ends { (p : ℕ) → is_among places.now p ≡ true → ForSome (kept_at traces.old p) (λ patch. end_of patch.line ≤ t) }
     requires states { states.now ≡ map (λ p. state_after S.answer (netlist new.now) (gate_at (netlist new.now) p) t) places.now }
     requires can { All (CanStore t) states.now }
     ensures put { OnOk result ((p : ℕ) → is_among places.now p ≡ true → IsTrace S.answer (netlist old.now) (netlist new.now) traces.new p (suc t)) }
-    ensures own { OnOk result ((p : ℕ) → is_among places.now p ≡ true → IsOwn (get nat_cmp traces.new p)) }
-    ensures ends { OnOk result ((p : ℕ) → is_among places.now p ≡ true → ForSome (get nat_cmp traces.new p) (λ patch. end_of patch.line ≤ suc t)) }
-    ensures others { OnOk result ((p : ℕ) → is_among places.now p ≡ false → get nat_cmp traces.new p ≡ get nat_cmp traces.old p) }
+    ensures own { OnOk result ((p : ℕ) → is_among places.now p ≡ true → IsOwn (kept_at traces.new p)) }
+    ensures ends { OnOk result ((p : ℕ) → is_among places.now p ≡ true → ForSome (kept_at traces.new p) (λ patch. end_of patch.line ≤ suc t)) }
+    ensures others { OnOk result ((p : ℕ) → is_among places.now p ≡ false → kept_at traces.new p ≡ kept_at traces.old p) }
 {
     for i in 0..places.len() {
         put_state::<S>(alloc, traces, blank, old, run, new, places[i], states[i], t)?;
@@ -158,7 +157,7 @@ pub fn put_states<S: Stepper>(
 /// Puts the state of one gate after the moment `t`.
 fn put_state<S: Stepper>(
     alloc: Global,
-    traces: &mut BTreeMap<usize, Patch<Driver>>,
+    traces: &mut PlaceMap<Patch<Driver>>,
     blank: &Trace,
     old: &Design,
     run: &Run,
@@ -172,24 +171,16 @@ fn put_state<S: Stepper>(
     requires within { t ≤ (netlist old.now).horizon }
     requires run { IsRun S.answer old.now run.now }
     requires trace { IsTrace S.answer (netlist old.now) (netlist new.now) traces.old place t }
-    requires end { ForSome (get nat_cmp traces.old place) (λ patch. end_of patch.line ≤ t) }
+    requires end { ForSome (kept_at traces.old place) (λ patch. end_of patch.line ≤ t) }
     requires state { state ≡ state_after S.answer (netlist new.now) (gate_at (netlist new.now) place) t }
     requires can { CanStore t state }
     ensures put { OnOk result (IsTrace S.answer (netlist old.now) (netlist new.now) traces.new place (suc t)) }
-    ensures own { OnOk result (IsOwn (get nat_cmp traces.new place)) }
-    ensures end { OnOk result (ForSome (get nat_cmp traces.new place) (λ patch. end_of patch.line ≤ suc t)) }
-    ensures others { OnOk result ((q : ℕ) → nat_eq place q ≡ false → get nat_cmp traces.new q ≡ get nat_cmp traces.old q) }
+    ensures own { OnOk result (IsOwn (kept_at traces.new place)) }
+    ensures end { OnOk result (ForSome (kept_at traces.new place) (λ patch. end_of patch.line ≤ suc t)) }
+    ensures others { OnOk result ((q : ℕ) → nat_eq place q ≡ false → kept_at traces.new q ≡ kept_at traces.old q) }
 {
     old.lawful();
     new.lawful();
-    let key = new.gate_key_at(place);
-    let name = new.gate_at(place).name().as_str();
-    put(
-        traces,
-        alloc,
-        place,
-        old_trace(old, run, key, name, blank),
-        t,
-        state,
-    )
+    let former = former_trace(traces, blank, old, run, new, place);
+    put(traces, alloc, place, former, t, state)
 }

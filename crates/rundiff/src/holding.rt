@@ -8,14 +8,14 @@ ghost use Rattle.design.specs.Places.{driver_places};
 ghost use Rattle.rundiff.specs.Fronts.{AreDrivers};
 ghost use Rattle.rundiff.specs.Places.{is_among, net_at};
 
+use crate::place_set::PlaceSet;
 use design::Design;
 use std::alloc::AllocError;
-use std::collections::BTreeSet;
 
 /// Makes the nets at these places live, and holds their drivers.
 pub fn hold(
-    live: &mut BTreeSet<usize>,
-    held: &mut BTreeSet<usize>,
+    live: &mut PlaceSet,
+    held: &mut PlaceSet,
     new: &Design,
     found: &[usize],
 ) -> Result<(), AllocError>
@@ -32,8 +32,8 @@ pub fn hold(
 
 /// Makes one net live.
 fn hold_one(
-    live: &mut BTreeSet<usize>,
-    held: &mut BTreeSet<usize>,
+    live: &mut PlaceSet,
+    held: &mut PlaceSet,
     new: &Design,
     place: usize,
 ) -> Result<(), AllocError>
@@ -49,7 +49,7 @@ fn hold_one(
 }
 
 /// Holds the drivers of a net.
-fn hold_drivers(held: &mut BTreeSet<usize>, new: &Design, place: usize) -> Result<(), AllocError>
+fn hold_drivers(held: &mut PlaceSet, new: &Design, place: usize) -> Result<(), AllocError>
     requires there { place < length (netlist new.now).nets }
     ensures { OnOk result ((p : ℕ) → contains nat_cmp held.new p
         ≡ (is_among (driver_places (netlist new.now).gates (net_at (netlist new.now) place).name) p || contains nat_cmp held.old p)) }

@@ -4,6 +4,7 @@
 mod choosing;
 mod finish;
 mod finishing;
+mod former;
 mod front;
 mod front_gates;
 mod front_nets;
@@ -17,6 +18,8 @@ mod noting;
 mod old;
 mod opening;
 mod patches;
+mod place_map;
+mod place_set;
 mod places;
 mod reading;
 mod same;

@@ -13,12 +13,12 @@ ghost use Rattle.rundiff.specs.Places.{gate_at};
 ghost use Rattle.scratch.specs.Work.{is_due, is_stirred, same_values, task_at};
 
 use crate::old::old_trace;
+use crate::place_map::PlaceMap;
 use crate::reading::{gate_state, inputs_at, old_inputs_at};
 use crate::same::{is_new_gate, same_values};
 use design::{Design, Gate, GateKey};
 use fourstate::Value;
 use gatestep::{Driver, Stepper, Task};
-use std::collections::BTreeMap;
 use waveform::{Patch, Run, Sample, Trace, Wave, laws};
 
 /// What comes of a gate at a moment.
@@ -107,7 +107,7 @@ fn is_dirty<S: Stepper>(
 
 /// Whether a gate is stirred at the moment `t`; its state before it and its inputs at it are given.
 fn is_stirred<S: Stepper>(
-    waves: &BTreeMap<usize, Patch<Value>>,
+    waves: &PlaceMap<Patch<Value>>,
     blank: &Wave,
     old: &Design,
     run: &Run,
@@ -148,8 +148,8 @@ fn is_due(state: Driver, t: u64) -> bool
 
 /// What comes of the gate at a place at the moment `t`, where all before `t` is known, and what each net has at `t`.
 pub fn look<S: Stepper>(
-    waves: &BTreeMap<usize, Patch<Value>>,
-    traces: &BTreeMap<usize, Patch<Driver>>,
+    waves: &PlaceMap<Patch<Value>>,
+    traces: &PlaceMap<Patch<Driver>>,
     blank_wave: &Wave,
     blank_trace: &Trace,
     old: &Design,

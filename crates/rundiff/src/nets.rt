@@ -2,8 +2,7 @@
 
 ghost use Rattle.std.specs.Prelude.{◌≡◌, ◌<◌, ◌≤◌, ℕ, suc, true, false, nat_eq, [], ◌∷◌, All, AllPairs, IfOk, OnOk, length};
 ghost use Rattle.std.specs.Option.{ForSome};
-ghost use Rattle.std.specs.BTreeMap.{get};
-ghost use Rattle.std.specs.Ordering.{nat_cmp};
+ghost use Rattle.rundiff.specs.PlaceMaps.{kept_at};
 ghost use Rattle.gatestep.specs.Step.{initial};
 ghost use Rattle.design.specs.Connections.{to_net};
 ghost use Rattle.design.specs.Keys.{netlist};
@@ -14,21 +13,22 @@ ghost use Rattle.rundiff.specs.Fronts.{AreTraces, AreWaves, EndBy, IsAlike, IsOw
 ghost use Rattle.rundiff.specs.Places.{gate_at, is_among, is_live, net_at};
 ghost use Rattle.rundiff.specs.Kept.{read_at};
 
+use crate::former::former_wave;
 use crate::old::old_wave;
 use crate::patches::{put, value_at};
+use crate::place_map::PlaceMap;
 use crate::reading::driven_value;
 use design::Design;
 use fourstate::Value;
 use gatestep::{Driver, Stepper};
 use std::alloc::{AllocError, Global};
-use std::collections::BTreeMap;
 use waveform::{Patch, Run, Sample, Trace, Wave, laws};
 
 /// Puts the value at the moment `t` of each of these nets, where all before `t` is known.
 pub fn put_values<S: Stepper>(
     alloc: Global,
-    waves: &mut BTreeMap<usize, Patch<Value>>,
-    traces: &BTreeMap<usize, Patch<Driver>>,
+    waves: &mut PlaceMap<Patch<Value>>,
+    traces: &PlaceMap<Patch<Driver>>,
     blank_wave: &Wave,
     blank_trace: &Trace,
     old: &Design,
@@ -47,9 +47,9 @@ pub fn put_values<S: Stepper>(
     requires ends { EndBy waves.old t }
     requires traces { AreTraces S.answer (netlist old.now) (netlist new.now) traces.now t }
     ensures put { OnOk result ((p : ℕ) → is_among live.now p ≡ true → IsWave S.answer (netlist old.now) (netlist new.now) waves.new p (suc t)) }
-    ensures own { OnOk result ((p : ℕ) → is_among live.now p ≡ true → IsOwn (get nat_cmp waves.new p)) }
+    ensures own { OnOk result ((p : ℕ) → is_among live.now p ≡ true → IsOwn (kept_at waves.new p)) }
     ensures ends { OnOk result (EndBy waves.new (suc t)) }
-    ensures others { OnOk result ((p : ℕ) → is_among live.now p ≡ false → get nat_cmp waves.new p ≡ get nat_cmp waves.old p) }
+    ensures others { OnOk result ((p : ℕ) → is_among live.now p ≡ false → kept_at waves.new p ≡ kept_at waves.old p) }
 {
     for place in live {
         put_value::<S>(
@@ -71,8 +71,8 @@ pub fn put_values<S: Stepper>(
 /// Puts the value at the moment `t` of one net.
 fn put_value<S: Stepper>(
     alloc: Global,
-    waves: &mut BTreeMap<usize, Patch<Value>>,
-    traces: &BTreeMap<usize, Patch<Driver>>,
+    waves: &mut PlaceMap<Patch<Value>>,
+    traces: &PlaceMap<Patch<Driver>>,
     blank_wave: &Wave,
     blank_trace: &Trace,
     old: &Design,
@@ -87,30 +87,22 @@ fn put_value<S: Stepper>(
     requires within { t ≤ (netlist old.now).horizon }
     requires run { IsRun S.answer old.now run.now }
     requires wave { IsWave S.answer (netlist old.now) (netlist new.now) waves.old place t }
-    requires end { ForSome (get nat_cmp waves.old place) (λ patch. end_of patch.line ≤ t) }
+    requires end { ForSome (kept_at waves.old place) (λ patch. end_of patch.line ≤ t) }
     requires traces { AreTraces S.answer (netlist old.now) (netlist new.now) traces.now t }
     ensures put { OnOk result (IsWave S.answer (netlist old.now) (netlist new.now) waves.new place (suc t)) }
-    ensures own { OnOk result (IsOwn (get nat_cmp waves.new place)) }
-    ensures end { OnOk result (ForSome (get nat_cmp waves.new place) (λ patch. end_of patch.line ≤ suc t)) }
-    ensures others { OnOk result ((q : ℕ) → nat_eq place q ≡ false → get nat_cmp waves.new q ≡ get nat_cmp waves.old q) }
+    ensures own { OnOk result (IsOwn (kept_at waves.new place)) }
+    ensures end { OnOk result (ForSome (kept_at waves.new place) (λ patch. end_of patch.line ≤ suc t)) }
+    ensures others { OnOk result ((q : ℕ) → nat_eq place q ≡ false → kept_at waves.new q ≡ kept_at waves.old q) }
 {
     let value = driven_value::<S>(alloc, traces, blank_trace, old, run, new, place, t)?;
-    let key = new.net_key_at(place);
-    let name = new.net_at(place).name().as_str();
-    put(
-        waves,
-        alloc,
-        place,
-        old_wave(old, run, key, name, blank_wave),
-        t,
-        value,
-    )
+    let former = former_wave(waves, blank_wave, old, run, new, place);
+    put(waves, alloc, place, former, t, value)
 }
 
 /// The nets that the readers of those of these nets drive that have another value at the moment `t` than in the old run.
 pub fn find_differing<S: Stepper>(
     alloc: Global,
-    waves: &BTreeMap<usize, Patch<Value>>,
+    waves: &PlaceMap<Patch<Value>>,
     blank: &Wave,
     old: &Design,
     run: &Run,
@@ -135,7 +127,7 @@ pub fn find_differing<S: Stepper>(
 
 /// Adds the nets that the readers of a net drive, where it has another value at the moment `t` than in the old run.
 fn add_differing<S: Stepper>(
-    waves: &BTreeMap<usize, Patch<Value>>,
+    waves: &PlaceMap<Patch<Value>>,
     blank: &Wave,
     old: &Design,
     run: &Run,
@@ -161,7 +153,7 @@ fn add_differing<S: Stepper>(
 
 /// Whether a net has another value at the moment `t` than in the old run.
 fn differs<S: Stepper>(
-    waves: &BTreeMap<usize, Patch<Value>>,
+    waves: &PlaceMap<Patch<Value>>,
     blank: &Wave,
     old: &Design,
     run: &Run,

@@ -14,12 +14,12 @@ ghost use Rattle.scratch.specs.Places.{IsNotedWithin, Keeps, has};
 ghost use Rattle.scratch.specs.Run.{IsRun};
 
 use crate::old::old_wave;
+use crate::place_set::PlaceSet;
 use design::{Design, NetKey, Terminal};
 use event_queue::EventQueue;
 use fourstate::Value;
 use gatestep::{Driver, Stepper};
 use std::alloc::{AllocError, Global};
-use std::collections::BTreeSet;
 use waveform::{Run, Wave, laws};
 
 /// Notes for the net at a place the next moment after `t` at which it has a stimulus point, or changes in the old run.
@@ -52,7 +52,7 @@ pub fn note_net<S: Stepper>(
 pub fn note_inputs<S: Stepper>(
     alloc: Global,
     queue: &mut EventQueue,
-    live: &BTreeSet<usize>,
+    live: &PlaceSet,
     blank: &Wave,
     old: &Design,
     run: &Run,
@@ -154,7 +154,7 @@ fn next_old_change<S: Stepper>(
 /// The next moment after `t` at which what an input is connected to changes in the old run; none for a live net, whose
 /// readers are looked at when it changes.
 fn next_input_change<S: Stepper>(
-    live: &BTreeSet<usize>,
+    live: &PlaceSet,
     blank: &Wave,
     old: &Design,
     run: &Run,
@@ -174,7 +174,7 @@ fn next_input_change<S: Stepper>(
         return None;
     };
     match new.net_place_of(net) {
-        Some(place) if live.contains(&place) => None,
+        Some(place) if live.contains(place) => None,
         _ => next_old_change::<S>(blank, old, run, net, new.name_of(net).as_str(), t),
     }
 }

@@ -14,6 +14,8 @@ ghost use Rattle.scratch.specs.Places.{has};
 
 use crate::front::Front;
 use crate::holding::hold;
+use crate::place_map::PlaceMap;
+use crate::place_set::PlaceSet;
 use crate::places::places_of;
 use design::{Design, GateKey, NetKey};
 use edits::Touched;
@@ -21,7 +23,6 @@ use event_queue::EventQueue;
 use fourstate::Value;
 use gatestep::Driver;
 use std::alloc::{AllocError, Global};
-use std::collections::{BTreeMap, BTreeSet};
 use waveform::Timeline;
 
 impl Front {
@@ -45,17 +46,20 @@ impl Front {
         let found = touched_places(alloc, new, touched)?;
         let blank_wave = Timeline::open(alloc, Value::Unknown)?;
         let blank_trace = Timeline::open(alloc, Driver::start())?;
-        let mut live = BTreeSet::new(alloc);
-        let mut held = BTreeSet::new(alloc);
+        let mut live = PlaceSet::new(alloc, new.net_count())?;
+        let mut held = PlaceSet::new(alloc, new.gate_count())?;
         hold(&mut live, &mut held, new, found.as_slice())?;
         let inputs = note_all(alloc, &held)?;
         let nets = note_all(alloc, &live)?;
+        let waves = PlaceMap::new(alloc, new.net_count())?;
+        let traces = PlaceMap::new(alloc, new.gate_count())?;
+        let events = EventQueue::new(alloc);
         Ok(Front {
             live,
             held,
-            waves: BTreeMap::new(alloc),
-            traces: BTreeMap::new(alloc),
-            events: EventQueue::new(alloc),
+            waves,
+            traces,
+            events,
             inputs,
             nets,
             gates: Vec::new(alloc),
@@ -68,7 +72,7 @@ impl Front {
 }
 
 /// The places of a set, each noted for moment 0.
-fn note_all(alloc: Global, places: &BTreeSet<usize>) -> Result<EventQueue, AllocError>
+fn note_all(alloc: Global, places: &PlaceSet) -> Result<EventQueue, AllocError>
     ensures { IfOk result (λ queue. (p : ℕ) → contains nat_cmp places.now p ≡ true → has p (noted queue 0) ≡ true) }
 {
     let listed = places_of(alloc, places)?;

@@ -10,19 +10,20 @@ ghost use Rattle.rundiff.specs.Fronts.{AreTraces, AreWaves};
 ghost use Rattle.rundiff.specs.Places.{gate_at, net_at};
 ghost use Rattle.rundiff.specs.Kept.{read_at};
 
-use crate::old::{old_trace, old_wave};
+use crate::former::{former_trace, former_wave};
+use crate::old::old_wave;
 use crate::patches::value_at;
+use crate::place_map::PlaceMap;
 use arrayvec::ArrayVec;
 use design::{Design, Gate, Terminal};
 use fourstate::{MAX_INPUTS, Value, resolve};
 use gatestep::{Driver, Stepper};
 use std::alloc::{AllocError, Global};
-use std::collections::BTreeMap;
 use waveform::{Patch, Run, Trace, Wave, laws};
 
 /// The value of a net at `m`, a moment at which it is known.
 pub fn net_value(
-    waves: &BTreeMap<usize, Patch<Value>>,
+    waves: &PlaceMap<Patch<Value>>,
     blank: &Wave,
     old: &Design,
     run: &Run,
@@ -36,14 +37,13 @@ pub fn net_value(
     ensures { (answer : Evaluation → ℕ → State) (n : ℕ) → IsRun answer old.now run.now → AreWaves answer (netlist old.now) (netlist new.now) waves.now n → m < n
         → result ≡ value answer (netlist new.now) (net_at (netlist new.now) place) m }
 {
-    let key = new.net_key_at(place);
-    let name = new.net_at(place).name().as_str();
-    value_at(waves, place, old_wave(old, run, key, name, blank), m)
+    let former = former_wave(waves, blank, old, run, new, place);
+    value_at(waves, place, former, m)
 }
 
 /// The value of what a gate input is connected to, at `m`.
 pub fn connection_value(
-    waves: &BTreeMap<usize, Patch<Value>>,
+    waves: &PlaceMap<Patch<Value>>,
     blank: &Wave,
     old: &Design,
     run: &Run,
@@ -91,7 +91,7 @@ pub fn old_connection_value(
 
 /// The values of a gate's inputs at `m`, where all up to `t` is known.
 pub fn inputs_at<S: Stepper>(
-    waves: &BTreeMap<usize, Patch<Value>>,
+    waves: &PlaceMap<Patch<Value>>,
     blank: &Wave,
     old: &Design,
     run: &Run,
@@ -139,7 +139,7 @@ pub fn old_inputs_at<S: Stepper>(
 
 /// The state of a gate before the moment `t`, where all before `t` is known.
 pub fn gate_state<S: Stepper>(
-    traces: &BTreeMap<usize, Patch<Driver>>,
+    traces: &PlaceMap<Patch<Driver>>,
     blank: &Trace,
     old: &Design,
     run: &Run,
@@ -160,15 +160,14 @@ pub fn gate_state<S: Stepper>(
     if t == 0 {
         return Driver::start();
     }
-    let key = new.gate_key_at(place);
-    let name = new.gate_at(place).name().as_str();
-    value_at(traces, place, old_trace(old, run, key, name, blank), t - 1)
+    let former = former_trace(traces, blank, old, run, new, place);
+    value_at(traces, place, former, t - 1)
 }
 
 /// The value that a net has at the moment `t` from its stimulus or its drivers, where all before `t` is known.
 pub fn driven_value<S: Stepper>(
     alloc: Global,
-    traces: &BTreeMap<usize, Patch<Driver>>,
+    traces: &PlaceMap<Patch<Driver>>,
     blank: &Trace,
     old: &Design,
     run: &Run,

@@ -12,19 +12,20 @@ ghost use Rattle.rundiff.specs.Fronts.{AreDrivers, IsWave};
 ghost use Rattle.rundiff.specs.Places.{gate_at, is_among, is_live, net_at};
 ghost use Rattle.rundiff.specs.Steady.{IsSteady};
 
+use crate::former::former_wave;
 use crate::holding::hold;
-use crate::old::old_wave;
 use crate::patches::value_at;
+use crate::place_map::PlaceMap;
+use crate::place_set::PlaceSet;
 use design::Design;
 use fourstate::Value;
 use gatestep::Stepper;
 use std::alloc::AllocError;
-use std::collections::{BTreeMap, BTreeSet};
 use waveform::{Patch, Run, Sample, Wave, laws};
 
 /// Adds the gates that read those of these nets that have another value at the moment `t` than at the moment before.
 pub fn add_changed<S: Stepper>(
-    waves: &BTreeMap<usize, Patch<Value>>,
+    waves: &PlaceMap<Patch<Value>>,
     blank: &Wave,
     old: &Design,
     run: &Run,
@@ -49,7 +50,7 @@ pub fn add_changed<S: Stepper>(
 
 /// Adds the gates that read a net, where it has another value at the moment `t` than at the moment before.
 fn add_if_changed<S: Stepper>(
-    waves: &BTreeMap<usize, Patch<Value>>,
+    waves: &PlaceMap<Patch<Value>>,
     blank: &Wave,
     old: &Design,
     run: &Run,
@@ -74,7 +75,7 @@ fn add_if_changed<S: Stepper>(
 
 /// Whether a net has another value at the moment `t` than at the moment before.
 fn changes<S: Stepper>(
-    waves: &BTreeMap<usize, Patch<Value>>,
+    waves: &PlaceMap<Patch<Value>>,
     blank: &Wave,
     old: &Design,
     run: &Run,
@@ -92,8 +93,7 @@ fn changes<S: Stepper>(
     if t == 0 {
         return false;
     }
-    let key = new.net_key_at(place);
-    let former = old_wave(old, run, key, new.net_at(place).name().as_str(), blank);
+    let former = former_wave(waves, blank, old, run, new, place);
     let before = value_at(waves, place, former, t - 1);
     !value_at(waves, place, former, t).is_same(before)
 }
@@ -119,8 +119,8 @@ fn add_readers(new: &Design, place: usize, gates: &mut Vec<usize>) -> Result<(),
 /// Makes those of the found nets live that are not, and holds their drivers. It adds these nets and these drivers to what is
 /// looked at, and leaves them alone in `found`.
 pub fn hold_found(
-    live: &mut BTreeSet<usize>,
-    held: &mut BTreeSet<usize>,
+    live: &mut PlaceSet,
+    held: &mut PlaceSet,
     new: &Design,
     found: &mut Vec<usize>,
     nets: &mut Vec<usize>,
@@ -143,10 +143,10 @@ pub fn hold_found(
 }
 
 /// Leaves those of some places that are not in a set.
-fn leave_new(places: &mut Vec<usize>, set: &BTreeSet<usize>)
+fn leave_new(places: &mut Vec<usize>, set: &PlaceSet)
     ensures { places.new.items ≡ filter (λ p. not (contains nat_cmp set.now p)) places.old.items }
 {
-    places.retain(|place| !set.contains(place));
+    places.retain(|place| !set.contains(*place));
 }
 
 /// Adds the gates that drive some nets.

@@ -35,8 +35,8 @@ returns-clause-traces g c =
     ∙ ap (λ (name : List ℕ). trace_below (named_state answer old name) (suc old.horizon)) named
     ∙ ap (trace_below (named_state answer old x.name)) same_end in
     let Keep : Option (PatchRecord State) → ℕ → Type 0 = λ o n. Keeps same_state due (named_state answer old x.name) (state_after answer new x) o n in
-    let keeps : Keep c.remove.result (c.horizon.result + 1) =
-    subst (λ (n : ℕ). Keep c.remove.result n) (sym end) (subst (λ (o : Option (PatchRecord State)). Keep o (suc new.horizon)) (sym c.remove.ensures.value) c.requires.trace) in
+    let keeps : Keep c.take.result (c.horizon.result + 1) =
+    subst (λ (n : ℕ). Keep c.take.result n) (sym end) (subst (λ (o : Option (PatchRecord State)). Keep o (suc new.horizon)) (sym c.take.ensures.value) c.requires.trace) in
     let is = c.lawful-2.ensures.design.gates place blank_gate c.requires.there in
     let line : c.in_ok-trace.trace ≡ trace_of answer new x =
     c.in_ok-trace.ensures (state_after answer new x) (named_state answer old x.name) (settled answer new pending x is) (old_settled answer old pending x.name c.lawful.ensures.design.gates) stored keeps

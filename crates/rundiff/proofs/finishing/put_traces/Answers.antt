@@ -1,8 +1,7 @@
 use Rattle.std.proofs.Common.{◌∙◌, ◌≤◌, sym, subst, refl, suc, Option}
 use Rattle.std.specs.Prelude.{slice_index_or}
 use Rattle.std.specs.Option.{ForSome}
-use Rattle.std.specs.BTreeMap.{get}
-use Rattle.std.specs.Ordering.{nat_cmp}
+use Rattle.rundiff.specs.PlaceMaps.{kept_at}
 use Rattle.gatestep.specs.Step.{State, due}
 use Rattle.catalog.specs.Catalog.{keys_of}
 use Rattle.design.specs.Keys.{netlist}
@@ -53,7 +52,7 @@ loop-place-preserved g c =
     let at = get_at xs i 0 c.loop-place-test.true in
     record {
       traces = put_next (new_trace g.S.Stepper.answer c.args.new.now) (keys_of c.args.new.now.gates) xs i x c.args.made.now.traces c.loop-place.made.traces c.put_trace.new.made.traces at c.loop-place.invariant.traces c.in_ok-put_trace.ensures.traces;
-      patches = others_more (λ q o. Unit {0}) (get nat_cmp c.args.traces.now) (get nat_cmp c.loop-place.traces) (get nat_cmp c.put_trace.new.traces) xs i x at c.put_trace.ensures.others c.loop-place.invariant.patches;
+      patches = others_more (λ q o. Unit {0}) (kept_at c.args.traces.now) (kept_at c.loop-place.traces) (kept_at c.put_trace.new.traces) xs i x at c.put_trace.ensures.others c.loop-place.invariant.patches;
       waves = c.put_trace.ensures.waves ∙ c.loop-place.invariant.waves;
       horizon = c.put_trace.ensures.horizon ∙ c.loop-place.invariant.horizon;
     }

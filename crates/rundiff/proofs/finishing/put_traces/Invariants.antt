@@ -1,6 +1,5 @@
 use Rattle.std.proofs.Common.{◌≡◌, ℕ, false, take}
-use Rattle.std.specs.BTreeMap.{get}
-use Rattle.std.specs.Ordering.{nat_cmp}
+use Rattle.rundiff.specs.PlaceMaps.{kept_at}
 use Rattle.catalog.specs.Catalog.{keys_of}
 use Rattle.rundiff.specs.Finishing.{ArePut, new_trace}
 use Rattle.rundiff.specs.Places.{is_among}
@@ -10,7 +9,7 @@ use Rattle.rundiff.proofs.finishing.put_traces.Given as goal
 abbrev pub invariant-loop-place : goal.invariant-loop-place
 invariant-loop-place g l = record {
   traces : ArePut (new_trace g.S.Stepper.answer l.new) (keys_of l.new.gates) (take l.place-index l.held) l.fn.made.traces l.made.traces;
-  patches : (q : ℕ) → is_among (take l.place-index l.held) q ≡ false → get nat_cmp l.traces q ≡ get nat_cmp l.fn.traces q;
+  patches : (q : ℕ) → is_among (take l.place-index l.held) q ≡ false → kept_at l.traces q ≡ kept_at l.fn.traces q;
   waves : l.made.waves ≡ l.fn.made.waves;
   horizon : l.made.horizon ≡ l.fn.made.horizon;
 }

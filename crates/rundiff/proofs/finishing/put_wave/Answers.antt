@@ -34,8 +34,8 @@ returns-clause-waves g c =
     ∙ ap (λ (name : List ℕ). wave_changes_below (read_at answer old (to_net name)) (suc old.horizon)) named
     ∙ ap (wave_changes_below (read_at answer old (to_net x.name))) same_end in
     let Keep : Option (PatchRecord Value) → ℕ → Type 0 = λ o n. Keeps same_value standing (read_at answer old (to_net x.name)) (value answer new x) o n in
-    let keeps : Keep c.remove.result (c.horizon.result + 1) =
-    subst (λ (n : ℕ). Keep c.remove.result n) (sym end) (subst (λ (o : Option (PatchRecord Value)). Keep o (suc new.horizon)) (sym c.remove.ensures.value) c.requires.wave) in
+    let keeps : Keep c.take.result (c.horizon.result + 1) =
+    subst (λ (n : ℕ). Keep c.take.result n) (sym end) (subst (λ (o : Option (PatchRecord Value)). Keep o (suc new.horizon)) (sym c.take.ensures.value) c.requires.wave) in
     let line : c.in_ok-wave.wave ≡ wave_of answer new x =
     c.in_ok-wave.ensures (value answer new x) (read_at answer old (to_net x.name)) (λ t. refl) (λ t. refl) stored keeps
     ∙ ap (wave_changes_below (value answer new x)) end in

@@ -1,8 +1,7 @@
 use Rattle.std.proofs.Common.{◌∙◌, ◌≤◌, sym, subst, refl, suc, Option}
 use Rattle.std.specs.Prelude.{slice_index_or}
 use Rattle.std.specs.Option.{ForSome}
-use Rattle.std.specs.BTreeMap.{get}
-use Rattle.std.specs.Ordering.{nat_cmp}
+use Rattle.rundiff.specs.PlaceMaps.{kept_at}
 use Rattle.fourstate.specs.declared.value.Value.{Value}
 use Rattle.fourstate.specs.Values.{same_value}
 use Rattle.catalog.specs.Catalog.{keys_of}
@@ -55,7 +54,7 @@ loop-place-preserved g c =
     let at = get_at xs i 0 c.loop-place-test.true in
     record {
       waves = put_next (new_wave g.S.Stepper.answer c.args.new.now) (keys_of c.args.new.now.nets) xs i x c.args.made.now.waves c.loop-place.made.waves c.put_wave.new.made.waves at c.loop-place.invariant.waves c.in_ok-put_wave.ensures.waves;
-      patches = others_more (λ q o. Unit {0}) (get nat_cmp c.args.waves.now) (get nat_cmp c.loop-place.waves) (get nat_cmp c.put_wave.new.waves) xs i x at c.put_wave.ensures.others c.loop-place.invariant.patches;
+      patches = others_more (λ q o. Unit {0}) (kept_at c.args.waves.now) (kept_at c.loop-place.waves) (kept_at c.put_wave.new.waves) xs i x at c.put_wave.ensures.others c.loop-place.invariant.patches;
       traces = c.put_wave.ensures.traces ∙ c.loop-place.invariant.traces;
       horizon = c.put_wave.ensures.horizon ∙ c.loop-place.invariant.horizon;
     }

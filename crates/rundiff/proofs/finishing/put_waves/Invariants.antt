@@ -1,6 +1,5 @@
 use Rattle.std.proofs.Common.{◌≡◌, ℕ, false, take}
-use Rattle.std.specs.BTreeMap.{get}
-use Rattle.std.specs.Ordering.{nat_cmp}
+use Rattle.rundiff.specs.PlaceMaps.{kept_at}
 use Rattle.catalog.specs.Catalog.{keys_of}
 use Rattle.rundiff.specs.Finishing.{ArePut, new_wave}
 use Rattle.rundiff.specs.Places.{is_among}
@@ -10,7 +9,7 @@ use Rattle.rundiff.proofs.finishing.put_waves.Given as goal
 abbrev pub invariant-loop-place : goal.invariant-loop-place
 invariant-loop-place g l = record {
   waves : ArePut (new_wave g.S.Stepper.answer l.new) (keys_of l.new.nets) (take l.place-index l.live) l.fn.made.waves l.made.waves;
-  patches : (q : ℕ) → is_among (take l.place-index l.live) q ≡ false → get nat_cmp l.waves q ≡ get nat_cmp l.fn.waves q;
+  patches : (q : ℕ) → is_among (take l.place-index l.live) q ≡ false → kept_at l.waves q ≡ kept_at l.fn.waves q;
   traces : l.made.traces ≡ l.fn.made.traces;
   horizon : l.made.horizon ≡ l.fn.made.horizon;
 }

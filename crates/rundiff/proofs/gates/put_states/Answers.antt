@@ -1,8 +1,7 @@
 use Rattle.std.proofs.Common.{◌≡◌, ◌∙◌, ◌<◌, ◌≤◌, ap, sym, subst, suc, arith, ℕ, List, length, Option}
 use Rattle.std.specs.Prelude.{slice_index_or}
 use Rattle.std.specs.Option.{ForSome}
-use Rattle.std.specs.BTreeMap.{get}
-use Rattle.std.specs.Ordering.{nat_cmp}
+use Rattle.rundiff.specs.PlaceMaps.{kept_at}
 use Rattle.std.proofs.lemmas.List.{length-map}
 use Rattle.gatestep.specs.Step.{State, due}
 use Rattle.design.specs.Keys.{netlist}
@@ -53,8 +52,8 @@ loop-i-preserved g c =
     let P : ℕ → Option (PatchRecord State) → Type 0 = λ q o. Keeps same_state due (named_state g.S.Stepper.answer old (gate_at new q).name) (state_after g.S.Stepper.answer new (gate_at new q)) o (suc c.args.t) × IsOwn o × ForSome o (λ patch. end_of patch.line ≤ suc c.args.t) in
     let done = c.in_ok-put_state.ensures in
     record {
-      put = put_more P (get nat_cmp c.args.traces.now) (get nat_cmp c.loop-i.traces) (get nat_cmp c.put_state.new.traces) xs i x at done.others c.loop-i.invariant.put (done.put, done.own, done.end);
-      others = others_more P (get nat_cmp c.args.traces.now) (get nat_cmp c.loop-i.traces) (get nat_cmp c.put_state.new.traces) xs i x at done.others c.loop-i.invariant.others;
+      put = put_more P (kept_at c.args.traces.now) (kept_at c.loop-i.traces) (kept_at c.put_state.new.traces) xs i x at done.others c.loop-i.invariant.put (done.put, done.own, done.end);
+      others = others_more P (kept_at c.args.traces.now) (kept_at c.loop-i.traces) (kept_at c.put_state.new.traces) xs i x at done.others c.loop-i.invariant.others;
     }
 
 pub returns-clause-put : goal.returns-clause-put

@@ -1,7 +1,6 @@
 use Rattle.std.proofs.Common.{◌≡◌, ◌≤◌, ℕ, suc, true, false, take}
 use Rattle.std.specs.Option.{ForSome}
-use Rattle.std.specs.BTreeMap.{get}
-use Rattle.std.specs.Ordering.{nat_cmp}
+use Rattle.rundiff.specs.PlaceMaps.{kept_at}
 use Rattle.waveform.specs.Timelines.{end_of}
 use Rattle.design.specs.Keys.{netlist}
 use Rattle.rundiff.specs.Fronts.{IsOwn, IsTrace}
@@ -11,6 +10,6 @@ use Rattle.rundiff.proofs.gates.put_states.Given as goal
 -- the gates so far are put, the others are as they were
 abbrev pub invariant-loop-i : goal.invariant-loop-i
 invariant-loop-i g l = record {
-  put : (q : ℕ) → is_among (take l.i l.places) q ≡ true → IsTrace g.S.Stepper.answer (netlist l.old) (netlist l.new) l.traces q (suc l.t) × IsOwn (get nat_cmp l.traces q) × ForSome (get nat_cmp l.traces q) (λ patch. end_of patch.line ≤ suc l.t);
-  others : (q : ℕ) → is_among (take l.i l.places) q ≡ false → get nat_cmp l.traces q ≡ get nat_cmp l.fn.traces q;
+  put : (q : ℕ) → is_among (take l.i l.places) q ≡ true → IsTrace g.S.Stepper.answer (netlist l.old) (netlist l.new) l.traces q (suc l.t) × IsOwn (kept_at l.traces q) × ForSome (kept_at l.traces q) (λ patch. end_of patch.line ≤ suc l.t);
+  others : (q : ℕ) → is_among (take l.i l.places) q ≡ false → kept_at l.traces q ≡ kept_at l.fn.traces q;
 }

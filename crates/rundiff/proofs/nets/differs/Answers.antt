@@ -1,4 +1,4 @@
-use Rattle.std.proofs.Common.{◌≡◌, ◌∙◌, ◌<◌, ap, sym, refl, suc, arith, ℕ, List}
+use Rattle.std.proofs.Common.{◌≡◌, ◌∙◌, ◌<◌, ap, sym, refl, suc, arith, ℕ, List, inr}
 use Rattle.fourstate.specs.declared.value.Value.{Value}
 use Rattle.fourstate.specs.declared.value.Value.TheVariants.{Unknown}
 use Rattle.design.specs.Connections.{to_net}
@@ -26,7 +26,7 @@ returns g c = λ off.
     let stored = c.old_wave-former.ensures answer c.requires.run ∙ ap (λ (name : List ℕ). wave_changes_below (read_at answer old (to_net name)) (suc old.horizon)) named in
     let below : c.args.t < suc old.horizon = let h = c.requires.within in omega arith in
     let known : c.args.t < suc c.args.t = omega arith in
-    let mine = c.value_at.ensures.value (value answer new x) (read_at answer old (to_net x.name)) (suc old.horizon) (suc c.args.t) (λ t. refl) (λ t. refl) stored below known c.requires.wave in
+    let mine = c.value_at.ensures.value (value answer new x) (read_at answer old (to_net x.name)) (suc old.horizon) (suc c.args.t) (λ t. refl) (λ t. refl) (inr stored) below known c.requires.wave in
     let theirs = c.at.ensures.value ∙ ap (λ (xs : List (ℕ × Value)). value_by standing Unknown xs c.args.t) stored
     ∙ c.value_of_changes.ensures (read_at answer old (to_net x.name)) (λ t. refl) c.args.t (suc old.horizon) below in
     let same = is_same c.value_at.result c.at.result (sym c.is_same.ensures ∙ not_false c.is_same.result off) in

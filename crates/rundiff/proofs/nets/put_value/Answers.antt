@@ -1,12 +1,9 @@
-use Rattle.std.proofs.Common.{◌≡◌, ◌∙◌, ◌≤◌, ap, sym, refl, suc, arith, ℕ, List}
+use Rattle.std.proofs.Common.{◌≤◌, refl, suc, arith}
 use Rattle.design.specs.Connections.{to_net}
 use Rattle.design.specs.Keys.{netlist}
-use Rattle.design.specs.Netlist.{NetEntry}
-use Rattle.waveform.specs.Changes.{wave_changes_below}
 use Rattle.scratch.specs.Run.{value}
-use Rattle.rundiff.specs.Places.{blank_net, net_at}
+use Rattle.rundiff.specs.Places.{net_at}
 use Rattle.rundiff.specs.Kept.{read_at}
-use Rattle.rundiff.proofs.ByPlace.{at_place}
 use Rattle.rundiff.proofs.Steps.{mapped}
 use Rattle.rundiff.proofs.nets.put_value.Goals as goal
 
@@ -16,9 +13,7 @@ returns-clause-put g c =
     let old = netlist c.args.old.now in
     let new = netlist c.args.new.now in
     let x = net_at new c.args.place in
-    let at = at_place new.nets c.args.place blank_net c.net_at.result.now c.net_at.ensures in
-    let named : c.as_str-name.result.now ≡ x.name = c.as_str-name.ensures ∙ c.name.ensures ∙ sym (ap (λ (y : NetEntry). y.name) at) in
-    let stored = c.old_wave.ensures answer c.requires.run ∙ ap (λ (name : List ℕ). wave_changes_below (read_at answer old (to_net name)) (suc old.horizon)) named in
+    let stored = c.former_wave-former.ensures answer c.requires.run in
     let within : c.args.t ≤ suc old.horizon = let h = c.requires.within in omega arith in
     mapped c.put.result c.put.ensures.made
     (λ made. made (value answer new x) (read_at answer old (to_net x.name)) (suc old.horizon) (λ t. refl) (λ t. refl) stored within c.requires.wave c.in_ok-value.ensures)

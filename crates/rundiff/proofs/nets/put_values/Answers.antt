@@ -1,8 +1,7 @@
 use Rattle.std.proofs.Common.{◌≡◌, ◌∙◌, ◌≤◌, ap, sym, subst, suc, refl, arith, ℕ, true, false, List, Option}
 use Rattle.std.specs.Prelude.{slice_index_or}
 use Rattle.std.specs.Option.{ForSome}
-use Rattle.std.specs.BTreeMap.{get}
-use Rattle.std.specs.Ordering.{nat_cmp}
+use Rattle.rundiff.specs.PlaceMaps.{kept_at}
 use Rattle.fourstate.specs.declared.value.Value.{Value}
 use Rattle.fourstate.specs.Values.{same_value}
 use Rattle.design.specs.Connections.{to_net}
@@ -47,8 +46,8 @@ loop-place-preserved g c =
     let P : ℕ → Option (PatchRecord Value) → Type 0 = λ q o. Keeps same_value standing (read_at g.S.Stepper.answer old (to_net (net_at new q).name)) (value g.S.Stepper.answer new (net_at new q)) o (suc c.args.t) × IsOwn o × ForSome o (λ patch. end_of patch.line ≤ suc c.args.t) in
     let done = c.in_ok-put_value.ensures in
     record {
-      put = put_more P (get nat_cmp c.args.waves.now) (get nat_cmp c.loop-place.waves) (get nat_cmp c.put_value.new.waves) xs i x at done.others c.loop-place.invariant.put (done.put, done.own, done.end);
-      others = others_more P (get nat_cmp c.args.waves.now) (get nat_cmp c.loop-place.waves) (get nat_cmp c.put_value.new.waves) xs i x at done.others c.loop-place.invariant.others;
+      put = put_more P (kept_at c.args.waves.now) (kept_at c.loop-place.waves) (kept_at c.put_value.new.waves) xs i x at done.others c.loop-place.invariant.put (done.put, done.own, done.end);
+      others = others_more P (kept_at c.args.waves.now) (kept_at c.loop-place.waves) (kept_at c.put_value.new.waves) xs i x at done.others c.loop-place.invariant.others;
     }
 
 pub returns-clause-put : goal.returns-clause-put
@@ -70,7 +69,7 @@ pub returns-clause-ends : goal.returns-clause-ends
 returns-clause-ends g c = λ p.
     let xs = c.args.live.now in let whole = take_whole xs c.loop-place.place-index c.loop-place-test.false in
     let At : Option (PatchRecord Value) → Type 0 = λ o. ForSome o (λ patch. end_of patch.line ≤ suc c.args.t) in
-    elim (is_among xs p) as (λ b. is_among xs p ≡ b → At (get nat_cmp c.loop-place.waves p)) [
+    elim (is_among xs p) as (λ b. is_among xs p ≡ b → At (kept_at c.loop-place.waves p)) [
       | true ↦ λ among. (c.loop-place.invariant.put p (ap (λ (l : List ℕ). is_among l p) whole ∙ among)).2
       | false ↦ λ off.
           let same = c.loop-place.invariant.others p (ap (λ (l : List ℕ). is_among l p) whole ∙ off) in

@@ -1,7 +1,6 @@
 use Rattle.std.proofs.Common.{◌≡◌, ◌≤◌, ℕ, suc, true, false, take}
 use Rattle.std.specs.Option.{ForSome}
-use Rattle.std.specs.BTreeMap.{get}
-use Rattle.std.specs.Ordering.{nat_cmp}
+use Rattle.rundiff.specs.PlaceMaps.{kept_at}
 use Rattle.waveform.specs.Timelines.{end_of}
 use Rattle.design.specs.Keys.{netlist}
 use Rattle.rundiff.specs.Fronts.{IsOwn, IsWave}
@@ -11,6 +10,6 @@ use Rattle.rundiff.proofs.nets.put_values.Given as goal
 -- the nets so far are put, the others are as they were
 abbrev pub invariant-loop-place : goal.invariant-loop-place
 invariant-loop-place g l = record {
-  put : (q : ℕ) → is_among (take l.place-index l.live) q ≡ true → IsWave g.S.Stepper.answer (netlist l.old) (netlist l.new) l.waves q (suc l.t) × IsOwn (get nat_cmp l.waves q) × ForSome (get nat_cmp l.waves q) (λ patch. end_of patch.line ≤ suc l.t);
-  others : (q : ℕ) → is_among (take l.place-index l.live) q ≡ false → get nat_cmp l.waves q ≡ get nat_cmp l.fn.waves q;
+  put : (q : ℕ) → is_among (take l.place-index l.live) q ≡ true → IsWave g.S.Stepper.answer (netlist l.old) (netlist l.new) l.waves q (suc l.t) × IsOwn (kept_at l.waves q) × ForSome (kept_at l.waves q) (λ patch. end_of patch.line ≤ suc l.t);
+  others : (q : ℕ) → is_among (take l.place-index l.live) q ≡ false → kept_at l.waves q ≡ kept_at l.fn.waves q;
 }

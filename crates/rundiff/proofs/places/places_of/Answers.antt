@@ -1,9 +1,9 @@
-use Rattle.std.proofs.Common.{◌++◌, ◌∙◌, ap, sym, append-nil, List, ℕ}
-use Rattle.rundiff.proofs.Sets.{set_places}
+use Rattle.std.proofs.Common.{subst, ℕ}
+use Rattle.std.specs.Prelude.{IfOk}
+use Rattle.std.specs.BTreeSet.{BTreeSet, contains}
+use Rattle.std.specs.Ordering.{nat_cmp}
+use Rattle.rundiff.specs.Fronts.{ArePlaces}
 use Rattle.rundiff.proofs.places.places_of.Goals as goal
 
 pub returns : goal.returns
-returns c =
-    let left = rw c.in-None.is at c.next.ensures.steps in
-    let whole = sym (append-nil c.loop-place.places.items) ∙ ap (λ (l : List ℕ). c.loop-place.places.items ++ l) (sym left.0) ∙ c.loop-place.invariant in
-    set_places c.args.set.now c.loop-place.places.items whole c.len.ensures.ordered
+returns c = subst (λ (s : BTreeSet ℕ). IfOk c.list_of.result (λ places. ArePlaces places.items (contains nat_cmp s))) c.in_order.ensures c.list_of.ensures

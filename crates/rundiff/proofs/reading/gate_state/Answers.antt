@@ -1,11 +1,8 @@
-use Rattle.std.proofs.Common.{◌≡◌, ◌∙◌, ◌<◌, ◌-◌, ap, sym, suc, arith, ℕ, List}
-use Rattle.design.specs.Keys.{entry_in, netlist}
-use Rattle.design.specs.Netlist.{GateEntry}
-use Rattle.waveform.specs.Changes.{trace_below}
+use Rattle.std.proofs.Common.{◌∙◌, ◌<◌, ◌-◌, ap, suc, arith, ℕ}
+use Rattle.design.specs.Keys.{netlist}
 use Rattle.scratch.specs.Run.{state_after, state_before}
 use Rattle.rundiff.specs.Fronts.{named_state}
 use Rattle.rundiff.specs.Places.{blank_gate, gate_at}
-use Rattle.rundiff.proofs.ByPlace.{at_place}
 use Rattle.rundiff.proofs.Tasks.{next_one, old_settled, settled, stored_ready}
 use Rattle.rundiff.proofs.reading.gate_state.Goals as goal
 
@@ -18,9 +15,7 @@ returns-clause-state g c =
     let new = netlist keyed in
     let gate = gate_at new c.args.place in
     let some : 0 < c.args.t = let h = c.if-t-eq0.false in omega arith in
-    let at = at_place new.gates c.args.place blank_gate (entry_in keyed.nets c.gate_at.result.now) c.gate_at.ensures.named in
-    let named : c.as_str-name.result.now ≡ gate.name = c.as_str-name.ensures ∙ c.name.ensures ∙ sym (ap (λ (y : GateEntry). y.name) at) in
-    let stored = c.old_trace.ensures answer c.requires.run ∙ ap (λ (name : List ℕ). trace_below (named_state answer old name) (suc old.horizon)) named in
+    let stored = c.former_trace-former.ensures answer c.requires.run in
     let is = c.lawful-2.ensures.design.gates c.args.place blank_gate c.requires.there in
     let below : c.args.t - 1 < suc old.horizon = let h = c.requires.within in omega arith in
     let known : c.args.t - 1 < c.args.t = omega arith in

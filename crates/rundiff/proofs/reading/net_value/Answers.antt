@@ -1,12 +1,9 @@
-use Rattle.std.proofs.Common.{◌≡◌, ◌∙◌, ◌<◌, ap, sym, refl, suc, arith, ℕ, List}
+use Rattle.std.proofs.Common.{◌<◌, refl, suc, arith}
 use Rattle.design.specs.Connections.{to_net}
 use Rattle.design.specs.Keys.{netlist}
-use Rattle.design.specs.Netlist.{NetEntry}
-use Rattle.waveform.specs.Changes.{wave_changes_below}
 use Rattle.scratch.specs.Run.{value}
-use Rattle.rundiff.specs.Places.{blank_net, net_at}
+use Rattle.rundiff.specs.Places.{net_at}
 use Rattle.rundiff.specs.Kept.{read_at}
-use Rattle.rundiff.proofs.ByPlace.{at_place}
 use Rattle.rundiff.proofs.reading.net_value.Goals as goal
 
 pub returns : goal.returns
@@ -14,8 +11,6 @@ returns c = λ answer n run waves known.
     let old = netlist c.args.old.now in
     let new = netlist c.args.new.now in
     let x = net_at new c.args.place in
-    let at = at_place new.nets c.args.place blank_net c.net_at.result.now c.net_at.ensures in
-    let named : c.as_str-name.result.now ≡ x.name = c.as_str-name.ensures ∙ c.name.ensures ∙ sym (ap (λ (y : NetEntry). y.name) at) in
-    let stored = c.old_wave.ensures answer run ∙ ap (λ (name : List ℕ). wave_changes_below (read_at answer old (to_net name)) (suc old.horizon)) named in
+    let stored = c.former_wave-former.ensures answer run in
     let below : c.args.m < suc old.horizon = let h = c.requires.within in omega arith in
     c.value_at.ensures.value (value answer new x) (read_at answer old (to_net x.name)) (suc old.horizon) n (λ t. refl) (λ t. refl) stored below known (waves c.args.place c.requires.there)

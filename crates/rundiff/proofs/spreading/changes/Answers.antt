@@ -1,14 +1,11 @@
-use Rattle.std.proofs.Common.{◌≡◌, ◌∙◌, ◌<◌, ◌-◌, ap, sym, refl, suc, arith, ℕ, List}
+use Rattle.std.proofs.Common.{◌≡◌, ◌∙◌, ◌<◌, ◌-◌, ap, sym, refl, suc, arith, ℕ}
 use Rattle.fourstate.specs.declared.value.Value.{Value}
 use Rattle.design.specs.Connections.{to_net}
 use Rattle.design.specs.Keys.{netlist}
-use Rattle.design.specs.Netlist.{NetEntry}
-use Rattle.waveform.specs.Changes.{wave_changes_below}
 use Rattle.fourstate.specs.ValueLaws.{is_same}
 use Rattle.scratch.specs.Run.{value}
-use Rattle.rundiff.specs.Places.{blank_net, net_at}
+use Rattle.rundiff.specs.Places.{net_at}
 use Rattle.rundiff.specs.Kept.{read_at}
-use Rattle.rundiff.proofs.ByPlace.{at_place}
 use Rattle.rundiff.proofs.Still.{not_false}
 use Rattle.rundiff.proofs.spreading.changes.Goals as goal
 
@@ -25,9 +22,7 @@ returns g c = λ off.
     let old = netlist c.args.old.now in
     let new = netlist c.args.new.now in
     let x = net_at new c.args.place in
-    let at = at_place new.nets c.args.place blank_net c.net_at.result.now c.net_at.ensures in
-    let named : c.as_str.result.now ≡ x.name = c.as_str.ensures ∙ c.name.ensures ∙ sym (ap (λ (y : NetEntry). y.name) at) in
-    let stored = c.old_wave-former.ensures answer c.requires.run ∙ ap (λ (name : List ℕ). wave_changes_below (read_at answer old (to_net name)) (suc old.horizon)) named in
+    let stored = c.former_wave-former.ensures answer c.requires.run in
     let below : c.args.t < suc old.horizon = let h = c.requires.within in omega arith in
     let below_too : c.args.t - 1 < suc old.horizon = let h = c.requires.within in omega arith in
     let known : c.args.t < suc c.args.t = omega arith in

@@ -1,6 +1,6 @@
 use Rattle.std.proofs.Common.{◌≡◌, ◌∙◌, ◌≤◌, ap, sym, subst, refl, suc, ℕ, List, All, Bool, true, false, not, map, length, Option, arith}
 use Rattle.std.specs.Prelude.{◌&&◌}
-use Rattle.std.specs.BTreeMap.{get}
+use Rattle.rundiff.specs.PlaceMaps.{kept_at}
 use Rattle.std.specs.BTreeSet.{contains}
 use Rattle.std.specs.List.{filter}
 use Rattle.std.specs.Option.{ForSome}
@@ -108,8 +108,8 @@ returns-clause-front g c =
     let working = c.look_at.new.out.working.items in
     let evaluated : working ≡ filter test chosen = out.working ∙ ap (filter test) c.as_slice.ensures.value in
     let resting = resting_held c.as_slice.result.now chosen c.as_slice-2.result.now c.look_at.new.out.resting.items (is_among chosen) test c.as_slice.ensures.value c.as_slice-2.ensures.value before.chosen out.resting in
-    let was : ℕ → Option (PatchRecord State) = get nat_cmp c.args.self.now.traces in
-    let now : ℕ → Option (PatchRecord State) = get nat_cmp c.put_states.new.traces in
+    let was : ℕ → Option (PatchRecord State) = kept_at c.args.self.now.traces in
+    let now : ℕ → Option (PatchRecord State) = kept_at c.put_states.new.traces in
     let Keep : ℕ → Option (PatchRecord State) → ℕ → Type 0 = λ p o n. Keeps same_state due (named_state answer old (gate_at new p).name) (state_after answer new (gate_at new p)) o n in
     let untouched : (p : ℕ) → held p ≡ false → now p ≡ was p = λ p free. done.others p (resting.all p ∙ resting_off (is_among chosen p) (test p) (not_chosen held chosen before.chosen_held p free)) in
     let passed : (p : ℕ) → is_among chosen p ≡ false → now p ≡ was p = λ p off. done.others p (resting.all p ∙ resting_off (is_among chosen p) (test p) off) in

@@ -1,6 +1,6 @@
 use Rattle.std.proofs.Common.{◌≡◌, ◌∙◌, ◌<◌, ap, sym, subst, refl, suc, ℕ, List, true, false, length, not, Option, None, ◌⊎◌, inr}
 use Rattle.std.specs.Prelude.{◌&&◌, AllPairs}
-use Rattle.std.specs.BTreeMap.{get}
+use Rattle.rundiff.specs.PlaceMaps.{kept_at}
 use Rattle.std.specs.BTreeSet.{contains}
 use Rattle.std.specs.Ordering.{nat_cmp}
 use Rattle.fourstate.specs.declared.value.Value.{Value}
@@ -92,8 +92,8 @@ returns g c =
     let steady : (p : ℕ) → looked p ≡ true → IsSteady answer new marked t p = λ p at. marks.steady p (ap (λ (l : List ℕ). is_among l p) c.as_slice-2.ensures.value ∙ at) in
     let passed : (q : ℕ) → (kept q && not (chosen q)) ≡ true → IsPassed held marked (events_at t) (inputs_at t) q =
     passed_by held kept marked (is_among c.hold_found.new.gates.items) chosen (events_at t) (inputs_at t) (λ q on there. marks.more q (chose.gates q on there)) holds.gates_more holds.gates gates.more gates.noted in
-    let was : ℕ → Option (PatchRecord Value) = get nat_cmp front.waves in
-    let now : ℕ → Option (PatchRecord Value) = get nat_cmp c.put_values.new.waves in
+    let was : ℕ → Option (PatchRecord Value) = kept_at front.waves in
+    let now : ℕ → Option (PatchRecord Value) = kept_at c.put_values.new.waves in
     let Keep : ℕ → Option (PatchRecord Value) → ℕ → Type 0 = λ p o n. Keeps same_value standing (read_at answer old (to_net (net_at new p).name)) (value answer new (net_at new p)) o n in
     let others : (p : ℕ) → looked p ≡ false → now p ≡ was p = λ p off. put.others p (ap (λ (l : List ℕ). is_among l p) c.as_slice.ensures.value ∙ off) in
     let unlooked : (p : ℕ) → live p ≡ false → looked p ≡ false = λ p free. not_so (looked p) (live p) (chose.live p) free in
@@ -131,7 +131,7 @@ returns g c =
           calm_all answer old new current pending is live held events_at inputs_at nets_at looked t are marked steady q facts.held_before facts.no_event facts.no_input facts.no_mark;
       own_traces = λ q on.
           let facts = passed q on in
-          own_all answer old new current pending is live held events_at inputs_at nets_at looked t are q facts.held_before facts.no_input (IsOwn (get nat_cmp front.traces q)) (before.own_traces q facts.held_before);
+          own_all answer old new current pending is live held events_at inputs_at nets_at looked t are q facts.held_before facts.no_input (IsOwn (kept_at front.traces q)) (before.own_traces q facts.held_before);
       awaits =
           noted_now answer old new live later held (λ q. kept q && not (chosen q)) t grows (λ q on. (passed q on).held_before)
           front.events c.choose_nets.new.events front.inputs c.choose_gates.new.queue front.nets c.choose_nets.new.queue c.note_nets.new.queue

@@ -1,7 +1,6 @@
-use Rattle.std.proofs.Common.{◌≡◌, ◌∙◌, ap, sym, subst, refl, ℕ, List, [], ◌∷◌, Bool, true, Option, Some, None, inl, arith}
-use Rattle.std.specs.BTreeMap.{BTreeMap, get, is_at}
+use Rattle.std.proofs.Common.{◌≡◌, ◌∙◌, ap, sym, subst, refl, ℕ, List, [], ◌∷◌, Bool, true, false, Option, Some, None, inl, arith}
 use Rattle.std.specs.BTreeSet.{contains}
-use Rattle.std.specs.Map.{lookup}
+use Rattle.std.specs.Option.{option_map_or}
 use Rattle.std.specs.Ordering.{nat_cmp}
 use Rattle.fourstate.specs.declared.gate.GateKind.TheVariants.{Buf}
 use Rattle.fourstate.specs.Values.{same_value}
@@ -20,14 +19,26 @@ use Rattle.rundiff.proofs.FirstLive.{first_closed}
 use Rattle.rundiff.proofs.Sets.{or_first}
 use Rattle.rundiff.proofs.front.Front.open.Goals as goal
 
-none_there : {X : Type 0} (m : BTreeMap ℕ X) → m.entries ≡ [] → (p : ℕ) → get nat_cmp m p ≡ None
-none_there {X} m empty p = ap (λ (es : List (ℕ × X)). lookup (is_at (nat_cmp p)) es) empty
+none_live : (live : ℕ → Bool) → ((p : ℕ) → live p ≡ false) → (o : Option ℕ) → option_map_or live o false ≡ false
+none_live live none None = refl
+none_live live none (Some p) = none p
 
 keeps_first : {A : Type 0} (same : A → A → Bool) (drift : A → ℕ → A) (f g : ℕ → A) (o : Option (PatchRecord A)) → o ≡ None → Keeps same drift g f o 0
 keeps_first {A} same drift f g o none = subst (λ (o : Option (PatchRecord A)). Keeps same drift g f o 0) (sym none) (λ u low. absurd (omega arith))
 
 never_some : {X : Type 0} (o : Option X) (x : X) → o ≡ None → o ≡ Some x → ⊥
 never_some o x none some = let no : ◌≡◌ {A = Option _} None (Some x) = sym none ∙ some in cc
+
+off_on : (b : Bool) → b ≡ false → b ≡ true → ⊥
+off_on b off on = absurd (cc)
+
+pub hold-requires-clause-drivers : goal.hold-requires-clause-drivers
+hold-requires-clause-drivers c =
+    record {
+      nets = λ p on. absurd (off_on _ (c.in_ok-live.ensures p) on);
+      gates = λ p on. absurd (off_on _ (c.in_ok-held.ensures p) on);
+      drivers = λ p low. c.in_ok-held.ensures p ∙ sym (none_live (contains nat_cmp c.in_ok-live.live) c.in_ok-live.ensures _);
+    }
 
 pub returns-clause-front : goal.returns-clause-front
 returns-clause-front c = λ answer.
@@ -36,9 +47,9 @@ returns-clause-front c = λ answer.
     let places = c.in_ok-found.found.items in
     let covers : (p : ℕ) → is_among places p ≡ true → later p ≡ true = λ p among.
     c.in_ok-hold.ensures.live p
-    ∙ or_first (is_among c.as_slice.result.now p) (contains nat_cmp c.new-live.result p) (ap (λ (l : List ℕ). is_among l p) c.as_slice.ensures.value ∙ among) in
-    let no_wave = none_there c.new.result c.new.ensures.empty in
-    let no_trace = none_there c.new-2.result c.new-2.ensures.empty in
+    ∙ or_first (is_among c.as_slice.result.now p) (contains nat_cmp c.in_ok-live.live p) (ap (λ (l : List ℕ). is_among l p) c.as_slice.ensures.value ∙ among) in
+    let no_wave = c.in_ok-waves.ensures in
+    let no_trace = c.in_ok-traces.ensures in
     record {
       drivers = c.in_ok-hold.ensures.drivers;
       closed =
@@ -56,6 +67,6 @@ returns-clause-front c = λ answer.
       other_waves = λ p off. no_wave p;
       other_traces = λ p off. no_trace p;
       awaits =
-          opened_noted answer old new later (contains nat_cmp c.hold.new.held) (noted c.new-3.result) (noted c.in_ok-inputs.inputs) (noted c.in_ok-nets.nets) c.in_ok-inputs.ensures c.in_ok-nets.ensures;
+          opened_noted answer old new later (contains nat_cmp c.hold.new.held) (noted c.new-events.result) (noted c.in_ok-inputs.inputs) (noted c.in_ok-nets.nets) c.in_ok-inputs.ensures c.in_ok-nets.ensures;
       blank = record { wave = c.in_ok-blank_wave.ensures; trace = c.in_ok-blank_trace.ensures ∙ ap (λ (s : State). (0, s) ∷ []) c.start.ensures };
     }

@@ -1,6 +1,6 @@
 use Rattle.std.proofs.Common.{◌≡◌, ◌∙◌, ◌<◌, ◌≤◌, ap, sym, subst, refl, suc, ℕ, List, Bool, true, false, length, map, Option, arith, inr}
 use Rattle.std.specs.Prelude.{◌&&◌, AllPairs}
-use Rattle.std.specs.BTreeMap.{get}
+use Rattle.rundiff.specs.PlaceMaps.{kept_at}
 use Rattle.std.specs.BTreeSet.{contains}
 use Rattle.std.specs.Option.{ForSome}
 use Rattle.std.specs.Ordering.{nat_cmp}
@@ -92,8 +92,8 @@ returns-clause-front g c =
     let working = c.args.self.now.working.items in
     let those = c.requires.answers ∙ ap (map (λ h. state_after answer new h t)) before.tasks ∙ map_twice (gate_at new) (λ h. state_after answer new h t) working in
     let slice = c.as_slice.result.now in
-    let was : ℕ → Option (PatchRecord State) = get nat_cmp c.args.self.now.traces in
-    let now : ℕ → Option (PatchRecord State) = get nat_cmp c.put_states.new.traces in
+    let was : ℕ → Option (PatchRecord State) = kept_at c.args.self.now.traces in
+    let now : ℕ → Option (PatchRecord State) = kept_at c.put_states.new.traces in
     let Keep : ℕ → Option (PatchRecord State) → ℕ → Type 0 = λ p o n. Keeps same_state due (named_state answer old (gate_at new p).name) (state_after answer new (gate_at new p)) o n in
     let among : (p : ℕ) → is_among slice p ≡ (held p && test p) = λ p. ap (λ (l : List ℕ). is_among l p) c.as_slice.ensures.value ∙ before.places.all p in
     let on_true : (a b : Bool) → a ≡ true → b ≡ true → (a && b) ≡ true = λ a b h k. rw (h, k) refl in

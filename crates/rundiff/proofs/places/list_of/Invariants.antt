@@ -1,5 +1,5 @@
 use Rattle.std.proofs.Common.{◌≡◌, ◌++◌}
-use Rattle.rundiff.proofs.places.places_of.Given as goal
+use Rattle.rundiff.proofs.places.list_of.Given as goal
 
 -- the places so far, and those that are left
 abbrev pub invariant-loop-place : goal.invariant-loop-place
