@@ -1,11 +1,11 @@
 # The tasks of the repository; each works on a machine that has only the toolchain.
 
-.PHONY: all test try demo mutants speed fmt
+.PHONY: all test try demo scripts faults mutants speed fmt
 
 all: try
 
-# CI: every proof from nothing, the mutants of must-fail/, the tests, the programs and the examples; it fails if no test
-# ran, and says at its end where the processor's time went.
+# CI: every proof from nothing, the mutants of must-fail/, the tests, the programs, the examples and the tests of the
+# Python package; it fails if no test ran, and says at its end where the processor's time went.
 test:
 	@tools/ci
 
@@ -16,6 +16,14 @@ try:
 # Builds the proved program into bin/ and runs each example with it.
 demo:
 	@tools/demo
+
+# Runs the tests of the Python package with bin/gatebench, after a demo; tools/scripts runs one of them alone.
+scripts:
+	@tools/scripts
+
+# Finds the stuck-at faults that the stimulus of two circuits shows, with bin/gatebench, after a demo.
+faults:
+	@docs/examples/faults/faults.py
 
 # Tries each mutant of every crate, or of one: make mutants CRATE=design
 mutants:

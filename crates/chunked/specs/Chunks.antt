@@ -17,3 +17,11 @@ items_in chunk = (arc_value chunk).items
 -- the elements of all chunks
 abbrev pub items_of : {X : Type 0} → List (Arc (Vec X Global) Global) → List X
 items_of chunks = flat_map items_in chunks
+
+-- the elements of a branch
+abbrev pub row_in : {X : Type 0} → Arc (List X) Global → List X
+row_in branch = arc_value branch
+
+-- the elements of all branches
+abbrev pub rows_of : {X : Type 0} → List (Arc (List X) Global) → List X
+rows_of branches = flat_map row_in branches

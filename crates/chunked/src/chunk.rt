@@ -9,7 +9,7 @@ use std::alloc::AllocError;
 use std::sync::Arc;
 
 /// How many elements a chunk has, but for the last one, which may have fewer (own).
-pub(crate) const CHUNK: usize = 256;
+pub(crate) const CHUNK: usize = 32;
 
 /// A chunk, which lists share as a whole.
 pub(crate) type Chunk<T> = Arc<Vec<T>>;

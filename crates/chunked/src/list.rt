@@ -2,32 +2,34 @@
 
 ghost use Rattle.std.specs.Prelude.{◌≡◌, ◌<◌, ◌/◌, ◌∷◌, [], ◌++◌, IfOk, OnErr, OnOk, length, slice_get, slice_set, take};
 ghost use Rattle.std.specs.Option.{option_copied};
-ghost use Rattle.chunked.specs.Chunks.{AreFull, items_in, items_of};
+ghost use Rattle.chunked.specs.Chunks.{AreFull, row_in, rows_of};
 
-use crate::chunk::{self, CHUNK, Chunk};
+use crate::branch::{self, BRANCH, Branch};
 use crate::exact::ExactClone;
+use crate::row::Row;
 use std::alloc::{AllocError, Global};
 use std::marker::Model;
 use std::sync::Arc;
 
-/// A list in chunks. A copy shares the chunks, and costs one pointer for each. The first write to a chunk that is shared
-/// copies that chunk alone; a write to one that nobody else has copies nothing. Contracts see the list.
+/// A list in branches, which are rows of chunks. A copy shares the branches, and costs one pointer for each. The first write to
+/// what is shared copies the pointers of one row and the elements of one chunk; a write to what nobody else has copies nothing.
+/// Contracts see the list.
 #[derive(Debug, Drop)]
 pub struct Chunked<T: Drop> {
-    chunks: Vec<Chunk<T>>,
+    branches: Vec<Branch<T>>,
     len: usize,
 }
 
 impl<T: Drop> Model for Chunked<T> {
     ghost use Rattle.std.specs.Prelude.{◌≡◌, List, length};
-    ghost use Rattle.chunked.specs.Chunks.{AreFull, items_in, items_of};
-    ghost use Rattle.chunked.specs.declared.chunk.TheConstants.{CHUNK};
+    ghost use Rattle.chunked.specs.Chunks.{AreFull, row_in, rows_of};
+    ghost use Rattle.chunked.specs.declared.branch.TheConstants.{BRANCH};
 
     ghost Value = { List T };
 
-    ghost view = { λ a. items_of a.chunks.items };
+    ghost view = { λ a. rows_of a.branches.items };
 
-    ghost invariant = { λ a. AreFull items_in CHUNK a.chunks.items × (a.len ≡ length (items_of a.chunks.items)) };
+    ghost invariant = { λ a. AreFull row_in BRANCH a.branches.items × (a.len ≡ length (rows_of a.branches.items)) };
 }
 
 impl<T: Drop> Chunked<T> {
@@ -36,23 +38,23 @@ impl<T: Drop> Chunked<T> {
         ensures { result ≡ [] }
     {
         Chunked {
-            chunks: Vec::new(alloc),
+            branches: Vec::new(alloc),
             len: 0,
         }
     }
 
     /// Where the list takes its memory.
     pub fn allocator(&self) -> Global {
-        *self.chunks.allocator()
+        *self.branches.allocator()
     }
 
-    /// A copy, which shares the chunks. It fails where memory runs out.
+    /// A copy, which shares the branches. It fails where memory runs out.
     pub fn try_clone(&self) -> Result<Chunked<T>, AllocError>
         ensures { IfOk result (λ copy. copy ≡ self.now) }
     {
-        let chunks = self.chunks.clone()?;
+        let branches = self.branches.clone()?;
         Ok(Chunked {
-            chunks,
+            branches,
             len: self.len,
         })
     }
@@ -68,7 +70,7 @@ impl<T: Drop> Chunked<T> {
     pub fn get(&self, index: usize) -> Option<&T>
         ensures { option_copied result ≡ slice_get self.now index }
     {
-        chunk::get(self.chunks.get(index / CHUNK)?, index % CHUNK)
+        branch::get(self.branches.get(index / BRANCH)?, index % BRANCH)
     }
 }
 
@@ -79,9 +81,9 @@ impl<T: ExactClone> Chunked<T> {
         ensures err { OnErr result (self.new ≡ self.old) }
     {
         let more = self.len.checked_add(1).ok_or(AllocError)?;
-        let at = self.len / CHUNK;
-        make_room(&mut self.chunks, at)?;
-        chunk::push(&mut self.chunks[at], item)?;
+        let at = self.len / BRANCH;
+        make_room(&mut self.branches, at)?;
+        branch::push(&mut self.branches[at], item)?;
         self.len = more;
         Ok(())
     }
@@ -92,7 +94,7 @@ impl<T: ExactClone> Chunked<T> {
         ensures ok { OnOk result (self.new ≡ slice_set self.old index item) }
         ensures err { OnErr result (self.new ≡ self.old) }
     {
-        chunk::set(&mut self.chunks[index / CHUNK], index % CHUNK, item)?;
+        branch::set(&mut self.branches[index / BRANCH], index % BRANCH, item)?;
         Ok(())
     }
 
@@ -102,26 +104,26 @@ impl<T: ExactClone> Chunked<T> {
         ensures err { OnErr result (self.new ≡ self.old) }
     {
         if len < self.len {
-            chunk::truncate(&mut self.chunks[len / CHUNK], len % CHUNK)?;
-            self.chunks.truncate(len / CHUNK + 1);
+            branch::truncate(&mut self.branches[len / BRANCH], len % BRANCH)?;
+            self.branches.truncate(len / BRANCH + 1);
             self.len = len;
         }
         Ok(())
     }
 }
 
-/// Adds an empty chunk, where all are full.
-fn make_room<T: Drop>(chunks: &mut Vec<Chunk<T>>, at: usize) -> Result<(), AllocError>
-    requires full { AreFull items_in CHUNK chunks.old.items }
-    requires at { at ≡ length (items_of chunks.old.items) / CHUNK }
-    ensures full { AreFull items_in CHUNK chunks.new.items }
-    ensures same { items_of chunks.new.items ≡ items_of chunks.old.items }
-    ensures room { OnOk result (at < length chunks.new.items) }
+/// Adds an empty branch, where all are full.
+fn make_room<T: Drop>(branches: &mut Vec<Branch<T>>, at: usize) -> Result<(), AllocError>
+    requires full { AreFull row_in BRANCH branches.old.items }
+    requires at { at ≡ length (rows_of branches.old.items) / BRANCH }
+    ensures full { AreFull row_in BRANCH branches.new.items }
+    ensures same { rows_of branches.new.items ≡ rows_of branches.old.items }
+    ensures room { OnOk result (at < length branches.new.items) }
 {
-    if at == chunks.len() {
-        let alloc = *chunks.allocator();
-        let chunk = Arc::new(alloc, Vec::new(alloc))?;
-        chunks.push(chunk)?;
+    if at == branches.len() {
+        let alloc = *branches.allocator();
+        let branch = Arc::new(alloc, Row::new(alloc))?;
+        branches.push(branch)?;
     }
     Ok(())
 }

@@ -38,9 +38,12 @@ fn check(rt: &impl Abort, list: &Chunked<u64>, end: u64) {
     check_but(rt, list, end, list.len(), 0);
 }
 
+// Chunks have 32 elements, branches 1,024.
 #[test]
-fn lists_grow_over_the_borders_of_chunks(rt: HostRuntime) {
-    for end in [0, 1, 255, 256, 257, 511, 512, 513, 700] {
+fn lists_grow_over_the_borders_of_chunks_and_branches(rt: HostRuntime) {
+    for end in [
+        0, 1, 31, 32, 33, 64, 1_023, 1_024, 1_025, 1_056, 1_057, 2_048, 2_100,
+    ] {
         let list = count_up(&rt, rt.alloc(), end);
         check(&rt, &list, end);
         drop(list);
@@ -49,30 +52,49 @@ fn lists_grow_over_the_borders_of_chunks(rt: HostRuntime) {
 
 #[test]
 fn copies_keep_what_they_had(rt: HostRuntime) {
-    let mut list = count_up(&rt, rt.alloc(), 600);
+    let mut list = count_up(&rt, rt.alloc(), 2_100);
     let mut second = copy(&rt, &list);
-    put(&rt, &mut list, 300, 1_000);
-    check_but(&rt, &list, 600, 300, 1_000);
-    check(&rt, &second, 600);
-    second.push(600).expect(&rt, "room");
+    put(&rt, &mut list, 1_055, 7_000);
+    check_but(&rt, &list, 2_100, 1_055, 7_000);
+    check(&rt, &second, 2_100);
+    second.push(2_100).expect(&rt, "room");
     put(&rt, &mut second, 0, 7);
-    check_but(&rt, &list, 600, 300, 1_000);
-    check_but(&rt, &second, 601, 0, 7);
+    check_but(&rt, &list, 2_100, 1_055, 7_000);
+    check_but(&rt, &second, 2_101, 0, 7);
     drop(list);
+    drop(second);
+}
+
+// The second write falls on a chunk whose row the first has copied, the third on another chunk of that row.
+#[test]
+fn writes_side_by_side_change_one_copy(rt: HostRuntime) {
+    let first = count_up(&rt, rt.alloc(), 1_100);
+    let mut second = copy(&rt, &first);
+    for index in [40, 41, 70] {
+        put(&rt, &mut second, index, index as u64);
+        check(&rt, &second, 1_100);
+        put(&rt, &mut second, index, 9_000);
+        check_but(&rt, &second, 1_100, index, 9_000);
+        put(&rt, &mut second, index, index as u64);
+    }
+    check(&rt, &first, 1_100);
+    drop(first);
     drop(second);
 }
 
 #[test]
 fn lists_are_cut(rt: HostRuntime) {
-    let mut list = count_up(&rt, rt.alloc(), 600);
+    let mut list = count_up(&rt, rt.alloc(), 2_100);
     let whole = copy(&rt, &list);
-    for end in [601, 600, 513, 512, 511, 256, 1, 0] {
+    for end in [
+        2_101, 2_100, 2_049, 2_048, 2_047, 1_057, 1_056, 1_024, 1_023, 33, 32, 1, 0,
+    ] {
         list.truncate(end).expect(&rt, "room");
-        check(&rt, &list, end.min(600) as u64);
+        check(&rt, &list, end.min(2_100) as u64);
     }
     list.push(0).expect(&rt, "room");
     check(&rt, &list, 1);
-    check(&rt, &whole, 600);
+    check(&rt, &whole, 2_100);
     drop(list);
     drop(whole);
 }

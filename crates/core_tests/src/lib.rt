@@ -14,6 +14,8 @@ mod dumps;
 #[cfg(test)]
 mod edit_lists;
 #[cfg(test)]
+mod editors;
+#[cfg(test)]
 mod event_queues;
 #[cfg(test)]
 mod floors;

@@ -6,9 +6,15 @@ use edits::{Edit, MAX_EDITS, apply_all};
 use fourstate::TimeUnit;
 use std::alloc::Global;
 
-/// The design that edits build from an empty one, as many at a time as a list may have.
+/// The design that edits build from an empty one.
 pub fn built(alloc: Global, edits: &[Edit]) -> Result<Design> {
-    let mut design = empty(alloc)?;
+    let design = empty(alloc)?;
+    built_on(alloc, &design, edits)
+}
+
+/// The design that edits make of another, as many at a time as a list may have.
+pub fn built_on(alloc: Global, design: &Design, edits: &[Edit]) -> Result<Design> {
+    let mut design = design.try_clone()?;
     let mut rest = edits;
     for _ in 0..=edits.len() / MAX_EDITS {
         let (part, others) = rest.split_at(rest.len().min(MAX_EDITS));

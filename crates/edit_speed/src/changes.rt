@@ -43,6 +43,22 @@ pub fn random_edits(alloc: Global, kind: Kind, gates: usize, count: usize) -> Re
     Ok(edits)
 }
 
+/// One point of the first input at each of so many moments from `first` on.
+pub fn points_in_order(alloc: Global, first: u64, count: u64) -> Result<Vec<Edit>> {
+    let mut edits = Vec::new(alloc);
+    for place in 0..count {
+        let net = name_of(alloc, "a", 0)?;
+        let time = first.saturating_add(place);
+        let value = if place % 2 == 0 {
+            Value::One
+        } else {
+            Value::Zero
+        };
+        edits.push(Edit::Stim { net, time, value })?;
+    }
+    Ok(edits)
+}
+
 fn random_edit(alloc: Global, random: &mut Random, kind: Kind, gates: usize) -> Result<Edit> {
     let number = random.below(gates.max(1));
     match kind {

@@ -31,6 +31,7 @@ fn main(rt: HostRuntime) -> Result<()> {
         for (kind, nanoseconds) in KINDS.iter().zip(times.alone) {
             println!(rt; "{gates} {}-alone {nanoseconds}", kind.name())?;
         }
+        println!(rt; "{gates} point-behind-{} {}", rounds::POINTS, times.behind)?;
     }
     Ok(())
 }

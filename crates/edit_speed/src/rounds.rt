@@ -1,7 +1,7 @@
 //! What is timed.
 
-use crate::built::{applied, built};
-use crate::changes::{KINDS, Kind, random_edits};
+use crate::built::{applied, built, built_on};
+use crate::changes::{KINDS, Kind, points_in_order, random_edits};
 use crate::circuit::circuit;
 use crate::clock::{now, since};
 use anyhow::{Result, bail};
@@ -15,6 +15,9 @@ const ROUNDS: usize = 20;
 /// How many edits of each kind a design is given.
 const EDITS: usize = 1_000;
 
+/// How many points an input has before more are added behind them.
+pub const POINTS: u64 = 10_000;
+
 /// Nanoseconds of processor time for one design.
 #[derive(Drop)]
 pub struct Times {
@@ -26,6 +29,8 @@ pub struct Times {
     pub listed: [u64; 3],
     /// A list of one edit of each of `KINDS`, and the drop of the design that it gives; the mean of all edits.
     pub alone: [u64; 3],
+    /// A list of one point of an input behind `POINTS` others, and the drop of the design that it gives; the mean.
+    pub behind: u64,
 }
 
 /// The times of a random design of so many gates.
@@ -52,11 +57,13 @@ fn timed<R: CpuClock + AllocGlobal>(
     for (place, kind) in KINDS.iter().enumerate() {
         (listed[place], alone[place]) = edit_times(rt, design, *kind, gates)?;
     }
+    let behind = behind_time(rt, design)?;
     Ok(Times {
         build,
         clone,
         listed,
         alone,
+        behind,
     })
 }
 
@@ -80,11 +87,25 @@ fn edit_times<R: CpuClock + AllocGlobal>(
 ) -> Result<(u64, u64)> {
     let edits = random_edits(rt.alloc(), kind, gates, EDITS)?;
     let listed = list_time(rt, design, edits.as_slice())?;
-    let mut alone = 0u64;
+    let alone = alone_time(rt, design, edits.as_slice())?;
+    Ok((listed / EDITS as u64, alone))
+}
+
+// The time of a point behind many others of its net.
+fn behind_time<R: CpuClock + AllocGlobal>(rt: &R, design: &Design) -> Result<u64> {
+    let before = points_in_order(rt.alloc(), 0, POINTS)?;
+    let full = built_on(rt.alloc(), design, before.as_slice())?;
+    let after = points_in_order(rt.alloc(), POINTS, EDITS as u64)?;
+    alone_time(rt, &full, after.as_slice())
+}
+
+// The mean time of edits, each as a list of its own.
+fn alone_time<R: CpuClock + AllocGlobal>(rt: &R, design: &Design, edits: &[Edit]) -> Result<u64> {
+    let mut spent = 0u64;
     for place in 0..edits.len() {
-        alone = alone.saturating_add(list_time(rt, design, &edits[place..place + 1])?);
+        spent = spent.saturating_add(list_time(rt, design, &edits[place..place + 1])?);
     }
-    Ok((listed / EDITS as u64, alone / EDITS as u64))
+    Ok(spent / EDITS as u64)
 }
 
 // The time of a list of edits, and of dropping the design that it gives.

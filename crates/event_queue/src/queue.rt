@@ -12,6 +12,8 @@ use std::marker::Model;
 #[derive(Drop)]
 pub struct EventQueue {
     moments: BTreeMap<u64, Vec<usize>>,
+    // Lists of moments that were taken, to be used again.
+    spare: Vec<Vec<usize>>,
 }
 
 impl Model for EventQueue {
@@ -32,6 +34,7 @@ impl EventQueue {
     {
         EventQueue {
             moments: BTreeMap::new(alloc),
+            spare: Vec::new(alloc),
         }
     }
 
@@ -44,7 +47,7 @@ impl EventQueue {
             numbers.push(number)?;
             return Ok(());
         }
-        let mut numbers = Vec::with_capacity(alloc, 1)?;
+        let mut numbers = empty_list(alloc, &mut self.spare);
         numbers.push(number)?;
         self.moments.insert(t, numbers)?;
         Ok(())
@@ -72,7 +75,27 @@ impl EventQueue {
         if let Some(numbers) = self.moments.get(&t) {
             out.extend_from_slice(numbers.as_slice())?;
         }
-        self.moments.remove(&t);
+        if let Some(numbers) = self.moments.remove(&t) {
+            keep(&mut self.spare, numbers);
+        }
         Ok(())
     }
+}
+
+// An empty list, one that was used before if there is one.
+fn empty_list(alloc: Global, spare: &mut Vec<Vec<usize>>) -> Vec<usize>
+    ensures { result.items ≡ [] }
+{
+    match spare.pop() {
+        None => Vec::new(alloc),
+        Some(mut numbers) => {
+            numbers.clear();
+            numbers
+        }
+    }
+}
+
+// Keeps a list to be used again, if there is memory for it.
+fn keep(spare: &mut Vec<Vec<usize>>, numbers: Vec<usize>) {
+    let _kept = spare.push(numbers).is_ok();
 }

@@ -17,8 +17,9 @@ use std::alloc::Global;
 use std::sync::Wait;
 use std::thread::Threads;
 
-/// The least number of tasks of a step that are dealt to the workers.
-pub const LEAST_DEALT: usize = 16_384;
+/// The least number of tasks of a step that are dealt to the workers: one more than a design has gates, since at every number
+/// that was measured a step took longer where it was dealt.
+pub const LEAST_DEALT: usize = 65_537;
 
 /// Evaluates the gates of a step of fewer than `LEAST_DEALT` tasks on the caller's thread, and those of other steps by a
 /// `Pool`. Once a worker was lost, every step answers so.

@@ -1,5 +1,5 @@
 -- The states and traces of stirred gates go on, the others stay.
-use Rattle.std.proofs.Common.{◌≡◌, ◌<◌, ◌∙◌, sym, ap, refl, false, ℕ, zero, suc, ◌+◌, List, map, Option, Some, None, slice_get, All, add-one, arith}
+use Rattle.std.proofs.Common.{◌≡◌, ◌<◌, ◌∙◌, sym, ap, refl, false, ℕ, zero, suc, ◌+◌, ◌-◌, List, map, Option, Some, None, slice_get, All, add-one, arith}
 use Rattle.std.specs.Option.{option_map, option_map_or}
 use Rattle.std.proofs.lemmas.Option.{slice_get-map}
 use Rattle.gatestep.specs.Step.{State, Evaluation, due}
@@ -8,12 +8,12 @@ use Rattle.design.specs.Lawful.{IsGate}
 use Rattle.design.specs.Netlist.{GateEntry, Netlist}
 use Rattle.waveform.specs.Changes.{trace_below}
 use Rattle.waveform.specs.Entries.{same_state}
-use Rattle.waveform.specs.Timelines.{pushed}
+use Rattle.waveform.specs.Timelines.{is_reached, pushed}
 use Rattle.scratch.specs.Places.{has, passing}
 use Rattle.scratch.specs.Run.{state_after, state_before}
 use Rattle.scratch.specs.Work.{is_stirred}
 use Rattle.scratch.proofs.Passing.{has_place}
-use Rattle.scratch.proofs.Runs.{Grows, settled}
+use Rattle.scratch.proofs.Runs.{Grows, Reached, settled}
 use Rattle.scratch.proofs.Skips.{all_at}
 use Rattle.scratch.proofs.Still.{Stays, still_after, trace_stays}
 
@@ -65,3 +65,22 @@ module _ (answer : Evaluation → ℕ → State) (d : Netlist) where
     next_trace t k trace s old new =
         slice_get-map (λ g. trace_below (state_after answer d g) (t + 1)) d.gates k
         ∙ trace_by t k (slice_get d.gates k) trace s refl (sym (slice_get-map (λ g. trace_below (state_after answer d g) t) d.gates k) ∙ old) (sym (slice_get-map (state_before answer d (t + 1)) d.gates k) ∙ new)
+
+  module _ (pending : (e : Evaluation) (t : ℕ) → IsTask e → NothingDue t (answer e t)) (reached : Reached same_state due) (are : All IsGate d.gates) where
+    known_by : (t k : ℕ) → 0 < t → (o : Option GateEntry) (trace : List (ℕ × State)) (was s : State) → slice_get d.gates k ≡ o → option_map (λ g. trace_below (state_after answer d g) t) o ≡ Some trace →
+        option_map (state_before answer d t) o ≡ Some was → is_reached same_state due trace t s ≡ same_state s (due was t)
+    known_by zero k begun o trace was s at old before = absurd (omega arith)
+    known_by (suc m) k begun None trace was s at old before = absurd (cc)
+    known_by (suc m) k begun (Some g) trace was s at old before =
+        let is : trace_below (state_after answer d g) (suc m) ≡ trace = cc in
+        let stood : state_before answer d (suc m) g ≡ was = cc in
+        let one : suc m - 1 ≡ m = omega arith in
+        let law : is_reached same_state due (trace_below (state_after answer d g) (suc m)) (suc m) s ≡ same_state s (due (state_after answer d g m) (suc m)) =
+        rw one at (reached (state_after answer d g) (settled answer d pending g (all_at IsGate d.gates k g are at)) (suc m) begun s) in
+        ap (λ x. is_reached same_state due x (suc m) s) (sym is) ∙ law ∙ ap (λ x. same_state s (due x (suc m))) stood
+
+    -- the trace at a place has become the state that stood there before, once its due event is current
+    pub known : (t k : ℕ) → 0 < t → (trace : List (ℕ × State)) (was s : State) → slice_get (map (λ g. trace_below (state_after answer d g) t) d.gates) k ≡ Some trace →
+        slice_get (map (state_before answer d t) d.gates) k ≡ Some was → is_reached same_state due trace t s ≡ same_state s (due was t)
+    known t k begun trace was s old before =
+        known_by t k begun (slice_get d.gates k) trace was s refl (sym (slice_get-map (λ g. trace_below (state_after answer d g) t) d.gates k) ∙ old) (sym (slice_get-map (state_before answer d t) d.gates k) ∙ before)

@@ -1,25 +1,28 @@
 -- The values and waves of nets that change go on, the others stay.
-use Rattle.std.proofs.Common.{◌≡◌, ◌<◌, ◌∙◌, sym, ap, refl, Bool, true, false, not, ℕ, zero, suc, ◌+◌, ◌-◌, List, [], ◌∷◌, ◌++◌, map, Option, Some, None, slice_get, length, Vec, Global, All, add-one, arith}
+use Rattle.std.proofs.Common.{◌≡◌, ◌<◌, ◌∙◌, sym, ap, refl, Bool, true, false, not, ℕ, zero, suc, ◌+◌, ◌-◌, List, [], ◌∷◌, ◌++◌, map, Option, Some, None, slice_get, length, All, add-one, arith}
 use Rattle.std.specs.Option.{option_map_or, option_map}
-use Rattle.std.specs.Prelude.{◌||◌}
+use Rattle.std.specs.Prelude.{◌||◌, if◌then◌else◌}
 use Rattle.std.proofs.Math.ListN.{set}
 use Rattle.std.proofs.lemmas.Option.{slice_get-map, slice_get_within}
+use Rattle.fourstate.specs.declared.net.NetKind.{NetKind}
 use Rattle.fourstate.specs.declared.value.Value.{Value}
+use Rattle.fourstate.specs.Nets.{net_of}
 use Rattle.fourstate.specs.Values.{same_value}
 use Rattle.gatestep.specs.Step.{State, Evaluation, due}
-use Rattle.design.specs.Netlist.{NetEntry, Netlist}
+use Rattle.design.specs.Netlist.{NetEntry, Netlist, stimulus}
 use Rattle.design.specs.Places.{driver_places}
 use Rattle.waveform.specs.Changes.{wave_changes_below}
 use Rattle.waveform.specs.Entries.{standing}
 use Rattle.fourstate.specs.ValueLaws.{is_same, same_self}
-use Rattle.waveform.specs.Timelines.{pushed}
-use Rattle.scratch.specs.Kept.{currents_of, net_from}
+use Rattle.waveform.specs.Timelines.{is_reached, pushed}
+use Rattle.smallvec.specs.SmallVec.{SmallVec}
+use Rattle.scratch.specs.Kept.{currents_of, driven_kind, net_from, values_at}
 use Rattle.scratch.specs.Places.{changes_at, has}
 use Rattle.scratch.specs.Run.{state_before, value}
 use Rattle.scratch.proofs.Among.{has_more, nat_itself, or_false, or_true}
 use Rattle.scratch.proofs.Between.{Between, is_new, is_old, length_set, pass, step, write}
 use Rattle.scratch.proofs.Moments.{map_twice, net_is}
-use Rattle.scratch.proofs.Runs.{Grows, LieBefore, waves_early}
+use Rattle.scratch.proofs.Runs.{Grows, LieBefore, Reached, waves_early}
 use Rattle.scratch.proofs.Skips.{all_at}
 use Rattle.scratch.proofs.Still.{Stays, not_false, wave_stays}
 
@@ -146,6 +149,14 @@ module _ (answer : Evaluation → ℕ → State) (d : Netlist) (t : ℕ) where
           pub wave_early : LieBefore same_value standing → (w : List (ℕ × Value)) → slice_get waves p ≡ Some w → All (λ e. e.0 < t) w
           wave_early early w there = all_at (All (λ e. e.0 < t)) (waves_of t) p w (waves_early answer d early t) (wave_was w there)
 
+          -- its wave has become the value that it had the moment before
+          pub wave_reached : Reached same_value standing → (w : List (ℕ × Value)) → slice_get waves p ≡ Some w → is_reached same_value standing w t v ≡ same_value v old
+          wave_reached reached w there =
+              let both : Some (wave_changes_below (value answer d n) t) ≡ Some w =
+              sym (slice_get-map (λ n. wave_changes_below (value answer d n) t) d.nets p ∙ ap (option_map (λ n. wave_changes_below (value answer d n) t)) here) ∙ wave_was w there in
+              let one : wave_changes_below (value answer d n) t ≡ w = cc in
+              ap (λ x. is_reached same_value standing x t v) (sym one) ∙ reached (value answer d n) (λ u. refl) t begun v ∙ ap (same_value v) (old_value not_done)
+
           -- a net that changes goes on
           pub went : Grows same_value standing → (w : List (ℕ × Value)) → slice_get waves p ≡ Some w →
               Part (done ++ p ∷ []) (set values p v) (set waves p (pushed same_value standing w t v)) (changed ++ p ∷ [])
@@ -173,10 +184,31 @@ module _ (answer : Evaluation → ℕ → State) (d : Netlist) (t : ℕ) where
               }
 
 -- the drivers that stand at the place of a net
-pub drivers_at : (d : Netlist) (lists : List (Vec ℕ Global)) (p : ℕ) (n : NetEntry) (places : Vec ℕ Global) → map (λ (v : Vec ℕ Global). v.items) lists ≡ map (λ n. driver_places d.gates n.name) d.nets →
+pub drivers_at : (d : Netlist) (lists : List (SmallVec ℕ)) (p : ℕ) (n : NetEntry) (places : SmallVec ℕ) → map (λ (v : SmallVec ℕ). v.items) lists ≡ map (λ n. driver_places d.gates n.name) d.nets →
     slice_get d.nets p ≡ Some n → slice_get lists p ≡ Some places → places.items ≡ driver_places d.gates n.name
 drivers_at d lists p n places are here there =
-    let left : slice_get (map (λ (v : Vec ℕ Global). v.items) lists) p ≡ Some places.items = slice_get-map (λ (v : Vec ℕ Global). v.items) lists p ∙ ap (option_map (λ (v : Vec ℕ Global). v.items)) there in
+    let left : slice_get (map (λ (v : SmallVec ℕ). v.items) lists) p ≡ Some places.items = slice_get-map (λ (v : SmallVec ℕ). v.items) lists p ∙ ap (option_map (λ (v : SmallVec ℕ). v.items)) there in
     let right : slice_get (map (λ n. driver_places d.gates n.name) d.nets) p ≡ Some (driver_places d.gates n.name) = slice_get-map (λ n. driver_places d.gates n.name) d.nets p ∙ ap (option_map (λ n. driver_places d.gates n.name)) here in
     let both : Some places.items ≡ Some (driver_places d.gates n.name) = sym left ∙ ap (λ l. slice_get l p) are ∙ right in
     cc
+
+-- the kind that stands at the place of a net
+pub kind_there : (d : Netlist) (kinds : List (Option NetKind)) (p : ℕ) (n : NetEntry) (k : Option NetKind) → kinds ≡ map driven_kind d.nets → slice_get d.nets p ≡ Some n → slice_get kinds p ≡ Some k → k ≡ driven_kind n
+kind_there d kinds p n k are here there =
+    let both : Some k ≡ Some (driven_kind n) = sym there ∙ ap (λ l. slice_get l p) are ∙ slice_get-map driven_kind d.nets p ∙ ap (option_map driven_kind) here in
+    cc
+
+-- a net without such a kind follows its stimulus, another one its drivers
+stimulus_by : (n : NetEntry) (a b : Value) (is_input : Bool) → None ≡ (if is_input then None else Some n.kind) → a ≡ (if is_input then a else b)
+stimulus_by n a b true none = refl
+stimulus_by n a b false none = cc
+
+pub stimulus_is : (currents : List Value) (t : ℕ) (n : NetEntry) (places : List ℕ) → None ≡ driven_kind n → stimulus n.points t ≡ net_from currents t n places
+stimulus_is currents t n places none = stimulus_by n (stimulus n.points t) (net_of n.kind (values_at currents places)) n.is_input none
+
+driven_by : (n : NetEntry) (kind : NetKind) (a : Value) (f : NetKind → Value) (is_input : Bool) → Some kind ≡ (if is_input then None else Some n.kind) → f kind ≡ (if is_input then a else f n.kind)
+driven_by n kind a f true some = cc
+driven_by n kind a f false some = let same : kind ≡ n.kind = cc in ap f same
+
+pub driven_is : (currents : List Value) (t : ℕ) (n : NetEntry) (kind : NetKind) (places : List ℕ) → Some kind ≡ driven_kind n → net_of kind (values_at currents places) ≡ net_from currents t n places
+driven_is currents t n kind places some = driven_by n kind (stimulus n.points t) (λ k. net_of k (values_at currents places)) n.is_input some

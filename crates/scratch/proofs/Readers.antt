@@ -1,5 +1,5 @@
 -- Which gates read and drive the net at a place: with names apart a net is found at its own place.
-use Rattle.std.proofs.Common.{◌≡◌, ◌≢◌, ◌<◌, ◌≤◌, ◌∙◌, sym, ap, subst, refl, Bool, true, false, cond, ℕ, zero, suc, ◌+◌, List, [], ◌∷◌, ◌++◌, map, Option, Some, None, slice_get, length, Vec, Global, AllPairs, arith, ◌⊎◌, inl, inr, nat_lt}
+use Rattle.std.proofs.Common.{◌≡◌, ◌≢◌, ◌<◌, ◌≤◌, ◌∙◌, sym, ap, subst, refl, Bool, true, false, cond, ℕ, zero, suc, ◌+◌, List, [], ◌∷◌, ◌++◌, map, Option, Some, None, slice_get, length, AllPairs, arith, ◌⊎◌, inl, inr, nat_lt}
 use Rattle.std.specs.Prelude.{nat_eq, ◌||◌, ◌&&◌}
 use Rattle.std.specs.Cmp.{both_ways}
 use Rattle.std.specs.Cmp.Lexicographic.{same_text}
@@ -13,6 +13,7 @@ use Rattle.fourstate.specs.declared.value.Value.TheVariants.{Unknown}
 use Rattle.design.specs.Connections.{Connection, to_net, to_constant}
 use Rattle.design.specs.Names.{same_name}
 use Rattle.design.specs.Netlist.{NetEntry, GateEntry, Netlist, is_at_net, reads}
+use Rattle.smallvec.specs.SmallVec.{SmallVec}
 use Rattle.scratch.specs.Cells.{CellRecord}
 use Rattle.scratch.specs.Kept.{cell_of, input_of, is_at, output_at, places_at}
 use Rattle.scratch.specs.Places.{drives_at, has, reads_at}
@@ -115,18 +116,18 @@ none_beyond [] m h = omega arith
 none_beyond (x ∷ xs) zero h = absurd (cc)
 none_beyond (x ∷ xs) (suc m) h = let rest = none_beyond xs m h in omega arith
 
-module _ (all : List (Vec ℕ Global)) (net place : ℕ) (old new : Vec ℕ Global) (there : slice_get all net ≡ Some old) (grows : new.items ≡ old.items ++ place ∷ []) where
+module _ (all : List (SmallVec ℕ)) (net place : ℕ) (old new : SmallVec ℕ) (there : slice_get all net ≡ Some old) (grows : new.items ≡ old.items ++ place ∷ []) where
   push_by : (k m : ℕ) (b : Bool) → nat_eq m net ≡ b → has k (places_at (set all net new) m) ≡ (has k (places_at all m) || (nat_eq k place && b))
   push_by k m true same =
       let e : m ≡ net = nat_same m net same in
       ap (λ z. has k (places_at (set all net new) z)) e
-      ∙ ap (λ o. has k (option_map_or (λ (v : Vec ℕ Global). v.items) o [])) (set_here all net new (slice_get_within all net old there))
+      ∙ ap (λ o. has k (option_map_or (λ (v : SmallVec ℕ). v.items) o [])) (set_here all net new (slice_get_within all net old there))
       ∙ ap (has k) grows ∙ list_any-append (nat_eq k) old.items (place ∷ [])
       ∙ ap (λ (b : Bool). has k old.items || b) (or_false (nat_eq k place) ∙ sym (and_true (nat_eq k place)))
-      ∙ ap (λ o. has k (option_map_or (λ (v : Vec ℕ Global). v.items) o []) || (nat_eq k place && true)) (sym there)
+      ∙ ap (λ o. has k (option_map_or (λ (v : SmallVec ℕ). v.items) o []) || (nat_eq k place && true)) (sym there)
       ∙ ap (λ z. has k (places_at all z) || (nat_eq k place && true)) (sym e)
   push_by k m false apart =
-      ap (λ o. has k (option_map_or (λ (v : Vec ℕ Global). v.items) o [])) (set_apart all net m new apart)
+      ap (λ o. has k (option_map_or (λ (v : SmallVec ℕ). v.items) o [])) (set_apart all net m new apart)
       ∙ sym (ap (λ (b : Bool). has k (places_at all m) || b) (and_false (nat_eq k place)) ∙ or_false (has k (places_at all m)))
 
   -- one reader more
@@ -134,7 +135,7 @@ module _ (all : List (Vec ℕ Global)) (net place : ℕ) (old new : Vec ℕ Glob
   push_reader k m = push_by k m (nat_eq m net) refl
 
 -- an empty list more
-pub none_more : (all : List (Vec ℕ Global)) (v : Vec ℕ Global) → v.items ≡ [] → ((k m : ℕ) → has k (places_at all m) ≡ false) → (k m : ℕ) → has k (places_at (all ++ v ∷ []) m) ≡ false
+pub none_more : (all : List (SmallVec ℕ)) (v : SmallVec ℕ) → v.items ≡ [] → ((k m : ℕ) → has k (places_at all m) ≡ false) → (k m : ℕ) → has k (places_at (all ++ v ∷ []) m) ≡ false
 none_more [] v e none k zero = ap (has k) e
 none_more [] v e none k (suc m) = refl
 none_more (w ∷ all) v e none k zero = none k 0
@@ -157,7 +158,7 @@ one_cell_more f k p y is = more_by f k p y is (search arith)
 pub none_first : (k : ℕ) (x : Bool) → false ≡ (nat_lt k 0 && x)
 none_first k x = let z : nat_lt k 0 ≡ false = grind (arith, nat_tests) in sym (ap (λ (b : Bool). b && x) z)
 
-module _ (d : Netlist) (apart : AllPairs (λ n m. n.name ≢ m.name) d.nets) (cells : List CellRecord) (are : cells ≡ map (cell_of d) d.gates) (all : List (Vec ℕ Global)) (as_many : length all ≡ length d.nets) (p : ℕ) (past : length cells ≤ p)
+module _ (d : Netlist) (apart : AllPairs (λ n m. n.name ≢ m.name) d.nets) (cells : List CellRecord) (are : cells ≡ map (cell_of d) d.gates) (all : List (SmallVec ℕ)) (as_many : length all ≡ length d.nets) (p : ℕ) (past : length cells ≤ p)
     (so_far : (k m : ℕ) → m < length d.nets → has k (places_at all m) ≡ (nat_lt k p && option_map_or (λ (cell : CellRecord). list_any (is_at m) cell.inputs) (slice_get cells k) false)) where
   whole_by : (k : ℕ) (o : Option CellRecord) (f : CellRecord → Bool) → slice_get cells k ≡ o → (nat_lt k p && option_map_or f o false) ≡ option_map_or f o false
   whole_by k None f at = and_false (nat_lt k p)
@@ -172,7 +173,7 @@ module _ (d : Netlist) (apart : AllPairs (λ n m. n.name ≢ m.name) d.nets) (ce
       ∙ whole_by k (slice_get cells k) (λ (cell : CellRecord). list_any (is_at m) cell.inputs) refl ∙ cells_read d apart cells are k m n net
   all_by k m None net =
       let beyond : length all ≤ m = rw as_many (none_beyond d.nets m net) in
-      ap (λ o. has k (option_map_or (λ (v : Vec ℕ Global). v.items) o [])) (slice_get_past all m beyond)
+      ap (λ o. has k (option_map_or (λ (v : SmallVec ℕ). v.items) o [])) (slice_get_past all m beyond)
       ∙ sym (ap (λ o. option_map_or (λ n. option_map_or (λ g. reads g n.name) (slice_get d.gates k) false) o false) net)
 
   pub readers_are : (k m : ℕ) → has k (places_at all m) ≡ reads_at d k m

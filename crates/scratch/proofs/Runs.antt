@@ -1,5 +1,5 @@
 -- The run, moment after moment.
-use Rattle.std.proofs.Common.{◌≡◌, ◌<◌, ap, refl, Bool, ℕ, zero, suc, ◌+◌, List, [], ◌∷◌, map, All, add-one, arith}
+use Rattle.std.proofs.Common.{◌≡◌, ◌<◌, ap, refl, Bool, ℕ, zero, suc, ◌+◌, ◌-◌, List, [], ◌∷◌, map, All, add-one, arith}
 use Rattle.std.proofs.lemmas.List.{length-map}
 use Rattle.std.proofs.lemmas.List.Elements.{All-cons, All-nil, All-head, All-map, All-tail, All-weaker}
 use Rattle.fourstate.specs.declared.limits.TheConstants.{MAX_DELAY}
@@ -11,7 +11,7 @@ use Rattle.design.specs.Lawful.{IsGate}
 use Rattle.design.specs.Netlist.{GateEntry, Netlist}
 use Rattle.waveform.specs.Changes.{wave_changes_below, trace_below}
 use Rattle.waveform.specs.Entries.{CanStore, same_state, standing}
-use Rattle.waveform.specs.Timelines.{IsAlwaysSettled, changes_below, pushed}
+use Rattle.waveform.specs.Timelines.{IsAlwaysSettled, changes_below, is_reached, pushed}
 use Rattle.scratch.specs.Run.{evaluation_at, state_after, state_before, value}
 
 -- two maps agree on a list if they do on the elements of which P holds
@@ -26,6 +26,11 @@ all_map P f holds (x ∷ xs) = All-cons P (f x) (map f xs) (holds x) (all_map P 
 -- the changes of a function grow by its next value, which is pushed (`waveform::laws::push_to_changes`)
 abbrev pub Grows : {A : Type 0} → (A → A → Bool) → (A → ℕ → A) → Type 0
 Grows {A = A} same drift = (f : ℕ → A) → IsAlwaysSettled drift f → (t : ℕ) → pushed same drift (changes_below same drift f t) t (f t) ≡ changes_below same drift f (suc t)
+
+-- what they have become there is its value at the moment before, drifted (`waveform::laws::reached_by_changes`)
+abbrev pub Reached : {A : Type 0} → (A → A → Bool) → (A → ℕ → A) → Type 0
+Reached {A = A} same drift =
+    (f : ℕ → A) → IsAlwaysSettled drift f → (t : ℕ) → 0 < t → (v : A) → is_reached same drift (changes_below same drift f t) t v ≡ same v (drift (f (t - 1)) t)
 
 -- the changes of a function below a moment lie before it (`waveform::laws::changes_lie_before`)
 abbrev pub LieBefore : {A : Type 0} → (A → A → Bool) → (A → ℕ → A) → Type 0

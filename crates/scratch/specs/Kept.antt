@@ -1,11 +1,11 @@
 -- One moment over what the simulator keeps: the state of each gate's driver in the order of the gates, the value of each
 -- net in the order of the nets, and places in these orders in place of names.
-use Rattle.std.specs.Prelude.{◌≡◌, Bool, true, false, ℕ, nat_eq, if◌then◌else◌, List, [], ◌∷◌, Vec, map, slice_get, unwrap_or}
-use Rattle.std.specs.Global.{Global}
+use Rattle.std.specs.Prelude.{◌≡◌, Bool, true, false, ℕ, nat_eq, if◌then◌else◌, List, [], ◌∷◌, Option, Some, None, map, slice_get, unwrap_or}
 use Rattle.std.specs.List.{zip, position_from}
 use Rattle.std.specs.Option.{option_map_or}
 use Rattle.fourstate.specs.declared.value.Value.{Value}
 use Rattle.fourstate.specs.declared.value.Value.TheVariants.{Unknown}
+use Rattle.fourstate.specs.declared.net.NetKind.{NetKind}
 use Rattle.fourstate.specs.Nets.{net_of}
 use Rattle.gatestep.specs.Step.{State, Evaluation, due}
 use Rattle.design.specs.Connections.{Connection, to_net, to_constant}
@@ -14,6 +14,7 @@ use Rattle.design.specs.Netlist.{NetEntry, GateEntry, Netlist, stimulus}
 use Rattle.design.specs.Places.{driver_places}
 use Rattle.scratch.specs.declared.wiring.Input.{Input}
 use Rattle.scratch.specs.declared.wiring.Input.TheVariants.{At, Fixed}
+use Rattle.smallvec.specs.SmallVec.{SmallVec}
 use Rattle.scratch.specs.Cells.{CellRecord}
 use Rattle.scratch.specs.Places.{drives_at, has, reads_at}
 use Rattle.scratch.specs.declared.wiring.Wiring.{Wiring}
@@ -28,7 +29,7 @@ abbrev pub cell_of : Netlist → GateEntry → CellRecord
 cell_of d g = record { kind = g.kind; delays = g.delays; inputs = map (input_of d) g.inputs }
 
 -- the list at a place
-abbrev pub places_at : List (Vec ℕ Global) → ℕ → List ℕ
+abbrev pub places_at : List (SmallVec ℕ) → ℕ → List ℕ
 places_at lists m = option_map_or (λ places. places.items) (slice_get lists m) []
 
 -- the output at a place, if there is one
@@ -40,12 +41,17 @@ abbrev pub is_at : ℕ → Input → Bool
 is_at m (At place) = nat_eq m place
 is_at m (Fixed v) = false
 
+-- the kind of a net, if its drivers give its value
+abbrev pub driven_kind : NetEntry → Option NetKind
+driven_kind n = if n.is_input then None else Some n.kind
+
 -- these are the connections of the design
 pub record IsWiring (d : Netlist) (w : Wiring) : Type 0 where
   pub cells : w.cells.items ≡ map (cell_of d) d.gates
   pub drivers : map (λ places. places.items) w.drivers.items ≡ map (λ n. driver_places d.gates n.name) d.nets
   pub outputs : (k m : ℕ) → drives_at d k m ≡ true → has m (output_at w.outputs.items k) ≡ true
   pub readers : (k m : ℕ) → has k (places_at w.readers.items m) ≡ reads_at d k m
+  pub kinds : w.kinds.items ≡ map driven_kind d.nets
 
 -- the values at some places
 abbrev pub values_at : List Value → List ℕ → List Value

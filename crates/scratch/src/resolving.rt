@@ -1,15 +1,16 @@
 //! The values of nets at a moment, from the states of the gates.
 
-ghost use Rattle.std.specs.Prelude.{◌≡◌, ◌<◌, ◌+◌, ◌-◌, ℕ, false, not, map, slice_get, unwrap_or, OnOk, IfOk};
+ghost use Rattle.std.specs.Prelude.{◌≡◌, ◌<◌, ◌+◌, ◌-◌, ℕ, false, not, map, length, slice_get, unwrap_or, OnOk, IfOk, IfSome};
 ghost use Rattle.fourstate.specs.Values.{same_value};
 ghost use Rattle.waveform.specs.Changes.{wave_changes_below};
 ghost use Rattle.design.specs.Keys.{netlist};
+ghost use Rattle.design.specs.Places.{driver_places};
 ghost use Rattle.scratch.specs.Kept.{IsWiring, currents_of, net_from, values_at};
 ghost use Rattle.scratch.specs.Places.{changes_at, has};
 ghost use Rattle.scratch.specs.Run.{state_before, value};
 
 use crate::wiring::Wiring;
-use design::{Design, Net};
+use design::Design;
 use fourstate::{Value, resolve};
 use gatestep::{Driver, Stepper};
 use std::alloc::AllocError;
@@ -42,21 +43,29 @@ fn gather_currents(
     Ok(())
 }
 
-/// The value of a net at the moment `t` from the states of the gates, those of its own drivers at these places.
+/// The value of the net at a place at the moment `t` from the states of the gates, those of its own drivers at `places`.
 fn resolved(
-    net: &Net,
-    places: &[usize],
+    design: &Design,
+    wiring: &Wiring,
+    place: usize,
     states: &[Driver],
     t: u64,
     driven: &mut Vec<Value>,
 ) -> Result<Value, AllocError>
-    ensures { IfOk result (λ v. v ≡ net_from (currents_of states.now t) t net.now places.now) }
+    requires wired { IsWiring (netlist design.now) wiring.now }
+    requires there { place < length (netlist design.now).nets }
+    ensures { IfOk result (λ v. IfSome (slice_get (netlist design.now).nets place)
+        (λ n. v ≡ net_from (currents_of states.now t) t n (driver_places (netlist design.now).gates n.name))) }
 {
-    if net.is_input() {
-        return Ok(net.stimulus_at(t));
+    match wiring.kinds[place] {
+        None => Ok(design.net_at(place).stimulus_at(t)),
+        Some(kind) => {
+            let places = wiring.drivers[place].as_slice();
+            gather_currents(states, places, t, driven)?;
+            let gathered = driven.as_slice();
+            Ok(resolve(kind, gathered))
+        }
     }
-    gather_currents(states, places, t, driven)?;
-    Ok(resolve(net.kind(), driven.as_slice()))
 }
 
 /// Whether the two values differ.
@@ -91,17 +100,18 @@ pub fn resolve_nets<S: Stepper>(
     ensures changed { OnOk result ((k : ℕ) → has k changed.new.items ≡ changes_at S.answer (netlist design.now) k t) }
 {
     laws::push_to_changes::<Value>();
+    laws::reached_by_changes::<Value>();
     laws::changes_lie_before::<Value>();
     laws::no_change::<Value>();
     changed.clear();
     for place in nets {
         if *place < values.len() {
-            let places = wiring.drivers[*place].as_slice();
-            let value = resolved(design.net_at(*place), places, states, t, driven)?;
-            if is_other(value, values[*place]) {
+            let value = resolved(design, wiring, *place, states, t, driven)?;
+            let former = values[*place];
+            if is_other(value, former) {
                 values[*place] = value;
                 let wave = &mut waves[*place];
-                wave.push(t, value)?;
+                wave.push_known(t, former, value)?;
                 changed.push(*place)?;
             }
         }

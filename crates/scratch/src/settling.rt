@@ -41,14 +41,16 @@ pub fn settle<S: Stepper>(
 {
     design.lawful();
     laws::push_to_changes::<Driver>();
+    laws::reached_by_changes::<Driver>();
     laws::changes_lie_before::<Driver>();
     laws::no_change::<Driver>();
     for i in 0..gates.len() {
         let place = gates[i];
         let answer = answers[i];
+        let known = states[place].due(t);
         states[place] = answer;
         let trace = &mut traces[place];
-        trace.push(t, answer)?;
+        trace.push_known(t, known, answer)?;
         if let Some((_, time)) = answer.pend {
             events.add(alloc, time, place)?;
         }

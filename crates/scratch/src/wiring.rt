@@ -5,13 +5,20 @@ ghost use Rattle.std.specs.List.{list_any};
 ghost use Rattle.fourstate.specs.Gates.{takes_inputs};
 ghost use Rattle.design.specs.Keys.{IsConnected, IsThere, connection_in, entry_in, net_by_key, netlist};
 ghost use Rattle.design.specs.Places.{driver_places};
-ghost use Rattle.scratch.specs.Kept.{IsWiring, cell_of, input_of, is_at, output_at, places_at};
+ghost use Rattle.scratch.specs.Kept.{IsWiring, cell_of, driven_kind, input_of, is_at, output_at, places_at};
 ghost use Rattle.scratch.specs.Places.{drives_at, has, reads_at};
 
-use design::{Design, Gate, NetKey, Terminal};
-use fourstate::{Delays, GateKind, Value};
+use design::{Design, Gate, Net, NetKey, Terminal};
+use fourstate::{Delays, GateKind, NetKind, Value};
+use smallvec::SmallVec;
 use std::alloc::{AllocError, Global};
 use std::marker::Model;
+
+/// As many inputs of a gate lie beside it, and need no allocation.
+const NEAR_INPUTS: usize = 4;
+
+/// As many drivers or readers of a net lie beside it, and need no allocation.
+const NEAR_PLACES: usize = 2;
 
 /// Where an input of a gate gets its value from.
 #[derive(Clone, Copy, Debug, PartialEq, Eq)]
@@ -22,12 +29,25 @@ pub enum Input {
     Fixed(Value),
 }
 
+/// A constant x: what stands where a gate has no further input.
+impl Default for Input {
+    ghost use Rattle.std.specs.Prelude.{◌≡◌};
+    ghost use Rattle.fourstate.specs.declared.value.Value.TheVariants.{Unknown};
+    ghost use Rattle.scratch.specs.declared.wiring.Input.TheVariants.{Fixed};
+
+    ghost is_default = { λ input. input ≡ Fixed Unknown };
+
+    fn default() -> Input {
+        Input::Fixed(Value::Unknown)
+    }
+}
+
 /// A gate as it is evaluated. The type keeps that its inputs fit its kind.
 #[derive(Drop)]
 pub struct Cell {
     kind: GateKind,
     delays: Delays,
-    inputs: Vec<Input>,
+    inputs: SmallVec<Input, NEAR_INPUTS>,
 }
 
 impl Model for Cell {
@@ -49,7 +69,7 @@ impl Cell {
         ensures { IfOk result (λ cell. cell ≡ cell_of (netlist design.now) (entry_in design.now.nets gate.now)) }
     {
         let terminals = gate.inputs();
-        let mut inputs = Vec::with_capacity(alloc, terminals.len())?;
+        let mut inputs = SmallVec::with_capacity(alloc, terminals.len())?;
         for terminal in terminals {
             inputs.push(locate(design, *terminal))?;
         }
@@ -98,17 +118,22 @@ fn locate(design: &Design, terminal: Terminal) -> Input
     }
 }
 
+/// Places in the order of the gates.
+pub type Places = SmallVec<usize, NEAR_PLACES>;
+
 /// The connections of a design, in the order of its gates and of its nets.
 #[derive(Drop)]
 pub struct Wiring {
     /// The gates.
     pub cells: Vec<Cell>,
     /// Of each net, the places of the gates that drive it, in order.
-    pub drivers: Vec<Vec<usize>>,
+    pub drivers: Vec<Places>,
     /// Of each gate, the place of the net that it drives.
     pub outputs: Vec<usize>,
     /// Of each net, the places of the gates that read it, in order; of one that reads it twice, twice.
-    pub readers: Vec<Vec<usize>>,
+    pub readers: Vec<Places>,
+    /// Of each net its kind, if drivers give its value.
+    pub kinds: Vec<Option<NetKind>>,
 }
 
 /// The connections of a design.
@@ -119,12 +144,36 @@ pub fn wire(alloc: Global, design: &Design) -> Result<Wiring, AllocError>
     let drivers = all_drivers(alloc, design)?;
     let outputs = all_outputs(alloc, design)?;
     let readers = all_readers(alloc, design, cells.as_slice())?;
+    let kinds = all_kinds(alloc, design)?;
     Ok(Wiring {
         cells,
         drivers,
         outputs,
         readers,
+        kinds,
     })
+}
+
+/// The kind of each net whose value its drivers give.
+fn all_kinds(alloc: Global, design: &Design) -> Result<Vec<Option<NetKind>>, AllocError>
+    ensures { IfOk result (λ kinds. kinds.items ≡ map driven_kind (netlist design.now).nets) }
+{
+    let mut kinds = Vec::with_capacity(alloc, design.net_count())?;
+    for place in 0..design.net_count() {
+        kinds.push(kind_if_driven(design.net_at(place)))?;
+    }
+    Ok(kinds)
+}
+
+/// The kind of a net, if its drivers give its value.
+fn kind_if_driven(net: &Net) -> Option<NetKind>
+    ensures { result ≡ driven_kind net.now }
+{
+    if net.is_input() {
+        None
+    } else {
+        Some(net.kind())
+    }
 }
 
 fn all_cells(alloc: Global, design: &Design) -> Result<Vec<Cell>, AllocError>
@@ -138,7 +187,7 @@ fn all_cells(alloc: Global, design: &Design) -> Result<Vec<Cell>, AllocError>
     Ok(cells)
 }
 
-fn all_drivers(alloc: Global, design: &Design) -> Result<Vec<Vec<usize>>, AllocError>
+fn all_drivers(alloc: Global, design: &Design) -> Result<Vec<Places>, AllocError>
     ensures { IfOk result (λ all. map (λ places. places.items) all.items ≡ map (λ n. driver_places (netlist design.now).gates n.name) (netlist design.now).nets) }
 {
     let mut all = Vec::with_capacity(alloc, design.net_count())?;
@@ -150,13 +199,13 @@ fn all_drivers(alloc: Global, design: &Design) -> Result<Vec<Vec<usize>>, AllocE
 }
 
 /// The places of the gates that drive a net.
-fn drivers_of(alloc: Global, design: &Design, net: NetKey) -> Result<Vec<usize>, AllocError>
+fn drivers_of(alloc: Global, design: &Design, net: NetKey) -> Result<Places, AllocError>
     requires { IsSome (net_by_key design.now net) }
     ensures { IfOk result (λ places. IfSome (net_by_key design.now net) (λ n. places.items ≡ driver_places (netlist design.now).gates n.name)) }
 {
     design.places_are_keys();
     let drivers = design.drivers(net);
-    let mut places = Vec::with_capacity(alloc, drivers.len())?;
+    let mut places = SmallVec::with_capacity(alloc, drivers.len())?;
     for driver in drivers {
         let Some(place) = design.gate_place_of(*driver) else {
             unreachable!();
@@ -183,7 +232,7 @@ fn all_outputs(alloc: Global, design: &Design) -> Result<Vec<usize>, AllocError>
 }
 
 /// Adds a place to the readers of the net that an input reads.
-fn add_reader(input: Input, place: usize, all: &mut Vec<Vec<usize>>) -> Result<(), AllocError>
+fn add_reader(input: Input, place: usize, all: &mut Vec<Places>) -> Result<(), AllocError>
     ensures readers { OnOk result ((k m : ℕ) → m < length all.old.items → has k (places_at all.new.items m) ≡ (has k (places_at all.old.items m) || (nat_eq k place && is_at m input))) }
     ensures as_many { OnOk result (length all.new.items ≡ length all.old.items) }
 {
@@ -197,7 +246,7 @@ fn add_reader(input: Input, place: usize, all: &mut Vec<Vec<usize>>) -> Result<(
 }
 
 /// Adds a place to the readers of each net that some inputs read.
-fn add_readers(inputs: &[Input], place: usize, all: &mut Vec<Vec<usize>>) -> Result<(), AllocError>
+fn add_readers(inputs: &[Input], place: usize, all: &mut Vec<Places>) -> Result<(), AllocError>
     ensures readers { OnOk result ((k m : ℕ) → m < length all.old.items → has k (places_at all.new.items m) ≡ (has k (places_at all.old.items m) || (nat_eq k place && list_any (is_at m) inputs.now))) }
     ensures as_many { OnOk result (length all.new.items ≡ length all.old.items) }
 {
@@ -208,23 +257,19 @@ fn add_readers(inputs: &[Input], place: usize, all: &mut Vec<Vec<usize>>) -> Res
 }
 
 /// An empty list for each net.
-fn empty_lists(alloc: Global, count: usize) -> Result<Vec<Vec<usize>>, AllocError>
+fn empty_lists(alloc: Global, count: usize) -> Result<Vec<Places>, AllocError>
     ensures none { IfOk result (λ all. (k m : ℕ) → has k (places_at all.items m) ≡ false) }
     ensures as_many { IfOk result (λ all. length all.items ≡ count) }
 {
     let mut all = Vec::with_capacity(alloc, count)?;
     for _ in 0..count {
-        all.push(Vec::new(alloc))?;
+        all.push(SmallVec::new(alloc))?;
     }
     Ok(all)
 }
 
 /// The places of the gates that read each net.
-fn all_readers(
-    alloc: Global,
-    design: &Design,
-    cells: &[Cell],
-) -> Result<Vec<Vec<usize>>, AllocError>
+fn all_readers(alloc: Global, design: &Design, cells: &[Cell]) -> Result<Vec<Places>, AllocError>
     requires { cells.now ≡ map (cell_of (netlist design.now)) (netlist design.now).gates }
     ensures { IfOk result (λ all. (k m : ℕ) → has k (places_at all.items m) ≡ reads_at (netlist design.now) k m) }
 {

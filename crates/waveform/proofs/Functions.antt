@@ -1,5 +1,5 @@
 -- The changes of a function of time are the function.
-use Rattle.std.proofs.Common.{◌≡◌, ℕ, zero, suc, ◌<◌, ◌≤◌, ◌∙◌, sym, ap, subst, Bool, true, false, not, cond, Some, None, MatchOption, List, [], ◌∷◌, ◌++◌, map, refl, arith, nat_lt, ⊎_elim}
+use Rattle.std.proofs.Common.{◌≡◌, ℕ, zero, suc, ◌<◌, ◌≤◌, ◌-◌, ◌∙◌, sym, ap, subst, Bool, true, false, not, cond, Some, None, MatchOption, List, [], ◌∷◌, ◌++◌, map, refl, arith, nat_lt, ⊎_elim}
 use Rattle.std.specs.List.{filter, last_or, All}
 use Rattle.std.specs.Option.{option_map_or}
 use Rattle.std.proofs.lemmas.Bool.{cases_lt, cond-true, cond-false, lt-ltb, le-ltb, not-false}
@@ -85,6 +85,20 @@ module _ {A : Type 0} {same : A → A → Bool} {drift : A → ℕ → A} (drift
         let P : List (ℕ × A) → Type 0 = λ xs. (d : ℕ × A) × (last_or None xs ≡ Some d) × ((d.0 < suc (suc m)) × (drift d.1 (suc m) ≡ f (suc m))) in
         subst P (sym (one_more (suc m))) (last_with m (is_change same drift f (suc m)) refl (changes_last m))
 
+    -- the last change below m + 1 has become the value at m, drifted
+    reached_is : (m : ℕ) (v : A) → is_reached same drift (changes_below same drift f (suc m)) (suc m) v ≡ same v (drift (f m) (suc m))
+    reached_is m v =
+        let last = changes_last m in
+        let d : ℕ × A = last.0 in
+        let below : d.0 < suc m = last.2.0 in
+        let moved : drift d.1 (suc m) ≡ drift (f m) (suc m) =
+        sym (drifts.drift_twice d.1 m (suc m) (omega arith)) ∙ ap (λ a. drift a (suc m)) last.2.1 in
+        ap (λ o. option_map_or (λ e. same v (drift e.1 (suc m))) o false) last.1 ∙ ap (same v) moved
+
+    pub reached_from : (t : ℕ) → 0 < t → (v : A) → is_reached same drift (changes_below same drift f t) t v ≡ same v (drift (f (t - 1)) t)
+    reached_from zero begun v = absurd (omega arith)
+    reached_from (suc m) begun v = let one : suc m - 1 ≡ m = omega arith in rw one (reached_is m v)
+
     push_or_not : (m : ℕ) (b : Bool) (xs : List (ℕ × A)) → cond b xs (xs ++ (suc m, f (suc m)) ∷ []) ≡ xs ++ change_at (suc m) (not b)
     push_or_not m true xs = sym (append-nil xs)
     push_or_not m false xs = refl
@@ -93,14 +107,8 @@ module _ {A : Type 0} {same : A → A → Bool} {drift : A → ℕ → A} (drift
     pub pushed_is : (n : ℕ) → pushed same drift (changes_below same drift f n) n (f n) ≡ changes_below same drift f (suc n)
     pushed_is zero = refl
     pushed_is (suc m) =
-        let last = changes_last m in
-        let d : ℕ × A = last.0 in
-        let below : d.0 < suc m = last.2.0 in
         let xs : List (ℕ × A) = changes_below same drift f (suc m) in
-        let moved : drift d.1 (suc m) ≡ drift (f m) (suc m) =
-        sym (drifts.drift_twice d.1 m (suc m) (omega arith)) ∙ ap (λ a. drift a (suc m)) last.2.1 in
-        let reached : is_reached same drift xs (suc m) (f (suc m)) ≡ same (f (suc m)) (drift (f m) (suc m)) =
-        ap (λ o. option_map_or (λ e. same (f (suc m)) (drift e.1 (suc m))) o false) last.1 ∙ ap (same (f (suc m))) moved in
+        let reached : is_reached same drift xs (suc m) (f (suc m)) ≡ same (f (suc m)) (drift (f m) (suc m)) = reached_is m (f (suc m)) in
         ap (λ b. cond b xs (xs ++ (suc m, f (suc m)) ∷ [])) reached
         ∙ push_or_not m (same (f (suc m)) (drift (f m) (suc m))) xs
         ∙ sym (one_more (suc m))

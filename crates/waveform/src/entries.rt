@@ -36,6 +36,25 @@ pub fn push_value<V: Sample>(
     Ok(())
 }
 
+/// Adds the value from `t` on, where it is not the one that the entries have become by then, which is `known`.
+#[inline(always)]
+pub fn push_known<V: Sample>(
+    entries: &mut Vec<V::Entry>,
+    t: u64,
+    known: V,
+    value: V,
+) -> Result<(), AllocError>
+    requires can { V.can_store t value }
+    requires known { is_reached V.same V.drift (map V.stored entries.old.items) t value ≡ V.same value known }
+    ensures ok { OnOk result (map V.stored entries.new.items ≡ pushed V.same V.drift (map V.stored entries.old.items) t value) }
+    ensures err { OnErr result (entries.new.items ≡ entries.old.items) }
+{
+    if !value.is_same(known) {
+        entries.push(value.entry(t))?;
+    }
+    Ok(())
+}
+
 /// How many entries lie at `t` or before.
 pub fn count_until<V: Sample>(entries: &[V::Entry], t: u64) -> usize
     requires { AreInTurn V.same V.drift None (map V.stored entries.now) }

@@ -1,7 +1,7 @@
 //! Laws of functions of time and of their timelines: each function does nothing, and its contract is the law.
 
-ghost use Rattle.std.specs.Prelude.{◌≡◌, ◌<◌, ◌≤◌, ℕ, suc, false, List, All, IfSome};
-ghost use Rattle.waveform.specs.Timelines.{IsAlwaysSettled, IsTimeline, changes_below, entries_until, first_after, is_change, pushed, value_by};
+ghost use Rattle.std.specs.Prelude.{◌≡◌, ◌<◌, ◌≤◌, ◌-◌, ℕ, suc, false, List, All, IfSome};
+ghost use Rattle.waveform.specs.Timelines.{IsAlwaysSettled, IsTimeline, changes_below, entries_until, first_after, is_change, is_reached, pushed, value_by};
 
 use crate::sample::Sample;
 
@@ -31,6 +31,12 @@ pub fn changes_lie_before<V: Sample>()
 pub fn push_to_changes<V: Sample>()
     ensures { (f : ℕ → V) → IsAlwaysSettled V.drift f → (t : ℕ) →
         pushed V.same V.drift (changes_below V.same V.drift f t) t (f t) ≡ changes_below V.same V.drift f (suc t) }
+{}
+
+/// What the changes of a function below a moment have become there is its value at the moment before, drifted to there.
+pub fn reached_by_changes<V: Sample>()
+    ensures { (f : ℕ → V) → IsAlwaysSettled V.drift f → (t : ℕ) → 0 < t → (v : V) →
+        is_reached V.same V.drift (changes_below V.same V.drift f t) t v ≡ V.same v (V.drift (f (t - 1)) t) }
 {}
 
 /// The changes of a function below a moment, cut at an earlier one, are those up to the earlier one.

@@ -2,13 +2,13 @@
 
 ghost use Rattle.std.specs.Prelude.{◌≡◌, ◌<◌, ◌≤◌, ℕ, nat_lt, [], ◌∷◌, map, All, IfOk, OnOk, OnErr, Some, if◌then◌else◌};
 ghost use Rattle.std.specs.List.{last_or};
-ghost use Rattle.waveform.specs.Timelines.{IsTimeline, pushed, value_by, entries_until};
+ghost use Rattle.waveform.specs.Timelines.{IsTimeline, is_reached, pushed, value_by, entries_until};
 
 mod follow;
 mod look;
 mod splice;
 
-use crate::entries::{count_until, last_entry, push_value};
+use crate::entries::{count_until, last_entry, push_known, push_value};
 use crate::sample::Sample;
 use std::alloc::{AllocError, Global};
 use std::marker::Model;
@@ -54,6 +54,21 @@ impl<V: Sample> Timeline<V> {
         ensures err { OnErr result (self.new ≡ self.old) }
     {
         push_value::<V>(&mut self.entries, t, value)?;
+        Ok(())
+    }
+
+    /// As `push`, for a caller that knows the value that the function has by itself at `t`: `known`. No entry is read.
+    #[inline(always)]
+    pub fn push_known(&mut self, t: u64, known: V, value: V) -> Result<(), AllocError>
+        requires later { All (λ entry. entry.0 < t) self.old }
+        requires can { V.can_store t value }
+        requires known { is_reached V.same V.drift self.old t value ≡ V.same value known }
+        ensures ok { OnOk result (self.new ≡ pushed V.same V.drift self.old t value) }
+        ensures value { OnOk result ((u : ℕ) → value_by V.drift V.start self.new u
+            ≡ (if nat_lt u t then value_by V.drift V.start self.old u else V.drift value u)) }
+        ensures err { OnErr result (self.new ≡ self.old) }
+    {
+        push_known::<V>(&mut self.entries, t, known, value)?;
         Ok(())
     }
 

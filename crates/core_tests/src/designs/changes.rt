@@ -210,22 +210,24 @@ fn add_numbered(rt: &impl Abort, alloc: Global, design: Design, number: u32) -> 
     design
 }
 
-// Lists stand in blocks of 256: readers of the nets about the end of a block.
+// Lists stand in chunks of 32 nets and branches of 1,024: readers of the nets about the end of each. The net y comes first.
 #[test]
 fn lists_of_many_nets(rt: HostRuntime) {
     let alloc = rt.alloc();
     let (mut design, _) = add_net(&rt, alloc, empty(&rt, alloc), "y");
-    for number in 0..600 {
+    for number in 0..1_100 {
         design = add_numbered(&rt, alloc, design, number);
     }
-    let (design, g) = add_reader(&rt, alloc, design, "g", "n254");
-    let (design, h) = add_reader(&rt, alloc, design, "h", "n255");
-    let (design, i) = add_reader(&rt, alloc, design, "i", "n599");
+    let (design, g) = add_reader(&rt, alloc, design, "g", "n30");
+    let (design, h) = add_reader(&rt, alloc, design, "h", "n31");
+    let (design, i) = add_reader(&rt, alloc, design, "i", "n1022");
+    let (design, j) = add_reader(&rt, alloc, design, "j", "n1023");
     check_lists(&rt, &design, "n0", &[], &[]);
-    check_lists(&rt, &design, "n254", &[g], &[]);
-    check_lists(&rt, &design, "n255", &[h], &[]);
-    check_lists(&rt, &design, "n256", &[], &[]);
-    check_lists(&rt, &design, "n598", &[], &[]);
-    check_lists(&rt, &design, "n599", &[i], &[]);
+    check_lists(&rt, &design, "n30", &[g], &[]);
+    check_lists(&rt, &design, "n31", &[h], &[]);
+    check_lists(&rt, &design, "n32", &[], &[]);
+    check_lists(&rt, &design, "n1022", &[i], &[]);
+    check_lists(&rt, &design, "n1023", &[j], &[]);
+    check_lists(&rt, &design, "n1024", &[], &[]);
     drop(design);
 }

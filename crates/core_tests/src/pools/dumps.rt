@@ -24,14 +24,22 @@ struct Gates {
 }
 
 /// The edits that add gates from a number on, at most so many.
-fn gates(rt: &impl Abort, alloc: Global, wanted: Gates, from: u64, most: u64) -> Vec<Edit> {
+fn gate_edits(rt: &impl Abort, alloc: Global, wanted: Gates, from: u64, most: u64) -> Vec<Edit> {
     let mut edits = Vec::new(alloc);
     for n in from..wanted.count.min(from.saturating_add(most)) {
-        let delay = if wanted.has_own_delays { n.saturating_add(1) } else { 1 };
+        let delay = if wanted.has_own_delays {
+            n.saturating_add(1)
+        } else {
+            1
+        };
         let net = format!(in alloc; "net y{n} wire").expect(rt, "a line");
-        edits.push(edit(rt, alloc, net.as_str())).expect(rt, "one edit more");
+        edits
+            .push(edit(rt, alloc, net.as_str()))
+            .expect(rt, "one edit more");
         let gate = format!(in alloc; "gate g{n} not {delay} {delay} y{n} a").expect(rt, "a line");
-        edits.push(edit(rt, alloc, gate.as_str())).expect(rt, "one edit more");
+        edits
+            .push(edit(rt, alloc, gate.as_str()))
+            .expect(rt, "one edit more");
     }
     edits
 }
@@ -40,10 +48,14 @@ fn gates(rt: &impl Abort, alloc: Global, wanted: Gates, from: u64, most: u64) ->
 fn dump<S: Stepper + Drop>(rt: &impl Abort, alloc: Global, wanted: Gates, stepper: S) -> Vec<u8>
     requires { S.answer ≡ advance }
 {
-    let start = design_of(rt, alloc, &["input a", "stim a 0 0", "stim a 50 1", "horizon 100"]);
+    let start = design_of(
+        rt,
+        alloc,
+        &["input a", "stim a 0 0", "stim a 50 1", "horizon 100"],
+    );
     let mut bench = Bench::open(alloc, start, stepper).expect(rt, "a bench");
     for round in 0..2 {
-        let edits = gates(rt, alloc, wanted, round * 2_048, 2_048);
+        let edits = gate_edits(rt, alloc, wanted, round * 2_048, 2_048);
         assert!(rt; bench.commit(&edits).is_ok());
         drop(edits);
     }
@@ -99,7 +111,10 @@ fn ninety_five_nets_that_move(rt: HostRuntime) {
     };
     let bytes = compare(rt, rt.alloc(), gates);
     let text = bytes.as_slice();
-    assert_eq!(rt; times(text, b"$var wire 1 ~ y92 $end\n$var wire 1 !! y93 $end\n"), 1);
+    assert_eq!(rt;
+        times(text, b"$var wire 1 ~ y92 $end\n$var wire 1 !! y93 $end\n"),
+        1
+    );
     assert_eq!(rt; times(text, b"\n#1\n1\"\n#2\n1#\n#3\n1$\n"), 1);
     assert_eq!(rt; times(text, b"\n#50\n1!\n1S\n#51\n0\"\n#52\n0#\n"), 1);
     assert_eq!(rt; times(text, b"\n#100\n0S\n"), 1);

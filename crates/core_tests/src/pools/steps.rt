@@ -12,7 +12,13 @@ use std::sync::Wait;
 use std::thread::Threads;
 
 /// A step of so many random tasks has the answers of `Serial`.
-fn compare<S: Stepper>(rt: &impl Abort, alloc: Global, dice: &mut Dice, stepper: &mut S, count: u64) {
+fn compare<S: Stepper>(
+    rt: &impl Abort,
+    alloc: Global,
+    dice: &mut Dice,
+    stepper: &mut S,
+    count: u64,
+) {
     let tasks = tasks(rt, alloc, dice, count);
     let mut wanted = Vec::new(alloc);
     assert_eq!(rt; Serial::new().step(&tasks, MOMENT, &mut wanted), Ok(()));

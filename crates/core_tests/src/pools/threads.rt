@@ -15,13 +15,10 @@ use std::thread;
 use std::thread::Threads;
 
 /// A step of so many tasks by so many workers, whose pieces pass the probe.
-fn step<P: Probe + Send + Sync + Drop + 'static, R: Threads + Wait + Abort + Copy + Drop + Send + 'static>(
-    rt: R,
-    alloc: Global,
-    workers: u32,
-    count: u64,
-    probe: P,
-)
+fn step<
+    P: Probe + Send + Sync + Drop + 'static,
+    R: Threads + Wait + Abort + Copy + Drop + Send + 'static,
+>(rt: R, alloc: Global, workers: u32, count: u64, probe: P)
     requires some { 0 < workers }
     requires few { workers ≤ MAX_WORKERS }
 {

@@ -1,17 +1,17 @@
-use Rattle.std.proofs.Common.{◌≡◌, ◌∙◌, ◌*◌, sym, ap, subst, arith, length}
-use Rattle.chunked.specs.Chunks.{AreFull, items_in, items_of}
-use Rattle.chunked.specs.declared.chunk.TheConstants.{CHUNK}
+use Rattle.std.proofs.Common.{◌≡◌, ◌∙◌, ◌*◌, sym, subst, arith, length}
+use Rattle.chunked.specs.Chunks.{AreFull, row_in, rows_of}
+use Rattle.chunked.specs.declared.branch.TheConstants.{BRANCH}
 use Rattle.chunked.proofs.ChunkLemmas.{chunk_count, chunk_more}
 use Rattle.chunked.proofs.list.make_room.Goals as goal
 
 pub returns-in_ok-push-clause-full : goal.returns-in_ok-push-clause-full
 returns-in_ok-push-clause-full g c =
-    let items = c.args.chunks.now.items in
-    let none = c.in_ok-chunk.chunk in
-    let total : length (items_of items) ≡ CHUNK * length items = omega (arith, c.requires.at, c.if-at-len.true, c.len.ensures, c.args.chunks.now.ok.0, chunk_count items_in CHUNK items c.requires.full) in
-    subst (AreFull items_in CHUNK) (sym c.in_ok-push.ensures.items) (chunk_more items_in CHUNK items none (ap (λ v. v.items) c.in_ok-chunk.ensures.ok ∙ c.new.ensures.items) c.requires.full total).1
+    let items = c.args.branches.now.items in
+    let none = c.in_ok-branch.branch in
+    let total : length (rows_of items) ≡ BRANCH * length items = omega (arith, c.requires.at, c.if-at-len.true, c.len.ensures, c.args.branches.now.ok.0, chunk_count row_in BRANCH items c.requires.full) in
+    subst (AreFull row_in BRANCH) (sym c.in_ok-push.ensures.items) (chunk_more row_in BRANCH items none (c.in_ok-branch.ensures.ok ∙ c.new.ensures) c.requires.full total).1
 
 pub returns-else-at-len-clause-room : goal.returns-else-at-len-clause-room
 returns-else-at-len-clause-room g c =
-    let items = c.args.chunks.now.items in
-    omega (arith, c.requires.at, c.if-at-len.false, c.len.ensures, c.args.chunks.now.ok.0, chunk_count items_in CHUNK items c.requires.full)
+    let items = c.args.branches.now.items in
+    omega (arith, c.requires.at, c.if-at-len.false, c.len.ensures, c.args.branches.now.ok.0, chunk_count row_in BRANCH items c.requires.full)

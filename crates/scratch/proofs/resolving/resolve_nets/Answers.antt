@@ -1,7 +1,7 @@
 use Rattle.std.proofs.Common.{◌≡◌, ◌<◌, ◌≤◌, ◌+◌, ◌-◌, ◌++◌, ◌∷◌, ◌∙◌, sym, ap, refl, [], map, not, take, length, slice_index_or, arith, true, false}
 use Rattle.std.proofs.lemmas.Grind.{common_steps}
 use Rattle.std.specs.Option.{option_map_or}
-use Rattle.std.proofs.lemmas.List.{length-map, take_all}
+use Rattle.std.proofs.lemmas.List.{take_all}
 use Rattle.std.proofs.lemmas.Option.{slice_get-get_or, slice_get_read, slice_get_past}
 use Rattle.fourstate.specs.Values.{same_value}
 use Rattle.waveform.specs.Changes.{wave_changes_below}
@@ -10,31 +10,44 @@ use Rattle.design.specs.Places.{driver_places}
 use Rattle.scratch.specs.Places.{changes_at, has}
 use Rattle.scratch.specs.Run.{value}
 use Rattle.scratch.proofs.Between.{finish}
-use Rattle.scratch.proofs.Lists.{take_next}
-use Rattle.scratch.proofs.NetSteps.{again, drivers_at, resolved_is, same_value_at, same_wave_at, stayed, wave_early, went}
+use Rattle.scratch.proofs.Lists.{some_at, take_next}
+use Rattle.scratch.proofs.NetSteps.{again, resolved_is, same_value_at, same_wave_at, stayed, wave_early, wave_reached, went}
 use Rattle.scratch.proofs.resolving.resolve_nets.Goals as goal
-use Rattle.scratch.proofs.resolving.resolve_nets.Goals.{then-place-len+in_ok-value+then-is_other+in_ok-push+in_ok-push-2, then-place-len+in_ok-value+else-is_other, else-place-len}
+use Rattle.scratch.proofs.resolving.resolve_nets.Goals.{then-place-len+in_ok-value+then-is_other+in_ok-push_known+in_ok-push, then-place-len+in_ok-value+else-is_other, else-place-len}
 
-pub push-requires-clause-later : goal.push-requires-clause-later
-push-requires-clause-later g c =
+pub push_known-requires-clause-later : goal.push_known-requires-clause-later
+push_known-requires-clause-later g c =
     let answer = g.S.Stepper.answer in let d = netlist c.args.design.now in let t = c.args.t in
     let part = c.loop-place.invariant in let done = take c.loop-place.place-index c.args.nets.now in
     let place = slice_index_or c.args.nets.now c.loop-place.place-index 0 in
     let in_nets : place < length d.nets = let low = c.if-place-len.true in let many = part.as_many in grind (arith, common_steps) in
-    let n = c.net_at.result.now in
-    let drivers = c.args.wiring.now.drivers.items in
-    let below : place < length drivers = (let as_many = simp length-map at (ap length c.requires.wired.drivers) in omega arith) in
-    let listed = slice_get_read drivers (length drivers) place c.index.result.now refl below c.index.ensures in
-    let places : c.as_slice-places.result.now ≡ driver_places d.gates n.name = c.as_slice-places.ensures.value ∙ drivers_at d drivers place n c.index.result.now c.requires.wired.drivers c.net_at.ensures listed in
+    let it = some_at d.nets place in_nets in let n = it.0 in
     let v = c.in_ok-value.value in
-    let is : v ≡ value answer d n t = resolved_is answer d t c.args.states.now n c.as_slice-places.result.now v c.requires.states places c.in_ok-value.ensures in
+    let is : v ≡ value answer d n t = resolved_is answer d t c.args.states.now n (driver_places d.gates n.name) v c.requires.states refl (rw it.1 at c.in_ok-value.ensures) in
     let in_values : place < length c.loop-place.values.items = rw part.as_many in_nets in
-    let old = slice_get_read c.loop-place.values.items (length c.loop-place.values.items) place c.index-then-place-len.result.now refl in_values c.index-then-place-len.ensures in
-    let other : not (same_value v c.index-then-place-len.result.now) ≡ true = sym c.is_other.ensures ∙ c.if-is_other.true in
+    let old = slice_get_read c.loop-place.values.items (length c.loop-place.values.items) place c.index-former.result.now refl in_values c.index-former.ensures in
+    let other : not (same_value v c.index-former.result.now) ≡ true = sym c.is_other.ensures ∙ c.if-is_other.true in
     let in_waves : place < length c.loop-place.waves.items = rw part.as_many_waves in_nets in
     let wave = slice_get_read c.loop-place.waves.items (length c.loop-place.waves.items) place c.index_mut-wave.result.now refl in_waves c.index_mut-wave.ensures.value in
-    wave_early answer d t c.requires.begun c.no_change.ensures place done c.loop-place.values.items c.loop-place.waves.items c.loop-place.changed.items part n c.net_at.ensures v c.index-then-place-len.result.now is old other
+    wave_early answer d t c.requires.begun c.no_change.ensures place done c.loop-place.values.items c.loop-place.waves.items c.loop-place.changed.items part n it.1 v c.index-former.result.now is old other
     c.changes_lie_before.ensures c.index_mut-wave.result.now wave
+
+pub push_known-requires-clause-known : goal.push_known-requires-clause-known
+push_known-requires-clause-known g c =
+    let answer = g.S.Stepper.answer in let d = netlist c.args.design.now in let t = c.args.t in
+    let part = c.loop-place.invariant in let done = take c.loop-place.place-index c.args.nets.now in
+    let place = slice_index_or c.args.nets.now c.loop-place.place-index 0 in
+    let in_nets : place < length d.nets = let low = c.if-place-len.true in let many = part.as_many in grind (arith, common_steps) in
+    let it = some_at d.nets place in_nets in let n = it.0 in
+    let v = c.in_ok-value.value in
+    let is : v ≡ value answer d n t = resolved_is answer d t c.args.states.now n (driver_places d.gates n.name) v c.requires.states refl (rw it.1 at c.in_ok-value.ensures) in
+    let in_values : place < length c.loop-place.values.items = rw part.as_many in_nets in
+    let old = slice_get_read c.loop-place.values.items (length c.loop-place.values.items) place c.index-former.result.now refl in_values c.index-former.ensures in
+    let other : not (same_value v c.index-former.result.now) ≡ true = sym c.is_other.ensures ∙ c.if-is_other.true in
+    let in_waves : place < length c.loop-place.waves.items = rw part.as_many_waves in_nets in
+    let wave = slice_get_read c.loop-place.waves.items (length c.loop-place.waves.items) place c.index_mut-wave.result.now refl in_waves c.index_mut-wave.ensures.value in
+    wave_reached answer d t c.requires.begun c.no_change.ensures place done c.loop-place.values.items c.loop-place.waves.items c.loop-place.changed.items part n it.1 v c.index-former.result.now is old other
+    c.reached_by_changes.ensures c.index_mut-wave.result.now wave
 
 pub loop-place-preserved : goal.loop-place-preserved
 loop-place-preserved g c =
@@ -45,35 +58,27 @@ loop-place-preserved g c =
     let vs = c.loop-place.values.items in let ws = c.loop-place.waves.items in let cs = c.loop-place.changed.items in
     let still = c.no_change.ensures in
     elim c.if-place-len.branch [
-      | then-place-len+in_ok-value+then-is_other+in_ok-push+in_ok-push-2 w ↦
+      | then-place-len+in_ok-value+then-is_other+in_ok-push_known+in_ok-push w ↦
           let in_nets : place < length d.nets = let low = w.if-place-len.true in let many = part.as_many in grind (arith, common_steps) in
-          let n = w.net_at.result.now in
-          let drivers = c.args.wiring.now.drivers.items in
-          let below : place < length drivers = (let as_many = simp length-map at (ap length c.requires.wired.drivers) in omega arith) in
-          let listed = slice_get_read drivers (length drivers) place w.index.result.now refl below w.index.ensures in
-          let places : w.as_slice-places.result.now ≡ driver_places d.gates n.name = w.as_slice-places.ensures.value ∙ drivers_at d drivers place n w.index.result.now c.requires.wired.drivers w.net_at.ensures listed in
+          let it = some_at d.nets place in_nets in let n = it.0 in
           let v = w.in_ok-value.value in
-          let is : v ≡ value answer d n t = resolved_is answer d t c.args.states.now n w.as_slice-places.result.now v c.requires.states places w.in_ok-value.ensures in
+          let is : v ≡ value answer d n t = resolved_is answer d t c.args.states.now n (driver_places d.gates n.name) v c.requires.states refl (rw it.1 at w.in_ok-value.ensures) in
           let in_values : place < length vs = rw part.as_many in_nets in
-          let old = slice_get_read vs (length vs) place w.index-then-place-len.result.now refl in_values w.index-then-place-len.ensures in
-          let other : not (same_value v w.index-then-place-len.result.now) ≡ true = sym w.is_other.ensures ∙ w.if-is_other.true in
+          let old = slice_get_read vs (length vs) place w.index-former.result.now refl in_values w.index-former.ensures in
+          let other : not (same_value v w.index-former.result.now) ≡ true = sym w.is_other.ensures ∙ w.if-is_other.true in
           let in_waves : place < length ws = rw part.as_many_waves in_nets in
           let wave = slice_get_read ws (length ws) place w.index_mut-wave.result.now refl in_waves w.index_mut-wave.ensures.value in
-          rw (more, w.values-is, w.waves-is, w.changed-is, w.in_ok-push.ensures.ok, w.in_ok-push-2.ensures.items)
-          (went answer d t c.requires.begun still place done vs ws cs part n w.net_at.ensures v w.index-then-place-len.result.now is old other c.push_to_changes.ensures w.index_mut-wave.result.now wave)
+          rw (more, w.values-is, w.waves-is, w.changed-is, w.in_ok-push_known.ensures.ok, w.in_ok-push.ensures.items)
+          (went answer d t c.requires.begun still place done vs ws cs part n it.1 v w.index-former.result.now is old other c.push_to_changes.ensures w.index_mut-wave.result.now wave)
       | then-place-len+in_ok-value+else-is_other w ↦
           let in_nets : place < length d.nets = let low = w.if-place-len.true in let many = part.as_many in grind (arith, common_steps) in
-          let n = w.net_at.result.now in
-          let drivers = c.args.wiring.now.drivers.items in
-          let below : place < length drivers = (let as_many = simp length-map at (ap length c.requires.wired.drivers) in omega arith) in
-          let listed = slice_get_read drivers (length drivers) place w.index.result.now refl below w.index.ensures in
-          let places : w.as_slice-places.result.now ≡ driver_places d.gates n.name = w.as_slice-places.ensures.value ∙ drivers_at d drivers place n w.index.result.now c.requires.wired.drivers w.net_at.ensures listed in
+          let it = some_at d.nets place in_nets in let n = it.0 in
           let v = w.in_ok-value.value in
-          let is : v ≡ value answer d n t = resolved_is answer d t c.args.states.now n w.as_slice-places.result.now v c.requires.states places w.in_ok-value.ensures in
+          let is : v ≡ value answer d n t = resolved_is answer d t c.args.states.now n (driver_places d.gates n.name) v c.requires.states refl (rw it.1 at w.in_ok-value.ensures) in
           let in_values : place < length vs = rw part.as_many in_nets in
-          let old = slice_get_read vs (length vs) place w.index-then-place-len.result.now refl in_values w.index-then-place-len.ensures in
-          let same : not (same_value v w.index-then-place-len.result.now) ≡ false = sym w.is_other.ensures ∙ w.if-is_other.false in
-          rw (more, w.values-is, w.waves-is, w.changed-is) (again answer d t c.requires.begun still place done vs ws cs part n w.net_at.ensures v w.index-then-place-len.result.now is old same)
+          let old = slice_get_read vs (length vs) place w.index-former.result.now refl in_values w.index-former.ensures in
+          let same : not (same_value v w.index-former.result.now) ≡ false = sym w.is_other.ensures ∙ w.if-is_other.false in
+          rw (more, w.values-is, w.waves-is, w.changed-is) (again answer d t c.requires.begun still place done vs ws cs part n it.1 v w.index-former.result.now is old same)
       | else-place-len w ↦
           let past : length d.nets ≤ place = let high = w.if-place-len.false in let many = part.as_many in grind (arith, common_steps) in
           let off : changes_at answer d place t ≡ false =

@@ -8,7 +8,7 @@ use Rattle.event_queue.specs.Noted.{noted}
 use Rattle.fourstate.specs.declared.value.Value.{Value}
 use Rattle.gatestep.specs.Step.{State}
 use Rattle.waveform.specs.Changes.{trace_below}
-use Rattle.waveform.specs.Entries.{CanStore}
+use Rattle.waveform.specs.Entries.{CanStore, same_state}
 use Rattle.design.specs.Keys.{netlist}
 use Rattle.design.specs.Netlist.{GateEntry}
 use Rattle.scratch.specs.Places.{AreRising, Covers, has, pends_at}
@@ -16,7 +16,7 @@ use Rattle.scratch.specs.Run.{state_after, state_before}
 use Rattle.scratch.specs.Work.{is_stirred}
 use Rattle.scratch.proofs.Among.{nat_beyond, once}
 use Rattle.scratch.proofs.Between.{Between, finish, is_old, length_set, write}
-use Rattle.scratch.proofs.GateSteps.{next_trace, other_states, other_traces}
+use Rattle.scratch.proofs.GateSteps.{known, next_trace, other_states, other_traces}
 use Rattle.scratch.proofs.Lists.{take_next}
 use Rattle.scratch.proofs.Notes.{elsewhere, event_noted, keeps, none_here, one_more, others_on, whole}
 use Rattle.scratch.proofs.Passing.{passing_rises, value_at_place}
@@ -37,6 +37,19 @@ loop-i-init g c =
       as_many = ap length c.requires.states ∙ length-map d.gates (state_before answer d c.args.t);
       as_many_traces = ap length c.requires.traces ∙ length-map d.gates (λ gate. trace_below (state_after answer d gate) c.args.t);
     }
+
+pub index-requires : goal.index-requires
+index-requires g c =
+    let answer = g.S.Stepper.answer in let d = netlist c.args.design.now in
+    let gates = c.args.gates.now in let place = slice_index_or gates c.loop-i.i 0 in
+    let within : c.loop-i.i < length gates = c.loop-i-test.true in
+    let beside : c.loop-i.i < length c.args.answers.now = rw c.requires.beside within in
+    let there = slice_get_read c.args.answers.now (length c.args.answers.now) c.loop-i.i c.index-answers-i.result refl beside c.index-answers-i.is in
+    let here = value_at_place (λ gate. is_stirred answer d gate c.args.t) (state_before answer d (c.args.t + 1)) d.gates gates c.args.answers.now c.requires.gates c.requires.answers
+    c.loop-i.i place c.index-answers-i.result (slice_get-get_or gates c.loop-i.i 0 within) there in
+    let below = slice_get_within (map (state_before answer d (c.args.t + 1)) d.gates) place c.index-answers-i.result here in
+    let in_states : place < length c.loop-i.states.items = rw (c.loop-i.invariant.as_many, ← length-map d.gates (state_before answer d (c.args.t + 1))) below in
+    grind (arith, common_steps)
 
 pub index_mut-requires : goal.index_mut-requires
 index_mut-requires g c =
@@ -64,8 +77,8 @@ index_mut-trace-requires g c =
     let in_traces : place < length c.loop-i.traces.items = rw (c.loop-i.invariant.as_many_traces, ← length-map d.gates (state_before answer d (c.args.t + 1))) below in
     grind (arith, common_steps)
 
-pub push-requires-clause-later : goal.push-requires-clause-later
-push-requires-clause-later g c =
+pub push_known-requires-clause-later : goal.push_known-requires-clause-later
+push_known-requires-clause-later g c =
     let answer = g.S.Stepper.answer in let d = netlist c.args.design.now in
     let gates = c.args.gates.now in let place = slice_index_or gates c.loop-i.i 0 in
     let within : c.loop-i.i < length gates = c.loop-i-test.true in
@@ -84,8 +97,34 @@ push-requires-clause-later g c =
     ∙ sym (is_old (take c.loop-i.i gates) (slice_get c.args.traces.now.items) (slice_get (map (λ gate. trace_below (state_after answer d gate) (c.args.t + 1)) d.gates)) (slice_get c.loop-i.traces.items) c.loop-i.invariant.traces place apart) ∙ trace in
     all_at (All (λ e. e.0 < c.args.t)) (map (λ gate. trace_below (state_after answer d gate) c.args.t) d.gates) place c.index_mut-trace.result.now (traces_early answer d c.changes_lie_before.ensures c.args.t) was
 
-pub push-requires-clause-can : goal.push-requires-clause-can
-push-requires-clause-can g c =
+pub push_known-requires-clause-known : goal.push_known-requires-clause-known
+push_known-requires-clause-known g c =
+    let law = g.met.S.Stepper in let answer = g.S.Stepper.answer in let d = netlist c.args.design.now in
+    let gates = c.args.gates.now in let place = slice_index_or gates c.loop-i.i 0 in
+    let within : c.loop-i.i < length gates = c.loop-i-test.true in
+    let at = slice_get-get_or gates c.loop-i.i 0 within in
+    let stirred : GateEntry → Bool = λ gate. is_stirred answer d gate c.args.t in
+    let beside : c.loop-i.i < length c.args.answers.now = rw c.requires.beside within in
+    let there = slice_get_read c.args.answers.now (length c.args.answers.now) c.loop-i.i c.index-answers-i.result refl beside c.index-answers-i.is in
+    let here = value_at_place stirred (state_before answer d (c.args.t + 1)) d.gates gates c.args.answers.now c.requires.gates c.requires.answers c.loop-i.i place c.index-answers-i.result at there in
+    let below = slice_get_within (map (state_before answer d (c.args.t + 1)) d.gates) place c.index-answers-i.result here in
+    let in_states : place < length c.loop-i.states.items = rw (c.loop-i.invariant.as_many, ← length-map d.gates (state_before answer d (c.args.t + 1))) below in
+    let in_traces : place < length c.loop-i.traces.items = rw (c.loop-i.invariant.as_many_traces, ← length-map d.gates (state_before answer d (c.args.t + 1))) below in
+    let trace = slice_get_read c.loop-i.traces.items (length c.loop-i.traces.items) place c.index_mut-trace.result.now refl in_traces c.index_mut-trace.ensures.value in
+    let rising : AreRising 0 gates = rw c.requires.gates (passing_rises stirred 0 d.gates) in
+    let apart = once 0 gates c.loop-i.i place rising at in
+    let was : slice_get (map (λ gate. trace_below (state_after answer d gate) c.args.t) d.gates) place ≡ Some c.index_mut-trace.result.now =
+    ap (λ l. slice_get l place) (sym c.requires.traces)
+    ∙ sym (is_old (take c.loop-i.i gates) (slice_get c.args.traces.now.items) (slice_get (map (λ gate. trace_below (state_after answer d gate) (c.args.t + 1)) d.gates)) (slice_get c.loop-i.traces.items) c.loop-i.invariant.traces place apart) ∙ trace in
+    let before : slice_get (map (state_before answer d c.args.t) d.gates) place ≡ Some c.index.result.now =
+    ap (λ l. slice_get l place) (sym c.requires.states)
+    ∙ sym (is_old (take c.loop-i.i gates) (slice_get c.args.states.now.items) (slice_get (map (state_before answer d (c.args.t + 1)) d.gates)) (slice_get c.loop-i.states.items) c.loop-i.invariant.states place apart)
+    ∙ slice_get_read c.loop-i.states.items (length c.loop-i.states.items) place c.index.result.now refl in_states c.index.ensures in
+    known answer d law.answer_pending c.reached_by_changes.ensures c.lawful.ensures.design.gates c.args.t place c.requires.begun c.index_mut-trace.result.now c.index.result.now c.index-answers-i.result was before
+    ∙ ap (same_state c.index-answers-i.result) (sym c.due-known.ensures)
+
+pub push_known-requires-clause-can : goal.push_known-requires-clause-can
+push_known-requires-clause-can g c =
     let law = g.met.S.Stepper in let answer = g.S.Stepper.answer in let d = netlist c.args.design.now in
     let gates = c.args.gates.now in let place = slice_index_or gates c.loop-i.i 0 in
     let within : c.loop-i.i < length gates = c.loop-i-test.true in
@@ -118,13 +157,13 @@ loop-i-preserved g c =
     let trace = slice_get_read c.loop-i.traces.items (length c.loop-i.traces.items) place c.index_mut-trace.result.now refl in_traces c.index_mut-trace.ensures.value in
     let was : slice_get (map (λ gate. trace_below (state_after answer d gate) t) d.gates) place ≡ Some c.index_mut-trace.result.now =
     ap (λ l. slice_get l place) (sym c.requires.traces) ∙ sym (is_old done (slice_get c.args.traces.now.items) (slice_get next_traces) (slice_get c.loop-i.traces.items) c.loop-i.invariant.traces place apart) ∙ trace in
-    let grows : slice_get next_traces place ≡ Some c.push.new.self =
-    next_trace answer d law.answer_pending c.push_to_changes.ensures are t place c.index_mut-trace.result.now s was here ∙ ap (λ x. Some x) (sym c.in_ok-push.ensures.ok) in
+    let grows : slice_get next_traces place ≡ Some c.push_known.new.self =
+    next_trace answer d law.answer_pending c.push_to_changes.ensures are t place c.index_mut-trace.result.now s was here ∙ ap (λ x. Some x) (sym c.in_ok-push_known.ensures.ok) in
     record {
       states = subst (λ l. Between l (slice_get c.args.states.now.items) (slice_get next) (slice_get (set c.loop-i.states.items place s))) (sym more)
           (write done c.args.states.now.items next c.loop-i.states.items c.loop-i.invariant.states place s here in_states);
-      traces = subst (λ l. Between l (slice_get c.args.traces.now.items) (slice_get next_traces) (slice_get (set c.loop-i.traces.items place c.push.new.self))) (sym more)
-          (write done c.args.traces.now.items next_traces c.loop-i.traces.items c.loop-i.invariant.traces place c.push.new.self grows in_traces);
+      traces = subst (λ l. Between l (slice_get c.args.traces.now.items) (slice_get next_traces) (slice_get (set c.loop-i.traces.items place c.push_known.new.self))) (sym more)
+          (write done c.args.traces.now.items next_traces c.loop-i.traces.items c.loop-i.invariant.traces place c.push_known.new.self grows in_traces);
       events = elim c.match-answer.branch [
         | in-Some+in_ok-add w ↦
             let event : Value × ℕ = (w.in-Some.field-0-0, w.in-Some.time) in
@@ -150,7 +189,7 @@ loop-i-preserved g c =
         | in_default w ↦ λ u low. ap (λ q. noted q u) w.events-is ∙ c.loop-i.invariant.early u low
       ];
       as_many = length_set c.loop-i.states.items place s ∙ c.loop-i.invariant.as_many;
-      as_many_traces = length_set c.loop-i.traces.items place c.push.new.self ∙ c.loop-i.invariant.as_many_traces;
+      as_many_traces = length_set c.loop-i.traces.items place c.push_known.new.self ∙ c.loop-i.invariant.as_many_traces;
     }
 
 pub returns-clause-states : goal.returns-clause-states

@@ -1,15 +1,15 @@
 use Rattle.std.proofs.Common.{◌∙◌, sym, ap, length}
-use Rattle.chunked.specs.Chunks.{items_in}
-use Rattle.chunked.specs.declared.chunk.TheConstants.{CHUNK}
+use Rattle.chunked.specs.Chunks.{row_in}
+use Rattle.chunked.specs.declared.branch.TheConstants.{BRANCH}
 use Rattle.chunked.proofs.ChunkLemmas.{chunks_same}
 use Rattle.chunked.proofs.list.Chunked.try_clone.Goals as goal
 
 pub invariant_of-result : goal.invariant_of-result
 invariant_of-result g c =
-    let same = chunks_same items_in CHUNK _ (λ x y r. ap (λ v. v.items) r) c.self.inside.chunks.items c.in_ok-chunks.chunks.items c.in_ok-chunks.ensures.cases.0 in
+    let same = chunks_same row_in BRANCH _ (λ x y r. r) c.self.inside.branches.items c.in_ok-branches.branches.items c.in_ok-branches.ensures.cases.0 in
     (same.2 c.self.invariant.0, c.self.invariant.1 ∙ sym (ap (λ l. length l) same.0))
 
 pub returns : goal.returns
 returns g c =
-    let same = chunks_same items_in CHUNK _ (λ x y r. ap (λ v. v.items) r) c.self.inside.chunks.items c.in_ok-chunks.chunks.items c.in_ok-chunks.ensures.cases.0 in
+    let same = chunks_same row_in BRANCH _ (λ x y r. r) c.self.inside.branches.items c.in_ok-branches.branches.items c.in_ok-branches.ensures.cases.0 in
     same.0 ∙ c.self.view_is

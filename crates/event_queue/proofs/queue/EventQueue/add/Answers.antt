@@ -44,14 +44,14 @@ returns-in-Some-clause-ok c =
 
 pub invariant_of-self-2 : goal.invariant_of-self-2
 invariant_of-self-2 c =
-    let one : c.push-2.new.self.items ≡ c.args.number ∷ [] = c.in_ok-push-2.ensures.items ∙ ap (λ l. l ++ c.args.number ∷ []) c.in_ok-numbers.ensures.items in
+    let one : c.push-2.new.self.items ≡ c.args.number ∷ [] = c.in_ok-push-2.ensures.items ∙ ap (λ l. l ++ c.args.number ∷ []) c.empty_list-numbers.ensures in
     let same = c.get_mut.follows.holds-at-none in
     filled c.self.inside.moments c.insert.new.self c.args.t (Some c.push-2.new.self) (rw same at c.in_ok-insert.ensures.updates.0) (rw one (not_empty [] c.args.number)) c.self.invariant
 
 pub returns-clause-ok : goal.returns-clause-ok
 returns-clause-ok c =
     let m = c.self.inside.moments in
-    let one : c.push-2.new.self.items ≡ c.args.number ∷ [] = c.in_ok-push-2.ensures.items ∙ ap (λ l. l ++ c.args.number ∷ []) c.in_ok-numbers.ensures.items in
+    let one : c.push-2.new.self.items ≡ c.args.number ∷ [] = c.in_ok-push-2.ensures.items ∙ ap (λ l. l ++ c.args.number ∷ []) c.empty_list-numbers.ensures in
     let same = c.get_mut.follows.holds-at-none in
     subst (λ q. IsAdded c.args.t c.args.number q (seen c.insert.new.self)) c.self.view_is
     (added m c.insert.new.self c.args.t (Some c.push-2.new.self) (rw same at c.in_ok-insert.ensures.updates.0) c.args.number (one ∙ ap (λ l. l ++ c.args.number ∷ []) (sym (ap items (sym c.in_default.ensures.value)))))

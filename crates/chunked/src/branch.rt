@@ -1,0 +1,55 @@
+//! One branch of a list: its row is copied before a write where it has other owners.
+
+ghost use Rattle.std.specs.Prelude.{◌≡◌, ◌<◌, ◌∷◌, [], ◌++◌, OnErr, OnOk, length, slice_get, slice_set, take};
+ghost use Rattle.std.specs.Option.{option_copied};
+ghost use Rattle.chunked.specs.Chunks.{row_in};
+
+use crate::exact::ExactClone;
+use crate::row::Row;
+use std::alloc::AllocError;
+use std::sync::Arc;
+
+/// How many elements a branch has, but for the last one, which may have fewer (own).
+pub(crate) const BRANCH: usize = 1_024;
+
+/// A row of chunks, which lists share as a whole.
+pub(crate) type Branch<T> = Arc<Row<T>>;
+
+/// The element at an index.
+pub(crate) fn get<T: Drop>(branch: &Branch<T>, index: usize) -> Option<&T>
+    ensures { option_copied result ≡ slice_get (row_in branch.now) index }
+{
+    branch.get(index)
+}
+
+/// Adds an element.
+pub(crate) fn push<T: ExactClone>(branch: &mut Branch<T>, item: T) -> Result<(), AllocError>
+    ensures ok { OnOk result (row_in branch.new ≡ row_in branch.old ++ item ∷ []) }
+    ensures err { OnErr result (row_in branch.new ≡ row_in branch.old) }
+{
+    Arc::make_mut(branch)?.push(item)?;
+    Ok(())
+}
+
+/// Writes an element.
+pub(crate) fn set<T: ExactClone>(
+    branch: &mut Branch<T>,
+    index: usize,
+    item: T,
+) -> Result<(), AllocError>
+    requires { index < length (row_in branch.old) }
+    ensures ok { OnOk result (row_in branch.new ≡ slice_set (row_in branch.old) index item) }
+    ensures err { OnErr result (row_in branch.new ≡ row_in branch.old) }
+{
+    Arc::make_mut(branch)?.set(index, item)?;
+    Ok(())
+}
+
+/// Keeps the first elements.
+pub(crate) fn truncate<T: ExactClone>(branch: &mut Branch<T>, len: usize) -> Result<(), AllocError>
+    ensures ok { OnOk result (row_in branch.new ≡ take len (row_in branch.old)) }
+    ensures err { OnErr result (row_in branch.new ≡ row_in branch.old) }
+{
+    Arc::make_mut(branch)?.truncate(len)?;
+    Ok(())
+}

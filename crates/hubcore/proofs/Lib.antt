@@ -1,0 +1,5 @@
+pub mod Beginnings
+pub mod Growing
+pub mod ListSteps
+pub mod Releases
+pub mod Sound

@@ -1,0 +1,115 @@
+"""Runs files of commands, and says where a reply is not the one that is expected."""
+from typing import Callable, Iterator, List, NamedTuple, Optional, Tuple
+
+from .errors import GatebenchError, NoReply
+from .refusal import NO_EDIT, place_at_fault
+from .replies import Reply
+from .script import BadLine, Opening, Script, Step, got, read_script
+from .session import Session
+
+
+class Failure(NamedTuple):
+    """What is wrong at a line; the number is 0 where it is wrong with the file as a whole."""
+
+    number: int
+    message: str
+
+
+class Case(NamedTuple):
+    """An expectation, or a command that failed: its line, and its failure or None."""
+
+    number: int
+    text: str
+    failure: Optional[Failure]
+
+
+class Report(NamedTuple):
+    """What came of a file: its steps, and its cases in order. `error` is why it could not be run to its end."""
+
+    path: str
+    steps: List[Step]
+    cases: List[Case]
+    error: Optional[Failure] = None
+
+    @property
+    def expectations(self) -> int:
+        return sum(it.is_expectation for it in self.steps)
+
+    def failures(self) -> List[Failure]:
+        found = [it.failure for it in self.cases if it.failure is not None]
+        return found if self.error is None else [*found, self.error]
+
+    def lines(self) -> Iterator[str]:
+        """A line for each failure."""
+        for number, message in self.failures():
+            yield f"{self.path}:{number}: {message}" if number else f"{self.path}: {message}"
+
+
+def check_file(path: str, default: Opening, program: Optional[str], timeout: Optional[float]) -> Report:
+    """Runs a file. `default` opens its session where the file does not say how, with an empty design for none."""
+    try:
+        script = read_script(path)
+    except BadLine as bad:
+        return Report(path, [], [], Failure(bad.number, f"expected {bad.wanted}, got {bad.line.strip()}"))
+    except OSError as error:
+        return Report(path, [], [], Failure(0, f"can't be read: {error.strerror}"))
+    opening = script.opening or default
+    if not opening.design:
+        return Report(path, [], [], Failure(0, "has no line 'design FILE', and no --design was given"))
+    return run_script(path, script, opening, program, timeout)
+
+
+def run_script(path: str, script: Script, opening: Opening, program: Optional[str], timeout: Optional[float]) -> Report:
+    steps = script.steps
+
+    def open_session() -> Session:
+        return Session(
+            opening.design, horizon=opening.horizon, delay=opening.delay, program=program, timeout=timeout
+        )
+
+    try:
+        with open_session() as session:
+            replies, error = answers(session, steps)
+    except GatebenchError as failure:
+        return Report(path, steps, [], Failure(0, str(failure)))
+    return Report(path, steps, list(cases_of(steps, replies, open_session)), error)
+
+
+def answers(session: Session, steps: List[Step]) -> Tuple[List[Reply], Optional[Failure]]:
+    """The replies to the steps; where the program does not give all of them, also why, at the line that it stopped at."""
+    try:
+        return session.ask([it.line for it in steps]), None
+    except NoReply as failure:
+        return failure.replies, Failure(steps[min(len(failure.replies), len(steps) - 1)].number, str(failure))
+
+
+def cases_of(steps: List[Step], replies: List[Reply], open_session: Callable[[], Session]) -> Iterator[Case]:
+    """The expectations, met or not, and the commands that were refused. `open_session` gives a session for a second look."""
+    for place, (step, reply) in enumerate(zip(steps, replies)):
+        if not step.is_met(reply):
+            wrong = f"expected {step.wanted()}, got {got(reply)}"
+            if step.line.split() == ["commit"] and not reply.is_ok:
+                wrong += edit_at_fault(steps, replies, place, open_session)
+            yield Case(step.number, step.text, Failure(step.number, wrong))
+        elif step.is_expectation:
+            yield Case(step.number, step.text, None)
+
+
+def edit_at_fault(
+    steps: List[Step], replies: List[Reply], place: int, open_session: Callable[[], Session]
+) -> str:
+    """Which line is at fault for the refused commit at a place, in words. Nothing where that can't be said.
+
+    A second session goes up to the batch; questions in the batch do no harm, since no edit of a trial is carried out."""
+    refusal = replies[place]
+    begins = [it for it in range(place) if steps[it].line.split() == ["begin"] and replies[it].is_ok]
+    if refusal.code in NO_EDIT or not begins or begins[-1] + 1 == place:
+        return ""
+    batch = steps[begins[-1] + 1 : place]
+    try:
+        with open_session() as session:
+            session.ask([it.line for it in steps[: begins[-1]]])
+            fault = batch[place_at_fault(session.ask, [it.line for it in batch], refusal)]
+    except GatebenchError:
+        return ""
+    return f" for line {fault.number}: {fault.line}"

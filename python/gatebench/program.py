@@ -1,0 +1,32 @@
+"""Where the program gatebench is, and the words that start it."""
+import os
+import shutil
+from typing import List, Optional
+
+from .errors import ProgramMissing
+
+# The environment variable that names the program.
+VARIABLE = "GATEBENCH"
+
+
+def program_path(given: Optional[str] = None) -> str:
+    """The path of the program: the given one; else that of the environment variable GATEBENCH; else bin/gatebench of
+    the repository that this package lies in; else `gatebench` on the PATH. ProgramMissing where there is none."""
+    named = given or os.environ.get(VARIABLE)
+    if named:
+        return named
+    repository = os.path.dirname(os.path.dirname(os.path.dirname(os.path.abspath(__file__))))
+    built = os.path.join(repository, "bin", "gatebench")
+    found = built if os.access(built, os.X_OK) else shutil.which("gatebench")
+    if found is None:
+        raise ProgramMissing(f"there is no program gatebench: build it by `make demo`, or name it in {VARIABLE}")
+    return found
+
+
+def command_words(
+    program: str, design: str, horizon: Optional[int], delay: Optional[int], workers: Optional[int]
+) -> List[str]:
+    """The words that start the program. An option that is None is left out, so it is the program's default."""
+    options = (("--horizon", horizon), ("--delay", delay), ("--workers", workers))
+    given = [word for name, value in options if value is not None for word in (name, str(value))]
+    return [program, *given, "--", design]

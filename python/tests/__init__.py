@@ -1,0 +1,1 @@
+"""Tests of the package over the program; tools/scripts runs them."""

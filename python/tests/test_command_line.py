@@ -1,0 +1,63 @@
+"""`python -m gatebench draw`: what it prints, what it writes, what it refuses."""
+import os
+import subprocess
+import sys
+from typing import Tuple
+
+from .support import EXAMPLES, INVERTER, ROOT, WithFolder
+
+GLITCH = os.path.join(EXAMPLES, "glitch")
+
+
+class Draws(WithFolder):
+    def setUp(self) -> None:
+        super().setUp()
+        self.write("m.v", INVERTER)
+        self.write("commands", "stim a 0 0\nstim a 10 1\nquit\n")
+
+    def draw(self, *words: str, encoding: str = "utf-8") -> Tuple[int, str, str]:
+        """The status of a drawing, what it printed, and what it said on standard error."""
+        environment = {**os.environ, "PYTHONPATH": os.path.join(ROOT, "python"), "PYTHONIOENCODING": encoding}
+        ran = subprocess.run(
+            [sys.executable, "-m", "gatebench", "draw", *words],
+            cwd=self.folder, env=environment, capture_output=True, encoding="utf-8", timeout=60,
+        )  # fmt: skip
+        return ran.returncode, ran.stdout, ran.stderr
+
+    def test_all_nets_up_to_the_horizon(self) -> None:
+        wanted = "moment  0         10        20\n        │         │         │\na       ▁▁▁▁▁▁▁▁▁▁▔▔▔▔▔▔▔▔▔▔▔\ny       ╳╳▔▔▔▔▔▔▔▔▔▔▔▁▁▁▁▁▁▁▁\n"
+        self.assertEqual(self.draw("m.v", "commands", "--horizon", "20"), (0, wanted, ""))
+
+    def test_some_nets_in_a_window_in_ascii(self) -> None:
+        status, printed, _ = self.draw("m.v", "commands", "--nets", "y", "a", "--from", "8", "--to", "14", "--ascii")
+        self.assertEqual((status, printed), (0, "moment    10\n          |\ny       -----__\na       __-----\n"))
+
+    def test_an_output_without_the_signs_gets_ascii(self) -> None:
+        status, printed, _ = self.draw("m.v", "--to", "3", encoding="ascii")
+        self.assertEqual((status, printed), (0, "moment  0\n        |\na       xxxx\ny       xxxx\n"))
+
+    def test_the_picture_of_the_documents_is_the_one_that_it_draws(self) -> None:
+        words = "--nets s sn p q y w --from 16 --to 31 --svg".split()
+        files = [os.path.join(GLITCH, it) for it in ("design.v", "commands")]
+        self.assertEqual(self.draw(*files, *words, "waves.svg"), (0, "", ""))
+        with open(os.path.join(GLITCH, "waves.svg"), encoding="utf-8") as file:
+            self.assertEqual(self.read("waves.svg"), file.read())
+
+    def test_a_command_that_is_refused(self) -> None:
+        self.write("commands", "stim a 0 0\n\nstim q 10 1\n")
+        self.assertEqual(
+            self.draw("m.v", "commands"),
+            (1, "", "gatebench draw: commands:3: expected ok, got no 1 UnknownNet\n"),
+        )
+
+    def test_what_can_t_be_drawn(self) -> None:
+        wrong = {
+            ("m.v", "--nets", "z"): "no net is named z",
+            ("m.v", "--nets", "yy"): "no net is named yy; there is y",
+            ("m.v", "--from", "9", "--to", "8"): "9 to 8 is not within 0 to 1000, the horizon",
+            ("m.v", "--to", "1001"): "0 to 1001 is not within 0 to 1000, the horizon",
+            ("m.v", "nobody"): "[Errno 2] No such file or directory: 'nobody'",
+            ("commands",): "commands:1: 2 Syntax",
+        }
+        for words, said in wrong.items():
+            self.assertEqual(self.draw(*words), (1, "", f"gatebench draw: {said}\n"))
