@@ -12,7 +12,7 @@ use Rattle.app.specs.ArgsFaults.{fault_of_kind}
 use Rattle.app.specs.CommandLine.{command_line, is_taken, value_of}
 use Rattle.app.specs.Complaints.{Explains, IsFormFault, IsValueFault}
 use Rattle.app.specs.declared.complaint.Complaint.{Complaint}
-use Rattle.app.specs.declared.complaint.Complaint.TheVariants.{Help, NotText, Form, NoDesign, Horizon, Delay}
+use Rattle.app.specs.declared.complaint.Complaint.TheVariants.{Help, NotText, Form, NoDesign, Horizon, Workers, Delay}
 use Rattle.app.specs.declared.arguments.ArgsFault.TheVariants.{Refused}
 
 simple : is_simple command_line ≡ true
@@ -67,14 +67,16 @@ form_explains words e (Form k lines) kinds fault =
 form_explains words e NotText kinds fault = absurd fault
 form_explains words e NoDesign kinds fault = absurd fault
 form_explains words e (Horizon value) kinds fault = absurd fault
+form_explains words e (Workers value) kinds fault = absurd fault
 form_explains words e (Delay value) kinds fault = absurd fault
 
 -- the fault of an entry is one of the words
 pub value_explains : (words : List Text) (c : Complaint) → is_taken words ≡ true
-    → IsValueFault (value_of (codes "design") words) (value_of (codes "horizon") words) (value_of (codes "delay") words) c → Explains words c
+    → IsValueFault (value_of (codes "design") words) (value_of (codes "horizon") words) (value_of (codes "workers") words) (value_of (codes "delay") words) c → Explains words c
 value_explains words Help taken fault = absurd fault
 value_explains words (Form k lines) taken fault = absurd fault
 value_explains words NotText taken fault = absurd fault
 value_explains words NoDesign taken fault = (taken, fault)
 value_explains words (Horizon value) taken fault = (taken, fault)
+value_explains words (Workers value) taken fault = (taken, fault)
 value_explains words (Delay value) taken fault = (taken, fault)

@@ -5,9 +5,9 @@ use Rattle.clap.specs.declared.error.ErrorKind.{ErrorKind}
 use Rattle.clap.specs.declared.error.ErrorKind.TheVariants as kind
 use Rattle.app.specs.Arguments.{asked}
 use Rattle.app.specs.CommandLine.{command_line, is_taken, value_of}
-use Rattle.app.specs.Numbers.{delay_of_text, horizon_of_text}
+use Rattle.app.specs.Numbers.{delay_of_text, horizon_of_text, workers_of_text}
 use Rattle.app.specs.declared.complaint.Complaint.{Complaint}
-use Rattle.app.specs.declared.complaint.Complaint.TheVariants.{Help, Form, NoDesign, Horizon, Delay}
+use Rattle.app.specs.declared.complaint.Complaint.TheVariants.{Help, Form, NoDesign, Horizon, Workers, Delay}
 use Rattle.app.specs.declared.complaint.StartFault.{StartFault}
 use Rattle.app.specs.declared.complaint.StartFault.TheVariants.{OutOfMemory, Refused}
 
@@ -17,19 +17,20 @@ IsFormFault k Help = k ≡ kind.DisplayHelp
 IsFormFault k (Form k' lines) = (k' ≡ k) × (k ≢ kind.OutOfMemory) × (k ≢ kind.DisplayHelp)
 IsFormFault k _ = ⊥
 
--- the fault of words that are of the form, by what they give for DESIGN, H and D
-abbrev pub IsValueFault : (design horizon delay : Option Text) → Complaint → Type 0
-IsValueFault design horizon delay NoDesign = design ≡ None
-IsValueFault design horizon delay (Horizon value) = (horizon ≡ Some (string_bytes value)) × (horizon_of_text (string_bytes value) ≡ None)
-IsValueFault design horizon delay (Delay value) = (delay ≡ Some (string_bytes value)) × (delay_of_text (string_bytes value) ≡ None)
-IsValueFault design horizon delay _ = ⊥
+-- the fault of words that are of the form, by what they give for DESIGN, H, N and D
+abbrev pub IsValueFault : (design horizon workers delay : Option Text) → Complaint → Type 0
+IsValueFault design horizon workers delay NoDesign = design ≡ None
+IsValueFault design horizon workers delay (Horizon value) = (horizon ≡ Some (string_bytes value)) × (horizon_of_text (string_bytes value) ≡ None)
+IsValueFault design horizon workers delay (Workers value) = (workers ≡ Some (string_bytes value)) × (workers_of_text (string_bytes value) ≡ None)
+IsValueFault design horizon workers delay (Delay value) = (delay ≡ Some (string_bytes value)) × (delay_of_text (string_bytes value) ≡ None)
+IsValueFault design horizon workers delay _ = ⊥
 
 -- `clap` refuses the words by this kind, or it takes them and a value is missing or out of its range
 abbrev pub Explains : List Text → Complaint → Type 0
 Explains words Help = IsAmong kind.DisplayHelp (fault_of command_line words)
 Explains words (Form k lines) = IsAmong k (fault_of command_line words) × (k ≢ kind.DisplayHelp)
 Explains words complaint = (is_taken words ≡ true)
-    × IsValueFault (value_of (codes "design") words) (value_of (codes "horizon") words) (value_of (codes "delay") words) complaint
+    × IsValueFault (value_of (codes "design") words) (value_of (codes "horizon") words) (value_of (codes "workers") words) (value_of (codes "delay") words) complaint
 
 -- why the program does not start with the words: they ask for nothing, by this fault of theirs, or an allocation was refused
 abbrev pub StopsBy : List Text → StartFault → Type 0

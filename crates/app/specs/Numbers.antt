@@ -25,6 +25,10 @@ number_of_text least most text = if is_number text then within least most (digit
 abbrev pub horizon_of_text : List ℕ → Option ℕ
 horizon_of_text = number_of_text 0 MAX_TIME
 
+-- the number of workers that a text writes: 1 to 64
+abbrev pub workers_of_text : List ℕ → Option ℕ
+workers_of_text = number_of_text 1 64
+
 -- the delay that a text writes: 1 to the greatest delay
 abbrev pub delay_of_text : List ℕ → Option ℕ
 delay_of_text = number_of_text 1 MAX_DELAY

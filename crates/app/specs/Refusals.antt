@@ -2,7 +2,7 @@
 use Rattle.std.specs.Prelude.{ℕ, ◌++◌, List, [], codes, decimal, string_bytes}
 use Rattle.fourstate.specs.declared.limits.TheConstants.{MAX_DELAY, MAX_TIME}
 use Rattle.app.specs.declared.complaint.Complaint.{Complaint}
-use Rattle.app.specs.declared.complaint.Complaint.TheVariants.{Help, NotText, Form, NoDesign, Horizon, Delay}
+use Rattle.app.specs.declared.complaint.Complaint.TheVariants.{Help, NotText, Form, NoDesign, Horizon, Workers, Delay}
 use Rattle.app.specs.declared.help.TheConstants.{HELP}
 
 -- which value of an option is at fault
@@ -19,6 +19,7 @@ complaint_lines NotText = codes "error: invalid UTF-8 was detected in one or mor
 complaint_lines (Form k lines) = string_bytes lines ++ codes "\n\n"
 complaint_lines NoDesign = codes "error: the following required arguments were not provided:\n  <DESIGN>\n\n"
 complaint_lines (Horizon value) = value_line (string_bytes value) (codes "--horizon <H>") ++ range_line 0 MAX_TIME
+complaint_lines (Workers value) = value_line (string_bytes value) (codes "--workers <N>") ++ range_line 1 64
 complaint_lines (Delay value) = value_line (string_bytes value) (codes "--delay <D>") ++ range_line 1 MAX_DELAY
 
 -- what is wrong with the words, and then how to use the program

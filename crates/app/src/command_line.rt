@@ -1,24 +1,34 @@
 //! The words after the program's name, parted by `clap`.
 
-ghost use Rattle.std.specs.Prelude.{◌≡◌, ℕ, List, IfErr, IfOk, true, map};
-ghost use Rattle.clap.specs.Words.{HasKind, app_of, fault_of, first_value, found_of};
-ghost use Rattle.app.specs.CommandLine.{command_line, is_taken, value_of};
+ghost use Rattle.std.specs.Prelude.{◌≡◌, ℕ, List, IfErr, IfOk, false, true, map};
+ghost use Rattle.clap.specs.Words.{HasKind, app_of, fault_of, first_value, found_of, rule_of};
+ghost use Rattle.app.specs.CommandLine.{command_line, is_taken, option_rule, value_of};
 
 use clap::{Arg, ArgMatches, Command, Error};
 use std::alloc::{AllocError, Global};
 use std::convert::AsStr;
 
-/// The form of the command line.
+// The option of a name, with one value.
+fn option_of<'a>(alloc: Global, name: &'a str, value: &'a str) -> Arg<'a>
+    ensures rule { rule_of result ≡ option_rule name.now }
+    ensures own { result.global ≡ false }
+{
+    Arg::new(alloc, name).long(name).value_name(value)
+}
+
+// The form of the command line.
 fn form<'a>(alloc: Global) -> Result<Command<'a>, AllocError>
     ensures { IfOk result (λ c. app_of c ≡ command_line) }
 {
     let design = Arg::new(alloc, "design").value_name("DESIGN");
-    let horizon = Arg::new(alloc, "horizon").long("horizon").value_name("H");
-    let delay = Arg::new(alloc, "delay").long("delay").value_name("D");
+    let horizon = option_of(alloc, "horizon", "H");
+    let workers = option_of(alloc, "workers", "N");
+    let delay = option_of(alloc, "delay", "D");
     Command::new(alloc, "gatebench")
         .no_binary_name(true)
         .arg(design)?
         .arg(horizon)?
+        .arg(workers)?
         .arg(delay)
 }
 

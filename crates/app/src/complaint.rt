@@ -16,6 +16,8 @@ pub enum Complaint {
     NoDesign,
     /// The value of `--horizon`, which is no number of its range.
     Horizon(String),
+    /// The value of `--workers`, which is no number of its range.
+    Workers(String),
     /// The value of `--delay`, which is no number of its range.
     Delay(String),
 }

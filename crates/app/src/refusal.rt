@@ -10,6 +10,7 @@ use crate::help::HELP;
 use crate::status::WORDS_REFUSED;
 use devices::{Sink, Writer};
 use fourstate::{MAX_DELAY, MAX_TIME};
+use parstep::MAX_WORKERS;
 
 /// Writes to `sink` what is wrong with the words, and then how to use the program, and answers the status. A write that
 /// fails is passed over (own).
@@ -50,6 +51,10 @@ fn say_complaint<W: Sink>(writer: &mut Writer<'_, W>, complaint: &Complaint)
         Complaint::Horizon(value) => {
             say_value(writer, value.as_str(), "--horizon <H>");
             say_range(writer, 0, MAX_TIME);
+        }
+        Complaint::Workers(value) => {
+            say_value(writer, value.as_str(), "--workers <N>");
+            say_range(writer, 1, u64::from(MAX_WORKERS));
         }
         Complaint::Delay(value) => {
             say_value(writer, value.as_str(), "--delay <D>");

@@ -1,4 +1,4 @@
-//! A session over the file and the horizon that were asked for.
+//! A session over the file, the horizon and the workers that were asked for.
 
 ghost use Rattle.std.specs.Prelude.{◌≡◌, Err, IfErr, IfOk};
 ghost use Rattle.std.specs.IoError.{error_kind};
@@ -7,18 +7,25 @@ ghost use Rattle.session.specs.Outcomes.{Ran};
 ghost use Rattle.session.specs.Traffic.{sink_traffic, source_traffic};
 ghost use Rattle.app.specs.Start.{options_of, unread_fault};
 
-use crate::arguments::Args;
+use crate::arguments::{Args, DEFAULT_WORKERS};
 use crate::start::design_text;
 use devices::{Sink, Source};
 use gatestep::Serial;
+use lexing::MAX_TEXT;
+use parstep::{Adaptive, Quiet};
 use session::{Options, SessionFault};
 use std::io;
 use std::random::RandomSource;
 use std::sync::Wait;
+use std::thread::Threads;
 
 /// Answers the lines of the source on the sink, for the design that a file spells. `file` is what the reading of it gave; a
-/// file that can't be read is a failed read (own).
-pub fn run_session<T: AllocGlobal + RandomSource + Wait, R: Source, W: Sink>(
+/// file that can't be read is a failed read (own). Any number of workers gives the same answers.
+pub fn run_session<
+    T: AllocGlobal + RandomSource + Threads + Wait + Copy + Drop + Send + 'static,
+    R: Source,
+    W: Sink,
+>(
     rt: &T,
     file: io::Result<Vec<u8>>,
     args: &Args,
@@ -34,17 +41,30 @@ pub fn run_session<T: AllocGlobal + RandomSource + Wait, R: Source, W: Sink>(
     ensures unopened { IfOk file (λ text. IfErr result (λ fault. IsOpeningFault fault → (source.new ≡ source.old) × (sink.new ≡ sink.old))) }
 {
     let text = design_text(file)?;
+    run_text(rt, text.as_slice(), args, source, sink)
+}
+
+// The session over the text. No worker is started for a text that is refused since it is too long: so out of memory, which
+// is the answer where a thread can't be started, comes only of a text within its limit.
+fn run_text<
+    T: AllocGlobal + RandomSource + Threads + Wait + Copy + Drop + Send + 'static,
+    R: Source,
+    W: Sink,
+>(rt: &T, text: &[u8], args: &Args, source: &mut R, sink: &mut W) -> Result<(), SessionFault>
+    ensures ran { Ran text.now (options_of args.now)
+        (source_traffic R.remaining R.taken R.failures source.old source.new)
+        (sink_traffic W.contents W.failures sink.old sink.new) result }
+    ensures unopened { IfErr result (λ fault. IsOpeningFault fault → (source.new ≡ source.old) × (sink.new ≡ sink.old)) }
+{
     let options = Options {
         horizon: args.horizon,
         delay: args.delay,
     };
-    session::run(
-        rt,
-        rt.alloc(),
-        text.as_slice(),
-        &options,
-        source,
-        sink,
-        Serial::new(),
-    )
+    if args.workers <= DEFAULT_WORKERS || text.len() > MAX_TEXT {
+        return session::run(rt, rt.alloc(), text, &options, source, sink, Serial::new());
+    }
+    match Adaptive::open(*rt, rt.alloc(), args.workers, Quiet) {
+        Ok(stepper) => session::run(rt, rt.alloc(), text, &options, source, sink, stepper),
+        Err(_) => Err(SessionFault::OutOfMemory),
+    }
 }

@@ -19,7 +19,7 @@ use std::{env, io};
 /// what the system gave; a word that is no text is refused (own).
 pub fn asked(alloc: Global, words: io::Result<env::Args>) -> Result<Args, StartFault>
     ensures ok { IfOk words (λ all. IfOk result (λ args. asked (map string_bytes (drop 1 (into_iter_items all)))
-        ≡ Some (record { design = string_bytes args.design; horizon = args.horizon; delay = args.delay }))) }
+        ≡ Some (record { design = string_bytes args.design; horizon = args.horizon; workers = args.workers; delay = args.delay }))) }
     ensures stopped { IfOk words (λ all. IfErr result (StopsBy (map string_bytes (drop 1 (into_iter_items all))))) }
     ensures unknown { IfErr words (λ error. result ≡ Err (no_words_fault (error_kind error))) }
 {
@@ -34,7 +34,7 @@ pub fn asked(alloc: Global, words: io::Result<env::Args>) -> Result<Args, StartF
 
 fn asked_by<S: AsStr>(alloc: Global, words: &[S]) -> Result<Args, StartFault>
     ensures ok { IfOk result (λ args. asked (map S.text words.now)
-        ≡ Some (record { design = string_bytes args.design; horizon = args.horizon; delay = args.delay })) }
+        ≡ Some (record { design = string_bytes args.design; horizon = args.horizon; workers = args.workers; delay = args.delay })) }
     ensures stopped { IfErr result (StopsBy (map S.text words.now)) }
 {
     match options(alloc, words) {

@@ -17,35 +17,68 @@ use std::io::Write;
 use std::random::RandomSource;
 use std::sync::Wait;
 use std::test::Fail;
+use std::thread::Threads;
 use vtext::{ReadFault, ReadFaultKind};
 
 #[test]
 fn words_are_read(rt: HostRuntime) -> Result<(), Fail> {
-    let table: [(&[&str], &str, u64, Option<u32>); 14] = [
-        (&["d.v"], "d.v", 1000, None),
-        (&["d.v", "--horizon", "5"], "d.v", 5, None),
-        (&["--horizon", "5", "d.v"], "d.v", 5, None),
-        (&["d.v", "--horizon=5"], "d.v", 5, None),
-        (&["--horizon=0", "d.v"], "d.v", 0, None),
-        (&["--horizon=1000000000", "d.v"], "d.v", 1_000_000_000, None),
+    let table: [(&[&str], &str, u64, u32, Option<u32>); 20] = [
+        (&["d.v"], "d.v", 1000, 1, None),
+        (&["d.v", "--horizon", "5"], "d.v", 5, 1, None),
+        (&["--horizon", "5", "d.v"], "d.v", 5, 1, None),
+        (&["d.v", "--horizon=5"], "d.v", 5, 1, None),
+        (&["--horizon=0", "d.v"], "d.v", 0, 1, None),
+        (
+            &["--horizon=1000000000", "d.v"],
+            "d.v",
+            1_000_000_000,
+            1,
+            None,
+        ),
         (
             &["--horizon=00000000000000000000007", "d.v"],
             "d.v",
             7,
+            1,
             None,
         ),
-        (&["--", "--odd"], "--odd", 1000, None),
-        (&["5"], "5", 1000, None),
-        (&["a b/c.v", "--horizon", "999"], "a b/c.v", 999, None),
-        (&["d.v", "--delay", "1"], "d.v", 1000, Some(1)),
-        (&["--delay=1000000", "d.v"], "d.v", 1000, Some(1_000_000)),
-        (&["--delay=3", "d.v", "--horizon", "4"], "d.v", 4, Some(3)),
-        (&["--horizon=4", "--delay", "03", "d.v"], "d.v", 4, Some(3)),
+        (&["--", "--odd"], "--odd", 1000, 1, None),
+        (&["5"], "5", 1000, 1, None),
+        (&["a b/c.v", "--horizon", "999"], "a b/c.v", 999, 1, None),
+        (&["d.v", "--workers", "1"], "d.v", 1000, 1, None),
+        (&["--workers=2", "d.v"], "d.v", 1000, 2, None),
+        (&["--workers", "63", "d.v"], "d.v", 1000, 63, None),
+        (&["d.v", "--workers=64"], "d.v", 1000, 64, None),
+        (&["d.v", "--workers=0064"], "d.v", 1000, 64, None),
+        (&["d.v", "--delay", "1"], "d.v", 1000, 1, Some(1)),
+        (&["--delay=1000000", "d.v"], "d.v", 1000, 1, Some(1_000_000)),
+        (
+            &["--delay=3", "d.v", "--horizon", "4"],
+            "d.v",
+            4,
+            1,
+            Some(3),
+        ),
+        (
+            &["--horizon=4", "--delay", "03", "d.v"],
+            "d.v",
+            4,
+            1,
+            Some(3),
+        ),
+        (
+            &["--delay=3", "--workers", "7", "d.v", "--horizon=4"],
+            "d.v",
+            4,
+            7,
+            Some(3),
+        ),
     ];
-    for (words, design, horizon, delay) in table {
+    for (words, design, horizon, workers, delay) in table {
         let args = options(rt.alloc(), words)?;
         assert_eq!(rt; args.design.as_str().as_bytes(), design.as_bytes());
         assert_eq!(rt; args.horizon, horizon);
+        assert_eq!(rt; args.workers, workers);
         assert_eq!(rt; args.delay, delay);
     }
     Ok(())
@@ -53,7 +86,7 @@ fn words_are_read(rt: HostRuntime) -> Result<(), Fail> {
 
 #[test]
 fn words_are_refused(rt: HostRuntime) {
-    let table: [&[&str]; 27] = [
+    let table: [&[&str]; 38] = [
         &[],
         &["--help"],
         &["-h"],
@@ -73,7 +106,18 @@ fn words_are_refused(rt: HostRuntime) {
         &["d.v", "--horizon= 5"],
         &["d.v", "--horiz=5"],
         &["--horizon=5"],
-        &["d.v", "--workers=2"],
+        &["d.v", "--workers"],
+        &["d.v", "--workers="],
+        &["d.v", "--workers=0"],
+        &["d.v", "--workers", "0"],
+        &["d.v", "--workers=65"],
+        &["d.v", "--workers", "65"],
+        &["d.v", "--workers=4294967297"],
+        &["d.v", "--workers=18446744073709551617"],
+        &["d.v", "--workers=+2"],
+        &["d.v", "--workers=2,"],
+        &["d.v", "--workers=2", "--workers=2"],
+        &["--workers=2"],
         &["d.v", "--delay"],
         &["d.v", "--delay=0"],
         &["d.v", "--delay=1000001"],
@@ -143,7 +187,7 @@ fn said(alloc: Global, words: &[&str]) -> Option<Vec<u8>> {
 
 #[test]
 fn refused_words_are_named(rt: HostRuntime) -> Result<(), Fail> {
-    let table: [(&[&str], &str); 13] = [
+    let table: [(&[&str], &str); 17] = [
         (&["--help"], ""),
         (&["d.v", "-h"], ""),
         (
@@ -183,6 +227,22 @@ fn refused_words_are_named(rt: HostRuntime) -> Result<(), Fail> {
             "error: invalid value '1000000001' for '--horizon <H>'\n  [possible values: 0 to 1000000000, in digits alone]\n\n",
         ),
         (
+            &["d.v", "--workers=0"],
+            "error: invalid value '0' for '--workers <N>'\n  [possible values: 1 to 64, in digits alone]\n\n",
+        ),
+        (
+            &["d.v", "--delay=0", "--workers", "65"],
+            "error: invalid value '65' for '--workers <N>'\n  [possible values: 1 to 64, in digits alone]\n\n",
+        ),
+        (
+            &["d.v", "--workers=two", "--horizon=x"],
+            "error: invalid value 'x' for '--horizon <H>'\n  [possible values: 0 to 1000000000, in digits alone]\n\n",
+        ),
+        (
+            &["d.v", "--workers=2", "--workers=2"],
+            "error: the argument '--workers <N>' cannot be used multiple times\n\n",
+        ),
+        (
             &["d.v", "--delay=0"],
             "error: invalid value '0' for '--delay <D>'\n  [possible values: 1 to 1000000, in digits alone]\n\n",
         ),
@@ -201,13 +261,27 @@ fn refused_words_are_named(rt: HostRuntime) -> Result<(), Fail> {
     Ok(())
 }
 
-fn simulated<T: AllocGlobal + RandomSource + Wait>(
+// The words `--horizon` and `--workers` with these numbers, where they are in range.
+fn args_of(alloc: Global, horizon: u64, workers: u32) -> Option<Args> {
+    if workers < 1 || workers > 64 {
+        return None;
+    }
+    Some(Args {
+        design: String::new(alloc),
+        horizon,
+        workers,
+        delay: None,
+    })
+}
+
+fn simulated<T: AllocGlobal + RandomSource + Threads + Wait + Copy + Drop + Send + 'static>(
     rt: &T,
     file: io::Result<Vec<u8>>,
 ) -> (Result<(), SessionFault>, Vec<u8>) {
     let args = Args {
         design: String::new(rt.alloc()),
         horizon: 10,
+        workers: 1,
         delay: None,
     };
     let mut source = Device::new(b"input a\nstim a 4 1\nwave a\nquit\n".as_slice());
@@ -233,6 +307,49 @@ fn a_file_is_simulated(rt: HostRuntime) -> Result<(), Fail> {
     };
     assert_eq!(rt; outcome, Err(SessionFault::Design(syntax)));
     assert!(rt; replies.is_empty());
+    Ok(())
+}
+
+// A module of so many inverters that read one input.
+fn inverters(alloc: Global, count: u32) -> Result<Vec<u8>, AllocError> {
+    let mut text = String::from_str(alloc, "module m(input a);\n")?;
+    for number in 0..count {
+        text.push_str(format!(in alloc; "not #1 g{number}(y{number}, a);\n")?.as_str())?;
+    }
+    text.push_str("endmodule\n")?;
+    Vec::from_slice(alloc, text.as_str().as_bytes())
+}
+
+// The replies to the lines about a module of 4,096 inverters, by so many workers.
+fn replies_by<T: AllocGlobal + RandomSource + Threads + Wait + Copy + Drop + Send + 'static>(
+    rt: &T,
+    workers: u32,
+    lines: &[u8],
+) -> Result<Vec<u8>, Fail> {
+    let Some(args) = args_of(rt.alloc(), 10, workers) else {
+        return Err(Fail::from("no number of workers"));
+    };
+    let text = inverters(rt.alloc(), 4096)?;
+    let mut source = Device::new(lines);
+    let mut sink = Device::new(Vec::new(rt.alloc()));
+    run_session(rt, Ok(text), &args, &mut source, &mut sink)?;
+    Ok(sink.inner)
+}
+
+#[test]
+fn the_number_of_workers_changes_no_byte(rt: HostRuntime) -> Result<(), Fail> {
+    let waves = b"stim a 0 0\nstim a 3 1\nwave y0\nwave y4095\nstim a 5 x\nwave y2047\nquit\n";
+    let dump = b"stim a 0 0\nstim a 3 1\nvcd\n";
+    let dumped = replies_by(&rt, 1, dump)?;
+    for workers in [1, 2, 4, 64] {
+        let replies = replies_by(&rt, workers, waves)?;
+        assert_eq!(rt;
+            replies.as_slice(),
+            b"ok 1\nok 2\n0 x\n1 1\n4 0\nok 2\n0 x\n1 1\n4 0\nok 2\nok 3\n0 x\n1 1\n4 0\n6 x\nok 3\nok 3\n".as_slice()
+        );
+        let replies = replies_by(&rt, workers, dump)?;
+        assert_eq!(rt; replies.as_slice(), dumped.as_slice());
+    }
     Ok(())
 }
 
@@ -345,7 +462,7 @@ fn words_that_are_no_text_are_refused(rt: HostRuntime) -> Result<(), Fail> {
 
 #[test]
 fn help_fits_a_screen(rt: HostRuntime) {
-    assert!(rt; HELP.contains("Usage: gatebench DESIGN [--horizon H] [--delay D]\n"));
+    assert!(rt; HELP.contains("Usage: gatebench DESIGN [--horizon H] [--workers N] [--delay D]\n"));
     assert!(rt; HELP.contains("    module m(input a, output y); not #(2,3) g(y, a); endmodule\n"));
     assert!(rt; HELP.contains("docs/GUIDE.md"));
     assert!(rt; HELP.lines().count() <= 20);
