@@ -3,7 +3,7 @@ import os
 from typing import Callable, Tuple
 
 
-from gatebench import Change, Closed, Difference, DesignRefused, Refused, Session, constant, diff
+from gatebench import Change, Closed, Difference, DesignRefused, ProgramEnded, Refused, Session, constant, diff
 
 from .support import EXAMPLES, INVERTER, WithFolder
 
@@ -183,3 +183,20 @@ class Openings(WithFolder):
             self.assertEqual((one.value("y", 5), two.value("y", 5)), ("1", "0"))
 
 
+class Workers(WithFolder):
+    def test_each_number_gives_the_same_replies(self) -> None:
+        lines = ["stim a 0 0", "stim a 10 1", "wave y", "vcd", "delay g 4 12", "wave y", "wibble", "value q 3"]
+        with Session(text=INVERTER, horizon=20) as session:
+            alone = session.ask(lines)
+        for workers in (1, 2, 64):
+            with Session(text=INVERTER, horizon=20, workers=workers) as session:
+                replies = session.ask(lines)
+                self.assertEqual(words(session), "0 x 4 1")
+            self.assertEqual([(it.lines, it.end) for it in replies], [(it.lines, it.end) for it in alone])
+
+    def test_a_number_out_of_range_ends_the_program(self) -> None:
+        for workers in (0, 65):
+            with self.assertRaises(ProgramEnded) as caught:
+                Session(text=INVERTER, workers=workers)
+            self.assertEqual(caught.exception.status, 2)
+            self.assertIn(f"invalid value '{workers}' for '--workers <N>'", caught.exception.errors)
