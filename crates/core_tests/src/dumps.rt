@@ -1,6 +1,6 @@
 //! Dumps, written out by hand.
 
 mod cut;
-mod many;
+pub mod many;
 mod scopes;
 mod texts;

@@ -4,7 +4,7 @@ use floor::{Floor, FloorFault, Piece};
 use fourstate::Value;
 use fourstate::Value::{One, Unknown, Zero};
 use gatestep::Driver;
-use std::test::Fail;
+use std::process::Abort;
 
 fn driver(value: Value, t: u64) -> Driver {
     if value == Unknown {
@@ -16,53 +16,84 @@ fn driver(value: Value, t: u64) -> Driver {
     }
 }
 
-#[test]
-fn five_tasks_in_two_pieces(rt: HostRuntime) -> Result<(), Fail> {
-    let Ok(mut floor) = Floor::open(rt.alloc(), 5, 2) else {
-        return Err("no floor".into());
-    };
-    let two = [driver(Zero, 1), driver(One, 2)];
-    let three = [driver(Unknown, 0), driver(One, 4), driver(Zero, 5)];
-    assert_eq!(rt; floor.answer(0, &two), Err(FloorFault::Stranger));
-    assert_eq!(rt;
-        floor.deal(),
-        Some(Piece {
-            number: 0,
-            first: 0,
-            end: 2
-        })
-    );
-    assert_eq!(rt;
-        floor.deal(),
-        Some(Piece {
-            number: 1,
-            first: 2,
-            end: 5
-        })
-    );
-    assert_eq!(rt; floor.deal(), None);
-    assert_eq!(rt; floor.answer(1, &three), Ok(()));
-    assert_eq!(rt; floor.answer(1, &three), Err(FloorFault::Double));
-    assert_eq!(rt; floor.fail(1), Err(FloorFault::Double));
-    assert_eq!(rt; floor.answer(7, &two), Err(FloorFault::Stranger));
-    assert_eq!(rt; floor.answer(0, &three), Err(FloorFault::WrongLength));
-    assert!(rt; floor.finish().is_none());
-    assert_eq!(rt; floor.answer(0, &two), Ok(()));
-    let all = floor.finish().expect(&rt, "each piece was answered");
-    let wanted = [two[0], two[1], three[0], three[1], three[2]];
-    assert_eq!(rt; all.as_slice(), &wanted[..]);
-    assert!(rt; floor.finish().is_none());
-    Ok(())
+/// A call of a floor, and its reply.
+#[derive(Clone, Copy)]
+enum Event {
+    /// The number of the piece that is dealt, its first task, and the one behind its last.
+    Deal(Option<(u32, usize, usize)>),
+    /// The first so many of three answers, to the piece of a number.
+    Answer(u32, usize, Result<(), FloorFault>),
+    Fail(u32, Result<(), FloorFault>),
+    /// How many answers there are, if all are.
+    Finish(Option<usize>),
 }
 
+fn take(rt: &impl Abort, floor: &mut Floor, event: Event) {
+    match event {
+        Event::Deal(wanted) => {
+            let wanted = wanted.map(|(number, first, end)| Piece { number, first, end });
+            assert_eq!(rt; floor.deal(), wanted);
+        }
+        Event::Answer(number, count, wanted) => {
+            let answers = [driver(Unknown, 0), driver(One, 4), driver(Zero, 5)];
+            assert!(rt; count <= 3);
+            assert_eq!(rt; floor.answer(number, &answers[..count]), wanted);
+        }
+        Event::Fail(number, wanted) => assert_eq!(rt; floor.fail(number), wanted),
+        Event::Finish(wanted) => {
+            let all = floor.finish();
+            assert_eq!(rt; all.as_ref().map(|all| all.len()), wanted);
+        }
+    }
+}
+
+fn take_all(rt: &impl Abort, floor: &mut Floor, events: &[Event]) {
+    for event in events {
+        take(rt, floor, *event);
+    }
+}
+
+const BEFORE: [Event; 10] = [
+    Event::Answer(0, 2, Err(FloorFault::Stranger)),
+    Event::Deal(Some((0, 0, 2))),
+    Event::Deal(Some((1, 2, 5))),
+    Event::Deal(None),
+    Event::Answer(1, 3, Ok(())),
+    Event::Answer(1, 3, Err(FloorFault::Double)),
+    Event::Fail(1, Err(FloorFault::Double)),
+    Event::Answer(7, 2, Err(FloorFault::Stranger)),
+    Event::Answer(0, 3, Err(FloorFault::WrongLength)),
+    Event::Finish(None),
+];
+
 #[test]
-fn no_task_in_no_piece(rt: HostRuntime) -> Result<(), Fail> {
-    let Ok(mut floor) = Floor::open(rt.alloc(), 0, 0) else {
-        return Err("no floor".into());
-    };
-    assert_eq!(rt; floor.deal(), None);
-    let all = floor.finish().expect(&rt, "no piece is missing");
-    assert_eq!(rt; all.len(), 0);
-    assert!(rt; floor.finish().is_none());
-    Ok(())
+fn five_tasks_in_two_pieces(rt: HostRuntime) {
+    let mut floor = Floor::open(rt.alloc(), 5, 2).ok().expect(&rt, "a floor");
+    take_all(&rt, &mut floor, &BEFORE);
+    let first = [driver(Zero, 1), driver(One, 2)];
+    assert_eq!(rt; floor.answer(0, &first), Ok(()));
+    let all = floor.finish().expect(&rt, "each piece was answered");
+    let wanted = [
+        first[0],
+        first[1],
+        driver(Unknown, 0),
+        driver(One, 4),
+        driver(Zero, 5),
+    ];
+    assert_eq!(rt; all.as_slice(), wanted.as_slice());
+    take(&rt, &mut floor, Event::Finish(None));
+    drop(floor);
+}
+
+const NO_TASKS: [Event; 3] = [
+    Event::Deal(None),
+    Event::Finish(Some(0)),
+    Event::Finish(None),
+];
+
+#[test]
+fn no_task_in_no_piece(rt: HostRuntime) {
+    let mut floor = Floor::open(rt.alloc(), 0, 0).ok().expect(&rt, "a floor");
+    take_all(&rt, &mut floor, &NO_TASKS);
+    drop(floor);
 }

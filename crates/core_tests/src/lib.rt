@@ -26,6 +26,8 @@ mod pools;
 #[cfg(test)]
 mod reruns;
 #[cfg(test)]
+mod runs;
+#[cfg(test)]
 mod shortened;
 #[cfg(test)]
 mod steps;
@@ -35,3 +37,5 @@ mod tables;
 mod timelines;
 #[cfg(test)]
 mod tokens;
+#[cfg(test)]
+mod waves;

@@ -4,5 +4,5 @@ mod dumps;
 mod lost;
 mod probes;
 mod steps;
-mod tasks;
+pub mod tasks;
 mod threads;

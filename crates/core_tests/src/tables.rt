@@ -46,24 +46,25 @@ fn check_delays(rt: &impl Abort, rise: u64, fall: u64, table: [u32; 4]) {
     }
 }
 
-// IEEE 1364-2005, 7.2, table 7-3.
-#[test]
-fn gates_of_many_inputs(rt: HostRuntime) {
-    check_gate(&rt, GateKind::And, [b"0000", b"01xx", b"0xxx", b"0xxx"]);
-    check_gate(&rt, GateKind::Nand, [b"1111", b"10xx", b"1xxx", b"1xxx"]);
-    check_gate(&rt, GateKind::Or, [b"01xx", b"1111", b"x1xx", b"x1xx"]);
-    check_gate(&rt, GateKind::Nor, [b"10xx", b"0000", b"x0xx", b"x0xx"]);
-    check_gate(&rt, GateKind::Xor, [b"01xx", b"10xx", b"xxxx", b"xxxx"]);
-    check_gate(&rt, GateKind::Xnor, [b"10xx", b"01xx", b"xxxx", b"xxxx"]);
-}
+// IEEE 1364-2005, 7.2, table 7-3; 7.4, table 7-5: a row for each data, a column for each control; L and H are x here.
+const GATES: [(GateKind, Table); 10] = [
+    (GateKind::And, [b"0000", b"01xx", b"0xxx", b"0xxx"]),
+    (GateKind::Nand, [b"1111", b"10xx", b"1xxx", b"1xxx"]),
+    (GateKind::Or, [b"01xx", b"1111", b"x1xx", b"x1xx"]),
+    (GateKind::Nor, [b"10xx", b"0000", b"x0xx", b"x0xx"]),
+    (GateKind::Xor, [b"01xx", b"10xx", b"xxxx", b"xxxx"]),
+    (GateKind::Xnor, [b"10xx", b"01xx", b"xxxx", b"xxxx"]),
+    (GateKind::Bufif0, [b"0zxx", b"1zxx", b"xzxx", b"xzxx"]),
+    (GateKind::Bufif1, [b"z0xx", b"z1xx", b"zxxx", b"zxxx"]),
+    (GateKind::Notif0, [b"1zxx", b"0zxx", b"xzxx", b"xzxx"]),
+    (GateKind::Notif1, [b"z1xx", b"z0xx", b"zxxx", b"zxxx"]),
+];
 
-// IEEE 1364-2005, 7.4, table 7-5: a row for each data, a column for each control; L and H are x here.
 #[test]
-fn three_state_gates(rt: HostRuntime) {
-    check_gate(&rt, GateKind::Bufif0, [b"0zxx", b"1zxx", b"xzxx", b"xzxx"]);
-    check_gate(&rt, GateKind::Bufif1, [b"z0xx", b"z1xx", b"zxxx", b"zxxx"]);
-    check_gate(&rt, GateKind::Notif0, [b"1zxx", b"0zxx", b"xzxx", b"xzxx"]);
-    check_gate(&rt, GateKind::Notif1, [b"z1xx", b"z0xx", b"zxxx", b"zxxx"]);
+fn gates_of_two_inputs(rt: HostRuntime) {
+    for (kind, table) in GATES {
+        check_gate(&rt, kind, table);
+    }
 }
 
 // IEEE 1364-2005, 7.3, table 7-4.
@@ -78,19 +79,29 @@ fn gates_of_one_input(rt: HostRuntime) {
     }
 }
 
+const MORE: [(GateKind, &[Value], Value); 6] = [
+    (GateKind::Xor, &[Value::One; 3], Value::One),
+    (GateKind::Xnor, &[Value::One; 3], Value::Zero),
+    (
+        GateKind::Xor,
+        &[Value::One, Value::Zero, Value::One, Value::Zero],
+        Value::Zero,
+    ),
+    (GateKind::And, &[Value::One], Value::One),
+    (GateKind::And, &[Value::One; MAX_INPUTS], Value::One),
+    (
+        GateKind::Nor,
+        &[Value::One, Value::Unknown, Value::Zero],
+        Value::Zero,
+    ),
+];
+
 #[test]
 fn more_than_two_inputs(rt: HostRuntime) {
-    let one = Value::One;
-    let zero = Value::Zero;
-    assert_eq!(rt; gate_value(GateKind::Xor, &[one, one, one]), one);
-    assert_eq!(rt; gate_value(GateKind::Xnor, &[one, one, one]), zero);
-    assert_eq!(rt; gate_value(GateKind::Xor, &[one, zero, one, zero]), zero);
-    assert_eq!(rt; gate_value(GateKind::And, &[one]), one);
-    assert_eq!(rt; gate_value(GateKind::And, &[one; MAX_INPUTS]), one);
-    assert_eq!(rt;
-        gate_value(GateKind::Nor, &[one, Value::Unknown, zero]),
-        zero
-    );
+    for (kind, inputs, value) in MORE {
+        assert!(rt; fits(kind, inputs.len()));
+        assert_eq!(rt; gate_value(kind, inputs), value, "{kind:?} of {inputs:?}");
+    }
 }
 
 #[test]
@@ -112,16 +123,19 @@ fn numbers_of_inputs(rt: HostRuntime) {
 }
 
 // IEEE 1364-2005, 4.6, tables 4-2 to 4-4.
+const NETS: [(NetKind, Table); 6] = [
+    (NetKind::Wire, [b"0xx0", b"x1x1", b"xxxx", b"01xz"]),
+    (NetKind::Tri, [b"0xx0", b"x1x1", b"xxxx", b"01xz"]),
+    (NetKind::Wand, [b"0000", b"01x1", b"0xxx", b"01xz"]),
+    (NetKind::Triand, [b"0000", b"01x1", b"0xxx", b"01xz"]),
+    (NetKind::Wor, [b"01x0", b"1111", b"x1xx", b"01xz"]),
+    (NetKind::Trior, [b"01x0", b"1111", b"x1xx", b"01xz"]),
+];
+
 #[test]
 fn nets_of_two_drivers(rt: HostRuntime) {
-    for kind in [NetKind::Wire, NetKind::Tri] {
-        check_net(&rt, kind, [b"0xx0", b"x1x1", b"xxxx", b"01xz"]);
-    }
-    for kind in [NetKind::Wand, NetKind::Triand] {
-        check_net(&rt, kind, [b"0000", b"01x1", b"0xxx", b"01xz"]);
-    }
-    for kind in [NetKind::Wor, NetKind::Trior] {
-        check_net(&rt, kind, [b"01x0", b"1111", b"x1xx", b"01xz"]);
+    for (kind, table) in NETS {
+        check_net(&rt, kind, table);
     }
 }
 
@@ -172,17 +186,33 @@ fn times_of_one_number_and_of_two(rt: HostRuntime) {
     assert_eq!(rt; one.with_fall(0).has_zero(), true);
 }
 
+const GATE_WORDS: [(&[u8], Option<GateKind>); 4] = [
+    (b"notif0", Some(GateKind::Notif0)),
+    (b"or", Some(GateKind::Or)),
+    (b"Or", None),
+    (b"nands", None),
+];
+
+const NET_WORDS: [(&[u8], Option<NetKind>); 3] = [
+    (b"triand", Some(NetKind::Triand)),
+    (b"tri0", None),
+    (b"", None),
+];
+
 #[test]
 fn words(rt: HostRuntime) {
-    assert_eq!(rt; GateKind::from_keyword(b"notif0"), Some(GateKind::Notif0));
-    assert_eq!(rt; GateKind::from_keyword(b"or"), Some(GateKind::Or));
-    assert_eq!(rt; GateKind::from_keyword(b"Or"), None);
-    assert_eq!(rt; GateKind::from_keyword(b"nands"), None);
-    assert_eq!(rt; NetKind::from_keyword(b"triand"), Some(NetKind::Triand));
-    assert_eq!(rt; NetKind::from_keyword(b"tri0"), None);
-    assert_eq!(rt; NetKind::from_keyword(b""), None);
+    for (word, kind) in GATE_WORDS {
+        assert_eq!(rt; GateKind::from_keyword(word), kind);
+    }
+    for (word, kind) in NET_WORDS {
+        assert_eq!(rt; NetKind::from_keyword(word), kind);
+    }
     assert_eq!(rt; GateKind::Xnor.keyword(), "xnor");
     assert_eq!(rt; NetKind::Trior.keyword(), "trior");
+}
+
+#[test]
+fn values(rt: HostRuntime) {
     assert_eq!(rt; Value::from_symbol(b'z'), Some(Value::HighZ));
     assert_eq!(rt; Value::from_symbol(b'X'), None);
     assert_eq!(rt; Value::Unknown.inverted(), Value::Unknown);

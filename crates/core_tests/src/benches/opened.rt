@@ -1,12 +1,11 @@
 //! Benches of lines, and what their snapshots are asked.
 
 use crate::edit_lists::lines::{design_of, edits};
+use crate::waves::text_of;
 use bench::{Bench, CommitFault, Snapshot};
-use fourstate::Value;
 use gatestep::{Serial, Stepper};
 use std::alloc::Global;
 use std::process::Abort;
-use waveform::Wave;
 
 /// A bench of the design that the edits of lines make.
 pub fn open(rt: &impl Abort, alloc: Global, lines: &[&str]) -> Bench<Serial> {
@@ -27,29 +26,10 @@ pub fn commit<S: Stepper + Drop>(
     reply
 }
 
-pub fn symbol(value: Value) -> char {
-    match value {
-        Value::Zero => '0',
-        Value::One => '1',
-        Value::Unknown => 'x',
-        Value::HighZ => 'z',
-    }
-}
-
-/// The changes of a wave, each with a blank in front.
-fn show(rt: &impl Abort, alloc: Global, wave: &Wave) -> String {
-    let mut text = String::new(alloc);
-    for change in wave.changes() {
-        write!(text, " {}:{}", change.time, symbol(change.value)).expect(rt, "a change");
-    }
-    text
-}
-
 /// The net of this name has this wave in the snapshot.
 pub fn check_wave(rt: &impl Abort, alloc: Global, snapshot: &Snapshot, net: &str, wanted: &str) {
     let wave = snapshot.wave(net).expect(rt, "a net of this name");
-    let text = show(rt, alloc, wave);
-    assert_eq!(rt; text.as_str(), wanted);
+    assert_eq!(rt; text_of(rt, alloc, wave).as_str(), wanted);
 }
 
 /// The net of this name has this wave now.

@@ -4,6 +4,7 @@ ghost use Rattle.std.specs.Prelude.{◌≡◌, ◌<◌, ◌≤◌};
 ghost use Rattle.gatestep.specs.Step.{advance};
 ghost use Rattle.parstep.specs.declared.limits.TheConstants.{MAX_WORKERS};
 
+use crate::dumps::many::times;
 use crate::edit_lists::lines::{design_of, edit};
 use bench::Bench;
 use devices::Device;
@@ -65,10 +66,6 @@ fn dump<S: Stepper + Drop>(rt: &impl Abort, alloc: Global, wanted: Gates, steppe
     device.inner
 }
 
-fn times(text: &[u8], part: &[u8]) -> usize {
-    text.windows(part.len()).filter(|w| *w == part).count()
-}
-
 fn check_pool<R: Threads + Wait + Abort + Copy + Drop + Send + 'static>(
     rt: R,
     alloc: Global,
@@ -112,12 +109,16 @@ fn ninety_five_nets_that_move(rt: HostRuntime) {
     let bytes = compare(rt, rt.alloc(), gates);
     let text = bytes.as_slice();
     assert_eq!(rt;
-        times(text, b"$var wire 1 ~ y92 $end\n$var wire 1 !! y93 $end\n"),
+        times(
+            &rt,
+            text,
+            b"$var wire 1 ~ y92 $end\n$var wire 1 !! y93 $end\n"
+        ),
         1
     );
-    assert_eq!(rt; times(text, b"\n#1\n1\"\n#2\n1#\n#3\n1$\n"), 1);
-    assert_eq!(rt; times(text, b"\n#50\n1!\n1S\n#51\n0\"\n#52\n0#\n"), 1);
-    assert_eq!(rt; times(text, b"\n#100\n0S\n"), 1);
+    assert_eq!(rt; times(&rt, text, b"\n#1\n1\"\n#2\n1#\n#3\n1$\n"), 1);
+    assert_eq!(rt; times(&rt, text, b"\n#50\n1!\n1S\n#51\n0\"\n#52\n0#\n"), 1);
+    assert_eq!(rt; times(&rt, text, b"\n#100\n0S\n"), 1);
     drop(bytes);
 }
 
@@ -130,9 +131,9 @@ fn gates_that_read_one_input(rt: HostRuntime) {
     };
     let bytes = compare(rt, rt.alloc(), gates);
     let text = bytes.as_slice();
-    assert_eq!(rt; times(text, b"\n1"), 4_097);
-    assert_eq!(rt; times(text, b"\n0"), 4_097);
-    assert_eq!(rt; times(text, b"\n#1\n1\"\n"), 1);
-    assert_eq!(rt; times(text, b"\n#50\n1!\n#51\n0\"\n"), 1);
+    assert_eq!(rt; times(&rt, text, b"\n1"), 4_097);
+    assert_eq!(rt; times(&rt, text, b"\n0"), 4_097);
+    assert_eq!(rt; times(&rt, text, b"\n#1\n1\"\n"), 1);
+    assert_eq!(rt; times(&rt, text, b"\n#50\n1!\n#51\n0\"\n"), 1);
     drop(bytes);
 }

@@ -1,12 +1,26 @@
 //! Probes that hold pieces or end workers.
 
 use parstep::Probe;
-use std::sync::Arc;
 use std::sync::atomic::{AtomicBool, AtomicU64, Ordering};
-use std::thread;
+use std::sync::{Arc, Wait};
+use std::time::Duration;
 
 /// How often a wait looks before it gives up.
-const MOST_TURNS: u64 = 100_000_000;
+const MOST_LOOKS: u32 = 1_000;
+
+/// Sleeps until a count is so high, for some seconds at most. Each change of the count wakes it.
+fn reach(rt: &impl Wait, count: &AtomicU64, wanted: u32) -> bool {
+    for _ in 0..MOST_LOOKS {
+        let Ok(now) = u32::try_from(count.load(Ordering::SeqCst)) else {
+            return false;
+        };
+        if now >= wanted {
+            return true;
+        }
+        count.park_timeout(rt, now, Duration::from_millis(50));
+    }
+    false
+}
 
 /// Ends the worker of one piece while a flag is set.
 #[derive(Drop)]
@@ -25,65 +39,56 @@ impl Probe for Ending {
 
 /// Holds piece 0 until piece 1 is done.
 #[derive(Drop)]
-pub struct Behind {
-    is_done: AtomicBool,
+pub struct Behind<R: Wait + Drop> {
+    rt: R,
+    done: AtomicU64,
 }
 
-impl Behind {
-    pub fn new() -> Behind {
+impl<R: Wait + Drop> Behind<R> {
+    pub fn new(rt: R) -> Behind<R> {
         Behind {
-            is_done: AtomicBool::new(false),
+            rt,
+            done: AtomicU64::new(0),
         }
     }
 }
 
-impl Probe for Behind {
+impl<R: Wait + Drop> Probe for Behind<R> {
     fn at(&self, piece: u32) -> bool {
-        if piece != 0 {
-            return true;
-        }
-        for _ in 0..MOST_TURNS {
-            if self.is_done.load(Ordering::SeqCst) {
-                return true;
-            }
-            thread::yield_now();
-        }
-        false
+        piece != 0 || reach(&self.rt, &self.done, 1)
     }
 
     fn done(&self, piece: u32) {
         if piece == 1 {
-            self.is_done.store(true, Ordering::SeqCst);
+            self.done.fetch_add(1, Ordering::SeqCst);
+            self.done.wake_all();
         }
     }
 }
 
 /// Holds each piece until so many have come.
 #[derive(Drop)]
-pub struct Together {
+pub struct Together<R: Wait + Drop> {
+    rt: R,
     entered: AtomicU64,
-    wanted: u64,
+    wanted: u32,
 }
 
-impl Together {
-    pub fn new(wanted: u64) -> Together {
+impl<R: Wait + Drop> Together<R> {
+    pub fn new(rt: R, wanted: u32) -> Together<R> {
         Together {
+            rt,
             entered: AtomicU64::new(0),
             wanted,
         }
     }
 }
 
-impl Probe for Together {
+impl<R: Wait + Drop> Probe for Together<R> {
     fn at(&self, _piece: u32) -> bool {
         self.entered.fetch_add(1, Ordering::SeqCst);
-        for _ in 0..MOST_TURNS {
-            if self.entered.load(Ordering::SeqCst) >= self.wanted {
-                return true;
-            }
-            thread::yield_now();
-        }
-        false
+        self.entered.wake_all();
+        reach(&self.rt, &self.entered, self.wanted)
     }
 
     fn done(&self, _piece: u32) {}

@@ -1,7 +1,7 @@
 //! Random tasks.
 
 ghost use Rattle.std.specs.Prelude.{◌≤◌, ◌<◌, All};
-ghost use Rattle.gatestep.specs.Tasks.{IsReady};
+ghost use Rattle.gatestep.specs.Tasks.{IsReady, PendingFrom};
 
 use arrayvec::ArrayVec;
 use fourstate::{Delays, GateKind, Value, fits};
@@ -46,7 +46,7 @@ fn value(dice: &mut Dice) -> Value {
 
 /// A state in which what is pending comes at the moment or later.
 fn state(dice: &mut Dice) -> Driver
-    ensures { IsReady MOMENT result }
+    ensures { PendingFrom MOMENT result }
 {
     let cur = value(dice);
     let next = value(dice);
@@ -78,8 +78,9 @@ pub fn tasks(rt: &impl Abort, alloc: Global, dice: &mut Dice, count: u64) -> Vec
 {
     let mut tasks = Vec::new(alloc);
     for _ in 0..count {
-        let task = task(rt, dice);
-        tasks.push(task).expect(rt, "one task more");
+        if tasks.push(task(rt, dice)).is_err() {
+            panic!(rt; "one task more");
+        }
     }
     tasks
 }

@@ -34,17 +34,17 @@ fn step<
 // Piece 0 is held until piece 1 is done, so they are not computed one after another.
 #[test]
 fn the_second_piece_is_done_first(rt: HostRuntime) {
-    step(rt, rt.alloc(), 2, 2, Behind::new());
+    step(rt, rt.alloc(), 2, 2, Behind::new(rt));
 }
 
 #[test]
 fn each_piece_waits_for_the_other(rt: HostRuntime) {
-    step(rt, rt.alloc(), 2, 2, Together::new(2));
+    step(rt, rt.alloc(), 2, 2, Together::new(rt, 2));
 }
 
 #[test]
 fn sixty_four_pieces_at_once(rt: HostRuntime) {
-    step(rt, rt.alloc(), 64, 130, Together::new(64));
+    step(rt, rt.alloc(), 64, 130, Together::new(rt, 64));
 }
 
 /// Keeps an end of a channel for as long as a worker lives.
@@ -78,16 +78,21 @@ fn the_threads_of_an_idle_pool_end(rt: HostRuntime) {
     assert!(&rt; closed.recv(&rt).is_err());
 }
 
+/// Whether nine tasks have as many answers.
+fn is_answering<S: Stepper>(rt: &impl Abort, alloc: Global, stepper: &mut S) -> bool {
+    let tasks = tasks(rt, alloc, &mut Dice(4), 9);
+    let mut answers = Vec::new(alloc);
+    let result = stepper.step(&tasks, MOMENT, &mut answers);
+    result.is_ok() && answers.len() == 9
+}
+
 #[test]
 fn a_pool_goes_to_another_thread(rt: HostRuntime) {
     let alloc = rt.alloc();
-    let tasks = tasks(&rt, alloc, &mut Dice(4), 9);
     let pool = Pool::open(rt, alloc, 2, Quiet).expect(&rt, "a pool");
     let there = thread::spawn(&rt, move || {
         let mut pool = pool;
-        let mut answers = Vec::new(alloc);
-        let result = pool.step(&tasks, MOMENT, &mut answers);
-        result.is_ok() && answers.len() == 9
+        is_answering(&rt, alloc, &mut pool)
     });
     let there = there.ok().expect(&rt, "a thread");
     assert!(&rt; there.join(&rt));
