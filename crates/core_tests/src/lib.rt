@@ -26,8 +26,6 @@ mod pools;
 #[cfg(test)]
 mod reruns;
 #[cfg(test)]
-mod runs;
-#[cfg(test)]
 mod shortened;
 #[cfg(test)]
 mod steps;

@@ -4,5 +4,5 @@ mod dumps;
 mod lost;
 mod probes;
 mod steps;
-pub mod tasks;
+mod tasks;
 mod threads;
