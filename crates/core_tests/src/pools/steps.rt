@@ -4,8 +4,9 @@ ghost use Rattle.std.specs.Prelude.{◌<◌, ◌≤◌};
 ghost use Rattle.parstep.specs.declared.limits.TheConstants.{MAX_WORKERS};
 
 use super::tasks::{Dice, MOMENT, tasks};
+use design::MAX_GATES;
 use gatestep::{Serial, Stepper};
-use parstep::{Adaptive, Bulk, Pool, Quiet};
+use parstep::{Adaptive, Bulk, LEAST_DEALT, Pool, Quiet};
 use std::alloc::Global;
 use std::process::Abort;
 use std::sync::Wait;
@@ -76,4 +77,10 @@ fn small_steps_and_a_large_one(rt: HostRuntime) {
     let mut stepper = Adaptive::open(rt, rt.alloc(), 2, Quiet).expect(&rt, "a stepper");
     compare_many(&rt, rt.alloc(), &mut stepper, 30);
     compare(&rt, rt.alloc(), &mut Dice(5), &mut stepper, 70_000);
+}
+
+// `LEAST_DEALT` is one more than a design has gates, and stands in a crate that knows no designs.
+#[test]
+fn no_step_of_a_design_is_dealt(rt: HostRuntime) {
+    assert!(&rt; MAX_GATES < LEAST_DEALT);
 }
