@@ -6,6 +6,7 @@ HEAD = re.compile(r"\bfn\s+([A-Za-z_][A-Za-z0-9_]*)")
 CLAUSE = re.compile(r"\b(?:requires|ensures|ghost)\b")
 CYCLE = re.compile(r"#\[cycle\b")
 ITEM_END = re.compile(r"[;}]\s")
+IMPL = re.compile(r"^[ \t]*(?:unsafe\s+)?impl\b([^{]*)\{", re.M)
 
 
 def blanked(text):
@@ -24,10 +25,12 @@ def closing(text, at):
 
 
 class Function:
-    """A function with a body: its name, where the body stands, and whether what it does can be judged apart from others."""
+    """A function with a body: the type that it is written for, if there is one, and its name; where the body stands, and
+    whether what it does can be judged apart from others."""
 
-    def __init__(self, name, begin, end, is_apart):
-        self.name, self.begin, self.end, self.is_apart = name, begin, end, is_apart
+    def __init__(self, of, name, begin, end, is_apart):
+        self.path = (of, name) if of else (name,)
+        self.begin, self.end, self.is_apart = begin, end, is_apart
 
 
 def body_of(text, at):
@@ -42,9 +45,30 @@ def body_of(text, at):
         at = close + 1
 
 
+def without_generics(text):
+    """A text without what stands in angle brackets."""
+    before = None
+    while text != before:
+        before, text = text, re.sub(r"<[^<>]*>", "", text.replace("->", "  "))
+    return text
+
+
+def impls(text):
+    """Where each block of methods stands, and what the prover calls the type that they are for: of a trait's methods, the
+    type's name and the trait's behind it."""
+    found = []
+    for head in IMPL.finditer(text):
+        words = re.sub(r"\bwhere\b.*", "", without_generics(head[1]), flags=re.S)
+        of_trait, _, of_type = words.rpartition(" for ")
+        last = [re.findall(r"[A-Za-z_][A-Za-z0-9_]*", it)[-1:] for it in (of_type, of_trait)]
+        found.append((head.end() - 1, closing(text, head.end() - 1), "".join(it for part in last for it in part)))
+    return found
+
+
 def functions(source):
     """The functions of a source text that have a body."""
     text, found = blanked(source), []
+    blocks = impls(text)
     for head in HEAD.finditer(text):
         body = body_of(text, head.end())
         if body:
@@ -53,7 +77,8 @@ def functions(source):
             lead = text[item : head.start()]
             # Functions of a cycle of calls share one proof, and what a const function gives may stand in a type.
             is_apart = not CYCLE.search(lead) and not re.search(r"\bconst\s", lead)
-            found.append(Function(head[1], *body, is_apart))
+            of = next((name for begin, end, name in reversed(blocks) if begin < head.start() < end), None)
+            found.append(Function(of, head[1], *body, is_apart))
     return found
 
 

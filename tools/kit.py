@@ -33,7 +33,8 @@ def checked(crate, texts, flags, kept):
 
 def must_fail(crate, edit, kept):
     """Whether the prover refuses an edit, and what to say of it. With nothing kept it checks from nothing."""
-    return RT.must_fail(CRATES[crate], edit, ["--jobs", "1"], kept)
+    kind, said = RT.must_fail(CRATES[crate], edit, ["--jobs", "1"], kept)
+    return kind in (RT.REFUSED, RT.AT_LIMIT), said
 
 
 def is_unread(said, changed):
