@@ -9,7 +9,7 @@ use Rattle.vtext.specs.declared.gate.Terminal.{Terminal}
 use Rattle.vtext.specs.Causes.{completed_cause, when}
 use Rattle.vtext.specs.GateNames.{instance_bytes, is_part_taken, is_taken}
 use Rattle.vtext.specs.Instances.{called, completed, inputs_of, instance_name, is_arity_wrong, is_constant_driven, is_made_taken, is_own_taken, output_count, outputs_of, part_count, unnamed_after, with_made_taken, with_own_taken}
-use Rattle.vtext.specs.Modules.{GateEntry, ModuleEntry}
+use Rattle.vtext.specs.Modules.{GateEntry}
 use Rattle.vtext.specs.Names.{name_at, number_of}
 use Rattle.vtext.specs.Readings.{Reading}
 use Rattle.vtext.specs.Sound.{IsGoodNumber}
@@ -17,16 +17,15 @@ use Rattle.vtext.proofs.TakenLemmas.{IsHeld, Keeps, name_held, name_kept, parts_
 use Rattle.vtext.proofs.FreshLemmas.{IsFresh, IsKnown, IsNext, IsSettled, base_some, fresh, settled_more}
 use Rattle.vtext.proofs.InstanceLemmas.{Differ, gates_apart, gates_settled}
 
--- of the finished modules and of the one that is being read: gates have different names, which are taken; so many words are left
-pub record IsApart (names : List (List ℕ)) (room : ℕ) (modules : List ModuleEntry) (gates : List GateEntry) (taken : List ℕ) (unnamed : ℕ) (terminals : List Terminal) : Type 0 where
-  pub done : All (λ (m : ModuleEntry). AllPairs (Differ names) m.gates) modules
+-- gates have different names, which are taken; so many words are left
+pub record IsApart (names : List (List ℕ)) (room : ℕ) (gates : List GateEntry) (taken : List ℕ) (unnamed : ℕ) (terminals : List Terminal) : Type 0 where
   pub apart : AllPairs (Differ names) gates
   pub settled : All (IsSettled names taken unnamed) gates
   pub few : unnamed + room < 2 ^ 64
   pub short : length terminals + room < 2 ^ 64
 
 abbrev pub Holds : List (List ℕ) → ℕ → Reading → Type 0
-Holds names room r = IsApart names room r.modules r.gates r.taken r.unnamed r.terminals
+Holds names room r = IsApart names room r.gates r.taken r.unnamed r.terminals
 
 -- the instance that is being read: if it has a name, that is a good one and taken, and no gate has it
 pub record IsNamed (names : List (List ℕ)) (n : ℕ) (gates : List GateEntry) (taken : List ℕ) : Type 0 where
@@ -106,7 +105,6 @@ completed_holds names r room h started none =
     let keeps : Keeps r.taken later = λ m t. parts_kept names own base (part_count (length outputs)) m (own_kept names r.instance r.taken r.unnamed m t) in
     let known : IsKnown names count instance = known_of names r.instance r.gates r.taken r.unnamed started in
     record {
-      done = h.done;
       apart = gates_apart names r instance inputs r.taken r.unnamed r.gates outputs (omega (arith, h.few)) small (base_some names count instance known) free.1 h.settled
           (fresh_of names r.instance r.gates r.taken r.unnamed started (omega (arith, h.few)) free.0 h.settled) h.apart;
       settled = All-append (IsSettled names later count) r.gates _ (settled_more names r.taken later r.unnamed count r.gates keeps counted.0 h.settled)

@@ -8,7 +8,6 @@ pub mod TreeLemmas
 pub mod ReadLaws
 pub mod SpelledLemmas
 pub mod WalkEnds
-pub mod CountLemmas
 pub mod NetPlaces
 pub mod NumberLemmas
 pub mod TableLemmas
@@ -26,7 +25,4 @@ pub mod TakenLemmas
 pub mod FreshLemmas
 pub mod InstanceLemmas
 pub mod CompletedLemmas
-pub mod PendingLemmas
-pub mod ApartSteps
-pub mod ApartWalk
 pub mod SoundLaws

@@ -11,7 +11,8 @@ use Rattle.vtext.specs.Modules.{ModuleEntry, ModuleList}
 use Rattle.vtext.specs.ReadFaults.{kind_of}
 use Rattle.vtext.specs.Readings.{Reading}
 use Rattle.vtext.specs.Reads.{IsFirstFault, IsRefusedAt, Says, start_of}
-use Rattle.vtext.specs.Walks.{IsFault, Leads, Walk, start}
+use Rattle.vtext.specs.Turns.{Walk}
+use Rattle.vtext.specs.Walks.{IsFault, Leads, start}
 use Rattle.vtext.specs.Words.{names_of, words_of}
 use Rattle.vtext.proofs.WalkLaws.{no_fault, one_fault, one_walk}
 

@@ -1,5 +1,5 @@
 -- From the walk over words to what a text says.
-use Rattle.std.proofs.Common.{◌≡◌, ℕ, ◌≤◌, List, Option, None, inr, length, ap, subst, ◌∙◌}
+use Rattle.std.proofs.Common.{◌≡◌, ℕ, ◌≤◌, List, Option, None, inr, length, ap, sym, subst, ◌∙◌}
 use Rattle.lexing.specs.Lines.{line_of}
 use Rattle.lexing.specs.Texts.{Spells}
 use Rattle.lexing.specs.declared.limits.TheConstants.{MAX_TEXT}
@@ -13,7 +13,9 @@ use Rattle.vtext.specs.ReadFaults.{kind_of}
 use Rattle.vtext.specs.Readings.{Reading}
 use Rattle.vtext.specs.Reads.{IsFirstFault, Says, start_of}
 use Rattle.vtext.specs.Walks.{IsFault, Leads, start}
+use Rattle.vtext.specs.Sound.{AreGoodWords}
 use Rattle.vtext.specs.Words.{names_of, words_of}
+use Rattle.vtext.proofs.GoodWords.{good_words}
 
 -- `read` and `said` are what the code holds of the tokens and the words
 pub says : (default : Option ℕ) (text : List ℕ) (tokens read : List Token) (names : List (List ℕ)) (words said : List Placed) (last : Reading) (list : ModuleList)
@@ -35,6 +37,14 @@ says default text tokens read names words said last list short spelled r n w s l
       unit = ap (λ (l : ModuleList). l.unit) e;
       modules = ap (λ (l : ModuleList). l.modules) e;
     }
+
+pub said_good : (text : List ℕ) (tokens read : List Token) (names : List (List ℕ)) (words said : List Placed)
+    → Spells text 0 tokens → read ≡ tokens → names ≡ names_of text read → words ≡ words_of text read → said ≡ words → AreGoodWords names said
+said_good text tokens read names words said spelled r n w s =
+    let table : names ≡ names_of text tokens = n ∙ ap (names_of text) r in
+    let all : said ≡ words_of text tokens = s ∙ w ∙ ap (words_of text) r in
+    subst (λ (ns : List (List ℕ)). AreGoodWords ns said) (sym table)
+    (subst (λ (ws : List Placed). AreGoodWords (names_of text tokens) ws) (sym all) (good_words text tokens spelled))
 
 pub refused : (default : Option ℕ) (text : List ℕ) (tokens read again : List Token) (names : List (List ℕ)) (words said : List Placed) (place : ℕ) (why : Cause) (fault : ReadFault)
     → length text ≤ MAX_TEXT → Spells text 0 tokens → read ≡ tokens → again ≡ tokens → names ≡ names_of text read → words ≡ words_of text read → said ≡ words

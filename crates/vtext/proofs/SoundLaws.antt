@@ -1,19 +1,15 @@
 -- The modules of every text are sound.
-use Rattle.std.proofs.Common.{◌≡◌, ◌≢◌, ℕ, ◌+◌, ◌-◌, ◌^◌, ◌<◌, ◌≤◌, List, [], ◌∷◌, Option, All, AllPairs, length, drop, sym, subst, arith}
+use Rattle.std.proofs.Common.{◌≡◌, ℕ, ◌+◌, ◌-◌, ◌^◌, ◌<◌, ◌≤◌, List, Option, All, length, drop, sym, subst, arith}
 use Rattle.std.proofs.lemmas.List.{length-drop, length-map}
-use Rattle.std.proofs.lemmas.List.Elements.{All-cons, All-head, All-nil, All-tail}
 use Rattle.lexing.specs.Texts.{Spells, at_end, at_stray, at_token, at_unending, at_white}
 use Rattle.lexing.specs.declared.limits.TheConstants.{MAX_TEXT}
 use Rattle.lexing.specs.declared.token.Token.{Token}
-use Rattle.vtext.specs.GateNames.{gate_bytes}
 use Rattle.vtext.specs.Modules.{ModuleEntry, ModuleList}
 use Rattle.vtext.specs.Reads.{Says}
 use Rattle.vtext.specs.Sound.{IsSoundModule}
 use Rattle.vtext.specs.Words.{first_unit, names_of, word_of, words_of}
-use Rattle.vtext.proofs.ApartWalk.{gates_differ}
 use Rattle.vtext.proofs.GoodWords.{good_words}
-use Rattle.vtext.proofs.SoundReadings.{IsNearlySound}
-use Rattle.vtext.proofs.SoundWalks.{nearly_sound}
+use Rattle.vtext.proofs.SoundWalks.{all_sound}
 
 -- each token but the last has a byte of its own
 few_tokens : (text : List ℕ) {from : ℕ} (tokens : List Token) → Spells text from tokens → length tokens ≤ length text - from + 1
@@ -34,27 +30,10 @@ few_words text tokens short spelled =
     let few : length tokens ≤ length text - 0 + 1 = few_tokens text tokens spelled in
     omega (arith, same, few, short)
 
--- the gates of a module have different names
-abbrev HasDifferent : List (List ℕ) → ModuleEntry → Type 0
-HasDifferent names m = AllPairs (λ g h. gate_bytes names g ≢ gate_bytes names h) m.gates
-
-whole : (names : List (List ℕ)) (m : ModuleEntry) → IsNearlySound names m → HasDifferent names m → IsSoundModule names m
-whole names m near apart =
-    record { name = near.name; nets = near.nets; distinct_nets = near.distinct_nets; gates = near.gates; distinct_gates = apart }
-
-all_whole : (names : List (List ℕ)) (ms : List ModuleEntry) → All (IsNearlySound names) ms → All (HasDifferent names) ms → All (IsSoundModule names) ms
-all_whole names [] near apart = All-nil (IsSoundModule names)
-all_whole names (m ∷ ms) near apart =
-    All-cons (IsSoundModule names) m ms
-    (whole names m (All-head (IsNearlySound names) m ms near) (All-head (HasDifferent names) m ms apart))
-    (all_whole names ms (All-tail (IsNearlySound names) m ms near) (All-tail (HasDifferent names) m ms apart))
-
 pub modules_are_sound : (default : Option ℕ) (text : List ℕ) (list : ModuleList) → Says default text list → All (IsSoundModule list.names) list.modules
 modules_are_sound default text list s =
     let names : List (List ℕ) = names_of text s.tokens in
     let good = good_words text s.tokens s.spelled in
-    let near = nearly_sound default names (words_of text s.tokens) s.last good s.leads in
-    let apart = gates_differ default names (words_of text s.tokens) s.last (few_words text s.tokens s.short s.spelled) good s.leads in
     let P : List (List ℕ) → List ModuleEntry → Type 0 = λ table ms. All (IsSoundModule table) ms in
-    let there : P names s.last.modules = all_whole names s.last.modules near apart in
+    let there : P names s.last.modules = all_sound default names (words_of text s.tokens) s.last (few_words text s.tokens s.short s.spelled) good s.leads in
     subst (λ (table : List (List ℕ)). P table list.modules) (sym s.names) (subst (P names) (sym s.modules) there)

@@ -1,103 +1,176 @@
--- What holds of a reading in each state of a walk over good words: what is read is sound so far.
-use Rattle.std.proofs.Common.{◌≡◌, ◌≢◌, ℕ, Bool, false, List, [], ◌∷◌, ◌++◌, Option, Some, None, All, AllPairs, cond, ltb, ◌==◌, ◌≤◌, true, sym, ap, ◌∙◌, refl, arith}
+-- What holds of a reading in each state of a walk over good words: what is read is sound so far, and all is ready for what follows.
+use Rattle.std.proofs.Common.{◌≡◌, ℕ, suc, Bool, true, false, List, [], ◌∷◌, ◌++◌, Option, Some, None, Result, Ok, Err, All, cond, ltb, ◌==◌, ◌≤◌, sym, subst, ap, ◌∙◌, refl, length-append, arith}
 use Rattle.std.proofs.lemmas.Bool.Decides.{nat_tests}
 use Rattle.std.proofs.lemmas.List.Elements.{All-append, All-nil, All-push}
-use Rattle.std.specs.Option.{unwrap_or}
+use Rattle.std.specs.Option.{option_map_or, unwrap_or}
 use Rattle.fourstate.specs.DelayLaws.{uniform_in_range}
 use Rattle.fourstate.specs.Delays.{AreDelays, IsDelay, uniform_delays}
 use Rattle.fourstate.specs.declared.limits.TheConstants.{MAX_DELAY}
+use Rattle.vtext.specs.declared.cause.Cause.{Cause}
 use Rattle.vtext.specs.declared.cause.Cause.TheVariants.{ZeroDelay, DelayTooLarge}
+use Rattle.vtext.specs.declared.gate.InstanceName.TheVariants.{Written}
 use Rattle.vtext.specs.declared.gate.Terminal.{Terminal}
 use Rattle.vtext.specs.declared.gate.Terminal.TheVariants as terminal
 use Rattle.vtext.specs.declared.net.Net.{Net}
 use Rattle.vtext.specs.declared.parser_state.ParserState.{ParserState}
 use Rattle.vtext.specs.declared.parser_state.ParserState.TheVariants.{Outside, ModuleName, RiseEnd, FallDelay, FallEnd, GateStart, InstanceStart, InstanceOpen, TerminalStart, TerminalEnd, InstanceEnd}
 use Rattle.vtext.specs.declared.word.Word.{Word}
-use Rattle.vtext.specs.Causes.{completed_cause, default_fault, delay_fault, gate_cause, is_hash, when}
+use Rattle.vtext.specs.Causes.{completed_cause, default_cause, delay_cause, gate_cause, is_hash, when}
+use Rattle.vtext.specs.GateNames.{is_name_taken, is_taken, with_taken}
 use Rattle.vtext.specs.Instances.{completed, gates_of, inputs_of, instance_name, outputs_of}
 use Rattle.vtext.specs.Modules.{GateEntry, ModuleEntry}
+use Rattle.vtext.specs.Names.{name_at}
 use Rattle.vtext.specs.Nets.{with_net}
 use Rattle.vtext.specs.Notes.{finished}
 use Rattle.vtext.specs.Readings.{Reading}
-use Rattle.vtext.specs.Sound.{IsConnected, IsGoodNumber, IsSoundGate}
+use Rattle.vtext.specs.Sound.{IsConnected, IsGoodNumber, IsSoundGate, IsSoundModule}
+use Rattle.vtext.specs.Turns.{Walk, unless}
+use Rattle.vtext.proofs.CompletedLemmas.{IsApart, IsNamed, IsStarted, completed_holds}
+use Rattle.vtext.proofs.FreshLemmas.{IsSettled, fresh, settled_more}
 use Rattle.vtext.proofs.InsertLemmas.{AreApart, apart_kept, net_kept, net_there, numbers_kept, pairs_apart}
 use Rattle.vtext.proofs.SoundGateLemmas.{IsGoodName, all_connected_still, completed_sound, gates_still}
+use Rattle.vtext.proofs.TakenLemmas.{taken_itself, taken_kept}
 
--- a module that is sound, but for the names of its gates, which may be the same
-pub record IsNearlySound (names : List (List ℕ)) (m : ModuleEntry) : Type 0 where
-  pub name : IsGoodNumber names m.name
-  pub nets : All (λ net. IsGoodNumber names net.0) m.nets
-  pub distinct_nets : AllPairs (λ a b. a.0 ≢ b.0) m.nets
-  pub gates : All (IsSoundGate names m.nets) m.gates
-
--- the finished modules, and the nets and gates of the one that is being read
-pub record AreSound (names : List (List ℕ)) (modules : List ModuleEntry) (nets : List (ℕ × Net)) (gates : List GateEntry) : Type 0 where
-  pub finished : All (IsNearlySound names) modules
+-- of the finished modules, and of the nets, gates and terminals of the one that is being read; so many words are left
+pub record AreSound (names : List (List ℕ)) (room : ℕ) (modules : List ModuleEntry) (nets : List (ℕ × Net)) (gates : List GateEntry)
+    (taken : List ℕ) (unnamed : ℕ) (terminals : List Terminal) : Type 0 where
+  pub finished : All (IsSoundModule names) modules
   pub named : All (λ net. IsGoodNumber names net.0) nets
   pub apart : AreApart nets
   pub fitting : All (IsSoundGate names nets) gates
-
--- the delays of the gate item are within their limits
-abbrev pub IsTimed : Reading → Type 0
-IsTimed r = AreDelays r.delays
+  pub names_apart : IsApart names room gates taken unnamed terminals
 
 module _ (names : List (List ℕ)) where
-  abbrev pub IsSoFar : Reading → Type 0
-  IsSoFar r = AreSound names r.modules r.nets r.gates
+  abbrev pub IsSoFar : ℕ → Reading → Type 0
+  IsSoFar room r = AreSound names room r.modules r.nets r.gates r.taken r.unnamed r.terminals
 
   -- within a module, with no terminal at hand
   abbrev pub IsWithin : Reading → Type 0
-  IsWithin r = IsSoFar r × IsGoodNumber names r.name × (r.terminals ≡ [])
+  IsWithin r = IsGoodNumber names r.name × (r.terminals ≡ [])
+
+  -- the gate instance that is being read has a name that no gate has, or none
+  abbrev pub IsReady : Reading → Type 0
+  IsReady r = IsStarted names r.instance r.gates r.taken
 
   -- among the terminals of a gate instance
   abbrev pub IsAmong : Reading → Type 0
-  IsAmong r = IsSoFar r × IsGoodNumber names r.name × All (IsConnected r.nets) r.terminals × IsTimed r × IsGoodName names r.instance
+  IsAmong r = IsGoodNumber names r.name × All (IsConnected r.nets) r.terminals × AreDelays r.delays × IsReady r
 
-  -- in a state, before this word; behind the word of a gate the delays are good where none follows
-  abbrev pub Kept : ParserState → Option Word → Reading → Type 0
-  Kept Outside next r = IsSoFar r × (r.terminals ≡ [])
-  Kept ModuleName next r = IsSoFar r × (r.terminals ≡ [])
-  Kept GateStart next r = IsWithin r × (is_hash next ≡ false → IsTimed r)
-  Kept RiseEnd next r = IsWithin r × IsTimed r
-  Kept FallDelay next r = IsWithin r × IsTimed r
-  Kept FallEnd next r = IsWithin r × IsTimed r
-  Kept InstanceStart next r = IsWithin r × IsTimed r
-  Kept InstanceEnd next r = IsWithin r × IsTimed r
-  Kept InstanceOpen next r = IsWithin r × IsTimed r × IsGoodName names r.instance
-  Kept TerminalStart next r = IsAmong r
-  Kept TerminalEnd next r = IsAmong r
-  Kept state next r = IsWithin r
+  -- what else holds in a state, before this word; behind the word of a gate the delays are good where none follows
+  abbrev pub IsAt : ParserState → Option Word → Reading → Type 0
+  IsAt Outside next r = r.terminals ≡ []
+  IsAt ModuleName next r = r.terminals ≡ []
+  IsAt GateStart next r = IsWithin r × (is_hash next ≡ false → AreDelays r.delays)
+  IsAt RiseEnd next r = IsWithin r × AreDelays r.delays
+  IsAt FallDelay next r = IsWithin r × AreDelays r.delays
+  IsAt FallEnd next r = IsWithin r × AreDelays r.delays
+  IsAt InstanceStart next r = IsWithin r × AreDelays r.delays
+  IsAt InstanceEnd next r = IsWithin r × AreDelays r.delays
+  IsAt InstanceOpen next r = IsWithin r × AreDelays r.delays × IsReady r
+  IsAt TerminalStart next r = IsAmong r
+  IsAt TerminalEnd next r = IsAmong r
+  IsAt state next r = IsWithin r
 
-  -- where a word leads, if anywhere
-  abbrev pub KeptAt : Option ParserState → Option Word → Reading → Type 0
-  KeptAt None next r = Unit {0}
-  KeptAt (Some state) next r = Kept state next r
+  -- where a walk stands, before this word, with so many words left
+  abbrev pub Stands : ℕ → Walk → Option Word → Type 0
+  Stands room walk next = IsSoFar room walk.so_far × IsAt walk.state next walk.so_far
+
+  -- where a turn leads, if anywhere
+  abbrev pub StandsAfter : ℕ → Result Walk Cause → Option Word → Type 0
+  StandsAfter room (Ok walk) next = Stands room walk next
+  StandsAfter room (Err why) next = Unit {0}
+
+  pub unless_stands : (room : ℕ) (next : Option Word) (found : Option Cause) (turn : Result Walk Cause) → (found ≡ None → StandsAfter room turn next)
+      → StandsAfter room (unless found turn) next
+  unless_stands room next None turn stands = stands refl
+  unless_stands room next (Some why) turn stands = tt
+
+  pub less : (room : ℕ) (r : Reading) → IsSoFar (suc room) r → IsSoFar room r
+  less room r s = record {
+    finished = s.finished;
+    named = s.named;
+    apart = s.apart;
+    fitting = s.fitting;
+    names_apart = record {
+      apart = s.names_apart.apart;
+      settled = s.names_apart.settled;
+      few = omega (arith, s.names_apart.few);
+      short = omega (arith, s.names_apart.short);
+    };
+  }
 
   -- Nets.
 
-  pub nets_more : (modules : List ModuleEntry) (nets : List (ℕ × Net)) (gates : List GateEntry) (n : ℕ) (net : Net)
-      → IsGoodNumber names n → AreSound names modules nets gates → AreSound names modules (with_net nets n net) gates
-  nets_more modules nets gates n net good h = record {
-    finished = h.finished;
-    named = numbers_kept (IsGoodNumber names) nets n net good h.named;
-    apart = apart_kept nets n net h.apart;
-    fitting = gates_still names nets (with_net nets n net) (net_kept nets n net) gates h.fitting;
+  pub nets_more : (room : ℕ) (r : Reading) (n : ℕ) (net : Net) → IsGoodNumber names n → IsSoFar room r
+      → AreSound names room r.modules (with_net r.nets n net) r.gates r.taken r.unnamed r.terminals
+  nets_more room r n net good s = record {
+    finished = s.finished;
+    named = numbers_kept (IsGoodNumber names) r.nets n net good s.named;
+    apart = apart_kept r.nets n net s.apart;
+    fitting = gates_still names r.nets (with_net r.nets n net) (net_kept r.nets n net) r.gates s.fitting;
+    names_apart = s.names_apart;
   }
 
   -- Modules.
 
-  pub module_more : (r : Reading) → IsWithin r → IsSoFar (finished r) × ((finished r).terminals ≡ [])
-  module_more r h =
+  pub module_more : (room : ℕ) (r : Reading) → IsSoFar room r → IsWithin r → IsSoFar room (finished r)
+  module_more room r s h =
       let m : ModuleEntry = record { start = r.start; name = r.name; nets = r.nets; gates = r.gates } in
-      let sound : IsNearlySound names m = record { name = h.1; nets = h.0.named; distinct_nets = pairs_apart r.nets h.0.apart; gates = h.0.fitting } in (
-        record {
-          finished = All-push (IsNearlySound names) r.modules m h.0.finished sound;
-          named = All-nil (λ (net : ℕ × Net). IsGoodNumber names net.0);
-          apart = tt;
-          fitting = All-nil (IsSoundGate names []);
-        },
-        h.2,
-      )
+      let sound : IsSoundModule names m = record {
+        name = h.0;
+        nets = s.named;
+        distinct_nets = pairs_apart r.nets s.apart;
+        gates = s.fitting;
+        distinct_gates = s.names_apart.apart;
+      } in
+      record {
+        finished = All-push (IsSoundModule names) r.modules m s.finished sound;
+        named = All-nil (λ (net : ℕ × Net). IsGoodNumber names net.0);
+        apart = tt;
+        fitting = All-nil (IsSoundGate names []);
+        names_apart = record {
+          apart = λ i j d low high. absurd (omega arith);
+          settled = All-nil (IsSettled names [] 0);
+          few = omega (arith, s.names_apart.few);
+          short = s.names_apart.short;
+        };
+      }
+
+  -- Names.
+
+  free_number : (b : Bool) (why : Cause) → when b why ≡ None → b ≡ false
+  free_number true why e = absurd cc
+  free_number false why e = refl
+
+  pub name_more : (room : ℕ) (r : Reading) (n : ℕ) → IsSoFar room r → AreSound names room r.modules r.nets r.gates (with_taken r.taken n) r.unnamed r.terminals
+  name_more room r n s = record {
+    finished = s.finished;
+    named = s.named;
+    apart = s.apart;
+    fitting = s.fitting;
+    names_apart = record {
+      apart = s.names_apart.apart;
+      settled = settled_more names r.taken (with_taken r.taken n) r.unnamed r.unnamed r.gates (λ m t. taken_kept r.taken n m t) (omega arith) s.names_apart.settled;
+      few = s.names_apart.few;
+      short = s.names_apart.short;
+    };
+  }
+
+  pub name_ready : (room : ℕ) (r : Reading) (n : ℕ) (why : Cause) → IsSoFar (suc room) r → IsGoodNumber names n → when (is_taken r.taken n) why ≡ None
+      → IsNamed names n r.gates (with_taken r.taken n)
+  name_ready room r n why s good none =
+      let free : is_taken r.taken n ≡ false = free_number (is_taken r.taken n) why none in
+      let P : Option ℕ → Type 0 = λ found. option_map_or (is_taken r.taken) found false ≡ false in
+      let unused : is_name_taken names r.taken (name_at names n) ≡ false = subst P (sym good.known) free in
+      record {
+        good = good;
+        taken_now = taken_itself r.taken n;
+        fresh = fresh names r.taken r.unnamed (Written n) r.gates (omega (arith, s.names_apart.few)) good unused s.names_apart.settled;
+      }
+
+  good_of : (name : Option ℕ) (gates : List GateEntry) (taken : List ℕ) → IsStarted names name gates taken → IsGoodName names name
+  good_of None gates taken started = tt
+  good_of (Some n) gates taken started = started.good
 
   -- Terminals.
 
@@ -105,33 +178,48 @@ module _ (names : List (List ℕ)) where
   none_connected nets [] e = All-nil (IsConnected nets)
   none_connected nets (t ∷ ts) e = absurd cc
 
-  pub opened : (r : Reading) → IsWithin r → IsTimed r → IsGoodName names r.instance → IsAmong r
-  opened r h timed good = (h.0, h.1, none_connected r.nets r.terminals h.2, timed, good)
+  pub opened : (r : Reading) → IsWithin r → AreDelays r.delays → IsReady r → IsAmong r
+  opened r h timed ready = (h.0, none_connected r.nets r.terminals h.1, timed, ready)
 
-  pub net_used : (r : Reading) (n : ℕ) (net : Net) → IsGoodNumber names n → IsAmong r
-      → IsAmong (record r { nets = with_net r.nets n net; terminals = r.terminals ++ terminal.Net n ∷ [] })
-  net_used r n net good h =
+  pub terminal_more : (room : ℕ) (r : Reading) (t : Terminal) → IsSoFar (suc room) r
+      → AreSound names room r.modules r.nets r.gates r.taken r.unnamed (r.terminals ++ t ∷ [])
+  terminal_more room r t s =
+      let longer = length-append r.terminals (t ∷ []) in
+      record {
+        finished = s.finished;
+        named = s.named;
+        apart = s.apart;
+        fitting = s.fitting;
+        names_apart = record {
+          apart = s.names_apart.apart;
+          settled = s.names_apart.settled;
+          few = omega (arith, s.names_apart.few);
+          short = omega (arith, s.names_apart.short, longer);
+        };
+      }
+
+  pub net_used : (r : Reading) (n : ℕ) (net : Net) → IsAmong r → IsAmong (record r { nets = with_net r.nets n net; terminals = r.terminals ++ terminal.Net n ∷ [] })
+  net_used r n net h =
       let nets : List (ℕ × Net) = with_net r.nets n net in (
-        nets_more r.modules r.nets r.gates n net good h.0,
-        h.1,
+        h.0,
         All-push (IsConnected nets) r.terminals (terminal.Net n)
-            (all_connected_still r.nets nets (net_kept r.nets n net) r.terminals h.2) (net_there r.nets n net),
+            (all_connected_still r.nets nets (net_kept r.nets n net) r.terminals h.1) (net_there r.nets n net),
+        h.2,
         h.3,
-        h.4,
       )
 
   -- Instances.
 
-  pub instance_more : (r : Reading) → completed_cause names r ≡ None → IsAmong r → IsWithin (completed names r) × IsTimed (completed names r)
-  instance_more r free h =
+  pub instance_more : (room : ℕ) (r : Reading) → completed_cause names r ≡ None → IsSoFar (suc room) r → IsAmong r → IsSoFar room (completed names r)
+  instance_more room r free s h =
       let more : List GateEntry = gates_of r (instance_name r) (inputs_of r.gate r.terminals) (outputs_of r.gate r.terminals) in
-      let sound : AreSound names r.modules r.nets (r.gates ++ more) = record {
-        finished = h.0.finished;
-        named = h.0.named;
-        apart = h.0.apart;
-        fitting = All-append (IsSoundGate names r.nets) r.gates more h.0.fitting (completed_sound names r free h.4 h.3 h.2);
-      } in
-      ((sound, h.1, refl), h.3)
+      record {
+        finished = s.finished;
+        named = s.named;
+        apart = s.apart;
+        fitting = All-append (IsSoundGate names r.nets) r.gates more s.fitting (completed_sound names r free (good_of r.instance r.gates r.taken h.3) h.2 h.1);
+        names_apart = completed_holds names r room s.names_apart h.3 free;
+      }
 
 -- Delays.
 
@@ -143,10 +231,10 @@ within_limits n false false z l h =
     let few : n ≤ MAX_DELAY = grind (arith, nat_tests) in
     (some, few)
 
-pub good_delay : (n : ℕ) → delay_fault n ≡ None → IsDelay n
+pub good_delay : (n : ℕ) → delay_cause n ≡ None → IsDelay n
 good_delay n h = within_limits n (n == 0) (ltb MAX_DELAY n) refl refl h
 
-pub good_default : (default : Option ℕ) → default_fault default ≡ None → AreDelays (uniform_delays (unwrap_or default 0))
+good_default : (default : Option ℕ) → default_cause default ≡ None → AreDelays (uniform_delays (unwrap_or default 0))
 good_default None h = absurd cc
 good_default (Some n) h = uniform_in_range n (good_delay n h)
 
@@ -154,4 +242,4 @@ good_default (Some n) h = uniform_in_range n (good_delay n h)
 pub default_timed : (default : Option ℕ) (next : Option Word) → gate_cause default next ≡ None → is_hash next ≡ false
     → AreDelays (uniform_delays (unwrap_or default 0))
 default_timed default next free plain =
-    good_default default (sym (ap (λ (hash : Bool). cond hash None (default_fault default)) plain) ∙ free)
+    good_default default (sym (ap (λ (hash : Bool). cond hash None (default_cause default)) plain) ∙ free)

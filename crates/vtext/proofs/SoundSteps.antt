@@ -1,224 +1,205 @@
 -- Each good word keeps what is read sound, in each state of the parser.
-use Rattle.std.proofs.Common.{◌≡◌, ℕ, List, Option, Some, None, refl}
+use Rattle.std.proofs.Common.{◌≡◌, ℕ, suc, ◌++◌, [], ◌∷◌, List, Option, Some, None, refl}
 use Rattle.std.proofs.lemmas.List.Elements.{All-push}
 use Rattle.std.specs.Option.{unwrap_or}
 use Rattle.fourstate.specs.DelayLaws.{uniform_in_range, with_fall_in_range}
-use Rattle.vtext.specs.declared.gate.Terminal.TheVariants.{Constant}
-use Rattle.vtext.specs.declared.net.Net.{Net}
+use Rattle.vtext.specs.declared.cause.Cause.TheVariants.{DuplicateName}
+use Rattle.vtext.specs.declared.gate.Terminal.TheVariants.{Net, Constant}
+use Rattle.vtext.specs.declared.net.Net as nets
 use Rattle.vtext.specs.declared.parser_state.ParserState.{ParserState}
 use Rattle.vtext.specs.declared.parser_state.ParserState.TheVariants as state
-use Rattle.vtext.specs.declared.parser_state.ParserState.TheVariants.{Outside, ModuleName, ModuleHead, OlderNext, OlderName, InlineStart, InlineName, InlineNext, InlineMore, HeaderEnd, Items, PortStart, PortName, PortNext, NetName, NetNext, GateStart, RiseDelay, RiseEnd, FallDelay, FallEnd, InstanceStart, InstanceOpen, TerminalStart, TerminalEnd, InstanceEnd}
 use Rattle.vtext.specs.declared.word.Word.{Word}
 use Rattle.vtext.specs.declared.word.Word.TheVariants.{Module, Endmodule, PortWord, NetWord, GateWord, Name, Misnamed, Number, Literal, Open, Close, Comma, Semicolon, Hash, Timescale}
-use Rattle.vtext.specs.Causes.{cause, delay_cause, instance_cause, item_cause, name_cause, terminal_end_cause}
-use Rattle.vtext.specs.Grammar.{by_name, by_number, from_delay, from_fall_end, from_gate_start, from_header, from_header_end, from_inline_more, from_inline_next, from_inline_start, from_instance_open, from_instance_start, from_items, from_module_head, from_next, from_older_next, from_outside, from_port_start, from_rise_end, from_terminal_end, from_terminal_start, step}
+use Rattle.vtext.specs.declared.word.Placed.{Placed}
+use Rattle.vtext.specs.Causes.{completed_cause, delay_cause, direction_cause, end_cause, gate_cause, header_cause, instance_cause, module_cause, net_cause, port_cause}
+use Rattle.vtext.specs.Instances.{completed}
 use Rattle.vtext.specs.Nets.{blank, directed, listed, net_of, ported, used}
-use Rattle.vtext.specs.Notes.{at_delay, at_fall_delay, at_header, at_inline_more, at_inline_name, at_inline_start, at_instance_start, at_items, at_module_name, at_net_name, at_older_name, at_outside, at_port_name, at_port_start, at_terminal_end, at_terminal_start, declare_net, declare_port, direct_port, list_port, noted}
+use Rattle.vtext.specs.Notes.{declare_net, declare_port, direct_port, finished, list_port, name_instance}
 use Rattle.vtext.specs.Readings.{Reading}
-use Rattle.vtext.specs.Sound.{IsConnected, IsGoodNumber, IsGoodWord}
-use Rattle.vtext.proofs.SoundReadings.{IsAmong, IsWithin, Kept, KeptAt, default_timed, good_delay, instance_more, module_more, net_used, nets_more, opened}
+use Rattle.vtext.specs.Sound.{IsConnected, IsGoodWord}
+use Rattle.vtext.specs.Turns as turns
+use Rattle.vtext.specs.Turns.{goes}
+use Rattle.vtext.proofs.SoundReadings.{IsAmong, IsAt, IsSoFar, IsWithin, StandsAfter, default_timed, good_delay, instance_more, less, module_more, name_more, name_ready, net_used, nets_more, opened, terminal_more, unless_stands}
 
-module _ (default : Option ℕ) (names : List (List ℕ)) (r : Reading) (next : Option Word) where
-  -- Nets.
+-- Below one word less is left, and the next one is `next`.
+module _ (names : List (List ℕ)) (room : ℕ) (next : Option Word) (r : Reading) where
+  -- Modules and headers.
 
-  listed_more : (n : ℕ) → IsGoodNumber names n → IsWithin names r → IsWithin names (list_port r n)
-  listed_more n good h = (nets_more names r.modules r.nets r.gates n listed good h.0, h.1, h.2)
+  outside : (start : ℕ) (w : Word) → IsSoFar names room r → r.terminals ≡ [] → StandsAfter names room (turns.outside r start w) next
+  outside start (Timescale unit) s h = (s, h)
+  outside start Module s h = unless_stands names room next (module_cause r) (goes state.ModuleName (record r { start = start })) (λ none. (s, h))
+  outside start w s h = tt
 
-  declared_port_more : (n : ℕ) → IsGoodNumber names n → IsWithin names r → IsWithin names (declare_port r n)
-  declared_port_more n good h = (nets_more names r.modules r.nets r.gates n (ported r.direction r.kind) good h.0, h.1, h.2)
+  module_name : (w : Word) → IsGoodWord names w → IsSoFar names room r → r.terminals ≡ [] → StandsAfter names room (turns.module_name r w) next
+  module_name (Name n) good s h = (s, (good, h))
+  module_name Misnamed good s h = tt
+  module_name w good s h = tt
 
-  directed_more : (n : ℕ) → IsGoodNumber names n → IsWithin names r → IsWithin names (direct_port r n)
-  directed_more n good h =
-      let net : Net = directed r.direction r.kind (unwrap_or (net_of r.nets n) blank) in
-      (nets_more names r.modules r.nets r.gates n net good h.0, h.1, h.2)
+  module_head : (w : Word) → IsSoFar names room r → IsWithin names r → StandsAfter names room (turns.module_head r w) next
+  module_head Open s h = (s, h)
+  module_head Semicolon s h = (s, h)
+  module_head w s h = tt
 
-  declared_more : (n : ℕ) → IsGoodNumber names n → IsWithin names r → IsWithin names (declare_net r n)
-  declared_more n good h =
-      let net : Net = record (unwrap_or (net_of r.nets n) blank) { kind = r.kind } in
-      (nets_more names r.modules r.nets r.gates n net good h.0, h.1, h.2)
+  older_name : (w : Word) → IsGoodWord names w → IsSoFar names room r → IsWithin names r → StandsAfter names room (turns.older_name r w) next
+  older_name (Name n) good s h =
+      unless_stands names room next (header_cause r n) (goes state.OlderNext (list_port r n)) (λ none. (nets_more names room r n listed good s, h))
+  older_name Misnamed good s h = tt
+  older_name w good s h = tt
 
-  -- Outside, and headers.
+  header : (w : Word) → IsGoodWord names w → IsSoFar names room r → IsWithin names r → StandsAfter names room (turns.header r w) next
+  header (PortWord direction) good s h = (s, h)
+  header Close good s h = (s, h)
+  header w good s h = older_name w good s h
 
-  outside : (start : ℕ) (w : Word) → Kept names Outside (Some w) r → KeptAt names (from_outside w) next (at_outside r start w)
-  outside start (Timescale unit) h = h
-  outside start Module h = h
-  outside start w h = tt
+  older_next : (w : Word) → IsSoFar names room r → IsWithin names r → StandsAfter names room (turns.older_next r w) next
+  older_next Comma s h = (s, h)
+  older_next Close s h = (s, h)
+  older_next w s h = tt
 
-  module_name : (w : Word) → name_cause w ≡ None → IsGoodWord names w → Kept names ModuleName (Some w) r → KeptAt names (by_name ModuleHead w) next (at_module_name r w)
-  module_name (Name n) free good h = (h.0, good, h.1)
-  module_name Misnamed free good h = absurd cc
-  module_name w free good h = tt
+  inline_name : (w : Word) → IsGoodWord names w → IsSoFar names room r → IsWithin names r → StandsAfter names room (turns.inline_name r w) next
+  inline_name (Name n) good s h =
+      unless_stands names room next (header_cause r n) (goes state.InlineNext (declare_port r n))
+      (λ none. (nets_more names room r n (ported r.direction r.kind) good s, h))
+  inline_name Misnamed good s h = tt
+  inline_name w good s h = tt
 
-  module_head : (w : Word) → IsWithin names r → KeptAt names (from_module_head w) next r
-  module_head Open h = h
-  module_head Semicolon h = h
-  module_head w h = tt
+  inline_start : (w : Word) → IsGoodWord names w → IsSoFar names room r → IsWithin names r → StandsAfter names room (turns.inline_start r w) next
+  inline_start (NetWord kind) good s h = (s, h)
+  inline_start w good s h = inline_name w good s h
 
-  header : (w : Word) → IsGoodWord names w → IsWithin names r → KeptAt names (from_header w) next (at_header r w)
-  header (PortWord direction) good h = h
-  header Close good h = h
-  header (Name n) good h = listed_more n good h
-  header Misnamed good h = h
-  header w good h = tt
+  inline_next : (w : Word) → IsSoFar names room r → IsWithin names r → StandsAfter names room (turns.inline_next r w) next
+  inline_next Comma s h = (s, h)
+  inline_next Close s h = (s, h)
+  inline_next w s h = tt
 
-  older_next : (w : Word) → IsWithin names r → KeptAt names (from_older_next w) next r
-  older_next Comma h = h
-  older_next Close h = h
-  older_next w h = tt
+  inline_more : (w : Word) → IsGoodWord names w → IsSoFar names room r → IsWithin names r → StandsAfter names room (turns.inline_more r w) next
+  inline_more (PortWord direction) good s h = (s, h)
+  inline_more w good s h = inline_name w good s h
 
-  older_name : (w : Word) → IsGoodWord names w → IsWithin names r → KeptAt names (by_name OlderNext w) next (at_older_name r w)
-  older_name (Name n) good h = listed_more n good h
-  older_name Misnamed good h = h
-  older_name w good h = tt
-
-  inline_start : (w : Word) → IsGoodWord names w → IsWithin names r → KeptAt names (from_inline_start w) next (at_inline_start r w)
-  inline_start (NetWord kind) good h = h
-  inline_start (Name n) good h = declared_port_more n good h
-  inline_start Misnamed good h = h
-  inline_start w good h = tt
-
-  inline_name : (w : Word) → IsGoodWord names w → IsWithin names r → KeptAt names (by_name InlineNext w) next (at_inline_name r w)
-  inline_name (Name n) good h = declared_port_more n good h
-  inline_name Misnamed good h = h
-  inline_name w good h = tt
-
-  inline_next : (w : Word) → IsWithin names r → KeptAt names (from_inline_next w) next r
-  inline_next Comma h = h
-  inline_next Close h = h
-  inline_next w h = tt
-
-  inline_more : (w : Word) → IsGoodWord names w → IsWithin names r → KeptAt names (from_inline_more w) next (at_inline_more r w)
-  inline_more (PortWord direction) good h = h
-  inline_more (Name n) good h = declared_port_more n good h
-  inline_more Misnamed good h = h
-  inline_more w good h = tt
-
-  header_end : (w : Word) → IsWithin names r → KeptAt names (from_header_end w) next r
-  header_end Semicolon h = h
-  header_end w h = tt
+  header_end : (w : Word) → IsSoFar names room r → IsWithin names r → StandsAfter names room (turns.header_end r w) next
+  header_end Semicolon s h = (s, h)
+  header_end w s h = tt
 
   -- Items.
 
-  items : (w : Word) → item_cause default r w next ≡ None → IsWithin names r → KeptAt names (from_items w) next (at_items default r w)
-  items (PortWord direction) free h = h
-  items (NetWord kind) free h = h
-  items (GateWord kind) free h = (h, default_timed default next free)
-  items Endmodule free h = module_more names r h
-  items w free h = tt
+  items : (default : Option ℕ) (w : Word) → IsSoFar names room r → IsWithin names r → StandsAfter names room (turns.items default r w next) next
+  items default (PortWord direction) s h =
+      unless_stands names room next (direction_cause r) (goes state.PortStart (record r { direction = direction; kind = None })) (λ none. (s, h))
+  items default (NetWord kind) s h = (s, h)
+  items default (GateWord kind) s h = unless_stands names room next (gate_cause default next) _ (λ none. (s, (h, default_timed default next none)))
+  items default Endmodule s h = unless_stands names room next (end_cause r) (goes state.Outside (finished r)) (λ none. (module_more names room r s h, h.1))
+  items default w s h = tt
 
-  port_start : (w : Word) → IsGoodWord names w → IsWithin names r → KeptAt names (from_port_start w) next (at_port_start r w)
-  port_start (NetWord kind) good h = h
-  port_start (Name n) good h = directed_more n good h
-  port_start Misnamed good h = h
-  port_start w good h = tt
+  port_name : (w : Word) → IsGoodWord names w → IsSoFar names room r → IsWithin names r → StandsAfter names room (turns.port_name r w) next
+  port_name (Name n) good s h =
+      let net : nets.Net = directed r.direction r.kind (unwrap_or (net_of r.nets n) blank) in
+      unless_stands names room next (port_cause r n) (goes state.PortNext (direct_port r n)) (λ none. (nets_more names room r n net good s, h))
+  port_name w good s h = tt
 
-  port_name : (w : Word) → IsGoodWord names w → IsWithin names r → KeptAt names (by_name PortNext w) next (at_port_name r w)
-  port_name (Name n) good h = directed_more n good h
-  port_name Misnamed good h = h
-  port_name w good h = tt
+  port_start : (w : Word) → IsGoodWord names w → IsSoFar names room r → IsWithin names r → StandsAfter names room (turns.port_start r w) next
+  port_start (NetWord kind) good s h = (s, h)
+  port_start w good s h = port_name w good s h
 
-  port_next : (w : Word) → IsWithin names r → KeptAt names (from_next PortName w) next r
-  port_next Comma h = h
-  port_next Semicolon h = h
-  port_next w h = tt
+  net_name : (w : Word) → IsGoodWord names w → IsSoFar names room r → IsWithin names r → StandsAfter names room (turns.net_name r w) next
+  net_name (Name n) good s h =
+      let net : nets.Net = record (unwrap_or (net_of r.nets n) blank) { kind = r.kind } in
+      unless_stands names room next (net_cause r n) (goes state.NetNext (declare_net r n)) (λ none. (nets_more names room r n net good s, h))
+  net_name Misnamed good s h = tt
+  net_name w good s h = tt
 
-  net_name : (w : Word) → IsGoodWord names w → IsWithin names r → KeptAt names (by_name NetNext w) next (at_net_name r w)
-  net_name (Name n) good h = declared_more n good h
-  net_name Misnamed good h = h
-  net_name w good h = tt
+  list_next : (more : ParserState) (w : Word) → IsSoFar names room r → IsAt names more next r → IsWithin names r → StandsAfter names room (turns.list_next more r w) next
+  list_next more Comma s there h = (s, there)
+  list_next more Semicolon s there h = (s, h)
+  list_next more w s there h = tt
 
-  net_next : (w : Word) → IsWithin names r → KeptAt names (from_next NetName w) next r
-  net_next Comma h = h
-  net_next Semicolon h = h
-  net_next w h = tt
+  -- Gates.
 
-  -- Delays.
+  instance_start : (w : Word) → IsGoodWord names w → IsSoFar names (suc room) r → IsAt names state.InstanceStart (Some w) r
+      → StandsAfter names room (turns.instance_start r w) next
+  instance_start (Name n) good s h =
+      unless_stands names room next (instance_cause r n) (goes state.InstanceOpen (name_instance r n))
+      (λ none. (name_more names room r n (less names room r s), (h.0, h.1, name_ready names room r n DuplicateName s good none)))
+  instance_start Misnamed good s h = tt
+  instance_start Open good s h = (less names room r s, opened names (record r { instance = None }) h.0 h.1 tt)
+  instance_start w good s h = tt
 
-  gate_start : (w : Word) → instance_cause r w ≡ None → IsGoodWord names w → Kept names GateStart (Some w) r → KeptAt names (from_gate_start w) next (at_instance_start r w)
-  gate_start Hash free good h = h.0
-  gate_start (Name n) free good h = (h.0, h.1 refl, good)
-  gate_start Misnamed free good h = absurd cc
-  gate_start Open free good h = opened names (record r { instance = None }) h.0 (h.1 refl) tt
-  gate_start w free good h = tt
+  gate_start : (w : Word) → IsGoodWord names w → IsSoFar names (suc room) r → IsAt names state.GateStart (Some w) r
+      → StandsAfter names room (turns.gate_start r w) next
+  gate_start Hash good s h = (less names room r s, h.0)
+  gate_start w good s h = instance_start w good s (h.0, h.1 refl)
 
-  delay : (w : Word) → delay_cause w ≡ None → IsWithin names r → KeptAt names (from_delay w) next (at_delay r w)
-  delay (Number n) free h = (h, uniform_in_range n (good_delay n free))
-  delay Open free h = h
-  delay w free h = tt
+  rise_delay : (w : Word) → IsSoFar names room r → IsWithin names r → StandsAfter names room (turns.rise_delay state.RiseEnd r w) next
+  rise_delay (Number n) s h = unless_stands names room next (delay_cause n) _ (λ none. (s, (h, uniform_in_range n (good_delay n none))))
+  rise_delay w s h = tt
 
-  rise_delay : (w : Word) → delay_cause w ≡ None → IsWithin names r → KeptAt names (by_number RiseEnd w) next (at_delay r w)
-  rise_delay (Number n) free h = (h, uniform_in_range n (good_delay n free))
-  rise_delay w free h = tt
+  delay : (w : Word) → IsSoFar names room r → IsWithin names r → StandsAfter names room (turns.delay r w) next
+  delay (Number n) s h = unless_stands names room next (delay_cause n) _ (λ none. (s, (h, uniform_in_range n (good_delay n none))))
+  delay Open s h = (s, h)
+  delay w s h = tt
 
-  rise_end : (w : Word) → Kept names RiseEnd (Some w) r → KeptAt names (from_rise_end w) next r
-  rise_end Comma h = h
-  rise_end Close h = h
-  rise_end w h = tt
+  rise_end : (w : Word) → IsSoFar names room r → IsAt names state.RiseEnd (Some w) r → StandsAfter names room (turns.rise_end r w) next
+  rise_end Comma s h = (s, h)
+  rise_end Close s h = (s, h)
+  rise_end w s h = tt
 
-  fall_delay : (w : Word) → delay_cause w ≡ None → Kept names FallDelay (Some w) r → KeptAt names (by_number FallEnd w) next (at_fall_delay r w)
-  fall_delay (Number n) free h = (h.0, with_fall_in_range r.delays n h.1 (good_delay n free))
-  fall_delay w free h = tt
+  fall_delay : (w : Word) → IsSoFar names room r → IsAt names state.FallDelay (Some w) r → StandsAfter names room (turns.fall_delay r w) next
+  fall_delay (Number n) s h =
+      unless_stands names room next (delay_cause n) _ (λ none. (s, (h.0, with_fall_in_range r.delays n h.1 (good_delay n none))))
+  fall_delay w s h = tt
 
-  fall_end : (w : Word) → Kept names FallEnd (Some w) r → KeptAt names (from_fall_end w) next r
-  fall_end Close h = h
-  fall_end w h = tt
+  fall_end : (w : Word) → IsSoFar names room r → IsAt names state.FallEnd (Some w) r → StandsAfter names room (turns.fall_end r w) next
+  fall_end Close s h = (s, h)
+  fall_end w s h = tt
 
-  -- Instances.
+  instance_open : (w : Word) → IsSoFar names room r → IsAt names state.InstanceOpen (Some w) r → StandsAfter names room (turns.instance_open r w) next
+  instance_open Open s h = (s, opened names r h.0 h.1 h.2)
+  instance_open w s h = tt
 
-  instance_start : (w : Word) → instance_cause r w ≡ None → IsGoodWord names w → Kept names InstanceStart (Some w) r → KeptAt names (from_instance_start w) next (at_instance_start r w)
-  instance_start (Name n) free good h = (h.0, h.1, good)
-  instance_start Misnamed free good h = absurd cc
-  instance_start Open free good h = opened names (record r { instance = None }) h.0 h.1 tt
-  instance_start w free good h = tt
+  terminal_start : (w : Word) → IsGoodWord names w → IsSoFar names (suc room) r → IsAmong names r → StandsAfter names room (turns.terminal_start r w) next
+  terminal_start (Name n) good s h =
+      let net : nets.Net = used (unwrap_or (net_of r.nets n) blank) in
+      let longer : Reading = record r { terminals = r.terminals ++ Net n ∷ [] } in
+      (nets_more names room longer n net good (terminal_more names room r (Net n) s), net_used names r n net h)
+  terminal_start Misnamed good s h = tt
+  terminal_start (Literal value) good s h =
+      (terminal_more names room r (Constant value) s, (h.0, All-push (IsConnected r.nets) r.terminals (Constant value) h.1 tt, h.2, h.3))
+  terminal_start w good s h = tt
 
-  instance_open : (w : Word) → Kept names InstanceOpen (Some w) r → KeptAt names (from_instance_open w) next r
-  instance_open Open h = opened names r h.0 h.1 h.2
-  instance_open w h = tt
-
-  terminal_start : (w : Word) → IsGoodWord names w → IsAmong names r → KeptAt names (from_terminal_start w) next (at_terminal_start r w)
-  terminal_start (Name n) good h = net_used names r n (used (unwrap_or (net_of r.nets n) blank)) good h
-  terminal_start Misnamed good h = h
-  terminal_start (Literal value) good h = (h.0, h.1, All-push (IsConnected r.nets) r.terminals (Constant value) h.2 tt, h.3, h.4)
-  terminal_start w good h = tt
-
-  terminal_end : (w : Word) → terminal_end_cause names r w ≡ None → IsAmong names r → KeptAt names (from_terminal_end w) next (at_terminal_end names r w)
-  terminal_end Comma free h = h
-  terminal_end Close free h = instance_more names r free h
-  terminal_end w free h = tt
-
-  instance_end : (w : Word) → Kept names InstanceEnd (Some w) r → KeptAt names (from_next InstanceStart w) next r
-  instance_end Comma h = h
-  instance_end Semicolon h = h.0
-  instance_end w h = tt
+  terminal_end : (w : Word) → IsSoFar names (suc room) r → IsAmong names r → StandsAfter names room (turns.terminal_end names r w) next
+  terminal_end Comma s h = (less names room r s, h)
+  terminal_end Close s h =
+      unless_stands names room next (completed_cause names r) (goes state.InstanceEnd (completed names r))
+      (λ none. (instance_more names room r none s h, ((h.0, refl), h.2)))
+  terminal_end w s h = tt
 
   -- A word in any state.
-  pub step_kept : (at : ParserState) (start : ℕ) (w : Word) → cause default names r at w next ≡ None → IsGoodWord names w → Kept names at (Some w) r
-      → KeptAt names (step at w) next (noted default names r at (record { word = w; start = start }))
-  step_kept Outside start w free good h = outside start w h
-  step_kept ModuleName start w free good h = module_name w free good h
-  step_kept ModuleHead start w free good h = module_head w h
-  step_kept state.Header start w free good h = header w good h
-  step_kept OlderNext start w free good h = older_next w h
-  step_kept OlderName start w free good h = older_name w good h
-  step_kept InlineStart start w free good h = inline_start w good h
-  step_kept InlineName start w free good h = inline_name w good h
-  step_kept InlineNext start w free good h = inline_next w h
-  step_kept InlineMore start w free good h = inline_more w good h
-  step_kept HeaderEnd start w free good h = header_end w h
-  step_kept Items start w free good h = items w free h
-  step_kept PortStart start w free good h = port_start w good h
-  step_kept PortName start w free good h = port_name w good h
-  step_kept PortNext start w free good h = port_next w h
-  step_kept NetName start w free good h = net_name w good h
-  step_kept NetNext start w free good h = net_next w h
-  step_kept GateStart start w free good h = gate_start w free good h
-  step_kept state.Delay start w free good h = delay w free h
-  step_kept RiseDelay start w free good h = rise_delay w free h
-  step_kept RiseEnd start w free good h = rise_end w h
-  step_kept FallDelay start w free good h = fall_delay w free h
-  step_kept FallEnd start w free good h = fall_end w h
-  step_kept InstanceStart start w free good h = instance_start w free good h
-  step_kept InstanceOpen start w free good h = instance_open w h
-  step_kept TerminalStart start w free good h = terminal_start w good h
-  step_kept TerminalEnd start w free good h = terminal_end w free h
-  step_kept InstanceEnd start w free good h = instance_end w h
+  pub turn_stands : (default : Option ℕ) (at : ParserState) (p : Placed) → IsGoodWord names p.word → IsSoFar names (suc room) r → IsAt names at (Some p.word) r
+      → StandsAfter names room (turns.turn default names r at p next) next
+  turn_stands default state.Outside p good s h = outside p.start p.word (less names room r s) h
+  turn_stands default state.ModuleName p good s h = module_name p.word good (less names room r s) h
+  turn_stands default state.ModuleHead p good s h = module_head p.word (less names room r s) h
+  turn_stands default state.Header p good s h = header p.word good (less names room r s) h
+  turn_stands default state.OlderNext p good s h = older_next p.word (less names room r s) h
+  turn_stands default state.OlderName p good s h = older_name p.word good (less names room r s) h
+  turn_stands default state.InlineStart p good s h = inline_start p.word good (less names room r s) h
+  turn_stands default state.InlineName p good s h = inline_name p.word good (less names room r s) h
+  turn_stands default state.InlineNext p good s h = inline_next p.word (less names room r s) h
+  turn_stands default state.InlineMore p good s h = inline_more p.word good (less names room r s) h
+  turn_stands default state.HeaderEnd p good s h = header_end p.word (less names room r s) h
+  turn_stands default state.Items p good s h = items default p.word (less names room r s) h
+  turn_stands default state.PortStart p good s h = port_start p.word good (less names room r s) h
+  turn_stands default state.PortName p good s h = port_name p.word good (less names room r s) h
+  turn_stands default state.PortNext p good s h = list_next state.PortName p.word (less names room r s) h h
+  turn_stands default state.NetName p good s h = net_name p.word good (less names room r s) h
+  turn_stands default state.NetNext p good s h = list_next state.NetName p.word (less names room r s) h h
+  turn_stands default state.GateStart p good s h = gate_start p.word good s h
+  turn_stands default state.Delay p good s h = delay p.word (less names room r s) h
+  turn_stands default state.RiseDelay p good s h = rise_delay p.word (less names room r s) h
+  turn_stands default state.RiseEnd p good s h = rise_end p.word (less names room r s) h
+  turn_stands default state.FallDelay p good s h = fall_delay p.word (less names room r s) h
+  turn_stands default state.FallEnd p good s h = fall_end p.word (less names room r s) h
+  turn_stands default state.InstanceStart p good s h = instance_start p.word good s h
+  turn_stands default state.InstanceOpen p good s h = instance_open p.word (less names room r s) h
+  turn_stands default state.TerminalStart p good s h = terminal_start p.word good s h
+  turn_stands default state.TerminalEnd p good s h = terminal_end p.word s h
+  turn_stands default state.InstanceEnd p good s h = list_next state.InstanceStart p.word (less names room r s) h h.0

@@ -1,57 +1,66 @@
--- A walk over good words reads sound modules, but for the names of their gates.
-use Rattle.std.proofs.Common.{◌≡◌, ℕ, List, [], ◌∷◌, Option, Some, None, Ok, All, refl, sym, subst}
-use Rattle.std.proofs.lemmas.List.Elements.{All-head, All-nil, All-tail}
+-- A walk over good words reads sound modules.
+use Rattle.std.proofs.Common.{◌≡◌, ℕ, suc, ◌+◌, ◌-◌, ◌^◌, ◌<◌, List, [], ◌∷◌, Option, Some, None, Result, All, length, length-take, min, take, refl, subst, arith}
+use Rattle.std.proofs.lemmas.List.Elements.{All-head, All-nil, All-tail, All-take}
 use Rattle.vtext.specs.declared.cause.Cause.{Cause}
 use Rattle.vtext.specs.declared.net.Net.{Net}
-use Rattle.vtext.specs.declared.parser_state.ParserState.{ParserState}
 use Rattle.vtext.specs.declared.parser_state.ParserState.TheVariants.{Outside}
 use Rattle.vtext.specs.declared.word.Word.{Word}
 use Rattle.vtext.specs.declared.word.Placed.{Placed}
-use Rattle.vtext.specs.Causes.{cause}
-use Rattle.vtext.specs.Grammar.{step}
-use Rattle.vtext.specs.Notes.{noted}
-use Rattle.vtext.specs.Readings.{Reading, unread}
-use Rattle.vtext.specs.Sound.{AreGoodWords, IsGoodNumber, IsGoodWord, IsSoundGate}
-use Rattle.vtext.specs.Walks.{Leads, Turns, Walk, first_word, judged, start}
-use Rattle.vtext.proofs.SoundReadings.{IsNearlySound, Kept, KeptAt}
-use Rattle.vtext.proofs.SoundSteps.{step_kept}
-
--- a word that is admitted leads to the state, and has no cause
-admitted_on : (at to : ParserState) (w : Word) (o : Option ParserState) (found : Option Cause) → judged at w o found ≡ Ok to → (o ≡ Some to) × (found ≡ None)
-admitted_on at to w None found e = absurd cc
-admitted_on at to w (Some state) (Some why) e = absurd cc
-admitted_on at to w (Some state) None e = let same : Some state ≡ Some to = cc in (same, refl)
+use Rattle.vtext.specs.Readings.{Reading}
+use Rattle.vtext.specs.Sound.{AreGoodWords, IsGoodNumber, IsGoodWord, IsSoundGate, IsSoundModule}
+use Rattle.vtext.specs.Turns.{Walk}
+use Rattle.vtext.specs.Walks.{Leads, first_word, start, word_at}
+use Rattle.vtext.proofs.FreshLemmas.{IsSettled}
+use Rattle.vtext.proofs.SoundReadings.{Stands, StandsAfter}
+use Rattle.vtext.proofs.SoundSteps.{turn_stands}
 
 module _ (default : Option ℕ) (names : List (List ℕ)) where
-  turn_kept : (from to : Walk) (p : Placed) (after : Option Word) → Turns default names from p after to → IsGoodWord names p.word
-      → Kept names from.state (Some p.word) from.so_far → Kept names to.state after to.so_far
-  turn_kept from to p after turn good h =
-      let found = cause default names from.so_far from.state p.word after in
-      let on = admitted_on from.state to.state p.word (step from.state p.word) found turn.admitted in
-      let now : Reading = noted default names from.so_far from.state p in
-      let led = step_kept default names from.so_far after from.state p.start p.word on.1 good h in
-      let there : Kept names to.state after now = subst (λ (o : Option ParserState). KeptAt names o after now) on.0 led in
-      subst (λ (r : Reading). Kept names to.state after r) (sym turn.so_far) there
-
-  walk_kept : (words : List Placed) (from to : Walk) → AreGoodWords names words → Leads default names from words None to
-      → Kept names from.state (first_word words None) from.so_far → Kept names to.state None to.so_far
-  walk_kept [] from to good e h = subst (λ (w : Walk). Kept names w.state None w.so_far) e h
-  walk_kept (p ∷ words) from to good leads h =
+  walk_stands : (words : List Placed) (left : ℕ) (from to : Walk) (after : Option Word) → AreGoodWords names words
+      → Stands names (length words + left) from (first_word words after) → Leads default names from words after to → Stands names left to after
+  walk_stands [] left from to after good stands leads =
+      let none : length {A = Placed} [] + left ≡ left = omega arith in
+      subst (λ (w : Walk). Stands names left w after) leads (subst (λ (n : ℕ). Stands names n from after) none stands)
+  walk_stands (p ∷ words) left from to after good stands leads =
       let Q : Placed → Type 0 = λ q. IsGoodWord names q.word in
-      walk_kept words leads.0 to (All-tail Q p words good) leads.2
-      (turn_kept from leads.0 p (first_word words None) leads.1 (All-head Q p words good) h)
+      let room : ℕ = length words + left in
+      let next : Option Word = first_word words after in
+      let more : length (p ∷ words) + left ≡ suc room = omega arith in
+      let here : Stands names (suc room) from (Some p.word) = subst (λ (n : ℕ). Stands names n from (Some p.word)) more stands in
+      let led = turn_stands names room next from.so_far default from.state p (All-head Q p words good) here.0 here.1 in
+      let there : Stands names room leads.0 next = subst (λ (t : Result Walk Cause). StandsAfter names room t next) leads.1 led in
+      walk_stands words left leads.0 to after (All-tail Q p words good) there leads.2
 
-  nothing_read : Kept names Outside None unread
-  nothing_read = (
+  begun : (room : ℕ) (next : Option Word) → room < 2 ^ 64 → Stands names room start next
+  begun room next small = (
     record {
-      finished = All-nil (IsNearlySound names);
+      finished = All-nil (IsSoundModule names);
       named = All-nil (λ (net : ℕ × Net). IsGoodNumber names net.0);
       apart = tt;
       fitting = All-nil (IsSoundGate names []);
+      names_apart = record {
+        apart = λ i j d low high. absurd (omega arith);
+        settled = All-nil (IsSettled names [] 0);
+        few = omega arith;
+        short = omega arith;
+      };
     },
     refl,
   )
 
-  pub nearly_sound : (words : List Placed) (last : Reading) → AreGoodWords names words
-      → Leads default names start words None (record { state = Outside; so_far = last }) → All (IsNearlySound names) last.modules
-  nearly_sound words last good leads = (walk_kept words start (record { state = Outside; so_far = last }) good leads nothing_read).0.finished
+  -- the length has a bound since a number of more than 64 digits is written by its last 64
+  pub all_sound : (words : List Placed) (last : Reading) → length words < 2 ^ 64 → AreGoodWords names words
+      → Leads default names start words None (record { state = Outside; so_far = last }) → All (IsSoundModule names) last.modules
+  all_sound words last small good leads =
+      (walk_stands words 0 start (record { state = Outside; so_far = last }) None good (begun (length words + 0) (first_word words None) (omega arith)) leads).0.finished
+
+  -- a word is left, so there is room for one unnamed instance more
+  pub room_left : (words : List Placed) (i : ℕ) (now : Walk) → i < length words → length words < 2 ^ 64 → AreGoodWords names words
+      → Leads default names start (take i words) (word_at words i) now → now.so_far.unnamed < 2 ^ 64 - 1
+  room_left words i now within small good leads =
+      let left : ℕ = length words - i in
+      let read : List Placed = take i words in
+      let size : length read ≡ min i (length words) = length-take i words in
+      let fits : length read + left < 2 ^ 64 = omega (arith, size, within, small) in
+      let stands = walk_stands read left start now (word_at words i) (All-take (λ (p : Placed). IsGoodWord names p.word) i words good)
+      (begun (length read + left) (first_word read (word_at words i)) fits) leads in
+      omega (arith, stands.0.names_apart.few, within)

@@ -13,11 +13,11 @@ use Rattle.vtext.specs.declared.parser_state.ParserState.TheVariants.{Outside}
 use Rattle.vtext.specs.declared.word.Word.TheVariants.{Module}
 use Rattle.vtext.specs.declared.word.Placed.{Placed}
 use Rattle.vtext.specs.Modules.{ModuleList}
-use Rattle.vtext.specs.Notes.{noted}
 use Rattle.vtext.specs.ReadFaults.{kind_of, too_long}
 use Rattle.vtext.specs.Readings.{Reading}
 use Rattle.vtext.specs.Reads.{IsFirstFault, Says, start_of}
-use Rattle.vtext.specs.Walks.{IsFault, Leads, Walk, judge, start, word_at}
+use Rattle.vtext.specs.Turns.{Walk, turn}
+use Rattle.vtext.specs.Walks.{IsFault, Leads, start, word_at}
 use Rattle.vtext.specs.Words.{names_of, words_of}
 use Rattle.vtext.proofs.WalkLemmas.{ended, refused_at, refused_end, turned}
 
@@ -45,10 +45,8 @@ module _ (default : Option ℕ) (names : List (List ℕ)) (words : List Placed) 
       let d : Placed = record { word = Module; start = 0 } in
       let p : Placed = get_or words k d in
       let within : k < length words = omega arith in
-      elim (ok_or_err (judge default names now p.word (word_at words (k + 1)))) [
-        | inl ok ↦
-            let next : Walk = record { state = ok.0; so_far = noted default names now.so_far now.state p } in
-            decided_from n (k + 1) next (omega arith) (turned default names words k d (word_at words (k + 1)) now next within leads refl ok.1 refl)
+      elim (ok_or_err (turn default names now.so_far now.state p (word_at words (k + 1)))) [
+        | inl ok ↦ decided_from n (k + 1) ok.0 (omega arith) (turned default names words k d (word_at words (k + 1)) now ok.0 within leads refl ok.1)
         | inr refused ↦ inr (k, (refused.0, refused_at default names words k d (word_at words (k + 1)) now refused.0 within leads refl refused.1))
       ]
 

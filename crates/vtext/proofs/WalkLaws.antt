@@ -7,12 +7,11 @@ use Rattle.std.specs.List.{slice_get}
 use Rattle.std.specs.Option.{MatchOption, option_map}
 use Rattle.vtext.specs.declared.cause.Cause.{Cause}
 use Rattle.vtext.specs.declared.cause.Cause.TheVariants.{Syntax}
-use Rattle.vtext.specs.declared.parser_state.ParserState.{ParserState}
 use Rattle.vtext.specs.declared.parser_state.ParserState.TheVariants.{Outside}
 use Rattle.vtext.specs.declared.word.Word.{Word}
 use Rattle.vtext.specs.declared.word.Placed.{Placed}
-use Rattle.vtext.specs.Readings.{Reading}
-use Rattle.vtext.specs.Walks.{IsFault, Leads, Turns, Walk, first_word, judge, start, word_at}
+use Rattle.vtext.specs.Turns.{Walk, turn}
+use Rattle.vtext.specs.Walks.{IsFault, Leads, first_word, start, word_at}
 
 ok_same : {A B : Type 0} (r : Result A B) (a b : A) → r ≡ Ok a → r ≡ Ok b → a ≡ b
 ok_same r a b p q = cc
@@ -23,20 +22,13 @@ err_same r a b p q = cc
 never_both : {A B : Type 0} (r : Result A B) (a : A) (b : B) → r ≡ Ok a → r ≡ Err b → ⊥
 never_both r a b p q = cc
 
-same_walk : (a b : Walk) → a.state ≡ b.state → a.so_far ≡ b.so_far → a ≡ b
-same_walk a b p s = ap (λ (state : ParserState). record a { state = state }) p ∙ ap (λ (so_far : Reading). record b { so_far = so_far }) s
-
-one_turn : (default : Option ℕ) (names : List (List ℕ)) (from : Walk) (p : Placed) (after : Option Word) (a b : Walk)
-    → Turns default names from p after a → Turns default names from p after b → a ≡ b
-one_turn default names from p after a b s t =
-    same_walk a b (ok_same (judge default names from p.word after) a.state b.state s.admitted t.admitted) (s.so_far ∙ sym t.so_far)
-
 pub one_walk : (default : Option ℕ) (names : List (List ℕ)) (words : List Placed) (from : Walk) (after : Option Word) (a b : Walk)
     → Leads default names from words after a → Leads default names from words after b → a ≡ b
 one_walk default names [] from after a b s t = sym s ∙ t
 one_walk default names (p ∷ words) from after a b s t =
     let P : Walk → Type 0 = λ next. Leads default names next words after b in
-    one_walk default names words s.0 after a b s.2 (subst P (sym (one_turn default names from p (first_word words after) s.0 t.0 s.1 t.1)) t.2)
+    let same : s.0 ≡ t.0 = ok_same (turn default names from.so_far from.state p (first_word words after)) s.0 t.0 s.1 t.1 in
+    one_walk default names words s.0 after a b s.2 (subst P (sym same) t.2)
 
 -- the first of some words, which is followed by the next one, is the first of all
 first_taken : (words : List Placed) (k : ℕ) → first_word (take k words) (word_at words k) ≡ word_at words 0
@@ -49,14 +41,14 @@ first_taken (p ∷ words) (suc k) = refl
 passed : (default : Option ℕ) (names : List (List ℕ)) (words : List Placed) (from to : Walk) (k j : ℕ) → k < j → j ≤ length words
     → Leads default names from (take j words) (word_at words j) to
     → (middle : Walk) × Leads default names from (take k words) (word_at words k) middle
-    × ((p : Placed) × (slice_get words k ≡ Some p) × ((next : Walk) × Turns default names middle p (word_at words (suc k)) next))
+    × ((p : Placed) × (slice_get words k ≡ Some p) × ((next : Walk) × (turn default names middle.so_far middle.state p (word_at words (suc k)) ≡ Ok next)))
 passed default names [] from to k j less within leads = absurd (omega arith)
 passed default names (p ∷ words) from to k zero less within leads = absurd (omega arith)
 passed default names (p ∷ words) from to zero (suc j) less within leads =
-    let P : Option Word → Type 0 = λ first. Turns default names from p first leads.0 in
+    let P : Option Word → Type 0 = λ first. turn default names from.so_far from.state p first ≡ Ok leads.0 in
     (from, refl, (p, refl, (leads.0, subst P (first_taken words j) leads.1)))
 passed default names (p ∷ words) from to (suc k) (suc j) less within leads =
-    let P : Option Word → Type 0 = λ first. Turns default names from p first leads.0 in
+    let P : Option Word → Type 0 = λ first. turn default names from.so_far from.state p first ≡ Ok leads.0 in
     let rest = passed default names words leads.0 to k j (omega arith) (omega arith) leads.2 in
     (rest.0, (leads.0, subst P (first_taken words j ∙ sym (first_taken words k)) leads.1, rest.1), rest.2)
 
@@ -67,21 +59,21 @@ no_fault_before default names words to k j why less within leads fault =
     let there = passed default names words start to k j less within leads in
     let p = there.2.0 in
     let same : fault.before ≡ there.0 = one_walk default names (take k words) start (word_at words k) fault.before there.0 fault.leads there.1 in
-    let P : Option Placed → Type 0 = λ q. MatchOption q ((fault.before.state ≢ Outside) × (why ≡ Syntax)) (λ r. judge default names fault.before r.word (word_at words (k + 1)) ≡ Err why) in
-    let refused : judge default names fault.before p.word (word_at words (k + 1)) ≡ Err why = subst P there.2.1 fault.refused in
-    let Q : Walk → ℕ → Type 0 = λ walk next. judge default names walk p.word (word_at words next) ≡ Err why in
-    let here : judge default names there.0 p.word (word_at words (suc k)) ≡ Err why = subst (λ (next : ℕ). Q there.0 next) (add-one k) (subst (λ (walk : Walk). Q walk (k + 1)) same refused) in
-    never_both (judge default names there.0 p.word (word_at words (suc k))) there.2.2.0.state why there.2.2.1.admitted here
+    let P : Option Placed → Type 0 = λ q. MatchOption q ((fault.before.state ≢ Outside) × (why ≡ Syntax)) (λ r. turn default names fault.before.so_far fault.before.state r (word_at words (k + 1)) ≡ Err why) in
+    let refused : turn default names fault.before.so_far fault.before.state p (word_at words (k + 1)) ≡ Err why = subst P there.2.1 fault.refused in
+    let Q : Walk → ℕ → Type 0 = λ walk next. turn default names walk.so_far walk.state p (word_at words next) ≡ Err why in
+    let here : turn default names there.0.so_far there.0.state p (word_at words (suc k)) ≡ Err why = subst (λ (next : ℕ). Q there.0 next) (add-one k) (subst (λ (walk : Walk). Q walk (k + 1)) same refused) in
+    never_both (turn default names there.0.so_far there.0.state p (word_at words (suc k))) there.2.2.0 why there.2.2.1 here
 
 -- what refuses a word has one cause
 one_cause : (default : Option ℕ) (names : List (List ℕ)) (word : Option Placed) (after : Option Word) (a b : Walk) (why because : Cause) → a ≡ b
-    → MatchOption word ((a.state ≢ Outside) × (why ≡ Syntax)) (λ p. judge default names a p.word after ≡ Err why)
-    → MatchOption word ((b.state ≢ Outside) × (because ≡ Syntax)) (λ p. judge default names b p.word after ≡ Err because)
+    → MatchOption word ((a.state ≢ Outside) × (why ≡ Syntax)) (λ p. turn default names a.so_far a.state p after ≡ Err why)
+    → MatchOption word ((b.state ≢ Outside) × (because ≡ Syntax)) (λ p. turn default names b.so_far b.state p after ≡ Err because)
     → why ≡ because
 one_cause default names None after a b why because same s t = s.1 ∙ sym t.1
 one_cause default names (Some p) after a b why because same s t =
-    let P : Walk → Type 0 = λ walk. judge default names walk p.word after ≡ Err because in
-    err_same (judge default names a p.word after) why because s (subst P (sym same) t)
+    let P : Walk → Type 0 = λ walk. turn default names walk.so_far walk.state p after ≡ Err because in
+    err_same (turn default names a.so_far a.state p after) why because s (subst P (sym same) t)
 
 same_place : (default : Option ℕ) (names : List (List ℕ)) (words : List Placed) (j : ℕ) (why because : Cause)
     → IsFault default names words j why → IsFault default names words j because → why ≡ because
@@ -115,6 +107,6 @@ no_fault default names words to k why outside leads fault =
       | inl less ↦ no_fault_before default names words to k (length words) why less (omega arith) (at_end default names words to (length words) (omega arith) leads) fault
       | inr past ↦
           let same : fault.before ≡ to = one_walk default names (take k words) start (word_at words k) fault.before to fault.leads (at_end default names words to k past leads) in
-          let P : Option Placed → Type 0 = λ q. MatchOption q ((fault.before.state ≢ Outside) × (why ≡ Syntax)) (λ r. judge default names fault.before r.word (word_at words (k + 1)) ≡ Err why) in
+          let P : Option Placed → Type 0 = λ q. MatchOption q ((fault.before.state ≢ Outside) × (why ≡ Syntax)) (λ r. turn default names fault.before.so_far fault.before.state r (word_at words (k + 1)) ≡ Err why) in
           (subst P (slice_get_past words k past) fault.refused).0 (ap (λ (walk : Walk). walk.state) same ∙ outside)
     ]

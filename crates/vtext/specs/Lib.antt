@@ -1,6 +1,5 @@
 pub mod Causes
 pub mod GateNames
-pub mod Grammar
 pub mod Instances
 pub mod Keywords
 pub mod Modules
@@ -11,6 +10,7 @@ pub mod ReadFaults
 pub mod Readings
 pub mod Reads
 pub mod Trees
+pub mod Turns
 pub mod Walks
 pub mod Sound
 pub mod Words

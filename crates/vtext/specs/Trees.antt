@@ -1,7 +1,19 @@
--- The grammar by its productions: the parts of a module as trees, the words that write each of them, and what each of them says
--- (IEEE 1364-2005, 7.1, 12.1, 12.3). Names are numbers of the table.
-use Rattle.std.specs.Prelude.{◌≡◌, true, false, ℕ, List, [], ◌∷◌, ◌++◌, Option, Some, None, fold, unwrap_or}
-use Rattle.std.specs.List.{list_any}
+-- The grammar of structural Verilog (IEEE 1364-2005, annex A, of which this is a part; own) by its lines: the parts of a text as
+-- trees, the words that write each of them, and what each of them says (7.1, 12.1, 12.3). Names are numbers of the table. Braces
+-- mean any number of times.
+--
+--   text     : { timescale | module }
+--   module   : "module" NAME optional( "(" optional(ports) ")" ) ";" { item } "endmodule"
+--   ports    : NAME { "," NAME }                                   older form
+--            | decl { "," decl | "," NAME }                        inline form
+--   decl     : direction optional(net kind) NAME
+--   item     : direction optional(net kind) NAME { "," NAME } ";"
+--            | net kind NAME { "," NAME } ";"
+--            | gate kind optional(delay) instance { "," instance } ";"
+--   delay    : "#" NUMBER | "#" "(" NUMBER optional("," NUMBER) ")"
+--   instance : optional(NAME) "(" terminal { "," terminal } ")"
+--   terminal : NAME | CONSTANT
+use Rattle.std.specs.Prelude.{◌≡◌, true, ℕ, List, [], ◌∷◌, ◌++◌, Option, Some, None, fold, unwrap_or}
 use Rattle.fourstate.specs.Delays.{delay_times, uniform_delays}
 use Rattle.fourstate.specs.declared.delay_times.DelayTimes.{DelayTimes}
 use Rattle.fourstate.specs.declared.gate.GateKind.{GateKind}
@@ -12,11 +24,9 @@ use Rattle.vtext.specs.declared.gate.Terminal.TheVariants.{Net, Constant}
 use Rattle.vtext.specs.declared.word.Direction.{Direction}
 use Rattle.vtext.specs.declared.word.Word.{Word}
 use Rattle.vtext.specs.declared.word.Word.TheVariants.{Module, Endmodule, PortWord, NetWord, GateWord, Name, Number, Literal, Open, Close, Comma, Semicolon, Hash, Timescale}
-use Rattle.vtext.specs.Causes.{completed_cause, default_fault, delay_fault, instance_cause, net_cause, port_cause, header_cause}
-use Rattle.vtext.specs.GateNames.{with_taken}
+use Rattle.vtext.specs.Causes.{completed_cause, default_cause, delay_cause, direction_cause, end_cause, header_cause, instance_cause, net_cause, port_cause}
 use Rattle.vtext.specs.Instances.{completed}
-use Rattle.vtext.specs.Notes.{declare_net, declare_port, direct_port, finished, list_port, use_net}
-use Rattle.vtext.specs.Nets.{is_undirected}
+use Rattle.vtext.specs.Notes.{declare_net, declare_port, direct_port, finished, list_port, name_instance, use_net}
 use Rattle.vtext.specs.Readings.{Reading, unread}
 
 -- Trees.
@@ -146,7 +156,7 @@ after_terminal r (Constant value) = record r { terminals = r.terminals ++ Consta
 
 abbrev pub after_name : Reading → Option ℕ → Reading
 after_name r None = record r { instance = None }
-after_name r (Some n) = record r { instance = Some n; taken = with_taken r.taken n }
+after_name r (Some n) = name_instance r n
 
 abbrev pub after_terminals : Reading → Instance → Reading
 after_terminals r instance = fold after_terminal (after_name r instance.name) (instance.first ∷ instance.more)
@@ -173,14 +183,14 @@ AreAdmitted after P r [] = Unit {0}
 AreAdmitted after P r (n ∷ names) = P r n × AreAdmitted after P (after r n) names
 
 abbrev pub IsDelayAdmitted : Option ℕ → Delay → Type 0
-IsDelayAdmitted default no_delay = default_fault default ≡ None
-IsDelayAdmitted default (one_delay d) = delay_fault d ≡ None
-IsDelayAdmitted default (enclosed_delay d) = delay_fault d ≡ None
-IsDelayAdmitted default (two_delays r f) = (delay_fault r ≡ None) × (delay_fault f ≡ None)
+IsDelayAdmitted default no_delay = default_cause default ≡ None
+IsDelayAdmitted default (one_delay d) = delay_cause d ≡ None
+IsDelayAdmitted default (enclosed_delay d) = delay_cause d ≡ None
+IsDelayAdmitted default (two_delays r f) = (delay_cause r ≡ None) × (delay_cause f ≡ None)
 
 abbrev pub IsNameAdmitted : Reading → Option ℕ → Type 0
 IsNameAdmitted r None = Unit {0}
-IsNameAdmitted r (Some n) = instance_cause r (Name n) ≡ None
+IsNameAdmitted r (Some n) = instance_cause r n ≡ None
 
 abbrev pub IsInstanceAdmitted : List (List ℕ) → Reading → Instance → Type 0
 IsInstanceAdmitted table r instance = IsNameAdmitted r instance.name × (completed_cause table (after_terminals r instance) ≡ None)
@@ -191,9 +201,9 @@ AreInstancesAdmitted table r (instance ∷ instances) = IsInstanceAdmitted table
 
 abbrev pub IsItemAdmitted : Option ℕ → List (List ℕ) → Reading → Item → Type 0
 IsItemAdmitted default table r (port_item direction kind n names) =
-    (r.inline ≡ false) × AreAdmitted direct_port (λ now name. port_cause now (Name name) ≡ None) (record r { direction = direction; kind = kind }) (n ∷ names)
+    (direction_cause r ≡ None) × AreAdmitted direct_port (λ now name. port_cause now name ≡ None) (record r { direction = direction; kind = kind }) (n ∷ names)
 IsItemAdmitted default table r (net_item kind n names) =
-    AreAdmitted declare_net (λ now name. net_cause now (Name name) ≡ None) (record r { kind = Some kind }) (n ∷ names)
+    AreAdmitted declare_net (λ now name. net_cause now name ≡ None) (record r { kind = Some kind }) (n ∷ names)
 IsItemAdmitted default table r (gate_item kind delay instance instances) =
     IsDelayAdmitted default delay × AreInstancesAdmitted table (after_gate default r kind delay) (instance ∷ instances)
 
@@ -202,11 +212,11 @@ AreItemsAdmitted default table r [] = Unit {0}
 AreItemsAdmitted default table r (item ∷ items) = IsItemAdmitted default table r item × AreItemsAdmitted default table (after_item default table r item) items
 
 abbrev pub IsDeclAdmitted : Reading → Decl → Type 0
-IsDeclAdmitted r decl = header_cause r (Name decl.name) ≡ None
+IsDeclAdmitted r decl = header_cause r decl.name ≡ None
 
 abbrev pub IsPortAdmitted : Reading → Port → Type 0
 IsPortAdmitted r (declared decl) = IsDeclAdmitted r decl
-IsPortAdmitted r (bare n) = header_cause r (Name n) ≡ None
+IsPortAdmitted r (bare n) = header_cause r n ≡ None
 
 abbrev pub ArePortsAdmitted : Reading → List Port → Type 0
 ArePortsAdmitted r [] = Unit {0}
@@ -215,7 +225,7 @@ ArePortsAdmitted r (port ∷ ports) = IsPortAdmitted r port × ArePortsAdmitted 
 abbrev pub IsHeaderAdmitted : Reading → Header → Type 0
 IsHeaderAdmitted r no_ports = Unit {0}
 IsHeaderAdmitted r empty_ports = Unit {0}
-IsHeaderAdmitted r (older_ports n names) = AreAdmitted list_port (λ now name. header_cause now (Name name) ≡ None) r (n ∷ names)
+IsHeaderAdmitted r (older_ports n names) = AreAdmitted list_port (λ now name. header_cause now name ≡ None) r (n ∷ names)
 IsHeaderAdmitted r (inline_ports decl ports) = IsDeclAdmitted r decl × ArePortsAdmitted (after_decl (record r { inline = true }) decl) ports
 
 -- A module that is the whole text, its word `module` beginning at this place.
@@ -230,7 +240,7 @@ after_module default table start name header items = finished (after_body defaul
 pub record IsModuleAdmitted (default : Option ℕ) (table : List (List ℕ)) (start name : ℕ) (header : Header) (items : List Item) : Type 0 where
   pub header_admitted : IsHeaderAdmitted (record unread { start = start; name = name }) header
   pub items_admitted : AreItemsAdmitted default table (after_header (record unread { start = start; name = name }) header) items
-  pub directed : list_any (λ net. is_undirected net.1) (after_body default table start name header items).nets ≡ false
+  pub directed : end_cause (after_body default table start name header items) ≡ None
 
 -- Texts: directives and modules in any order.
 

@@ -3,18 +3,41 @@
 ghost use Rattle.std.specs.Prelude.{◌≡◌, ◌<◌, ◌-◌, ◌^◌, IfOk};
 ghost use Rattle.std.specs.List.{list_any};
 ghost use Rattle.vtext.specs.Nets.{is_undirected};
-ghost use Rattle.vtext.specs.Causes.{cause, completed_cause, declared_again, default_fault, delay_cause, delay_fault, directed_again, gate_cause, header_cause, instance_cause, is_hash, item_cause, name_cause, net_cause, outside_cause, port_cause, terminal_end_cause, when};
+ghost use Rattle.vtext.specs.Causes.{completed_cause, declared_again, default_cause, delay_cause, directed_again, direction_cause, end_cause, gate_cause, header_cause, instance_cause, is_hash, item_misfit, misfit, module_cause, net_cause, port_cause, when};
 ghost use Rattle.vtext.specs.Readings.{view};
 
 use crate::cause::Cause;
 use crate::draft::Draft;
 use crate::names::Names;
 use crate::net::Net;
-use crate::parser_state::ParserState;
 use crate::terminals::{is_arity_wrong, is_constant_driven, split};
 use crate::word::Word;
 use fourstate::{MAX_DELAY, NetKind};
 use std::alloc::{AllocError, Global};
+
+/// Why a word is refused that can't stand.
+pub fn misfit(word: Word) -> Cause
+    ensures { result ≡ misfit word }
+{
+    match word {
+        Word::Stray => Cause::Byte,
+        Word::Module => Cause::Unsupported,
+        Word::OpenBracket => Cause::Unsupported,
+        Word::Refused => Cause::Unsupported,
+        _ => Cause::Syntax,
+    }
+}
+
+/// Why a word is refused that can't begin an item.
+pub fn item_misfit(word: Word) -> Cause
+    ensures { result ≡ item_misfit word }
+{
+    match word {
+        Word::Name(_) => Cause::Unsupported,
+        Word::Misnamed => Cause::Unsupported,
+        other => misfit(other),
+    }
+}
 
 fn when(holds: bool, cause: Cause) -> Option<Cause>
     ensures { result ≡ when holds cause }
@@ -22,17 +45,9 @@ fn when(holds: bool, cause: Cause) -> Option<Cause>
     if holds { Some(cause) } else { None }
 }
 
-fn name_cause(word: Word) -> Option<Cause>
-    ensures { result ≡ name_cause word }
-{
-    match word {
-        Word::Misnamed => Some(Cause::BadName),
-        _ => None,
-    }
-}
-
-fn delay_fault(time: u32) -> Option<Cause>
-    ensures { result ≡ delay_fault time }
+/// Why a delay is refused.
+pub fn delay_cause(time: u32) -> Option<Cause>
+    ensures { result ≡ delay_cause time }
 {
     if time == 0 {
         Some(Cause::ZeroDelay)
@@ -41,20 +56,11 @@ fn delay_fault(time: u32) -> Option<Cause>
     }
 }
 
-fn delay_cause(word: Word) -> Option<Cause>
-    ensures { result ≡ delay_cause word }
-{
-    match word {
-        Word::Number(time) => delay_fault(time),
-        _ => None,
-    }
-}
-
-fn default_fault(default: Option<u32>) -> Option<Cause>
-    ensures { result ≡ default_fault default }
+fn default_cause(default: Option<u32>) -> Option<Cause>
+    ensures { result ≡ default_cause default }
 {
     match default {
-        Some(time) => delay_fault(time),
+        Some(time) => delay_cause(time),
         None => Some(Cause::ZeroDelay),
     }
 }
@@ -68,13 +74,14 @@ fn is_hash(next: Option<Word>) -> bool
     }
 }
 
-fn gate_cause(default: Option<u32>, next: Option<Word>) -> Option<Cause>
+/// Why the word of a gate kind is refused, which is followed by this one.
+pub fn gate_cause(default: Option<u32>, next: Option<Word>) -> Option<Cause>
     ensures { result ≡ gate_cause default next }
 {
     if is_hash(next) {
         None
     } else {
-        default_fault(default)
+        default_cause(default)
     }
 }
 
@@ -101,140 +108,80 @@ fn any_undirected(nets: &[Net]) -> bool
 }
 
 impl Draft {
-    fn outside_cause(&self, word: Word) -> Option<Cause>
-        ensures { result ≡ outside_cause (view self.now) word }
+    /// Why a further module is refused.
+    pub fn module_cause(&self) -> Option<Cause>
+        ensures { result ≡ module_cause (view self.now) }
     {
-        match word {
-            Word::Module => when(0 < self.modules.len(), Cause::Unsupported),
-            _ => None,
-        }
+        when(0 < self.modules.len(), Cause::Unsupported)
     }
 
-    fn header_cause(&self, word: Word) -> Option<Cause>
-        ensures { result ≡ header_cause (view self.now) word }
+    /// Why a header refuses the name of a port.
+    pub fn header_cause(&self, name: u32) -> Option<Cause>
+        ensures { result ≡ header_cause (view self.now) name }
     {
-        match word {
-            Word::Misnamed => Some(Cause::BadName),
-            Word::Name(name) => when(self.net(name).is_some(), Cause::DuplicateName),
-            _ => None,
-        }
+        when(self.net(name).is_some(), Cause::DuplicateName)
+    }
+
+    /// Why no item may begin with a direction.
+    pub fn direction_cause(&self) -> Option<Cause>
+        ensures { result ≡ direction_cause (view self.now) }
+    {
+        when(self.module.inline, Cause::Syntax)
     }
 
     #[tactic(auto, using(crate::proofs::NameLemmas::any_mapped))]
     fn has_undirected(&self) -> bool
         ensures { result ≡ list_any (λ net. is_undirected net.1) (view self.now).nets }
     {
-        any_undirected(self.nets.values().as_slice())
+        any_undirected(self.module.nets.values().as_slice())
     }
 
-    fn item_cause(&self, default: Option<u32>, word: Word, next: Option<Word>) -> Option<Cause>
-        ensures { result ≡ item_cause default (view self.now) word next }
+    /// Why the module may not end.
+    pub fn end_cause(&self) -> Option<Cause>
+        ensures { result ≡ end_cause (view self.now) }
     {
-        match word {
-            Word::PortWord(_) => when(self.inline, Cause::Syntax),
-            Word::GateWord(_) => gate_cause(default, next),
-            Word::Endmodule => when(self.has_undirected(), Cause::Syntax),
-            _ => None,
+        when(self.has_undirected(), Cause::Syntax)
+    }
+
+    /// Why a port declaration refuses a name.
+    pub fn port_cause(&self, name: u32) -> Option<Cause>
+        ensures { result ≡ port_cause (view self.now) name }
+    {
+        match self.net(name) {
+            Some(net) => directed_again(self.declaration.kind, net),
+            None => Some(Cause::Syntax),
         }
     }
 
-    fn port_cause(&self, word: Word) -> Option<Cause>
-        ensures { result ≡ port_cause (view self.now) word }
+    /// Why a net declaration refuses a name.
+    pub fn net_cause(&self, name: u32) -> Option<Cause>
+        ensures { result ≡ net_cause (view self.now) name }
     {
-        match word {
-            Word::Misnamed => Some(Cause::Syntax),
-            Word::Name(name) => match self.net(name) {
-                Some(net) => directed_again(self.kind, net),
-                None => Some(Cause::Syntax),
-            },
-            _ => None,
-        }
+        declared_again(self.net(name)?)
     }
 
-    fn net_cause(&self, word: Word) -> Option<Cause>
-        ensures { result ≡ net_cause (view self.now) word }
+    /// Why a gate instance may not have a name.
+    pub fn instance_cause(&self, name: u32) -> Option<Cause>
+        ensures { result ≡ instance_cause (view self.now) name }
     {
-        match word {
-            Word::Misnamed => Some(Cause::BadName),
-            Word::Name(name) => declared_again(self.net(name)?),
-            _ => None,
-        }
+        when(self.is_taken(name), Cause::DuplicateName)
     }
 
-    fn instance_cause(&self, word: Word) -> Option<Cause>
-        ensures { result ≡ instance_cause (view self.now) word }
-    {
-        match word {
-            Word::Misnamed => Some(Cause::BadName),
-            Word::Name(name) => when(self.is_taken(name), Cause::DuplicateName),
-            _ => None,
-        }
-    }
-
-    fn completed_cause(&self, alloc: Global, names: &Names) -> Result<Option<Cause>, AllocError>
+    /// Why the gate instance may not end.
+    pub fn completed_cause(&self, alloc: Global, names: &Names) -> Result<Option<Cause>, AllocError>
         requires { (view self.now).unnamed < 2 ^ 64 - 1 }
         ensures { IfOk result (λ cause. cause ≡ completed_cause names.now (view self.now)) }
     {
-        let terminals = self.terminals.as_slice();
-        if is_arity_wrong(self.gate, terminals) {
+        let kind = self.item.kind;
+        let terminals = self.instance.terminals.as_slice();
+        if is_arity_wrong(kind, terminals) {
             return Ok(Some(Cause::WrongArity));
         }
-        if is_constant_driven(self.gate, terminals) {
+        if is_constant_driven(kind, terminals) {
             return Ok(Some(Cause::PortKind));
         }
-        let (outputs, _) = split(self.gate, terminals);
+        let (outputs, _) = split(kind, terminals);
         let taken = self.is_made_taken(alloc, names, self.instance_name(), outputs.len())?;
         Ok(when(taken, Cause::DuplicateName))
-    }
-
-    fn terminal_end_cause(
-        &self,
-        alloc: Global,
-        names: &Names,
-        word: Word,
-    ) -> Result<Option<Cause>, AllocError>
-        requires { (view self.now).unnamed < 2 ^ 64 - 1 }
-        ensures { IfOk result (λ cause. cause ≡ terminal_end_cause names.now (view self.now) word) }
-    {
-        match word {
-            Word::Close => self.completed_cause(alloc, names),
-            _ => Ok(None),
-        }
-    }
-
-    /// Why a word is refused that the grammar admits in this state; `next` is the word after it.
-    pub fn cause(
-        &self,
-        alloc: Global,
-        default: Option<u32>,
-        names: &Names,
-        state: ParserState,
-        word: Word,
-        next: Option<Word>,
-    ) -> Result<Option<Cause>, AllocError>
-        requires { (view self.now).unnamed < 2 ^ 64 - 1 }
-        ensures { IfOk result (λ found. found ≡ cause default names.now (view self.now) state word next) }
-    {
-        match state {
-            ParserState::Outside => Ok(self.outside_cause(word)),
-            ParserState::ModuleName => Ok(name_cause(word)),
-            ParserState::Header => Ok(self.header_cause(word)),
-            ParserState::OlderName => Ok(self.header_cause(word)),
-            ParserState::InlineStart => Ok(self.header_cause(word)),
-            ParserState::InlineName => Ok(self.header_cause(word)),
-            ParserState::InlineMore => Ok(self.header_cause(word)),
-            ParserState::Items => Ok(self.item_cause(default, word, next)),
-            ParserState::PortStart => Ok(self.port_cause(word)),
-            ParserState::PortName => Ok(self.port_cause(word)),
-            ParserState::NetName => Ok(self.net_cause(word)),
-            ParserState::GateStart => Ok(self.instance_cause(word)),
-            ParserState::Delay => Ok(delay_cause(word)),
-            ParserState::RiseDelay => Ok(delay_cause(word)),
-            ParserState::FallDelay => Ok(delay_cause(word)),
-            ParserState::InstanceStart => Ok(self.instance_cause(word)),
-            ParserState::TerminalStart => Ok(name_cause(word)),
-            ParserState::TerminalEnd => self.terminal_end_cause(alloc, names, word),
-            _ => Ok(None),
-        }
     }
 }

@@ -1,8 +1,9 @@
 //! What has been read of a text so far.
 
-ghost use Rattle.std.specs.Prelude.{◌≡◌, OnOk};
+ghost use Rattle.std.specs.Prelude.{◌≡◌, [], false, OnOk};
 ghost use Rattle.vtext.specs.Nets.{net_of, with_net};
 ghost use Rattle.vtext.specs.GateNames.{is_taken, with_taken};
+ghost use Rattle.vtext.specs.Notes.{finished};
 ghost use Rattle.vtext.specs.Readings.{unread, view};
 
 use crate::gate::{Gate, Terminal};
@@ -12,15 +13,24 @@ use crate::word::Direction;
 use fourstate::{DelayTimes, GateKind, NetKind, TimeUnit};
 use indexmap::{IndexMap, IndexSet};
 use std::alloc::{AllocError, Global};
+use std::mem;
 
-/// What has been read of a text so far: the finished modules, the module that is being read, and what the item that is
-/// being read has said.
+/// What has been read of a text so far: the finished modules, and of each part of the grammar the one that is being read.
 #[derive(Drop)]
 pub struct Draft {
     /// The unit of the directives.
     pub unit: Option<TimeUnit>,
     pub modules: Vec<Module>,
-    /// Where the module begins that is being read.
+    pub module: ModuleDraft,
+    pub declaration: Declaration,
+    pub item: GateItem,
+    pub instance: InstanceDraft,
+}
+
+/// The module that is being read.
+#[derive(Drop)]
+pub struct ModuleDraft {
+    /// Where it begins.
     pub start: u32,
     pub name: u32,
     /// Whether its header is of the inline form.
@@ -31,16 +41,50 @@ pub struct Draft {
     pub taken: IndexSet<u32>,
     /// How many of its gate instances are unnamed.
     pub unnamed: u64,
-    /// The direction of the declaration that is being read.
+}
+
+/// The declaration that is being read: its direction, and the net kind that it writes.
+#[derive(Clone, Copy, Debug)]
+pub struct Declaration {
     pub direction: Direction,
-    /// The net kind that it writes.
     pub kind: Option<NetKind>,
-    /// The kind of the gate item that is being read.
-    pub gate: GateKind,
+}
+
+/// The gate item that is being read.
+#[derive(Clone, Copy, Debug)]
+pub struct GateItem {
+    pub kind: GateKind,
     pub delays: DelayTimes,
-    /// The name of the gate instance that is being read.
-    pub instance: Option<u32>,
+}
+
+/// The gate instance that is being read: its name, if it has one, and the terminals so far.
+#[derive(Drop)]
+pub struct InstanceDraft {
+    pub name: Option<u32>,
     pub terminals: Vec<Terminal>,
+}
+
+impl ModuleDraft {
+    /// Nothing was read of a module.
+    pub fn new(alloc: Global) -> ModuleDraft
+        ensures start { result.start ≡ 0 }
+        ensures name { result.name ≡ 0 }
+        ensures inline { result.inline ≡ false }
+        ensures nets { result.nets.entries ≡ [] }
+        ensures gates { result.gates.items ≡ [] }
+        ensures taken { result.taken.keys ≡ [] }
+        ensures unnamed { result.unnamed ≡ 0 }
+    {
+        ModuleDraft {
+            start: 0,
+            name: 0,
+            inline: false,
+            nets: IndexMap::new(alloc),
+            gates: Vec::new(alloc),
+            taken: IndexSet::new(alloc),
+            unnamed: 0,
+        }
+    }
 }
 
 impl Draft {
@@ -51,19 +95,19 @@ impl Draft {
         Draft {
             unit: None,
             modules: Vec::new(alloc),
-            start: 0,
-            name: 0,
-            inline: false,
-            nets: IndexMap::new(alloc),
-            gates: Vec::new(alloc),
-            taken: IndexSet::new(alloc),
-            unnamed: 0,
-            direction: Direction::Input,
-            kind: None,
-            gate: GateKind::And,
-            delays: DelayTimes::uniform(0),
-            instance: None,
-            terminals: Vec::new(alloc),
+            module: ModuleDraft::new(alloc),
+            declaration: Declaration {
+                direction: Direction::Input,
+                kind: None,
+            },
+            item: GateItem {
+                kind: GateKind::And,
+                delays: DelayTimes::uniform(0),
+            },
+            instance: InstanceDraft {
+                name: None,
+                terminals: Vec::new(alloc),
+            },
         }
     }
 
@@ -71,14 +115,14 @@ impl Draft {
     pub fn net(&self, name: u32) -> Option<Net>
         ensures { result ≡ net_of (view self.now).nets name }
     {
-        self.nets.get(&name).copied()
+        self.module.nets.get(&name).copied()
     }
 
     /// Says this of a net.
     pub fn set_net(&mut self, name: u32, net: Net) -> Result<(), AllocError>
         ensures { OnOk result (view self.new ≡ record (view self.old) { nets = with_net (view self.old).nets name net }) }
     {
-        self.nets.insert(name, net)?;
+        self.module.nets.insert(name, net)?;
         Ok(())
     }
 
@@ -86,14 +130,29 @@ impl Draft {
     pub fn is_taken(&self, name: u32) -> bool
         ensures { result ≡ is_taken (view self.now).taken name }
     {
-        self.taken.contains(&name)
+        self.module.taken.contains(&name)
     }
 
     /// Takes a name for a gate or an instance.
     pub fn take_name(&mut self, name: u32) -> Result<(), AllocError>
         ensures { OnOk result (view self.new ≡ record (view self.old) { taken = with_taken (view self.old).taken name }) }
     {
-        self.taken.insert(name)?;
+        self.module.taken.insert(name)?;
+        Ok(())
+    }
+
+    /// The module that is being read is finished.
+    pub fn finish(&mut self, alloc: Global) -> Result<(), AllocError>
+        ensures { OnOk result (view self.new ≡ finished (view self.old)) }
+    {
+        let ModuleDraft {
+            start,
+            name,
+            nets,
+            gates,
+            ..
+        } = mem::replace(&mut self.module, ModuleDraft::new(alloc));
+        self.modules.push(Module::new(start, name, nets, gates))?;
         Ok(())
     }
 }

@@ -2,6 +2,7 @@
 
 ghost use Rattle.std.specs.Prelude.{◌≡◌, ◌<◌, ◌-◌, ◌^◌, ◌++◌, [], ◌∷◌, IfOk, OnOk};
 ghost use Rattle.vtext.specs.Instances.{completed, gate_of, gates_of, instance_name, is_made_taken, is_own_taken, part_gates, with_made_taken, with_own_taken};
+ghost use Rattle.vtext.specs.Notes.{name_instance};
 ghost use Rattle.vtext.specs.Readings.{view};
 
 use crate::draft::Draft;
@@ -19,9 +20,9 @@ impl Draft {
         requires { (view self.now).unnamed < 2 ^ 64 - 1 }
         ensures { result ≡ instance_name (view self.now) }
     {
-        match self.instance {
+        match self.instance.name {
             Some(name) => InstanceName::Written(name),
-            None => InstanceName::Unnamed(self.unnamed + 1),
+            None => InstanceName::Unnamed(self.module.unnamed + 1),
         }
     }
 
@@ -107,8 +108,15 @@ impl Draft {
         ensures { OnOk result (view self.new ≡ record (view self.old) { gates = (view self.old).gates ++ gate_of (view self.old) instance part inputs.now output ∷ [] }) }
     {
         let inputs = SmallVec::from_slice(alloc, inputs)?;
-        let gate = Gate::new(self.gate, self.delays, instance, part, output.net(), inputs);
-        self.gates.push(gate)?;
+        let gate = Gate::new(
+            self.item.kind,
+            self.item.delays,
+            instance,
+            part,
+            output.net(),
+            inputs,
+        );
+        self.module.gates.push(gate)?;
         Ok(())
     }
 
@@ -142,21 +150,30 @@ impl Draft {
         }
     }
 
+    /// A gate instance is written with this name.
+    pub fn name_instance(&mut self, name: u32) -> Result<(), AllocError>
+        ensures { OnOk result (view self.new ≡ name_instance (view self.old) name) }
+    {
+        self.take_name(name)?;
+        self.instance.name = Some(name);
+        Ok(())
+    }
+
     /// The instance is complete.
     pub fn complete(&mut self, alloc: Global, names: &Names) -> Result<(), AllocError>
         requires { (view self.old).unnamed < 2 ^ 64 - 1 }
         ensures { OnOk result (view self.new ≡ completed names.now (view self.old)) }
     {
         let instance = self.instance_name();
-        let mut terminals = mem::replace(&mut self.terminals, Vec::new(alloc));
-        let (outputs, inputs) = split(self.gate, terminals.as_slice());
+        let mut terminals = mem::replace(&mut self.instance.terminals, Vec::new(alloc));
+        let (outputs, inputs) = split(self.item.kind, terminals.as_slice());
         self.add_gates(alloc, instance, inputs, outputs)?;
         self.take_made(alloc, names, instance, outputs.len())?;
-        if self.instance.is_none() {
-            self.unnamed += 1;
+        if self.instance.name.is_none() {
+            self.module.unnamed += 1;
         }
         terminals.clear();
-        self.terminals = terminals;
+        self.instance.terminals = terminals;
         Ok(())
     }
 }

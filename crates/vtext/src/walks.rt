@@ -1,15 +1,16 @@
 //! The first pass over the words of a text.
 
-ghost use Rattle.std.specs.Prelude.{◌≡◌, ◌<◌, ◌-◌, ◌^◌, None, IfErr, IfOk};
+ghost use Rattle.std.specs.Prelude.{◌≡◌, None, IfErr, IfOk};
 ghost use Rattle.vtext.specs.declared.parser_state.ParserState.TheVariants.{Outside};
 ghost use Rattle.vtext.specs.Readings.{view};
-ghost use Rattle.vtext.specs.Walks.{IsRefusal, Leads, judge, start, word_at};
+ghost use Rattle.vtext.specs.Sound.{AreGoodWords};
+ghost use Rattle.vtext.specs.Walks.{IsRefusal, Leads, start, word_at};
 
 use crate::cause::Cause;
 use crate::draft::Draft;
 use crate::names::Names;
 use crate::parser_state::ParserState;
-use crate::steps::{misfit, step};
+use crate::turn::Turn;
 use crate::word::{Placed, Word};
 use std::alloc::{AllocError, Global};
 
@@ -42,28 +43,6 @@ fn word_at(words: &[Placed], place: usize) -> Option<Word>
     }
 }
 
-/// Where a word leads, or why it is refused.
-fn judge(
-    alloc: Global,
-    default: Option<u32>,
-    names: &Names,
-    draft: &Draft,
-    state: ParserState,
-    word: Word,
-    after: Option<Word>,
-) -> Result<Result<ParserState, Cause>, AllocError>
-    requires { (view draft.now).unnamed < 2 ^ 64 - 1 }
-    ensures { IfOk result (λ found. found ≡ judge default names.now (record { state = state; so_far = view draft.now }) word after) }
-{
-    let Some(to) = step(state, word) else {
-        return Ok(Err(misfit(state, word)));
-    };
-    match draft.cause(alloc, default, names, state, word, after)? {
-        Some(cause) => Ok(Err(cause)),
-        None => Ok(Ok(to)),
-    }
-}
-
 /// What a list of words says, or its first fault.
 pub fn walk(
     alloc: Global,
@@ -71,20 +50,17 @@ pub fn walk(
     names: &Names,
     words: &[Placed],
 ) -> Result<Draft, Refusal>
+    requires good { AreGoodWords names.now words.now }
     ensures text { IfOk result (λ draft. Leads default names.now start words.now None (record { state = Outside; so_far = view draft })) }
     ensures fault { IfErr result (IsRefusal default names.now words.now) }
 {
     let mut draft = Draft::new(alloc);
     let mut state = ParserState::Outside;
     for i in 0..words.len() {
-        let next = words[i];
         let after = word_at(words, i + 1);
-        match judge(alloc, default, names, &draft, state, next.word, after)? {
-            Ok(to) => {
-                draft.note(alloc, default, names, state, next)?;
-                state = to;
-            }
-            Err(cause) => return Err(Refusal::Fault(i, cause)),
+        match draft.turn(alloc, default, names, state, words[i], after)? {
+            Turn::To(to) => state = to,
+            Turn::Refused(cause) => return Err(Refusal::Fault(i, cause)),
         }
     }
     match state {

@@ -1,7 +1,14 @@
 use Rattle.std.proofs.Common.{inr}
 use Rattle.vtext.specs.Readings.{view}
-use Rattle.vtext.proofs.ReadLemmas.{refused, says}
+use Rattle.vtext.proofs.ReadLemmas.{refused, said_good, says}
 use Rattle.vtext.proofs.read.modules.Goals as goal
+
+pub walk-requires : goal.walk-requires
+walk-requires c = record {
+  good =
+      said_good c.args.text.now c.in_ok-tokens.tokens.items c.as_slice.result.now c.in_ok-names.names c.in_ok-names.words.items c.as_slice-2.result.now
+      c.in_ok-tokens.ensures.spells c.as_slice.ensures.value c.in_ok-names.ensures.names c.in_ok-names.ensures.words c.as_slice-2.ensures.value;
+}
 
 pub returns-in-Ok-clause-list : goal.returns-in-Ok-clause-list
 returns-in-Ok-clause-list c =

@@ -7,7 +7,7 @@ use Rattle.vtext.proofs.draft.Draft.note_use.Goals as goal
 
 pub returns-then-is_used : goal.returns-then-is_used
 returns-then-is_used c =
-    let nets : List (ℕ × Net) = c.args.self.now.nets.entries in
+    let nets : List (ℕ × Net) = c.args.self.now.«module».nets.entries in
     let again : is_used (unwrap_or (net_of nets c.args.name) blank) ≡ true
     = ap is_used (sym (c.unwrap_or-net.ensures ∙ ap (λ (found : Option Net). unwrap_or found blank) c.net.ensures)) ∙ sym c.if-is_used.ensures in
     ap (λ (list : List (ℕ × Net)). record (view c.args.self.now) { nets = list }) (sym (use_again nets c.args.name again))

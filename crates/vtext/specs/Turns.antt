@@ -1,0 +1,203 @@
+-- What each state of the parser does with a word: where it leads, and what has been read then, or why it is refused. The grammar
+-- itself is in Trees.antt.
+use Rattle.std.specs.Prelude.{◌≡◌, true, ℕ, List, [], ◌∷◌, ◌++◌, Option, Some, None, unwrap_or, Result, Ok, Err}
+use Rattle.fourstate.specs.Delays.{uniform_delays, with_fall}
+use Rattle.vtext.specs.declared.cause.Cause.{Cause}
+use Rattle.vtext.specs.declared.cause.Cause.TheVariants.{BadName}
+use Rattle.vtext.specs.declared.gate.Terminal.TheVariants.{Constant}
+use Rattle.vtext.specs.declared.parser_state.ParserState.{ParserState}
+use Rattle.vtext.specs.declared.parser_state.ParserState.TheVariants as state
+use Rattle.vtext.specs.declared.turn.Turn.{Turn}
+use Rattle.vtext.specs.declared.turn.Turn.TheVariants.{To, Refused}
+use Rattle.vtext.specs.declared.word.Word.{Word}
+use Rattle.vtext.specs.declared.word.Word.TheVariants.{Module, Endmodule, PortWord, NetWord, GateWord, Name, Misnamed, Number, Literal, Open, Close, Comma, Semicolon, Hash, Timescale}
+use Rattle.vtext.specs.declared.word.Placed.{Placed}
+use Rattle.vtext.specs.Causes.{completed_cause, delay_cause, direction_cause, end_cause, gate_cause, header_cause, instance_cause, item_misfit, misfit, module_cause, net_cause, port_cause}
+use Rattle.vtext.specs.Instances.{completed}
+use Rattle.vtext.specs.Notes.{declare_net, declare_port, direct_port, finished, list_port, name_instance, use_net}
+use Rattle.vtext.specs.Readings.{Reading}
+
+-- where a walk stands, and what has been read
+pub record Walk : Type 0 where
+  pub state : ParserState
+  pub so_far : Reading
+
+abbrev pub goes : ParserState → Reading → Result Walk Cause
+goes to r = Ok (record { state = to; so_far = r })
+
+-- a word is refused where a cause holds
+abbrev pub unless : Option Cause → Result Walk Cause → Result Walk Cause
+unless None goes_on = goes_on
+unless (Some why) goes_on = Err why
+
+-- what a turn of the code is, with what has been read after it
+abbrev pub IsTurn : Turn → Reading → Result Walk Cause → Type 0
+IsTurn (To state) r turn = turn ≡ goes state r
+IsTurn (Refused why) r turn = turn ≡ Err why
+
+-- Modules.
+
+abbrev pub outside : Reading → ℕ → Word → Result Walk Cause
+outside r start (Timescale unit) = goes state.Outside (record r { unit = Some unit })
+outside r start Module = unless (module_cause r) (goes state.ModuleName (record r { start = start }))
+outside r start word = Err (misfit word)
+
+abbrev pub module_name : Reading → Word → Result Walk Cause
+module_name r (Name n) = goes state.ModuleHead (record r { name = n })
+module_name r Misnamed = Err BadName
+module_name r word = Err (misfit word)
+
+abbrev pub module_head : Reading → Word → Result Walk Cause
+module_head r Open = goes state.Header r
+module_head r Semicolon = goes state.Items r
+module_head r word = Err (misfit word)
+
+-- Headers.
+
+abbrev pub older_name : Reading → Word → Result Walk Cause
+older_name r (Name n) = unless (header_cause r n) (goes state.OlderNext (list_port r n))
+older_name r Misnamed = Err BadName
+older_name r word = Err (misfit word)
+
+abbrev pub header : Reading → Word → Result Walk Cause
+header r (PortWord direction) = goes state.InlineStart (record r { inline = true; direction = direction; kind = None })
+header r Close = goes state.HeaderEnd r
+header r word = older_name r word
+
+abbrev pub older_next : Reading → Word → Result Walk Cause
+older_next r Comma = goes state.OlderName r
+older_next r Close = goes state.HeaderEnd r
+older_next r word = Err (misfit word)
+
+abbrev pub inline_name : Reading → Word → Result Walk Cause
+inline_name r (Name n) = unless (header_cause r n) (goes state.InlineNext (declare_port r n))
+inline_name r Misnamed = Err BadName
+inline_name r word = Err (misfit word)
+
+abbrev pub inline_start : Reading → Word → Result Walk Cause
+inline_start r (NetWord kind) = goes state.InlineName (record r { kind = Some kind })
+inline_start r word = inline_name r word
+
+abbrev pub inline_next : Reading → Word → Result Walk Cause
+inline_next r Comma = goes state.InlineMore r
+inline_next r Close = goes state.HeaderEnd r
+inline_next r word = Err (misfit word)
+
+abbrev pub inline_more : Reading → Word → Result Walk Cause
+inline_more r (PortWord direction) = goes state.InlineStart (record r { direction = direction; kind = None })
+inline_more r word = inline_name r word
+
+abbrev pub header_end : Reading → Word → Result Walk Cause
+header_end r Semicolon = goes state.Items r
+header_end r word = Err (misfit word)
+
+-- Items.
+
+-- without a delay of its own a gate has the default one
+abbrev pub items : Option ℕ → Reading → Word → Option Word → Result Walk Cause
+items default r (PortWord direction) after = unless (direction_cause r) (goes state.PortStart (record r { direction = direction; kind = None }))
+items default r (NetWord kind) after = goes state.NetName (record r { kind = Some kind })
+items default r (GateWord kind) after =
+    unless (gate_cause default after) (goes state.GateStart (record r { gate = kind; delays = uniform_delays (unwrap_or default 0) }))
+items default r Endmodule after = unless (end_cause r) (goes state.Outside (finished r))
+items default r word after = Err (item_misfit word)
+
+-- another one of a list, or its end
+abbrev pub list_next : ParserState → Reading → Word → Result Walk Cause
+list_next more r Comma = goes more r
+list_next more r Semicolon = goes state.Items r
+list_next more r word = Err (misfit word)
+
+abbrev pub port_name : Reading → Word → Result Walk Cause
+port_name r (Name n) = unless (port_cause r n) (goes state.PortNext (direct_port r n))
+port_name r word = Err (misfit word)
+
+abbrev pub port_start : Reading → Word → Result Walk Cause
+port_start r (NetWord kind) = goes state.PortName (record r { kind = Some kind })
+port_start r word = port_name r word
+
+abbrev pub net_name : Reading → Word → Result Walk Cause
+net_name r (Name n) = unless (net_cause r n) (goes state.NetNext (declare_net r n))
+net_name r Misnamed = Err BadName
+net_name r word = Err (misfit word)
+
+-- Gates.
+
+abbrev pub instance_start : Reading → Word → Result Walk Cause
+instance_start r (Name n) = unless (instance_cause r n) (goes state.InstanceOpen (name_instance r n))
+instance_start r Misnamed = Err BadName
+instance_start r Open = goes state.TerminalStart (record r { instance = None })
+instance_start r word = Err (misfit word)
+
+abbrev pub gate_start : Reading → Word → Result Walk Cause
+gate_start r Hash = goes state.Delay r
+gate_start r word = instance_start r word
+
+-- the first number of a delay, and the second one too where none follows
+abbrev pub rise_delay : ParserState → Reading → Word → Result Walk Cause
+rise_delay to r (Number n) = unless (delay_cause n) (goes to (record r { delays = uniform_delays n }))
+rise_delay to r word = Err (misfit word)
+
+abbrev pub delay : Reading → Word → Result Walk Cause
+delay r Open = goes state.RiseDelay r
+delay r word = rise_delay state.InstanceStart r word
+
+abbrev pub rise_end : Reading → Word → Result Walk Cause
+rise_end r Comma = goes state.FallDelay r
+rise_end r Close = goes state.InstanceStart r
+rise_end r word = Err (misfit word)
+
+abbrev pub fall_delay : Reading → Word → Result Walk Cause
+fall_delay r (Number n) = unless (delay_cause n) (goes state.FallEnd (record r { delays = with_fall r.delays n }))
+fall_delay r word = Err (misfit word)
+
+abbrev pub fall_end : Reading → Word → Result Walk Cause
+fall_end r Close = goes state.InstanceStart r
+fall_end r word = Err (misfit word)
+
+abbrev pub instance_open : Reading → Word → Result Walk Cause
+instance_open r Open = goes state.TerminalStart r
+instance_open r word = Err (misfit word)
+
+abbrev pub terminal_start : Reading → Word → Result Walk Cause
+terminal_start r (Name n) = goes state.TerminalEnd (use_net r n)
+terminal_start r Misnamed = Err BadName
+terminal_start r (Literal value) = goes state.TerminalEnd (record r { terminals = r.terminals ++ Constant value ∷ [] })
+terminal_start r word = Err (misfit word)
+
+abbrev pub terminal_end : List (List ℕ) → Reading → Word → Result Walk Cause
+terminal_end names r Comma = goes state.TerminalStart r
+terminal_end names r Close = unless (completed_cause names r) (goes state.InstanceEnd (completed names r))
+terminal_end names r word = Err (misfit word)
+
+-- A word in any state. `default` is the delay of a gate item without one, `names` the table of names, and `after` the word after it,
+-- which is looked at where a delay may follow.
+abbrev pub turn : Option ℕ → List (List ℕ) → Reading → ParserState → Placed → Option Word → Result Walk Cause
+turn default names r state.Outside next after = outside r next.start next.word
+turn default names r state.ModuleName next after = module_name r next.word
+turn default names r state.ModuleHead next after = module_head r next.word
+turn default names r state.Header next after = header r next.word
+turn default names r state.OlderNext next after = older_next r next.word
+turn default names r state.OlderName next after = older_name r next.word
+turn default names r state.InlineStart next after = inline_start r next.word
+turn default names r state.InlineName next after = inline_name r next.word
+turn default names r state.InlineNext next after = inline_next r next.word
+turn default names r state.InlineMore next after = inline_more r next.word
+turn default names r state.HeaderEnd next after = header_end r next.word
+turn default names r state.Items next after = items default r next.word after
+turn default names r state.PortStart next after = port_start r next.word
+turn default names r state.PortName next after = port_name r next.word
+turn default names r state.PortNext next after = list_next state.PortName r next.word
+turn default names r state.NetName next after = net_name r next.word
+turn default names r state.NetNext next after = list_next state.NetName r next.word
+turn default names r state.GateStart next after = gate_start r next.word
+turn default names r state.Delay next after = delay r next.word
+turn default names r state.RiseDelay next after = rise_delay state.RiseEnd r next.word
+turn default names r state.RiseEnd next after = rise_end r next.word
+turn default names r state.FallDelay next after = fall_delay r next.word
+turn default names r state.FallEnd next after = fall_end r next.word
+turn default names r state.InstanceStart next after = instance_start r next.word
+turn default names r state.InstanceOpen next after = instance_open r next.word
+turn default names r state.TerminalStart next after = terminal_start r next.word
+turn default names r state.TerminalEnd next after = terminal_end names r next.word
+turn default names r state.InstanceEnd next after = list_next state.InstanceStart r next.word

@@ -1,0 +1,163 @@
+//! What gate items do with a word, in each state of the parser.
+
+ghost use Rattle.std.specs.Prelude.{◌<◌, ◌-◌, ◌^◌, IfOk};
+ghost use Rattle.vtext.specs.Readings.{view};
+ghost use Rattle.vtext.specs.Turns.{IsTurn, delay, fall_delay, fall_end, gate_start, instance_open, instance_start, rise_delay, rise_end, terminal_end, terminal_start};
+
+use crate::cause::Cause;
+use crate::causes::{delay_cause, misfit};
+use crate::draft::Draft;
+use crate::gate::Terminal;
+use crate::names::Names;
+use crate::parser_state::ParserState;
+use crate::turn::Turn;
+use crate::word::Word;
+use fourstate::DelayTimes;
+use std::alloc::{AllocError, Global};
+
+impl Draft {
+    /// Behind the word of a gate kind.
+    pub fn gate_start(&mut self, word: Word) -> Result<Turn, AllocError>
+        ensures { IfOk result (λ turn. IsTurn turn (view self.new) (gate_start (view self.old) word)) }
+    {
+        match word {
+            Word::Hash => Ok(Turn::To(ParserState::Delay)),
+            other => self.instance_start(other),
+        }
+    }
+
+    /// Behind `#`.
+    pub fn delay(&mut self, word: Word) -> Turn
+        ensures { IsTurn result (view self.new) (delay (view self.old) word) }
+    {
+        match word {
+            Word::Open => Turn::To(ParserState::RiseDelay),
+            other => self.rise_delay(ParserState::InstanceStart, other),
+        }
+    }
+
+    /// Where the first number of a delay is wanted.
+    pub fn rise_delay(&mut self, to: ParserState, word: Word) -> Turn
+        ensures { IsTurn result (view self.new) (rise_delay to (view self.old) word) }
+    {
+        match word {
+            Word::Number(time) => {
+                if let Some(cause) = delay_cause(time) {
+                    return Turn::Refused(cause);
+                }
+                self.item.delays = DelayTimes::uniform(u64::from(time));
+                Turn::To(to)
+            }
+            other => Turn::Refused(misfit(other)),
+        }
+    }
+
+    /// Behind the first number of a delay in parentheses.
+    pub fn rise_end(&self, word: Word) -> Turn
+        ensures { IsTurn result (view self.now) (rise_end (view self.now) word) }
+    {
+        match word {
+            Word::Comma => Turn::To(ParserState::FallDelay),
+            Word::Close => Turn::To(ParserState::InstanceStart),
+            other => Turn::Refused(misfit(other)),
+        }
+    }
+
+    /// Behind the comma of a delay.
+    pub fn fall_delay(&mut self, word: Word) -> Turn
+        ensures { IsTurn result (view self.new) (fall_delay (view self.old) word) }
+    {
+        match word {
+            Word::Number(time) => {
+                if let Some(cause) = delay_cause(time) {
+                    return Turn::Refused(cause);
+                }
+                self.item.delays = self.item.delays.with_fall(u64::from(time));
+                Turn::To(ParserState::FallEnd)
+            }
+            other => Turn::Refused(misfit(other)),
+        }
+    }
+
+    /// Behind the second number of a delay.
+    pub fn fall_end(&self, word: Word) -> Turn
+        ensures { IsTurn result (view self.now) (fall_end (view self.now) word) }
+    {
+        match word {
+            Word::Close => Turn::To(ParserState::InstanceStart),
+            other => Turn::Refused(misfit(other)),
+        }
+    }
+
+    /// Where a gate instance begins.
+    pub fn instance_start(&mut self, word: Word) -> Result<Turn, AllocError>
+        ensures { IfOk result (λ turn. IsTurn turn (view self.new) (instance_start (view self.old) word)) }
+    {
+        match word {
+            Word::Name(name) => {
+                if let Some(cause) = self.instance_cause(name) {
+                    return Ok(Turn::Refused(cause));
+                }
+                self.name_instance(name)?;
+                Ok(Turn::To(ParserState::InstanceOpen))
+            }
+            Word::Misnamed => Ok(Turn::Refused(Cause::BadName)),
+            Word::Open => {
+                self.instance.name = None;
+                Ok(Turn::To(ParserState::TerminalStart))
+            }
+            other => Ok(Turn::Refused(misfit(other))),
+        }
+    }
+
+    /// Behind the name of a gate instance.
+    pub fn instance_open(&self, word: Word) -> Turn
+        ensures { IsTurn result (view self.now) (instance_open (view self.now) word) }
+    {
+        match word {
+            Word::Open => Turn::To(ParserState::TerminalStart),
+            other => Turn::Refused(misfit(other)),
+        }
+    }
+
+    /// Where a terminal is wanted.
+    pub fn terminal_start(&mut self, word: Word) -> Result<Turn, AllocError>
+        ensures { IfOk result (λ turn. IsTurn turn (view self.new) (terminal_start (view self.old) word)) }
+    {
+        match word {
+            Word::Name(name) => {
+                self.use_net(name)?;
+                Ok(Turn::To(ParserState::TerminalEnd))
+            }
+            Word::Misnamed => Ok(Turn::Refused(Cause::BadName)),
+            Word::Literal(value) => {
+                self.instance.terminals.push(Terminal::Constant(value))?;
+                Ok(Turn::To(ParserState::TerminalEnd))
+            }
+            other => Ok(Turn::Refused(misfit(other))),
+        }
+    }
+
+    /// Behind a terminal.
+    pub fn terminal_end(
+        &mut self,
+        alloc: Global,
+        names: &Names,
+        word: Word,
+    ) -> Result<Turn, AllocError>
+        requires { (view self.old).unnamed < 2 ^ 64 - 1 }
+        ensures { IfOk result (λ turn. IsTurn turn (view self.new) (terminal_end names.now (view self.old) word)) }
+    {
+        match word {
+            Word::Comma => Ok(Turn::To(ParserState::TerminalStart)),
+            Word::Close => {
+                if let Some(cause) = self.completed_cause(alloc, names)? {
+                    return Ok(Turn::Refused(cause));
+                }
+                self.complete(alloc, names)?;
+                Ok(Turn::To(ParserState::InstanceEnd))
+            }
+            other => Ok(Turn::Refused(misfit(other))),
+        }
+    }
+}

@@ -1,0 +1,60 @@
+//! One word more, in any state of the parser.
+
+ghost use Rattle.std.specs.Prelude.{◌<◌, ◌-◌, ◌^◌, IfOk};
+ghost use Rattle.vtext.specs.Readings.{view};
+ghost use Rattle.vtext.specs.Turns.{IsTurn, turn};
+
+use crate::draft::Draft;
+use crate::names::Names;
+use crate::parser_state::ParserState;
+use crate::turn::Turn;
+use crate::word::{Placed, Word};
+use std::alloc::{AllocError, Global};
+
+impl Draft {
+    /// Reads one word more in a state of the parser; `after` is the word after it.
+    pub fn turn(
+        &mut self,
+        alloc: Global,
+        default: Option<u32>,
+        names: &Names,
+        state: ParserState,
+        next: Placed,
+        after: Option<Word>,
+    ) -> Result<Turn, AllocError>
+        requires { (view self.old).unnamed < 2 ^ 64 - 1 }
+        ensures { IfOk result (λ made. IsTurn made (view self.new) (turn default names.now (view self.old) state next after)) }
+    {
+        let word = next.word;
+        match state {
+            ParserState::Outside => Ok(self.outside(next.start, word)),
+            ParserState::ModuleName => Ok(self.module_name(word)),
+            ParserState::ModuleHead => Ok(self.module_head(word)),
+            ParserState::Header => self.header(word),
+            ParserState::OlderNext => Ok(self.older_next(word)),
+            ParserState::OlderName => self.older_name(word),
+            ParserState::InlineStart => self.inline_start(word),
+            ParserState::InlineName => self.inline_name(word),
+            ParserState::InlineNext => Ok(self.inline_next(word)),
+            ParserState::InlineMore => self.inline_more(word),
+            ParserState::HeaderEnd => Ok(self.header_end(word)),
+            ParserState::Items => self.items(alloc, default, word, after),
+            ParserState::PortStart => self.port_start(word),
+            ParserState::PortName => self.port_name(word),
+            ParserState::PortNext => Ok(self.list_next(ParserState::PortName, word)),
+            ParserState::NetName => self.net_name(word),
+            ParserState::NetNext => Ok(self.list_next(ParserState::NetName, word)),
+            ParserState::GateStart => self.gate_start(word),
+            ParserState::Delay => Ok(self.delay(word)),
+            ParserState::RiseDelay => Ok(self.rise_delay(ParserState::RiseEnd, word)),
+            ParserState::RiseEnd => Ok(self.rise_end(word)),
+            ParserState::FallDelay => Ok(self.fall_delay(word)),
+            ParserState::FallEnd => Ok(self.fall_end(word)),
+            ParserState::InstanceStart => self.instance_start(word),
+            ParserState::InstanceOpen => Ok(self.instance_open(word)),
+            ParserState::TerminalStart => self.terminal_start(word),
+            ParserState::TerminalEnd => self.terminal_end(alloc, names, word),
+            ParserState::InstanceEnd => Ok(self.list_next(ParserState::InstanceStart, word)),
+        }
+    }
+}
