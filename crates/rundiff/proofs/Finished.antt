@@ -20,7 +20,8 @@ use Rattle.waveform.specs.Tables.{line_at}
 use Rattle.waveform.specs.Timelines.{changes_below}
 use Rattle.scratch.specs.Run.{state_after, trace_of, value, wave_of}
 use Rattle.rundiff.specs.Finishing.{AreCleared, ArePut, new_trace, new_wave}
-use Rattle.rundiff.specs.Fronts.{AreDrivers, AreTouched, IsFront, held_in, live_in, named_state}
+use Rattle.rundiff.specs.Fronts.{AreDrivers, AreTouched, IsFront, live_in, named_state}
+use Rattle.rundiff.specs.PlaceMaps.{kept_at}
 use Rattle.rundiff.specs.Kept.{IsSameNet, read_at}
 use Rattle.rundiff.specs.Places.{blank_gate, blank_net, gate_at, is_among, is_live, net_at}
 use Rattle.rundiff.specs.declared.front.Front.{Front}
@@ -69,7 +70,8 @@ module _ (answer : Evaluation → ℕ → State) (old new : Keyed) (old_is : IsD
     (places_law : (key : ℕ) → IsSome (net_by_key new key) → position_from (λ n. same_name n.name (name_of new.nets key)) 0 (netlist new).nets ≡ place_of new.nets key)
     (same_end : (netlist new).horizon ≡ (netlist old).horizon) (front : Front) (right : IsFront answer (netlist old) (netlist new) front (suc (netlist new).horizon))
     (nets gates places : List ℕ) (touched : IsTouched old new nets gates) (are : AreTouched new nets gates places)
-    (live held : ℕ → Bool) (drivers : AreDrivers (netlist new) live held) (more : (p : ℕ) → live_in front p ≡ true → live p ≡ true) (covers : (p : ℕ) → is_among places p ≡ true → live p ≡ true) where
+    (live held : ℕ → Bool) (drivers : AreDrivers (netlist new) live held) (more : (p : ℕ) → live_in front p ≡ true → live p ≡ true) (covers : (p : ℕ) → is_among places p ≡ true → live p ≡ true)
+    (no_waves : (p : ℕ) → p < length (netlist new).nets → live p ≡ false → kept_at front.waves p ≡ None) (no_traces : (q : ℕ) → q < length (netlist new).gates → held q ≡ false → kept_at front.traces q ≡ None) where
   not_before : (p : ℕ) → live p ≡ false → live_in front p ≡ false
   not_before p off =
       elim (live_in front p) as (λ b. live_in front p ≡ b → b ≡ false) [
@@ -89,7 +91,7 @@ module _ (answer : Evaluation → ℕ → State) (old new : Keyed) (old_is : IsD
       ap (λ (h : ℕ). wave_changes_below (value answer (netlist old) x) (suc h)) (sym same_end)
       ∙ law (value answer (netlist old) x) f end
       (λ t within.
-      sym (keeps_none same_value standing f g end _ (right.other_waves p free) (right.waves p low) t within
+      sym (keeps_none same_value standing f g end _ (no_waves p low off) (right.waves p low) t within
       ∙ ap (λ (o : Option NetEntry). option_map_or (λ n. value answer (netlist old) n t) o Unknown) same.net))
 
   -- a gate that is not held has the trace of the old run
@@ -97,14 +99,13 @@ module _ (answer : Evaluation → ℕ → State) (old new : Keyed) (old_is : IsD
   trace_same law p low off =
       let x = gate_at (netlist new) p in
       let dead : is_live (netlist new) (live_in front) x.output ≡ false = off_shrinks (netlist new) (live_in front) live more x.output (sym (drivers.drivers p low) ∙ off) in
-      let free : held_in front p ≡ false = right.drivers.drivers p low ∙ dead in
       let f : ℕ → State = state_after answer (netlist new) x in
       let g : ℕ → State = named_state answer (netlist old) x.name in
       let end : ℕ = suc (netlist new).horizon in
       ap (λ (h : ℕ). trace_below (state_after answer (netlist old) x) (suc h)) (sym same_end)
       ∙ law (state_after answer (netlist old) x) f end
       (λ t within.
-      sym (keeps_none same_state due f g end _ (right.other_traces p free) (right.traces p low) t within
+      sym (keeps_none same_state due f g end _ (no_traces p low off) (right.traces p low) t within
       ∙ ap (λ (o : Option GateEntry). option_map_or (λ h. state_after answer (netlist old) h t) o initial) (known_gate (netlist old) old_is x (right.closed.gates p blank_gate low dead))))
 
   module _ (law : SameChanges same_value standing) (run copy made : List (Option (List (ℕ × Value)))) (stored : (key : ℕ) → line_at run key ≡ option_map (wave_of answer (netlist old)) (net_by_key old key))

@@ -1,9 +1,8 @@
 -- What a front keeps is right as it is after moments at which nothing happens to what is live.
-use Rattle.std.proofs.Common.{◌≡◌, ℕ, zero, suc, ◌<◌, ◌≤◌, ◌∙◌, ap, sym, refl, subst, Bool, true, false, not, length, Option, Some, None, inr, arith, ⊎_elim}
+use Rattle.std.proofs.Common.{◌≡◌, ℕ, zero, suc, ◌<◌, ◌≤◌, ◌∙◌, ap, sym, refl, subst, Bool, true, false, not, length, Option, Some, None, inl, inr, arith, ⊎_elim}
 use Rattle.rundiff.specs.PlaceMaps.{kept_at}
 use Rattle.std.specs.Option.{option_map_or}
 use Rattle.std.specs.Prelude.{◌&&◌}
-use Rattle.std.proofs.lemmas.Bool.{cases_lt}
 use Rattle.event_queue.specs.Noted.{noted}
 use Rattle.fourstate.specs.declared.value.Value.{Value}
 use Rattle.fourstate.specs.Values.{same_value}
@@ -21,23 +20,22 @@ use Rattle.waveform.specs.Timelines.{changes_below, is_change}
 use Rattle.scratch.specs.Run.{state_after, state_before, value}
 use Rattle.rundiff.specs.Dirty.{rework_below}
 use Rattle.rundiff.specs.Noting.{IsNoted, pends, wants_gate, wants_net}
-use Rattle.rundiff.specs.Fronts.{IsFront, IsOwn, held_in, live_in, named_state}
+use Rattle.rundiff.specs.Fronts.{IsFree, IsFront, IsOwn, held_in, live_in, named_state}
 use Rattle.rundiff.specs.Places.{blank_gate, blank_net, gate_at, is_live, net_at}
 use Rattle.rundiff.specs.Kept.{IsClear, read_at}
 use Rattle.rundiff.specs.declared.front.Front.{Front}
 use Rattle.rundiff.proofs.ByPlace.{live_at}
 use Rattle.rundiff.proofs.Known.{known_gate}
 use Rattle.rundiff.proofs.Noted.{NoneBefore, later_announced}
-use Rattle.rundiff.proofs.OldLines.{NoChange, keeps_none}
+use Rattle.rundiff.proofs.OldLines.{NoChange}
+use Rattle.rundiff.proofs.Resting.{along_free, along_last, along_more, free_to}
 use Rattle.rundiff.proofs.Skipping.{Jumped, jump}
 use Rattle.rundiff.proofs.Still.{both, none_due}
 use Rattle.rundiff.proofs.Wired.{inputs_there}
 
--- without a patch, both functions go on alike
-none_on : {A : Type 0} (same : A → A → Bool) (drift : A → ℕ → A) (f g : ℕ → A) (r l : ℕ) (o : Option (PatchRecord A)) → o ≡ None → Keeps same drift g f o (suc r) → ((m : ℕ) → r < m → m < suc l → f m ≡ g m) → Keeps same drift g f o (suc l)
-none_on {A} same drift f g r l o none kept alike =
-    subst (λ (o : Option (PatchRecord A)). Keeps same drift g f o (suc l)) (sym none)
-    (λ m until. ⊎_elim (λ early. keeps_none same drift f g (suc r) o none kept m early) (λ late. alike m (omega arith) until) (cases_lt m (suc r)))
+-- what goes along with the former function goes on with it
+free_on : {A : Type 0} (same : A → A → Bool) (drift : A → ℕ → A) (f g : ℕ → A) (r l : ℕ) (o : Option (PatchRecord A)) → IsFree o → Keeps same drift g f o (suc r) → r ≤ l → ((m : ℕ) → r < m → m < suc l → f m ≡ g m) → Keeps same drift g f o (suc l)
+free_on same drift f g r l o free kept order alike = free_to same drift f g (suc r) (suc l) o free kept (omega arith) (λ m from until. alike m (omega arith) until)
 
 -- with a patch of its own, the new one has no change
 own_on : {A : Type 0} (same : A → A → Bool) (drift : A → ℕ → A) (f g : ℕ → A) (r l : ℕ) (o : Option (PatchRecord A)) → IsOwn o → Keeps same drift g f o (suc r) → changes_below same drift f (suc l) ≡ changes_below same drift f (suc r) → Keeps same drift g f o (suc l)
@@ -84,14 +82,14 @@ module _ (answer : Evaluation → ℕ → State) (old new : Netlist)
       elim (live_in front p) as (λ b. live_in front p ≡ b → Keeps same_value standing g f o (suc l)) [
         | true ↦ λ on.
             ⊎_elim
-            (λ none. none_on same_value standing f g r l o none (right.waves p there)
+            (λ along. free_on same_value standing f g r l o (along_free o (suc r) along) (right.waves p there) order
             (λ m from until.
-            let had : f r ≡ g r = keeps_none same_value standing f g (suc r) o none (right.waves p there) r (omega arith) in
+            let had : f r ≡ g r = along_last same_value standing f g r o along (right.waves p there) in
             jumped.values p blank_net there (at ∙ on) m (omega arith) until ∙ had ∙ sym (clear.waves p blank_net there (at ∙ on) m from (omega arith) (omega arith))))
             (λ own. own_on same_value standing f g r l o own (right.waves p there) (wave_still p there on))
-            (right.kept_waves p)
+            (right.kept_waves p on)
         | false ↦ λ free.
-            none_on same_value standing f g r l o (right.other_waves p free) (right.waves p there)
+            free_on same_value standing f g r l o (right.other_waves p free) (right.waves p there) order
             (λ m from until. sym (jumped.free_values p blank_net there (at ∙ free) m (omega arith) until))
       ] refl
 
@@ -125,7 +123,7 @@ module _ (answer : Evaluation → ℕ → State) (old new : Netlist)
         | false ↦ λ free.
             let off : is_live new (live_in front) gate.output ≡ false = sym (right.drivers.drivers p there) ∙ free in
             let found = known_gate old is_old gate (right.closed.gates p blank_gate there off) in
-            none_on same_state due f g r l o (right.other_traces p free) (right.traces p there)
+            free_on same_state due f g r l o (right.other_traces p free) (right.traces p there) order
             (λ m from until.
             sym (jumped.free_states p blank_gate there off m (omega arith) until) ∙ sym (ap (λ (q : Option GateEntry). option_map_or (λ h. state_after answer old h m) q initial) found))
       ] refl
@@ -154,13 +152,15 @@ module _ (answer : Evaluation → ℕ → State) (old new : Netlist)
   front_on =
       record {
         drivers = right.drivers;
+        base = right.base;
+        fixed_live = right.fixed_live;
         closed = right.closed;
         agrees = jumped.agrees_on;
         waves = wave_on;
         traces = trace_on;
         wave_ends = λ p patch at. let h = right.wave_ends p patch at in omega arith;
         trace_ends = λ p patch at. let h = right.trace_ends p patch at in omega arith;
-        kept_waves = right.kept_waves;
+        kept_waves = λ p on. ⊎_elim (λ along. inl (along_more (kept_at front.waves p) (suc r) (suc l) (omega arith) along)) (λ own. inr own) (right.kept_waves p on);
         own_traces = λ p on. ⊎_elim (λ never. absurd (omega arith)) (λ own. inr own) (right.own_traces p on);
         other_waves = right.other_waves;
         other_traces = right.other_traces;

@@ -16,6 +16,7 @@ pub mod FirstLive
 pub mod Items
 pub mod Jumping
 pub mod Known
+pub mod Leaving
 pub mod Lists
 pub mod LookedAt
 pub mod NetsDone

@@ -1,5 +1,5 @@
 -- What holds of live nets and held gates at a moment, whether they are looked at or not.
-use Rattle.std.proofs.Common.{◌≡◌, ℕ, zero, suc, ◌∙◌, sym, refl, Bool, true, false, List, Option, None, ◌⊎◌, inl, inr, arith, not}
+use Rattle.std.proofs.Common.{◌≡◌, ℕ, zero, suc, ◌∙◌, sym, refl, Bool, true, false, List, Option, ◌⊎◌, inl, inr, arith, not}
 use Rattle.std.specs.Prelude.{◌&&◌}
 use Rattle.fourstate.specs.declared.value.Value.{Value}
 use Rattle.fourstate.specs.Values.{same_value}
@@ -13,7 +13,7 @@ use Rattle.waveform.specs.Patches.{Keeps, PatchRecord}
 use Rattle.scratch.specs.Places.{has}
 use Rattle.scratch.specs.Run.{value}
 use Rattle.scratch.specs.Work.{is_stirred}
-use Rattle.rundiff.specs.Fronts.{IsAlike, IsOwn}
+use Rattle.rundiff.specs.Fronts.{GoesAlong, IsAlike, IsOwn}
 use Rattle.rundiff.specs.Kept.{read_at}
 use Rattle.rundiff.specs.Places.{gate_at, net_at}
 use Rattle.rundiff.specs.Steady.{IsSteady}
@@ -38,7 +38,7 @@ module _ (answer : Evaluation → ℕ → State) (old new : Netlist)
 
   -- the wave of a live net that is not looked at goes on
   pub wave_all : NoChange same_value standing → (t : ℕ) → AreLookedAt answer old new live held events_at inputs_at nets_at t looked → (p : ℕ) → live p ≡ true → looked p ≡ false →
-      (o : Option (PatchRecord Value)) → (o ≡ None) ⊎ IsOwn o →
+      (o : Option (PatchRecord Value)) → GoesAlong o t ⊎ IsOwn o →
       Keeps same_value standing (read_at answer old (to_net (net_at new p).name)) (value answer new (net_at new p)) o t →
       Keeps same_value standing (read_at answer old (to_net (net_at new p).name)) (value answer new (net_at new p)) o (suc t)
   wave_all law zero are p on off o kind kept =

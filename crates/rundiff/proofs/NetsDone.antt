@@ -1,5 +1,5 @@
 -- What holds once the nets of a moment are done.
-use Rattle.std.proofs.Common.{◌≡◌, ℕ, zero, suc, ◌<◌, ◌≤◌, ◌∙◌, ap, sym, refl, subst, Bool, true, false, List, [], ◌∷◌, length, All, Option, None, ◌⊎◌, inl, inr, arith}
+use Rattle.std.proofs.Common.{◌≡◌, ℕ, zero, suc, ◌<◌, ◌≤◌, ◌∙◌, ap, sym, refl, subst, Bool, true, false, List, [], ◌∷◌, length, All, Option, ◌⊎◌, inl, inr, arith}
 use Rattle.std.specs.Prelude.{slice_index_or}
 use Rattle.fourstate.specs.declared.value.Value.{Value}
 use Rattle.fourstate.specs.Values.{same_value}
@@ -11,12 +11,12 @@ use Rattle.waveform.specs.Entries.{standing}
 use Rattle.waveform.specs.Patches.{Keeps, PatchRecord}
 use Rattle.scratch.specs.Run.{value}
 use Rattle.rundiff.specs.Dirty.{is_dirty}
-use Rattle.rundiff.specs.Fronts.{AreDrivers, IsAlike}
+use Rattle.rundiff.specs.Fronts.{AreDrivers, IsAlike, IsFree}
 use Rattle.rundiff.specs.Places.{blank_gate, blank_net, gate_at, is_live, net_at}
 use Rattle.rundiff.specs.Kept.{Agrees, IsClosed, read_at}
 use Rattle.rundiff.proofs.Alike.{live_grows, off_shrinks}
 use Rattle.rundiff.proofs.ByPlace.{live_at}
-use Rattle.rundiff.proofs.Resting.{none_more}
+use Rattle.rundiff.proofs.Resting.{free_more}
 use Rattle.rundiff.proofs.Settling.{not_dirty, settled, still_closed, untouched_same}
 use Rattle.rundiff.proofs.Wired.{inputs_there}
 
@@ -55,13 +55,13 @@ module _ (answer : Evaluation → ℕ → State) (old new : Netlist) (is : IsDes
       p blank_gate low (sym (drivers.drivers p low) ∙ free)
 
   -- a net that is not live has the value of the old run
-  pub free_wave : (p : ℕ) (o : Option (PatchRecord Value)) → p < length new.nets → live p ≡ false → o ≡ None →
+  pub free_wave : (p : ℕ) (o : Option (PatchRecord Value)) → p < length new.nets → live p ≡ false → IsFree o →
       Keeps same_value standing (read_at answer old (to_net (net_at new p).name)) (value answer new (net_at new p)) o t →
       Keeps same_value standing (read_at answer old (to_net (net_at new p).name)) (value answer new (net_at new p)) o (suc t)
   free_wave p o low free none kept =
       let n = net_at new p in
       let off : is_live new live n.name ≡ false = live_at new live p is.distinct_nets low ∙ free in
-      none_more same_value standing (value answer new n) (read_at answer old (to_net n.name)) t o none kept
+      free_more same_value standing (value answer new n) (read_at answer old (to_net n.name)) t o none kept
       (sym (untouched_same answer old new (is_live new live) t agrees.states n off (closed.nets p blank_net low off)))
 
   -- a gate that is not held now was not held before

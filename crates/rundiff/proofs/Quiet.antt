@@ -20,15 +20,15 @@ use Rattle.waveform.specs.Timelines.{changes_below, is_change}
 use Rattle.scratch.specs.Places.{has}
 use Rattle.scratch.specs.Run.{evaluation_at, state_before, value}
 use Rattle.scratch.specs.Work.{is_due}
-use Rattle.rundiff.specs.Fronts.{AreDrivers, IsAlike, IsOwn}
+use Rattle.rundiff.specs.Fronts.{AreDrivers, GoesAlong, IsAlike, IsOwn}
 use Rattle.rundiff.specs.Kept.{Agrees, IsClosed, read_at}
 use Rattle.rundiff.specs.Noting.{IsNoted, net_moves, old_moves, pends}
 use Rattle.rundiff.specs.Places.{blank_gate, blank_net, gate_at, is_live, net_at}
 use Rattle.rundiff.proofs.ByPlace.{live_at}
 use Rattle.rundiff.proofs.Lists.{filter_where, name_itself, same_name_equal}
 use Rattle.rundiff.proofs.NetsDone.{same_default}
-use Rattle.rundiff.proofs.OldLines.{NoChange, keeps_none}
-use Rattle.rundiff.proofs.Resting.{none_more}
+use Rattle.rundiff.proofs.OldLines.{NoChange}
+use Rattle.rundiff.proofs.Resting.{along_free, along_last, free_more}
 use Rattle.rundiff.proofs.Sets.{or_none, or_second}
 use Rattle.rundiff.proofs.Still.{not_false, still_net}
 use Rattle.rundiff.proofs.Tasks.{is_task}
@@ -196,7 +196,7 @@ module _ (answer : Evaluation → ℕ → State) (old new : Netlist)
         ] refl
 
     -- and its wave goes on
-    pub quiet_wave : NoChange same_value standing → (o : Option (PatchRecord Value)) → (o ≡ None) ⊎ IsOwn o →
+    pub quiet_wave : NoChange same_value standing → (o : Option (PatchRecord Value)) → GoesAlong o now ⊎ IsOwn o →
         Keeps same_value standing (read_at answer old (to_net (net_at new p).name)) (value answer new (net_at new p)) o now →
         Keeps same_value standing (read_at answer old (to_net (net_at new p).name)) (value answer new (net_at new p)) o (suc now)
     quiet_wave law o kind kept = by kind
@@ -214,8 +214,8 @@ module _ (answer : Evaluation → ℕ → State) (old new : Netlist)
             let same : f (suc k) ≡ f k = ap (λ (m : ℕ). f (suc m)) e ∙ quiet_value ∙ ap f (sym e) in
             ap (λ (v : Value). not (same_value v (f k))) same ∙ ap not (same_self (f k))
 
-        by : (o ≡ None) ⊎ IsOwn o → Keeps same_value standing g f o (suc now)
-        by (inl none) =
-            let had : f r ≡ g r = keeps_none same_value standing f g now o none kept r (omega arith) in
-            none_more same_value standing f g now o none kept (quiet_value ∙ had ∙ sym quiet_old)
+        by : GoesAlong o now ⊎ IsOwn o → Keeps same_value standing g f o (suc now)
+        by (inl along) =
+            let had : f r ≡ g r = along_last same_value standing f g r o along kept in
+            free_more same_value standing f g now o (along_free o now along) kept (quiet_value ∙ had ∙ sym quiet_old)
         by (inr own) = own_more same_value standing f g now o own kept (law f now (suc now) (omega arith) step)

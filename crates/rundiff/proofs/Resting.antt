@@ -1,5 +1,5 @@
 -- The held gates that are not evaluated.
-use Rattle.std.proofs.Common.{◌≡◌, ℕ, suc, ◌<◌, ◌∙◌, ap, sym, refl, subst, List, Bool, true, false, not, map, Option, None, length, arith, ⊎_elim, All, ◌+◌}
+use Rattle.std.proofs.Common.{◌≡◌, ℕ, suc, ◌<◌, ◌≤◌, ◌∙◌, ap, sym, refl, subst, List, Bool, true, false, not, map, Option, Some, length, arith, ⊎_elim, All, ◌+◌, inl, inr}
 use Rattle.std.specs.Prelude.{◌&&◌, slice_index_or}
 use Rattle.std.specs.List.{filter}
 use Rattle.std.proofs.lemmas.Bool.{cases_lt}
@@ -11,9 +11,10 @@ use Rattle.std.specs.Option.{option_map_or}
 use Rattle.gatestep.specs.Step.{State, Evaluation, initial}
 use Rattle.design.specs.Lawful.{IsDesign}
 use Rattle.design.specs.Netlist.{GateEntry, Netlist}
-use Rattle.waveform.specs.Patches.{Keeps, PatchRecord}
+use Rattle.waveform.specs.Patches.{IsMended, Keeps, PatchRecord}
+use Rattle.waveform.specs.Timelines.{changes_below}
 use Rattle.scratch.specs.Run.{state_after}
-use Rattle.rundiff.specs.Fronts.{ArePlaces, named_state}
+use Rattle.rundiff.specs.Fronts.{ArePlaces, GoesAlong, IsFree, named_state}
 use Rattle.rundiff.specs.Places.{blank_gate, gate_at, is_among}
 use Rattle.rundiff.specs.Kept.{Agrees, IsClosed}
 use Rattle.rundiff.proofs.Filtering.{filter_places}
@@ -40,11 +41,66 @@ pub not_resting : (h w : Bool) → w ≡ true → (h && not w) ≡ false
 not_resting true w on = rw on refl
 not_resting false w on = refl
 
--- a function without a patch, a moment more
-pub none_more : {A : Type 0} (same : A → A → Bool) (drift : A → ℕ → A) (f g : ℕ → A) (t : ℕ) (o : Option (PatchRecord A)) → o ≡ None → Keeps same drift g f o t → f t ≡ g t → Keeps same drift g f o (suc t)
-none_more {A} same drift f g t o none kept now =
-    subst (λ (o : Option (PatchRecord A)). Keeps same drift g f o (suc t)) (sym none)
-    (λ u low. ⊎_elim (λ early. keeps_none same drift f g t o none kept u early) (λ late. let e : u ≡ t = omega arith in ap f e ∙ now ∙ ap g (sym e)) (cases_lt u t))
+-- where a patch was left
+abbrev pub IsLeft : {A : Type 0} → Option (PatchRecord A) → Type 0
+IsLeft {A} o = (patch : PatchRecord A) × (o ≡ Some patch) × (s : ℕ) × (patch.since ≡ Some s)
+
+-- what is known of a patch that was left: it goes along with the former function
+pub left_at : {A : Type 0} (same : A → A → Bool) (drift : A → ℕ → A) (f g : ℕ → A) (n : ℕ) (o : Option (PatchRecord A)) (left : IsLeft o) → Keeps same drift g f o n →
+    (left.0.line ≡ changes_below same drift f left.2) × (left.2 ≤ n) × ((m : ℕ) → left.2 ≤ m → m < n → f m ≡ g m)
+left_at {A} same drift f g n o left kept =
+    let patch : PatchRecord A = left.0 in
+    let at : Keeps same drift g f (Some patch) n = subst (λ (o : Option (PatchRecord A)). Keeps same drift g f o n) left.1 kept in
+    let now : IsMended same drift g f patch.line (Some left.2) n = subst (λ (s : Option ℕ). IsMended same drift g f patch.line s n) left.3 at in
+    now
+
+-- and so is what is known at a later moment
+pub left_to : {A : Type 0} (same : A → A → Bool) (drift : A → ℕ → A) (f g : ℕ → A) (n l : ℕ) (o : Option (PatchRecord A)) → IsLeft o → Keeps same drift g f o n → n ≤ l → ((m : ℕ) → n ≤ m → m < l → f m ≡ g m) → Keeps same drift g f o l
+left_to {A} same drift f g n l o left kept order alike =
+    let patch : PatchRecord A = left.0 in let s : ℕ = left.2 in
+    let was = left_at same drift f g n o left kept in
+    let low : s ≤ n = was.1 in
+    let high : s ≤ l = omega arith in
+    let now : IsMended same drift g f patch.line (Some s) l =
+    (was.0, high, λ m from until. ⊎_elim (λ early. was.2 m from early) (λ late. alike m late until) (cases_lt m n)) in
+    subst (λ (o : Option (PatchRecord A)). Keeps same drift g f o l) (sym left.1) (subst (λ (s : Option ℕ). IsMended same drift g f patch.line s l) (sym left.3) now)
+
+-- what goes along with the former function goes on with it
+pub free_to : {A : Type 0} (same : A → A → Bool) (drift : A → ℕ → A) (f g : ℕ → A) (n l : ℕ) (o : Option (PatchRecord A)) → IsFree o → Keeps same drift g f o n → n ≤ l → ((m : ℕ) → n ≤ m → m < l → f m ≡ g m) → Keeps same drift g f o l
+free_to {A} same drift f g n l o free kept order alike =
+    ⊎_elim
+    (λ none.
+    subst (λ (o : Option (PatchRecord A)). Keeps same drift g f o l) (sym none)
+    (λ m until. ⊎_elim (λ early. keeps_none same drift f g n o none kept m early) (λ late. alike m late until) (cases_lt m n)))
+    (λ left. left_to same drift f g n l o left kept order alike)
+    free
+
+pub free_more : {A : Type 0} (same : A → A → Bool) (drift : A → ℕ → A) (f g : ℕ → A) (t : ℕ) (o : Option (PatchRecord A)) → IsFree o → Keeps same drift g f o t → f t ≡ g t → Keeps same drift g f o (suc t)
+free_more same drift f g t o free kept now =
+    free_to same drift f g t (suc t) o free kept (omega arith) (λ m from until. let e : m ≡ t = omega arith in ap f e ∙ now ∙ ap g (sym e))
+
+-- what is free now goes along from the next moment on
+pub free_along : {A : Type 0} (same : A → A → Bool) (drift : A → ℕ → A) (f g : ℕ → A) (n : ℕ) (o : Option (PatchRecord A)) → IsFree o → Keeps same drift g f o n → GoesAlong o (suc n)
+free_along same drift f g n o free kept =
+    ⊎_elim (λ none. inl none)
+    (λ left. let was = left_at same drift f g n o left kept in let low : left.2 ≤ n = was.1 in let next : left.2 < suc n = omega arith in inr (left.0, left.1, left.2, left.3, next))
+    free
+
+pub along_free : {A : Type 0} (o : Option (PatchRecord A)) (n : ℕ) → GoesAlong o n → IsFree o
+along_free o n along = ⊎_elim (λ none. inl none) (λ left. inr (left.0, left.1, left.2, left.3)) along
+
+pub along_more : {A : Type 0} (o : Option (PatchRecord A)) (n m : ℕ) → n ≤ m → GoesAlong o n → GoesAlong o m
+along_more o n m order along = ⊎_elim (λ none. inl none) (λ left. let low : left.2 < n = left.4 in let more : left.2 < m = omega arith in inr (left.0, left.1, left.2, left.3, more)) along
+
+-- what goes along had the former value last
+pub along_last : {A : Type 0} (same : A → A → Bool) (drift : A → ℕ → A) (f g : ℕ → A) (r : ℕ) (o : Option (PatchRecord A)) → GoesAlong o (suc r) → Keeps same drift g f o (suc r) → f r ≡ g r
+along_last same drift f g r o along kept =
+    ⊎_elim
+    (λ none. keeps_none same drift f g (suc r) o none kept r (omega arith))
+    (λ left.
+    let was = left_at same drift f g (suc r) o (left.0, left.1, left.2, left.3) kept in
+    let low : left.2 < suc r = left.4 in was.2 r (omega arith) (omega arith))
+    along
 
 module _ (answer : Evaluation → ℕ → State) (old new : Netlist) where
   -- a gate that is not held has the state of the old run

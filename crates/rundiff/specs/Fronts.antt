@@ -29,7 +29,7 @@ use Rattle.rundiff.specs.declared.front.Front.{Front}
 use Rattle.rundiff.specs.declared.gates.Outcomes.{Outcomes}
 use Rattle.rundiff.specs.declared.place_map.PlaceMap.{PlaceMap}
 use Rattle.rundiff.specs.declared.looking.Outcome.{Outcome}
-use Rattle.rundiff.specs.declared.looking.Outcome.TheVariants.{Working, Resting}
+use Rattle.rundiff.specs.declared.looking.Outcome.TheVariants.{Working, Resting, Clean}
 
 -- the state of the gate of this name after t, x with nothing pending where there is none
 abbrev pub named_state : (Evaluation → ℕ → State) → Netlist → List ℕ → ℕ → State
@@ -40,6 +40,14 @@ named_state answer d name t = option_map_or (λ g. state_after answer d g t) (ga
 -- a patch is there and has all of the function so far
 abbrev pub IsOwn : {A : Type 0} → Option (PatchRecord A) → Type 0
 IsOwn {A} kept = (patch : PatchRecord A) × (kept ≡ Some patch) × (patch.since ≡ None)
+
+-- nothing is kept, or a patch that was left: the function goes along with the former one from some moment on
+abbrev pub IsFree : {A : Type 0} → Option (PatchRecord A) → Type 0
+IsFree {A} kept = (kept ≡ None) ⊎ ((patch : PatchRecord A) × (kept ≡ Some patch) × (s : ℕ) × (patch.since ≡ Some s))
+
+-- nothing is kept, or a patch that was left before n
+abbrev pub GoesAlong : {A : Type 0} → Option (PatchRecord A) → ℕ → Type 0
+GoesAlong {A} kept n = (kept ≡ None) ⊎ ((patch : PatchRecord A) × (kept ≡ Some patch) × (s : ℕ) × (patch.since ≡ Some s) × (s < n))
 
 -- no patch has an entry at n or later
 abbrev pub EndBy : {A : Type 0} → PlaceMap (PatchRecord A) → ℕ → Type 0
@@ -63,6 +71,10 @@ module _ (answer : Evaluation → ℕ → State) (old new : Netlist) where
   -- the gate at a place is evaluated at t
   abbrev pub is_working : ℕ → ℕ → Bool
   is_working t p = is_dirty answer old new (gate_at new p) t && is_stirred answer new (gate_at new p) t
+
+  -- there is a gate at the place, and it is not dirty at t
+  abbrev pub IsClean : ℕ → ℕ → Type 0
+  IsClean t p = (p < length new.gates) × (is_dirty answer old new (gate_at new p) t ≡ false)
 
 -- a net has the same value at t in both runs, or the outputs of all its readers are at these places
 abbrev pub IsAlike : (Evaluation → ℕ → State) → (old new : Netlist) → (ℕ → Bool) → ℕ → ℕ → Type 0
@@ -88,6 +100,10 @@ live_in front = contains nat_cmp front.live
 abbrev pub held_in : Front → ℕ → Bool
 held_in front = contains nat_cmp front.held
 
+-- the nets that edits touched, or a gate that they touched drives
+abbrev pub fixed_in : Front → ℕ → Bool
+fixed_in front = contains nat_cmp front.fixed
+
 -- what is blank
 pub record AreBlank (front : Front) : Type 0 where
   pub wave : front.blank_wave ≡ (0, Unknown) ∷ []
@@ -96,6 +112,8 @@ pub record AreBlank (front : Front) : Type 0 where
 -- the front is right, where the moments below n are done
 pub record IsFront (answer : Evaluation → ℕ → State) (old new : Netlist) (front : Front) (n : ℕ) : Type 0 where
   pub drivers : AreDrivers new (live_in front) (held_in front)
+  pub base : IsClosed old new (is_live new (fixed_in front))
+  pub fixed_live : (p : ℕ) → fixed_in front p ≡ true → live_in front p ≡ true
   pub closed : IsClosed old new (is_live new (live_in front))
   pub agrees : Agrees answer old new (is_live new (live_in front)) n
   pub waves : AreWaves answer old new front.waves n
@@ -103,9 +121,9 @@ pub record IsFront (answer : Evaluation → ℕ → State) (old new : Netlist) (
   pub wave_ends : EndBy front.waves n
   pub trace_ends : EndBy front.traces n
   pub own_traces : (p : ℕ) → held_in front p ≡ true → (n ≡ 0) ⊎ IsOwn (kept_at front.traces p)
-  pub kept_waves : (p : ℕ) → (kept_at front.waves p ≡ None) ⊎ IsOwn (kept_at front.waves p)
-  pub other_waves : (p : ℕ) → live_in front p ≡ false → kept_at front.waves p ≡ None
-  pub other_traces : (p : ℕ) → held_in front p ≡ false → kept_at front.traces p ≡ None
+  pub kept_waves : (p : ℕ) → live_in front p ≡ true → GoesAlong (kept_at front.waves p) n ⊎ IsOwn (kept_at front.waves p)
+  pub other_waves : (p : ℕ) → live_in front p ≡ false → IsFree (kept_at front.waves p)
+  pub other_traces : (p : ℕ) → held_in front p ≡ false → IsFree (kept_at front.traces p)
   pub blank : AreBlank front
   pub awaits : IsNoted answer old new (live_in front) (held_in front) (held_in front) n (noted front.events) (noted front.inputs) (noted front.nets) n
 
@@ -116,6 +134,8 @@ passed_in front p = held_in front p && not (is_among front.gates.items p)
 -- the front is right at the moment t, at which all nets are done, and no gate; which gates are to be looked at is known
 pub record AreNetsDone (answer : Evaluation → ℕ → State) (old new : Netlist) (front : Front) (t : ℕ) : Type 0 where
   pub drivers : AreDrivers new (live_in front) (held_in front)
+  pub base : IsClosed old new (is_live new (fixed_in front))
+  pub fixed_live : (p : ℕ) → fixed_in front p ≡ true → live_in front p ≡ true
   pub closed : IsClosed old new (is_live new (live_in front))
   pub agrees : Agrees answer old new (is_live new (live_in front)) (suc t)
   pub clean : (p : ℕ) → p < length new.gates → held_in front p ≡ false → is_dirty answer old new (gate_at new p) t ≡ false
@@ -123,9 +143,9 @@ pub record AreNetsDone (answer : Evaluation → ℕ → State) (old new : Netlis
   pub traces : AreTraces answer old new front.traces t
   pub wave_ends : EndBy front.waves (suc t)
   pub trace_ends : EndBy front.traces t
-  pub kept_waves : (p : ℕ) → (kept_at front.waves p ≡ None) ⊎ IsOwn (kept_at front.waves p)
-  pub other_waves : (p : ℕ) → live_in front p ≡ false → kept_at front.waves p ≡ None
-  pub other_traces : (p : ℕ) → held_in front p ≡ false → kept_at front.traces p ≡ None
+  pub kept_waves : (p : ℕ) → live_in front p ≡ true → GoesAlong (kept_at front.waves p) (suc t) ⊎ IsOwn (kept_at front.waves p)
+  pub other_waves : (p : ℕ) → live_in front p ≡ false → IsFree (kept_at front.waves p)
+  pub other_traces : (p : ℕ) → held_in front p ≡ false → IsFree (kept_at front.traces p)
   pub blank : AreBlank front
   pub chosen : ArePlaces front.gates.items (is_among front.gates.items)
   pub chosen_held : (p : ℕ) → is_among front.gates.items p ≡ true → held_in front p ≡ true
@@ -140,6 +160,8 @@ resting_in answer old new front t p = held_in front p && not (is_working answer 
 -- the front is right at the moment t, which is done but for the states of the gates that are evaluated
 pub record IsWaiting (answer : Evaluation → ℕ → State) (old new : Netlist) (front : Front) (t : ℕ) : Type 0 where
   pub drivers : AreDrivers new (live_in front) (held_in front)
+  pub base : IsClosed old new (is_live new (fixed_in front))
+  pub fixed_live : (p : ℕ) → fixed_in front p ≡ true → live_in front p ≡ true
   pub closed : IsClosed old new (is_live new (live_in front))
   pub agrees : Agrees answer old new (is_live new (live_in front)) (suc t)
   pub waves : AreWaves answer old new front.waves (suc t)
@@ -149,18 +171,21 @@ pub record IsWaiting (answer : Evaluation → ℕ → State) (old new : Netlist)
   pub wave_ends : EndBy front.waves (suc t)
   pub trace_ends : (p : ℕ) → ForSome (kept_at front.traces p) (λ patch. (end_of patch.line ≤ suc t) × (is_working answer old new t p ≡ true → end_of patch.line ≤ t))
   pub own_traces : (p : ℕ) → held_in front p ≡ true → is_working answer old new t p ≡ false → IsOwn (kept_at front.traces p)
-  pub kept_waves : (p : ℕ) → (kept_at front.waves p ≡ None) ⊎ IsOwn (kept_at front.waves p)
-  pub other_waves : (p : ℕ) → live_in front p ≡ false → kept_at front.waves p ≡ None
-  pub other_traces : (p : ℕ) → held_in front p ≡ false → kept_at front.traces p ≡ None
+  pub kept_waves : (p : ℕ) → live_in front p ≡ true → GoesAlong (kept_at front.waves p) (suc t) ⊎ IsOwn (kept_at front.waves p)
+  pub other_waves : (p : ℕ) → live_in front p ≡ false → IsFree (kept_at front.waves p)
+  pub other_traces : (p : ℕ) → held_in front p ≡ false → IsFree (kept_at front.traces p)
   pub blank : AreBlank front
   pub places : ArePlaces front.working.items (λ p. held_in front p && is_working answer old new t p)
   pub tasks : working_at answer old new t ≡ map (gate_at new) front.working.items
+  pub same : All (IsClean answer old new t) front.clean.items
   pub awaits : IsNoted answer old new (live_in front) (resting_in answer old new front t) (held_in front) (suc t) (noted front.events) (noted front.inputs) (noted front.nets) (suc t)
 
--- what comes of the gate at a place at t: it is evaluated, or it is not, and its state after t is known
+-- what comes of the gate at a place at t: it is evaluated, or it is not, and its state after t is known; where it is not dirty
+-- that is known too
 abbrev pub IsOutcome : (Evaluation → ℕ → State) → (old new : Netlist) → ℕ → ℕ → Outcome → Type 0
 IsOutcome answer old new t p (Working task) = (is_working answer old new t p ≡ true) × (task ≡ task_at answer new (gate_at new p) t) × IsReady t task
 IsOutcome answer old new t p (Resting state) = (is_working answer old new t p ≡ false) × (state ≡ state_after answer new (gate_at new p) t) × CanStore t state
+IsOutcome answer old new t p (Clean state) = (is_working answer old new t p ≡ false) × (state ≡ state_after answer new (gate_at new p) t) × CanStore t state × IsClean answer old new t p
 
 -- what comes of the gates at these places at t, in order
 pub record AreOutcomes (answer : Evaluation → ℕ → State) (old new : Netlist) (t : ℕ) (places : List ℕ) (out : Outcomes) : Type 0 where
@@ -170,6 +195,7 @@ pub record AreOutcomes (answer : Evaluation → ℕ → State) (old new : Netlis
   pub resting : out.resting.items ≡ filter (λ p. not (is_working answer old new t p)) places
   pub states : out.states.items ≡ map (λ p. state_after answer new (gate_at new p) t) out.resting.items
   pub can : All (CanStore t) out.states.items
+  pub same : All (IsClean answer old new t) out.clean.items
 
 -- each touched net that is there is at one of these places, and so is the output of each touched gate that is there
 pub record AreTouched (d : Keyed) (nets gates places : List ℕ) : Type 0 where

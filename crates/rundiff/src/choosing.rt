@@ -26,6 +26,7 @@ fn keep_in_order(places: &mut Vec<usize>, set: &PlaceSet)
 /// Adds the net that a gate drives.
 fn add_output(new: &Design, place: usize, nets: &mut Vec<usize>) -> Result<(), AllocError>
     requires there { place < length (netlist new.now).gates }
+    ensures there { OnOk result (All (λ p. p < length (netlist new.now).nets) nets.old.items → All (λ p. p < length (netlist new.now).nets) nets.new.items) }
     ensures more { OnOk result ((p : ℕ) → is_among nets.old.items p ≡ true → is_among nets.new.items p ≡ true) }
     ensures driven { OnOk result (is_live (netlist new.now) (is_among nets.new.items) (gate_at (netlist new.now) place).output ≡ true) }
 {
@@ -38,8 +39,9 @@ fn add_output(new: &Design, place: usize, nets: &mut Vec<usize>) -> Result<(), A
 }
 
 /// Adds the nets that some gates drive.
-fn add_outputs(new: &Design, gates: &[usize], nets: &mut Vec<usize>) -> Result<(), AllocError>
+pub fn add_outputs(new: &Design, gates: &[usize], nets: &mut Vec<usize>) -> Result<(), AllocError>
     requires there { (q : ℕ) → is_among gates.now q ≡ true → q < length (netlist new.now).gates }
+    ensures there { OnOk result (All (λ p. p < length (netlist new.now).nets) nets.old.items → All (λ p. p < length (netlist new.now).nets) nets.new.items) }
     ensures more { OnOk result ((p : ℕ) → is_among nets.old.items p ≡ true → is_among nets.new.items p ≡ true) }
     ensures driven { OnOk result ((q : ℕ) → is_among gates.now q ≡ true → is_live (netlist new.now) (is_among nets.new.items) (gate_at (netlist new.now) q).output ≡ true) }
 {

@@ -1,6 +1,6 @@
 //! The new run, once all moments up to the horizon are done.
 
-ghost use Rattle.std.specs.Prelude.{◌≡◌, ◌<◌, ℕ, List, true, suc, [], ◌∷◌, IfOk, OnOk, length};
+ghost use Rattle.std.specs.Prelude.{◌≡◌, ◌<◌, ℕ, List, All, None, true, false, suc, [], ◌∷◌, IfOk, OnOk, length};
 ghost use Rattle.std.specs.BTreeSet.{contains};
 ghost use Rattle.std.specs.Ordering.{nat_cmp};
 ghost use Rattle.catalog.specs.Catalog.{keys_of};
@@ -10,8 +10,10 @@ ghost use Rattle.edits.specs.Touched.{IsTouched};
 ghost use Rattle.scratch.specs.Run.{IsRun};
 ghost use Rattle.rundiff.specs.Finishing.{ArePut, AreCleared, new_trace, new_wave};
 ghost use Rattle.rundiff.specs.Fronts.{AreDrivers, ArePlaces, AreTouched, AreTraces, AreWaves, EndBy, IsFront};
-ghost use Rattle.rundiff.specs.Places.{is_among};
+ghost use Rattle.rundiff.specs.PlaceMaps.{kept_at};
+ghost use Rattle.rundiff.specs.Places.{gate_at, is_among, is_live};
 
+use crate::choosing::add_outputs;
 use crate::finishing::{clear_touched, put_traces, put_waves};
 use crate::front::Front;
 use crate::holding::hold;
@@ -67,7 +69,15 @@ impl Front {
         new.places_are_keys();
         laws::same_changes::<Value>();
         laws::same_changes::<Driver>();
-        hold_touched(&mut self.live, &mut self.held, alloc, new, touched)?;
+        hold_all(
+            &mut self.live,
+            &mut self.held,
+            alloc,
+            new,
+            touched,
+            &self.waves,
+            &self.traces,
+        )?;
         let mut made = cleared_copy(run, touched)?;
         put_live::<S>(
             alloc,
@@ -93,21 +103,30 @@ impl Front {
     }
 }
 
-/// Makes the nets live that edits touched, and those that touched gates drive.
-fn hold_touched(
+/// Makes the nets live that edits touched, those that touched gates drive, and all that were live at any moment.
+fn hold_all(
     live: &mut PlaceSet,
     held: &mut PlaceSet,
     alloc: Global,
     new: &Design,
     touched: &Touched,
+    waves: &PlaceMap<Patch<Value>>,
+    traces: &PlaceMap<Patch<Driver>>,
 ) -> Result<(), AllocError>
     requires drivers { AreDrivers (netlist new.now) (contains nat_cmp live.old) (contains nat_cmp held.old) }
     ensures drivers { OnOk result (AreDrivers (netlist new.now) (contains nat_cmp live.new) (contains nat_cmp held.new)) }
     ensures more { OnOk result ((p : ℕ) → contains nat_cmp live.old p ≡ true → contains nat_cmp live.new p ≡ true) }
     ensures touched { OnOk result ((places : List ℕ) × AreTouched new.now touched.now.nets.items touched.now.gates.items places
         × ((p : ℕ) → is_among places p ≡ true → contains nat_cmp live.new p ≡ true)) }
+    ensures waves { OnOk result ((p : ℕ) → p < length (netlist new.now).nets → contains nat_cmp live.new p ≡ false → kept_at waves.now p ≡ None) }
+    ensures traces { OnOk result ((q : ℕ) → q < length (netlist new.now).gates → contains nat_cmp held.new q ≡ false → kept_at traces.now q ≡ None) }
 {
-    let found = touched_places(alloc, new, touched)?;
+    new.lawful();
+    let mut found = touched_places(alloc, new, touched)?;
+    waves.add_places(new.net_count(), &mut found)?;
+    let mut gates = Vec::new(alloc);
+    traces.add_places(new.gate_count(), &mut gates)?;
+    add_outputs(new, gates.as_slice(), &mut found)?;
     hold(live, held, new, found.as_slice())
 }
 

@@ -5,7 +5,7 @@ ghost use Rattle.gatestep.specs.Tasks.{IsReady};
 ghost use Rattle.design.specs.Keys.{netlist};
 ghost use Rattle.scratch.specs.Run.{IsRun, state_after};
 ghost use Rattle.rundiff.specs.Dirty.{working_at};
-ghost use Rattle.rundiff.specs.Fronts.{IsFront, IsWaiting};
+ghost use Rattle.rundiff.specs.Fronts.{IsClean, IsFront, IsWaiting};
 ghost use Rattle.scratch.specs.Work.{task_at};
 
 use crate::gate_notes::note_events;
@@ -27,6 +27,8 @@ pub struct Front {
     pub live: PlaceSet,
     /// The gates that drive them.
     pub held: PlaceSet,
+    /// The nets that edits touched, or a gate that they touched drives. They stay live.
+    pub fixed: PlaceSet,
     /// The waves of live nets.
     pub waves: PlaceMap<Patch<Value>>,
     /// The traces of their drivers.
@@ -42,6 +44,8 @@ pub struct Front {
     pub gates: Vec<usize>,
     /// Between `due` and `settle`, the gates that are evaluated.
     pub working: Vec<usize>,
+    /// Between `due` and `settle`, the gates that are not dirty, of those that are looked at.
+    pub clean: Vec<usize>,
     /// The wave of a net that the old design has not.
     pub blank_wave: Wave,
     /// The trace of a gate that the old design has not.
@@ -88,6 +92,28 @@ impl Front {
         requires within { t ≤ (netlist old.now).horizon }
         requires answers { answers.now ≡ map (λ g. state_after S.answer (netlist new.now) g t) (working_at S.answer (netlist old.now) (netlist new.now) t) }
         ensures front { OnOk result (IsFront S.answer (netlist old.now) (netlist new.now) self.new (suc t)) }
+        ensures done { OnOk result (self.new.done ≡ t + 1) }
+    {
+        self.take_answers::<S>(alloc, old, run, new, t, answers)?;
+        self.let_go::<S>(alloc, old, run, new, t)
+    }
+
+    /// Takes the answers to the tasks of the moment `t`.
+    fn take_answers<S: Stepper>(
+        &mut self,
+        alloc: Global,
+        old: &Design,
+        run: &Run,
+        new: &Design,
+        t: u64,
+        answers: &[Driver],
+    ) -> Result<(), AllocError>
+        requires run { IsRun S.answer old.now run.now }
+        requires front { IsWaiting S.answer (netlist old.now) (netlist new.now) self.old t }
+        requires within { t ≤ (netlist old.now).horizon }
+        requires answers { answers.now ≡ map (λ g. state_after S.answer (netlist new.now) g t) (working_at S.answer (netlist old.now) (netlist new.now) t) }
+        ensures front { OnOk result (IsFront S.answer (netlist old.now) (netlist new.now) self.new (suc t)) }
+        ensures clean { OnOk result (All (IsClean S.answer (netlist old.now) (netlist new.now) t) self.new.clean.items) }
         ensures done { OnOk result (self.new.done ≡ t + 1) }
     {
         old.lawful();

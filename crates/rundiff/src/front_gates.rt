@@ -53,6 +53,7 @@ impl Front {
         let Outcomes {
             tasks,
             working,
+            clean,
             resting,
             states,
         } = out;
@@ -86,6 +87,7 @@ impl Front {
             t,
         )?;
         self.working = working;
+        self.clean = clean;
         Ok(tasks)
     }
 }

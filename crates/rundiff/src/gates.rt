@@ -10,7 +10,7 @@ ghost use Rattle.design.specs.Netlist.{Netlist};
 ghost use Rattle.waveform.specs.Entries.{CanStore};
 ghost use Rattle.waveform.specs.Timelines.{end_of};
 ghost use Rattle.scratch.specs.Run.{IsRun, state_after};
-ghost use Rattle.rundiff.specs.Fronts.{AreOutcomes, AreTraces, AreWaves, IsOutcome, IsOwn, IsTrace, is_working};
+ghost use Rattle.rundiff.specs.Fronts.{AreOutcomes, AreTraces, AreWaves, IsClean, IsOutcome, IsOwn, IsTrace, is_working};
 ghost use Rattle.rundiff.specs.Places.{gate_at, is_among};
 ghost use Rattle.scratch.specs.Work.{task_at};
 
@@ -31,6 +31,8 @@ pub struct Outcomes {
     pub tasks: Vec<Task>,
     /// Their places.
     pub working: Vec<usize>,
+    /// The places of those that are not dirty.
+    pub clean: Vec<usize>,
     /// The places of the others.
     pub resting: Vec<usize>,
     /// Their states after the moment.
@@ -45,6 +47,7 @@ impl Outcomes {
         Outcomes {
             tasks: Vec::new(alloc),
             working: Vec::new(alloc),
+            clean: Vec::new(alloc),
             resting: Vec::new(alloc),
             states: Vec::new(alloc),
         }
@@ -99,7 +102,17 @@ fn add(out: &mut Outcomes, place: usize, outcome: Outcome) -> Result<(), AllocEr
     match outcome {
         Outcome::Working(task) => add_working(out, place, task),
         Outcome::Resting(state) => add_resting(out, place, state),
+        Outcome::Clean(state) => add_clean(out, place, state),
     }
+}
+
+/// Adds a gate that is not dirty.
+fn add_clean(out: &mut Outcomes, place: usize, state: Driver) -> Result<(), AllocError>
+    ensures { OnOk result ((answer : Evaluation → ℕ → State) (old new : Netlist) (t : ℕ) (places : List ℕ) → AreOutcomes answer old new t places out.old
+        → is_working answer old new t place ≡ false → state ≡ state_after answer new (gate_at new place) t → CanStore t state → IsClean answer old new t place → AreOutcomes answer old new t (places ++ place ∷ []) out.new) }
+{
+    out.clean.push(place)?;
+    add_resting(out, place, state)
 }
 
 /// Adds a gate that is evaluated.

@@ -11,6 +11,7 @@ mod front_nets;
 mod gate_notes;
 mod gates;
 mod holding;
+mod letting;
 mod looking;
 mod nets;
 mod next;

@@ -28,6 +28,8 @@ pub enum Outcome {
     Working(Task),
     /// It is not, and this is its state after the moment.
     Resting(Driver),
+    /// It is not dirty, and this is its state after the moment, in both runs.
+    Clean(Driver),
 }
 
 /// The state after the moment `t` of the gate of this name in the old run; it most likely has this key.
@@ -185,14 +187,7 @@ pub fn look<S: Stepper>(
         inputs.as_slice(),
         t,
     ) {
-        return Outcome::Resting(old_state::<S>(
-            blank_trace,
-            old,
-            run,
-            key,
-            gate.name().as_str(),
-            t,
-        ));
+        return Outcome::Clean(old_state::<S>(blank_trace, old, run, key, gate.name().as_str(), t));
     }
     if !is_stirred::<S>(
         waves,

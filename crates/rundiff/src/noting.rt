@@ -97,7 +97,7 @@ pub fn note_event(
 }
 
 /// Notes a number for the moment `next`, which lies after `t`, if there is one.
-fn note(
+pub fn note(
     alloc: Global,
     queue: &mut EventQueue,
     number: usize,
@@ -131,7 +131,7 @@ fn earlier(first: Option<u64>, second: Option<u64>) -> Option<u64>
 }
 
 /// The next moment after `t` at which the net of this name changes in the old run; it most likely has this key.
-fn next_old_change<S: Stepper>(
+pub fn next_old_change<S: Stepper>(
     blank: &Wave,
     old: &Design,
     run: &Run,

@@ -49,6 +49,7 @@ impl Front {
         let mut live = PlaceSet::new(alloc, new.net_count())?;
         let mut held = PlaceSet::new(alloc, new.gate_count())?;
         hold(&mut live, &mut held, new, found.as_slice())?;
+        let fixed = set_of(alloc, new.net_count(), found.as_slice())?;
         let inputs = note_all(alloc, &held)?;
         let nets = note_all(alloc, &live)?;
         let waves = PlaceMap::new(alloc, new.net_count())?;
@@ -57,6 +58,7 @@ impl Front {
         Ok(Front {
             live,
             held,
+            fixed,
             waves,
             traces,
             events,
@@ -64,11 +66,23 @@ impl Front {
             nets,
             gates: Vec::new(alloc),
             working: Vec::new(alloc),
+            clean: Vec::new(alloc),
             blank_wave,
             blank_trace,
             done: 0,
         })
     }
+}
+
+/// The set of these places, of so many.
+fn set_of(alloc: Global, count: usize, places: &[usize]) -> Result<PlaceSet, AllocError>
+    ensures { IfOk result (λ set. (p : ℕ) → contains nat_cmp set p ≡ is_among places.now p) }
+{
+    let mut set = PlaceSet::new(alloc, count)?;
+    for place in places {
+        set.insert(*place)?;
+    }
+    Ok(set)
 }
 
 /// The places of a set, each noted for moment 0.

@@ -4,7 +4,7 @@ ghost use Rattle.std.specs.Prelude.{◌≡◌, ◌<◌, ◌≤◌, ◌⊎◌, �
 ghost use Rattle.std.specs.Option.{ForSome};
 ghost use Rattle.rundiff.specs.PlaceMaps.{kept_at};
 ghost use Rattle.waveform.specs.Timelines.{IsAlwaysSettled, changes_below, end_of};
-ghost use Rattle.rundiff.specs.Fronts.{IsOwn};
+ghost use Rattle.rundiff.specs.Fronts.{IsFree, IsOwn};
 ghost use Rattle.waveform.specs.Patches.{Keeps};
 
 use crate::place_map::PlaceMap;
@@ -41,6 +41,28 @@ pub fn value_at<V: Sample>(
     match patches.get(place) {
         Some(patch) => patch.at(old, m),
         None => old.at(m),
+    }
+}
+
+/// The function at a place goes along with the former one from `t` on, if it has a patch.
+pub fn leave<V: Sample>(
+    patches: &mut PlaceMap<Patch<V>>,
+    place: usize,
+    t: u64,
+) -> Result<(), AllocError>
+    requires later { ForSome (kept_at patches.old place) (λ patch. end_of patch.line ≤ t) }
+    ensures free { OnOk result (IsFree (kept_at patches.new place)) }
+    ensures end { OnOk result (ForSome (kept_at patches.new place) (λ patch. end_of patch.line ≤ t)) }
+    ensures made { OnOk result ((f g : ℕ → V) → Keeps V.same V.drift g f (kept_at patches.old place) t → Keeps V.same V.drift g f (kept_at patches.new place) t) }
+    ensures others { OnOk result ((q : ℕ) → nat_eq place q ≡ false → kept_at patches.new q ≡ kept_at patches.old q) }
+{
+    match patches.take(place) {
+        None => Ok(()),
+        Some(patch) => {
+            let mut left = patch;
+            left.leave(t);
+            patches.put(place, left)
+        }
     }
 }
 

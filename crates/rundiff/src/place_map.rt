@@ -1,8 +1,9 @@
 //! Values by place, for few of many places.
 
-ghost use Rattle.std.specs.Prelude.{◌≡◌, ◌<◌, ℕ, Some, None, false, nat_eq, length, IfOk, OnOk};
+ghost use Rattle.std.specs.Prelude.{◌≡◌, ◌<◌, ℕ, Some, None, true, false, nat_eq, length, All, IfOk, IfSome, OnOk, slice_get};
 ghost use Rattle.std.specs.Option.{option_copied};
 ghost use Rattle.rundiff.specs.PlaceMaps.{kept_at, number_at};
+ghost use Rattle.rundiff.specs.Places.{is_among};
 
 use std::alloc::{AllocError, Global};
 
@@ -44,6 +45,7 @@ impl<T: Drop> PlaceMap<T> {
     /// Takes the value at a place.
     pub fn take(&mut self, place: usize) -> Option<T>
         ensures value { result ≡ kept_at self.old place }
+        ensures gone { kept_at self.new place ≡ None }
         ensures others { (q : ℕ) → nat_eq place q ≡ false → kept_at self.new q ≡ kept_at self.old q }
     {
         let number = self.number_of(place);
@@ -82,6 +84,30 @@ impl<T: Drop> PlaceMap<T> {
         self.items.push((place, Some(value)))?;
         set_number(&mut self.numbers, place, self.items.len());
         Ok(())
+    }
+
+    /// Adds places below `count`, all that have a value among them.
+    pub fn add_places(&self, count: usize, places: &mut Vec<usize>) -> Result<(), AllocError>
+        ensures below { OnOk result (All (λ p. p < count) places.old.items → All (λ p. p < count) places.new.items) }
+        ensures more { OnOk result ((p : ℕ) → is_among places.old.items p ≡ true → is_among places.new.items p ≡ true) }
+        ensures kept { OnOk result ((p : ℕ) → p < count → is_among places.new.items p ≡ false → kept_at self.now p ≡ None) }
+    {
+        for i in 0..self.items.len() {
+            self.add_place(i, count, places)?;
+        }
+        Ok(())
+    }
+
+    /// Adds the place of an item, where it is below `count`.
+    fn add_place(&self, i: usize, count: usize, places: &mut Vec<usize>) -> Result<(), AllocError>
+        ensures below { OnOk result (All (λ p. p < count) places.old.items → All (λ p. p < count) places.new.items) }
+        ensures more { OnOk result ((p : ℕ) → is_among places.old.items p ≡ true → is_among places.new.items p ≡ true) }
+        ensures added { OnOk result (IfSome (slice_get self.now.items.items i) (λ item. item.0 < count → is_among places.new.items item.0 ≡ true)) }
+    {
+        match self.items.get(i) {
+            Some(item) if item.0 < count => Ok(places.push(item.0)?),
+            _ => Ok(()),
+        }
     }
 
     /// The number of the item of a place.

@@ -64,6 +64,16 @@ impl PlaceSet {
         Ok(())
     }
 
+    /// Takes a place away.
+    pub fn remove(&mut self, place: usize)
+        ensures updates { Updates nat_cmp self.old self.new place false }
+    {
+        self.places.remove(&place);
+        if let Some(flag) = self.flags.get_mut(place) {
+            *flag = false;
+        }
+    }
+
     /// The places, in order.
     pub fn in_order(&self) -> &BTreeSet<usize>
         ensures { result.now ≡ self.now }

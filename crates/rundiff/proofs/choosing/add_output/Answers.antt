@@ -1,4 +1,4 @@
-use Rattle.std.proofs.Common.{◌≡◌, ◌∙◌, ap, sym, subst, ℕ, List, Option, arith, true, false}
+use Rattle.std.proofs.Common.{◌≡◌, ◌<◌, All, length, ◌∙◌, ap, sym, subst, ℕ, List, Option, arith, true, false}
 use Rattle.std.specs.Prelude.{nat_eq, IsSome}
 use Rattle.std.specs.Option.{option_map_or}
 use Rattle.std.proofs.lemmas.Bool.Decides.{nat_tests}
@@ -8,6 +8,7 @@ use Rattle.design.specs.Netlist.{GateEntry}
 use Rattle.rundiff.specs.Places.{blank_gate, is_among, is_live}
 use Rattle.rundiff.proofs.ByPlace.{at_place}
 use Rattle.rundiff.proofs.Sets.{or_first, or_second}
+use Rattle.rundiff.proofs.Outcoming.{all_more}
 use Rattle.rundiff.proofs.Steps.{among_push}
 use Rattle.rundiff.proofs.choosing.add_output.Goals as goal
 
@@ -17,6 +18,10 @@ itself n = grind (arith, nat_tests)
 pub returns-clause-more : goal.returns-clause-more
 returns-clause-more c = λ p on.
     ap (λ (l : List ℕ). is_among l p) c.in_ok-push.ensures.items ∙ among_push c.args.nets.now.items c.in-Some.net p ∙ or_first (is_among c.args.nets.now.items p) (nat_eq c.in-Some.net p) on
+
+pub returns-clause-there : goal.returns-clause-there
+returns-clause-there c = λ all.
+    subst (All (λ p. p < length (netlist c.args.new.now).nets)) (sym c.in_ok-push.ensures.items) (all_more (λ p. p < length (netlist c.args.new.now).nets) c.args.nets.now.items c.in-Some.net all c.in-Some.ensures.within)
 
 pub returns-clause-driven : goal.returns-clause-driven
 returns-clause-driven c =

@@ -20,6 +20,7 @@ loop-place-preserved c =
     let now = is_among c.add_output.new.nets.items in
     let done = c.in_ok-add_output.ensures in
     record {
+      there = λ all. done.there (c.loop-place.invariant.there all);
       more = λ p on. done.more p (c.loop-place.invariant.more p on);
       driven = λ q among.
           elim (nat_eq x q) as (λ b. nat_eq x q ≡ b → is_live d now (gate_at d q).output ≡ true) [

@@ -20,4 +20,5 @@ returns c = λ answer old new t places before off is can.
       states = states ∙ map_one_more (λ p. state_after answer new (gate_at new p) t) out.resting.items out.states.items x c.args.state before.states is
           ∙ ap (λ (l : List ℕ). map (λ p. state_after answer new (gate_at new p) t) l) (sym resting);
       can = subst (All (CanStore t)) (sym states) (all_more (CanStore t) out.states.items c.args.state before.can can);
+      same = before.same;
     }

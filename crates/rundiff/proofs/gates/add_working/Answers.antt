@@ -20,4 +20,5 @@ returns c = λ answer old new t places before on is ready.
       resting = before.resting ∙ sym (filter_off (λ p. not (is_working answer old new t p)) places x (ap not on));
       states = before.states;
       can = before.can;
+      same = before.same;
     }

@@ -52,7 +52,8 @@ returns-then-not-is_dirty g c =
     ap (λ (h : GateEntry). is_dirty answer old new h c.args.t && is_stirred answer new h c.args.t) at ∙ ap (λ (b : Bool). b && is_stirred answer new gate c.args.t) clean in
     let state : c.old_state.result ≡ state_after answer new (gate_at new c.args.place) c.args.t =
     c.old_state.ensures.state gate named ∙ clean_after answer old new gate c.args.t clean ∙ ap (λ (h : GateEntry). state_after answer new h c.args.t) (sym at) in
-    (off, state, c.old_state.ensures.can)
+    let same : is_dirty answer old new (gate_at new c.args.place) c.args.t ≡ false = ap (λ (h : GateEntry). is_dirty answer old new h c.args.t) at ∙ clean in
+    (off, state, c.old_state.ensures.can, (c.requires.there, same))
 
 pub returns-then-not-is_stirred : goal.returns-then-not-is_stirred
 returns-then-not-is_stirred g c =

@@ -15,14 +15,14 @@ use Rattle.waveform.specs.Patches.{Keeps, PatchRecord}
 use Rattle.waveform.specs.Timelines.{end_of}
 use Rattle.scratch.specs.Run.{state_after}
 use Rattle.rundiff.specs.Dirty.{working_at}
-use Rattle.rundiff.specs.Fronts.{ArePlaces, IsOwn, is_working, named_state}
+use Rattle.rundiff.specs.Fronts.{ArePlaces, IsFree, IsOwn, is_working, named_state}
 use Rattle.rundiff.specs.Places.{gate_at, is_among, is_live}
 use Rattle.scratch.specs.Work.{is_stirred, task_at}
 use Rattle.rundiff.proofs.Awaited.{looked_noted}
 use Rattle.rundiff.proofs.ByPlace.{map_twice}
 use Rattle.rundiff.proofs.Chosen.{calm, calm_state, chosen_all, chosen_working, not_chosen, still_trace}
 use Rattle.rundiff.proofs.Filtering.{filter_places}
-use Rattle.rundiff.proofs.Resting.{free_state, none_more, not_resting, resting_held, resting_off, rests_on, stored_later}
+use Rattle.rundiff.proofs.Resting.{free_more, free_state, not_resting, resting_held, resting_off, rests_on, stored_later}
 use Rattle.rundiff.proofs.Still.{both}
 use Rattle.rundiff.proofs.front.Front.look_at_gates.Goals as goal
 
@@ -117,6 +117,8 @@ returns-clause-front g c =
     calm answer old new t held chosen before.drivers.gates before.chosen_held before.clean before.quiet in
     record {
       drivers = before.drivers;
+      base = before.base;
+      fixed_live = before.fixed_live;
       closed = before.closed;
       agrees = before.agrees;
       waves = before.waves;
@@ -131,7 +133,7 @@ returns-clause-front g c =
                 ] refl
             | false ↦ λ free.
                 subst (λ (o : Option (PatchRecord State)). Keep p o (suc t)) (sym (untouched p free))
-                (none_more same_state due (state_after answer new (gate_at new p)) (named_state answer old (gate_at new p).name) t (was p) (before.other_traces p free) (before.traces p low)
+                (free_more same_state due (state_after answer new (gate_at new p)) (named_state answer old (gate_at new p).name) t (was p) (before.other_traces p free) (before.traces p low)
                 (free_state answer old new (is_live new (contains nat_cmp c.args.self.now.live)) t c.lawful.ensures.design before.closed before.agrees p low (sym (before.drivers.drivers p low) ∙ free)))
           ] refl;
       working = λ p low on. subst (λ (o : Option (PatchRecord State)). Keep p o t) (sym (done.others p (resting.all p ∙ not_resting (is_among chosen p) (test p) on))) (before.traces p low);
@@ -154,12 +156,13 @@ returns-clause-front g c =
           ] refl;
       kept_waves = before.kept_waves;
       other_waves = before.other_waves;
-      other_traces = λ p free. untouched p free ∙ before.other_traces p free;
+      other_traces = λ p free. subst (λ (o : Option (PatchRecord State)). IsFree o) (sym (untouched p free)) (before.other_traces p free);
       blank = record { wave = before.blank.wave; trace = before.blank.trace };
       places =
           let those = filter_places chosen (is_among chosen) test before.chosen in
           let same = chosen_working answer old new t held chosen before.drivers.gates before.chosen_held before.clean before.quiet in
           subst (λ (l : List ℕ). ArePlaces l (λ p. held p && test p)) (sym evaluated) (record { rising = those.rising; all = λ p. those.all p ∙ same p });
+      same = out.same;
       tasks = chosen_all answer old new t held chosen before.drivers.gates before.chosen_held before.clean before.quiet working before.chosen.rising evaluated;
       awaits =
           let f : ℕ → State = λ p. state_after answer new (gate_at new p) t in

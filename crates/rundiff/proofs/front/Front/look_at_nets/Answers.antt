@@ -1,4 +1,4 @@
-use Rattle.std.proofs.Common.{◌≡◌, ◌∙◌, ◌<◌, ap, sym, subst, refl, suc, ℕ, List, true, false, length, not, Option, None, ◌⊎◌, inr}
+use Rattle.std.proofs.Common.{◌≡◌, ◌∙◌, ◌<◌, ap, sym, subst, refl, suc, ℕ, List, true, false, length, not, Option, ◌⊎◌, inl, inr, ⊎_elim, arith}
 use Rattle.std.specs.Prelude.{◌&&◌, AllPairs}
 use Rattle.rundiff.specs.PlaceMaps.{kept_at}
 use Rattle.std.specs.BTreeSet.{contains}
@@ -11,7 +11,7 @@ use Rattle.event_queue.specs.Noted.{noted}
 use Rattle.waveform.specs.Entries.{standing}
 use Rattle.waveform.specs.Patches.{Keeps, PatchRecord}
 use Rattle.scratch.specs.Run.{value}
-use Rattle.rundiff.specs.Fronts.{IsAlike, IsOwn}
+use Rattle.rundiff.specs.Fronts.{GoesAlong, IsAlike, IsFree, IsOwn}
 use Rattle.rundiff.specs.Places.{is_among, net_at}
 use Rattle.rundiff.specs.Kept.{read_at}
 use Rattle.rundiff.specs.Steady.{IsSteady}
@@ -20,6 +20,7 @@ use Rattle.rundiff.proofs.Awaiting.{noted_now}
 use Rattle.rundiff.proofs.LookedAt.{IsPassed, alike_all, calm_all, own_all, passed_by, wave_all}
 use Rattle.rundiff.proofs.NetsDone.{agrees_now, clean_now, closed_now, free_before, free_wave}
 use Rattle.rundiff.proofs.Quiet.{AreLookedAt, not_so}
+use Rattle.rundiff.proofs.Resting.{along_more, free_along}
 use Rattle.rundiff.proofs.Sets.{or_first, or_none, or_second}
 use Rattle.rundiff.proofs.front.Front.look_at_nets.Goals as goal
 
@@ -99,6 +100,8 @@ returns g c =
     let unlooked : (p : ℕ) → live p ≡ false → looked p ≡ false = λ p free. not_so (looked p) (live p) (chose.live p) free in
     record {
       drivers = holds.drivers;
+      base = before.base;
+      fixed_live = λ p fixed. grows p (before.fixed_live p fixed);
       closed = closed_now answer old new is t c.requires.within live later grows before.closed before.agrees alike;
       agrees = agrees_now answer old new is t c.requires.within live later grows before.closed before.agrees alike;
       clean = clean_now answer old new is t c.requires.within live later grows before.closed before.agrees alike kept holds.drivers;
@@ -108,19 +111,27 @@ returns g c =
             | false ↦ λ off.
                 subst (λ (o : Option (PatchRecord Value)). Keep p o (suc t)) (sym (others p off))
                 (elim (live p) as (λ b. live p ≡ b → Keep p (was p) (suc t)) [
-                  | true ↦ λ on. wave_all answer old new current pending is live held events_at inputs_at nets_at looked c.no_change.ensures t are p on off (was p) (before.kept_waves p) (before.waves p low)
+                  | true ↦ λ on. wave_all answer old new current pending is live held events_at inputs_at nets_at looked c.no_change.ensures t are p on off (was p) (before.kept_waves p on) (before.waves p low)
                   | false ↦ λ free. free_wave answer old new is t c.requires.within live later grows before.closed before.agrees alike p (was p) low free (before.other_waves p free) (before.waves p low)
                 ] refl)
           ] refl;
       traces = before.traces;
       wave_ends = put.ends;
       trace_ends = before.trace_ends;
-      kept_waves = λ p.
-          elim (looked p) as (λ b. looked p ≡ b → (now p ≡ None) ⊎ IsOwn (now p)) [
+      kept_waves = λ p lives.
+          elim (looked p) as (λ b. looked p ≡ b → GoesAlong (now p) (suc t) ⊎ IsOwn (now p)) [
             | true ↦ λ at. inr (put.own p (ap (λ (l : List ℕ). is_among l p) c.as_slice.ensures.value ∙ at))
-            | false ↦ λ off. subst (λ (o : Option (PatchRecord Value)). (o ≡ None) ⊎ IsOwn o) (sym (others p off)) (before.kept_waves p)
+            | false ↦ λ off.
+                subst (λ (o : Option (PatchRecord Value)). GoesAlong o (suc t) ⊎ IsOwn o) (sym (others p off))
+                (elim (live p) as (λ b. live p ≡ b → GoesAlong (was p) (suc t) ⊎ IsOwn (was p)) [
+                  | true ↦ λ on. ⊎_elim (λ along. inl (along_more (was p) t (suc t) (omega arith) along)) (λ own. inr own) (before.kept_waves p on)
+                  | false ↦ λ free.
+                      inl (free_along same_value standing (value answer new (net_at new p)) (read_at answer old (to_net (net_at new p).name)) t (was p) (before.other_waves p free) (before.waves p (holds.drivers.nets p lives)))
+                ] refl)
           ] refl;
-      other_waves = λ p off. let free = (or_none (found p) (live p) (sym (holds.live p) ∙ off)).1 in others p (unlooked p free) ∙ before.other_waves p free;
+      other_waves = λ p off.
+          let free = (or_none (found p) (live p) (sym (holds.live p) ∙ off)).1 in
+          subst (λ (o : Option (PatchRecord Value)). IsFree o) (sym (others p (unlooked p free))) (before.other_waves p free);
       other_traces = λ p off.
           before.other_traces p (free_before answer old new is t c.requires.within live later grows before.closed before.agrees alike held kept before.drivers holds.drivers p off);
       blank = record { wave = before.blank.wave; trace = before.blank.trace };

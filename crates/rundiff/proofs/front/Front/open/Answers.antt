@@ -48,10 +48,19 @@ returns-clause-front c = λ answer.
     let covers : (p : ℕ) → is_among places p ≡ true → later p ≡ true = λ p among.
     c.in_ok-hold.ensures.live p
     ∙ or_first (is_among c.as_slice.result.now p) (contains nat_cmp c.in_ok-live.live p) (ap (λ (l : List ℕ). is_among l p) c.as_slice.ensures.value ∙ among) in
+    let fixed = contains nat_cmp c.in_ok-fixed.fixed in
+    let fixed_is : (p : ℕ) → fixed p ≡ is_among places p = λ p. c.in_ok-fixed.ensures p ∙ ap (λ (l : List ℕ). is_among l p) c.as_slice-2.ensures.value in
     let no_wave = c.in_ok-waves.ensures in
     let no_trace = c.in_ok-traces.ensures in
     record {
       drivers = c.in_ok-hold.ensures.drivers;
+      base =
+          first_closed c.args.old.now c.args.new.now c.lawful.ensures.keys c.lawful-2.ensures.keys c.lawful-2.ensures.design.distinct_nets c.places_are_keys.ensures.nets
+          c.names_are_keys.ensures.nets c.names_are_keys.ensures.drivers c.names_are_keys-2.ensures.drivers
+          c.args.touched.now.nets.items c.args.touched.now.gates.items places c.requires c.in_ok-found.ensures.touched fixed
+          (λ p among. fixed_is p ∙ among)
+          (0, record { name = []; kind = Buf; delays = record { rise = 0; fall = 0 }; output = 0; inputs = [] }) (0, blank_net);
+      fixed_live = λ p on. covers p (sym (fixed_is p) ∙ on);
       closed =
           first_closed c.args.old.now c.args.new.now c.lawful.ensures.keys c.lawful-2.ensures.keys c.lawful-2.ensures.design.distinct_nets c.places_are_keys.ensures.nets
           c.names_are_keys.ensures.nets c.names_are_keys.ensures.drivers c.names_are_keys-2.ensures.drivers
@@ -62,10 +71,10 @@ returns-clause-front c = λ answer.
       traces = λ p low. keeps_first same_state due (state_after answer new (gate_at new p)) (named_state answer old (gate_at new p).name) _ (no_trace p);
       wave_ends = λ p patch is. absurd (never_some _ patch (no_wave p) is);
       trace_ends = λ p patch is. absurd (never_some _ patch (no_trace p) is);
-      kept_waves = λ p. inl (no_wave p);
+      kept_waves = λ p on. inl (inl (no_wave p));
       own_traces = λ p on. inl refl;
-      other_waves = λ p off. no_wave p;
-      other_traces = λ p off. no_trace p;
+      other_waves = λ p off. inl (no_wave p);
+      other_traces = λ p off. inl (no_trace p);
       awaits =
           opened_noted answer old new later (contains nat_cmp c.hold.new.held) (noted c.new-events.result) (noted c.in_ok-inputs.inputs) (noted c.in_ok-nets.nets) c.in_ok-inputs.ensures c.in_ok-nets.ensures;
       blank = record { wave = c.in_ok-blank_wave.ensures; trace = c.in_ok-blank_trace.ensures ∙ ap (λ (s : State). (0, s) ∷ []) c.start.ensures };

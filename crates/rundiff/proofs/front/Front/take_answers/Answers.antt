@@ -12,14 +12,14 @@ use Rattle.waveform.specs.Entries.{same_state}
 use Rattle.waveform.specs.Patches.{Keeps, PatchRecord}
 use Rattle.waveform.specs.Timelines.{end_of}
 use Rattle.scratch.specs.Run.{state_after}
-use Rattle.rundiff.specs.Fronts.{IsOwn, is_working, named_state}
+use Rattle.rundiff.specs.Fronts.{IsFree, IsOwn, is_working, named_state}
 use Rattle.rundiff.specs.Places.{gate_at, is_among}
 use Rattle.rundiff.proofs.Awaited.{settled_noted}
 use Rattle.rundiff.proofs.ByPlace.{map_twice}
 use Rattle.rundiff.proofs.OneGate.{and_false}
 use Rattle.rundiff.proofs.Resting.{idle, stored_each, stored_later}
 use Rattle.rundiff.proofs.Still.{both}
-use Rattle.rundiff.proofs.front.Front.settle.Goals as goal
+use Rattle.rundiff.proofs.front.Front.take_answers.Goals as goal
 
 pub put_states-requires-clause-there : goal.put_states-requires-clause-there
 put_states-requires-clause-there g c = λ p among.
@@ -101,6 +101,8 @@ returns-clause-front g c =
     let off_right : (a b : Bool) → b ≡ false → (a && b) ≡ false = λ a b h. ap (λ (x : Bool). a && x) h ∙ and_false a in
     record {
       drivers = before.drivers;
+      base = before.base;
+      fixed_live = before.fixed_live;
       closed = before.closed;
       agrees = before.agrees;
       waves = before.waves;
@@ -125,7 +127,7 @@ returns-clause-front g c =
           ] refl);
       kept_waves = before.kept_waves;
       other_waves = before.other_waves;
-      other_traces = λ p free. done.others p (among p ∙ off_left (held p) (test p) free) ∙ before.other_traces p free;
+      other_traces = λ p free. subst (λ (o : Option (PatchRecord State)). IsFree o) (sym (done.others p (among p ∙ off_left (held p) (test p) free))) (before.other_traces p free);
       blank = record { wave = before.blank.wave; trace = before.blank.trace };
       awaits =
           settled_noted answer old new t (contains nat_cmp c.args.self.now.live) held (noted c.args.self.now.events) (noted c.args.self.now.inputs) (noted c.args.self.now.nets) (noted c.note_events.new.queue)

@@ -1,0 +1,258 @@
+-- A net that one gate alone drives, which was not dirty at the last moment, leaves what is live, and the gate what is held.
+use Rattle.std.proofs.Common.{◌≡◌, ℕ, suc, ◌<◌, ◌≤◌, ◌∙◌, ap, sym, refl, subst, List, [], ◌∷◌, Bool, true, false, cond, not, map, length, arith, All, ◌⊎◌, inl, inr, ⊎_elim}
+use Rattle.std.specs.Prelude.{slice_index_or, nat_eq, ◌==◌, ◌||◌, ◌&&◌}
+use Rattle.std.specs.List.{list_any}
+use Rattle.std.proofs.lemmas.Bool.Decides.{nat_tests}
+use Rattle.std.proofs.lemmas.List.Elements.{All-cons, All-nil}
+use Rattle.fourstate.specs.declared.value.Value.{Value}
+use Rattle.gatestep.specs.Step.{State, Evaluation}
+use Rattle.design.specs.Connections.{Connection, to_net, to_constant}
+use Rattle.design.specs.Lawful.{IsDesign}
+use Rattle.design.specs.Names.{same_name}
+use Rattle.design.specs.Netlist.{GateEntry, NetEntry, Netlist, is_at_net, reads}
+use Rattle.design.specs.Places.{driver_places}
+use Rattle.scratch.specs.Places.{IsNotedWithin, Keeps}
+use Rattle.scratch.specs.Run.{state_before, value}
+use Rattle.rundiff.specs.Dirty.{is_dirty}
+use Rattle.rundiff.specs.Fronts.{AreDrivers}
+use Rattle.rundiff.specs.Kept.{Agrees, IsClosed, IsSameNet, read_at}
+use Rattle.rundiff.specs.Noting.{IsNoted, input_moves, is_at_live, net_moves, old_moves, pends}
+use Rattle.rundiff.specs.Places.{blank_gate, blank_net, gate_at, is_among, is_live, net_at}
+use Rattle.rundiff.proofs.Alike.{off_shrinks}
+use Rattle.rundiff.proofs.ByPlace.{live_at}
+use Rattle.rundiff.proofs.Clean.{clean_after, clean_task, same_net}
+use Rattle.rundiff.proofs.Lists.{filter_where, name_itself, same_name_equal}
+use Rattle.rundiff.proofs.NetsDone.{same_default}
+use Rattle.rundiff.proofs.NotedMore.{within_on}
+use Rattle.rundiff.proofs.Quiet.{both_on}
+use Rattle.rundiff.proofs.Readers.{driver_at, live_more}
+use Rattle.rundiff.proofs.Sets.{or_first, or_second}
+use Rattle.rundiff.proofs.Still.{both}
+use Rattle.rundiff.proofs.Wired.{reads_net}
+
+pub same_index : (k p : ℕ) → (k == p) ≡ true → k ≡ p
+same_index k p h = grind (arith, nat_tests)
+
+index_itself : (k : ℕ) → (k == k) ≡ true
+index_itself k = grind (arith, nat_tests)
+
+or_last : (b : Bool) → (b || false) ≡ b
+or_last true = refl
+or_last false = refl
+
+not_first : (t u : ℕ) (b : Bool) → suc t ≤ u → (u == 0 || b) ≡ true → b ≡ true
+not_first t u b late h = let off : (u == 0) ≡ false = grind (arith, nat_tests) in sym (ap (λ (a : Bool). a || b) off) ∙ h
+
+-- a list of one place has one place
+lone : (xs : List ℕ) (a b : ℕ) → length xs ≡ 1 → is_among xs a ≡ true → is_among xs b ≡ true → a ≡ b
+lone [] a b one on too = absurd (cc)
+lone (x ∷ []) a b one on too =
+    let first = same_index x a (sym (or_last (x == a)) ∙ on) in
+    let second = same_index x b (sym (or_last (x == b)) ∙ too) in sym first ∙ second
+lone (x ∷ y ∷ xs) a b one on too = absurd (omega arith)
+
+-- lists of values that are the same are so one by one
+one_by_one : {X : Type 0} (f h : X → Value) (xs : List X) → map f xs ≡ map h xs → All (λ x. f x ≡ h x) xs
+one_by_one f h [] e = All-nil (λ x. f x ≡ h x)
+one_by_one f h (x ∷ xs) e =
+    let first : f x ≡ h x = cc in
+    let rest : map f xs ≡ map h xs = cc in
+    All-cons (λ x. f x ≡ h x) x xs first (one_by_one f h xs rest)
+
+-- a place that is taken away
+smaller : (same more less : Bool) → less ≡ cond same false more → less ≡ true → more ≡ true
+smaller true more less is on = let no : false ≡ true = sym is ∙ on in absurd (cc)
+smaller false more less is on = sym is ∙ on
+
+same_number : (a b : ℕ) → nat_eq a b ≡ true → (b == a) ≡ true
+same_number a b h = grind (arith, nat_tests)
+
+other_number : (a b : ℕ) → nat_eq a b ≡ false → (b == a) ≡ false
+other_number a b h = grind (arith, nat_tests)
+
+pub taken_off : (place : ℕ) (more less : ℕ → Bool) → ((r : ℕ) → less r ≡ cond (r == place) false (more r)) → (r : ℕ) → nat_eq place r ≡ true → less r ≡ false
+taken_off place more less law r same = law r ∙ ap (λ (b : Bool). cond b false (more r)) (same_number place r same)
+
+pub stays_off : (place : ℕ) (more less : ℕ → Bool) → ((r : ℕ) → less r ≡ cond (r == place) false (more r)) → (r : ℕ) → nat_eq place r ≡ false → less r ≡ false → more r ≡ false
+stays_off place more less law r apart off = sym (law r ∙ ap (λ (b : Bool). cond b false (more r)) (other_number place r apart)) ∙ off
+
+module _ (answer : Evaluation → ℕ → State) (old new : Netlist) (is : IsDesign new) (t p q : ℕ) (low : p < length new.nets) (there : q < length new.gates)
+    (clean : is_dirty answer old new (gate_at new q) t ≡ false) (output : (gate_at new q).output ≡ (net_at new p).name) (alone : length (driver_places new.gates (net_at new p).name) ≡ 1)
+    (live later held kept fixed : ℕ → Bool) (gone : (r : ℕ) → later r ≡ cond (r == p) false (live r)) (freed : (r : ℕ) → kept r ≡ cond (r == q) false (held r))
+    (lives : live p ≡ true) (unfixed : fixed p ≡ false) (fixed_live : (r : ℕ) → fixed r ≡ true → live r ≡ true) (base : IsClosed old new (is_live new fixed))
+    (drivers : AreDrivers new live held) (agrees : Agrees answer old new (is_live new live) (suc t)) where
+  abbrev name : List ℕ
+  name = (net_at new p).name
+
+  pub was_live : (r : ℕ) → later r ≡ true → live r ≡ true
+  was_live r on = smaller (r == p) (live r) (later r) (gone r) on
+
+  pub was_held : (r : ℕ) → kept r ≡ true → held r ≡ true
+  was_held r on = smaller (r == q) (held r) (kept r) (freed r) on
+
+  adds : (r : ℕ) → live r ≡ (r == p || later r)
+  adds r =
+      elim (r == p) as (λ b. (r == p) ≡ b → live r ≡ (b || later r)) [
+        | true ↦ λ same. ap live (same_index r p same) ∙ lives
+        | false ↦ λ apart. sym (gone r ∙ ap (λ (b : Bool). cond b false (live r)) apart)
+      ] refl
+
+  names : (out : List ℕ) → is_live new live out ≡ (same_name out name || is_live new later out)
+  names out = live_more new is.distinct_nets p low later live adds out
+
+  p_off : is_live new later name ≡ false
+  p_off = live_at new later p is.distinct_nets low ∙ gone p ∙ ap (λ (b : Bool). cond b false (live p)) (index_itself p)
+
+  -- a net that is not live now was not live before, or it is the one that left
+  off_or : (out : List ℕ) → is_live new later out ≡ false → (is_live new live out ≡ false) ⊎ (out ≡ name)
+  off_or out off =
+      elim (same_name out name) as (λ b. same_name out name ≡ b → (is_live new live out ≡ false) ⊎ (out ≡ name)) [
+        | true ↦ λ same. inr (same_name_equal out name same)
+        | false ↦ λ apart. inl (names out ∙ ap (λ (b : Bool). b || is_live new later out) apart ∙ off)
+      ] refl
+
+  -- the net has no other driver
+  only : (r : ℕ) → r < length new.gates → (gate_at new r).output ≡ name → r ≡ q
+  only r within drives =
+      let by : (k : ℕ) → k < length new.gates → (gate_at new k).output ≡ name → is_among (driver_places new.gates name) k ≡ true =
+      λ k inside at. driver_at new name k inside ∙ ap (λ (m : List ℕ). same_name m name) at ∙ name_itself name in
+      lone (driver_places new.gates name) r q alone (by r within drives) (by q there output)
+
+  other_output : (r : ℕ) → r < length new.gates → (r == q) ≡ false → same_name (gate_at new r).output name ≡ false
+  other_output r within apart =
+      elim (same_name (gate_at new r).output name) as (λ b. same_name (gate_at new r).output name ≡ b → b ≡ false) [
+        | true ↦ λ same.
+            let e : r ≡ q = only r within (same_name_equal (gate_at new r).output name same) in
+            let no : true ≡ false = sym (index_itself q) ∙ ap (λ (k : ℕ). k == q) (sym e) ∙ apart in absurd (cc)
+        | false ↦ λ off. refl
+      ] refl
+
+  pub drivers_now : AreDrivers new later kept
+  drivers_now =
+      record {
+        nets = λ r on. drivers.nets r (was_live r on);
+        gates = λ r on. drivers.gates r (was_held r on);
+        drivers = λ r within.
+            elim (r == q) as (λ b. (r == q) ≡ b → kept r ≡ is_live new later (gate_at new r).output) [
+              | true ↦ λ same.
+                  let e = same_index r q same in
+                  freed r ∙ ap (λ (b : Bool). cond b false (held r)) same ∙ sym (ap (λ (k : ℕ). is_live new later (gate_at new k).output) e ∙ ap (is_live new later) output ∙ p_off)
+              | false ↦ λ apart.
+                  freed r ∙ ap (λ (b : Bool). cond b false (held r)) apart ∙ drivers.drivers r within ∙ names (gate_at new r).output
+                  ∙ ap (λ (b : Bool). b || is_live new later (gate_at new r).output) (other_output r within apart)
+            ] refl;
+      }
+
+  pub fixed_later : (r : ℕ) → fixed r ≡ true → later r ≡ true
+  fixed_later r on =
+      gone r
+      ∙ elim (r == p) as (λ b. (r == p) ≡ b → cond b false (live r) ≡ true) [
+        | true ↦ λ same. let no : true ≡ false = sym on ∙ ap fixed (same_index r p same) ∙ unfixed in absurd (cc)
+        | false ↦ λ apart. fixed_live r on
+      ] refl
+
+  pub closed_now : IsClosed old new (is_live new later)
+  closed_now =
+      record {
+        gates = λ k d within off. base.gates k d within (off_shrinks new fixed later fixed_later (slice_index_or new.gates k d).output off);
+        nets = λ k d within off. base.nets k d within (off_shrinks new fixed later fixed_later (slice_index_or new.nets k d).name off);
+      }
+
+  -- the gate that drives the net
+  the_gate : (P : GateEntry → Type 0) → P (gate_at new q) → (k : ℕ) (d : GateEntry) → k < length new.gates → (slice_index_or new.gates k d).output ≡ name → P (slice_index_or new.gates k d)
+  the_gate P holds k d within drives =
+      let same : slice_index_or new.gates k d ≡ gate_at new k = same_default new.gates k d blank_gate within in
+      let e : k ≡ q = only k within (ap (λ (g : GateEntry). g.output) (sym same) ∙ drives) in
+      subst P (sym (same ∙ ap (gate_at new) e)) holds
+
+  same_before : state_before answer old t (gate_at new q) ≡ state_before answer new t (gate_at new q)
+  same_before = ap (λ (e : Evaluation). e.state) (clean_task answer old new (gate_at new q) t clean)
+
+  same_inputs : All (λ connection. read_at answer old connection t ≡ read_at answer new connection t) (gate_at new q).inputs
+  same_inputs =
+      one_by_one (λ c. read_at answer old c t) (λ c. read_at answer new c t) (gate_at new q).inputs
+      (ap (λ (e : Evaluation). e.inputs) (clean_task answer old new (gate_at new q) t clean))
+
+  same_value_now : read_at answer old (to_net name) t ≡ value answer new (net_at new p) t
+  same_value_now =
+      let n = net_at new p in
+      let same : IsSameNet old new n = base.nets p blank_net low (live_at new fixed p is.distinct_nets low ∙ unfixed) in
+      let P : GateEntry → Type 0 = λ g. state_before answer old t g ≡ state_before answer new t g in
+      let states : All P _ = filter_where (λ g. same_name g.output name) P new.gates
+      (λ k d within at. the_gate P same_before k d within (same_name_equal (slice_index_or new.gates k d).output name at)) in
+      reads_net answer old name n t same.net ∙ same_net answer old new n t same.drivers states
+
+  pub agrees_now : Agrees answer old new (is_live new later) (suc t)
+  agrees_now =
+      record {
+        states = λ k d within off.
+            ⊎_elim (λ was. agrees.states k d within was)
+            (λ drives. the_gate (λ g. state_before answer old (suc t) g ≡ state_before answer new (suc t) g) (clean_after answer old new (gate_at new q) t clean) k d within drives)
+            (off_or (slice_index_or new.gates k d).output off);
+        inputs = λ k d within off.
+            ⊎_elim (λ was. agrees.inputs k d within was)
+            (λ drives. the_gate (λ g. All (λ connection. read_at answer old connection t ≡ read_at answer new connection t) g.inputs) same_inputs k d within drives)
+            (off_or (slice_index_or new.gates k d).output off);
+        nets = λ k d within off.
+            let same : slice_index_or new.nets k d ≡ net_at new k = same_default new.nets k d blank_net within in
+            let P : NetEntry → Type 0 = λ x. read_at answer old (to_net x.name) t ≡ value answer new x t in
+            elim (k == p) as (λ b. (k == p) ≡ b → P (slice_index_or new.nets k d)) [
+              | true ↦ λ here. subst P (sym (same ∙ ap (net_at new) (same_index k p here))) same_value_now
+              | false ↦ λ apart.
+                  let named = ap (λ (x : NetEntry). is_live new live x.name) same ∙ live_at new live k is.distinct_nets within in
+                  let named_later = ap (λ (x : NetEntry). is_live new later x.name) same ∙ live_at new later k is.distinct_nets within in
+                  let stays : later k ≡ live k = gone k ∙ ap (λ (b : Bool). cond b false (live k)) apart in
+                  agrees.nets k d within (named ∙ sym stays ∙ sym named_later ∙ off)
+            ] refl;
+      }
+
+  -- What is noted.
+
+  module _ (events inputs nets after : ℕ → List ℕ) (keeps : Keeps inputs after) (early : (u : ℕ) → u ≤ t → after u ≡ inputs u)
+      (next : (r u : ℕ) → r < length new.gates → reads (gate_at new r) name ≡ true → t < u → old_moves answer old new (to_net name) u ≡ true → IsNotedWithin after r (suc t) u)
+      (before : IsNoted answer old new live held held (suc t) events inputs nets (suc t)) where
+    abbrev test : (ℕ → Bool) → ℕ → Connection → Bool
+    test at u c = not (is_at_live new at c) && old_moves answer old new c u
+
+    -- an input that moves moved before, or it reads the net that left
+    one : (u : ℕ) (c : Connection) → test later u c ≡ true → (test live u c ≡ true) ⊎ ((is_at_net name c ≡ true) × (old_moves answer old new (to_net name) u ≡ true))
+    one u (to_constant v) h = inl h
+    one u (to_net m) h =
+        elim (same_name m name) as (λ b. same_name m name ≡ b → (test live u (to_net m) ≡ true) ⊎ ((same_name m name ≡ true) × (old_moves answer old new (to_net name) u ≡ true))) [
+          | true ↦ λ same.
+              inr (same, ap (λ (k : List ℕ). old_moves answer old new (to_net k) u) (sym (same_name_equal m name same)) ∙ (both (not (is_live new later m)) (old_moves answer old new (to_net m) u) h).1)
+          | false ↦ λ apart.
+              inl (ap (λ (b : Bool). not b && old_moves answer old new (to_net m) u) (names m ∙ ap (λ (b : Bool). b || is_live new later m) apart) ∙ h)
+        ] refl
+
+    split : (u : ℕ) (cs : List Connection) → list_any (test later u) cs ≡ true → (list_any (test live u) cs ≡ true) ⊎ ((list_any (is_at_net name) cs ≡ true) × (old_moves answer old new (to_net name) u ≡ true))
+    split u [] on = absurd (cc)
+    split u (c ∷ cs) on =
+        elim (test later u c) as (λ b. test later u c ≡ b → (b || list_any (test later u) cs) ≡ true → (list_any (test live u) (c ∷ cs) ≡ true) ⊎ ((list_any (is_at_net name) (c ∷ cs) ≡ true) × (old_moves answer old new (to_net name) u ≡ true))) [
+          | true ↦ λ here h.
+              ⊎_elim (λ was. inl (or_first (test live u c) (list_any (test live u) cs) was)) (λ at. inr (or_first (is_at_net name c) (list_any (is_at_net name) cs) at.0, at.1)) (one u c here)
+          | false ↦ λ no h.
+              ⊎_elim (λ was. inl (or_second (test live u c) (list_any (test live u) cs) was)) (λ at. inr (or_second (is_at_net name c) (list_any (is_at_net name) cs) at.0, at.1)) (split u cs h)
+        ] refl on
+
+    pub noted_less : IsNoted answer old new later kept kept (suc t) events after nets (suc t)
+    noted_less =
+        record {
+          events = λ r u late h.
+              let pending = pends (state_before answer new (suc t) (gate_at new r)) u in
+              let parts = both (kept r) pending h in before.events r u late (both_on (held r) pending (was_held r parts.0) parts.1);
+          inputs = λ r u late h.
+              let moves = input_moves answer old new later r u in
+              let moved = input_moves answer old new live r u in
+              let parts = both (kept r) (u == 0 || moves) h in
+              ⊎_elim
+              (λ was. within_on inputs after r (suc t) u keeps (before.inputs r u late (both_on (held r) (u == 0 || moved) (was_held r parts.0) (or_second (u == 0) moved was))))
+              (λ at. next r u (drivers.gates r (was_held r parts.0)) at.0 late at.1)
+              (split u (gate_at new r).inputs (not_first t u moves late parts.1));
+          nets = λ r u late h.
+              let moves = net_moves answer old new r u in
+              let parts = both (later r) (u == 0 || moves) h in before.nets r u late (both_on (live r) (u == 0 || moves) (was_live r parts.0) parts.1);
+          no_early_event = before.no_early_event;
+          no_early_input = λ u under. early u (omega arith) ∙ before.no_early_input u under;
+          no_early_net = before.no_early_net;
+        }

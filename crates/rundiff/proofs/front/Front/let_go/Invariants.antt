@@ -1,0 +1,12 @@
+use Rattle.std.proofs.Common.{◌≡◌, suc}
+use Rattle.design.specs.Keys.{netlist}
+use Rattle.rundiff.specs.Fronts.{IsFront}
+use Rattle.rundiff.proofs.front.Front.let_go.Given as goal
+
+-- the front stays right
+abbrev pub invariant-loop-i : goal.invariant-loop-i
+invariant-loop-i g l = record {
+  front : IsFront g.S.Stepper.answer (netlist l.old) (netlist l.new) l.self (suc l.t);
+  clean : l.self.clean ≡ l.fn.self.clean;
+  done : l.self.done ≡ l.fn.self.done;
+}

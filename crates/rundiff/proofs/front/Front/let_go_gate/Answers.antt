@@ -1,0 +1,122 @@
+use Rattle.std.proofs.Common.{◌≡◌, ◌∙◌, ◌+◌, ◌≤◌, ap, sym, subst, refl, suc, ℕ, Bool, true, false, cond, Option, ◌⊎◌, arith}
+use Rattle.std.specs.Prelude.{nat_eq, ◌==◌}
+use Rattle.std.specs.BTreeSet.{contains}
+use Rattle.std.specs.Option.{ForSome}
+use Rattle.std.specs.Ordering.{nat_cmp}
+use Rattle.fourstate.specs.declared.value.Value.{Value}
+use Rattle.fourstate.specs.Values.{same_value}
+use Rattle.gatestep.specs.Step.{State, due}
+use Rattle.event_queue.specs.Noted.{noted}
+use Rattle.design.specs.Connections.{to_net}
+use Rattle.design.specs.Keys.{netlist}
+use Rattle.waveform.specs.Entries.{same_state, standing}
+use Rattle.waveform.specs.Patches.{Keeps, PatchRecord}
+use Rattle.waveform.specs.Timelines.{end_of}
+use Rattle.scratch.specs.Run.{state_after, value}
+use Rattle.rundiff.specs.Fronts.{GoesAlong, IsFree, IsOwn, named_state}
+use Rattle.rundiff.specs.Kept.{read_at}
+use Rattle.rundiff.specs.PlaceMaps.{kept_at}
+use Rattle.rundiff.specs.Places.{gate_at, net_at}
+use Rattle.rundiff.proofs.Leaving.{agrees_now, closed_now, drivers_now, fixed_later, noted_less, stays_off, taken_off, was_held, was_live}
+use Rattle.rundiff.proofs.Sets.{test_is}
+use Rattle.rundiff.proofs.Steps.{same_place}
+use Rattle.rundiff.proofs.front.Front.let_go_gate.Goals as goal
+
+pub returns-clause-front : goal.returns-clause-front
+returns-clause-front g c =
+    let answer = g.S.Stepper.answer in
+    let old = netlist c.args.old.now in let new = netlist c.args.new.now in let t = c.args.t in
+    let front = c.args.self.now in
+    let right = c.requires.front in
+    let is = c.lawful-2.ensures.design in
+    let p : ℕ = c.in-Some.net in let q : ℕ = c.args.gate in
+    let one : t + 1 ≡ suc t = omega arith in
+    let low = c.in-Some.ensures.net in
+    let there = c.requires.gate.0 in
+    let clean = c.requires.gate.1 in
+    let output = c.in-Some.ensures.output in
+    let alone = c.in-Some.ensures.alone in
+    let live : ℕ → Bool = contains nat_cmp front.live in
+    let held : ℕ → Bool = contains nat_cmp front.held in
+    let fixed : ℕ → Bool = contains nat_cmp front.fixed in
+    let later : ℕ → Bool = contains nat_cmp c.remove.new.self in
+    let kept : ℕ → Bool = contains nat_cmp c.remove-2.new.self in
+    let gone : (r : ℕ) → later r ≡ cond (r == p) false (live r) = λ r. c.remove.ensures.updates.0 r ∙ ap (λ (b : Bool). cond b false (live r)) (sym (test_is p r)) in
+    let freed : (r : ℕ) → kept r ≡ cond (r == q) false (held r) = λ r. c.remove-2.ensures.updates.0 r ∙ ap (λ (b : Bool). cond b false (held r)) (sym (test_is q r)) in
+    let unfixed : fixed p ≡ false = sym c.contains.ensures ∙ c.if-contains.false in
+    let lives : live p ≡ true = sym c.contains-2.ensures ∙ c.if-not-contains.false in
+    let left = c.in_ok-leave.ensures in
+    let quit = c.in_ok-leave-2.ensures in
+    let was : ℕ → Option (PatchRecord Value) = kept_at front.waves in
+    let now : ℕ → Option (PatchRecord Value) = kept_at c.leave.new.patches in
+    let had : ℕ → Option (PatchRecord State) = kept_at front.traces in
+    let has_now : ℕ → Option (PatchRecord State) = kept_at c.leave-2.new.patches in
+    let f : ℕ → ℕ → Value = λ r. value answer new (net_at new r) in
+    let f_old : ℕ → ℕ → Value = λ r. read_at answer old (to_net (net_at new r).name) in
+    let s : ℕ → ℕ → State = λ r. state_after answer new (gate_at new r) in
+    let s_old : ℕ → ℕ → State = λ r. named_state answer old (gate_at new r).name in
+    let Wave : ℕ → Option (PatchRecord Value) → ℕ → Type 0 = λ r o n. Keeps same_value standing (f_old r) (f r) o n in
+    let Trace : ℕ → Option (PatchRecord State) → ℕ → Type 0 = λ r o n. Keeps same_state due (s_old r) (s r) o n in
+    record {
+      drivers = drivers_now answer old new is t p q low there clean output alone live later held kept fixed gone freed lives unfixed right.fixed_live right.base right.drivers right.agrees;
+      base = right.base;
+      fixed_live = fixed_later answer old new is t p q low there clean output alone live later held kept fixed gone freed lives unfixed right.fixed_live right.base right.drivers right.agrees;
+      closed = closed_now answer old new is t p q low there clean output alone live later held kept fixed gone freed lives unfixed right.fixed_live right.base right.drivers right.agrees;
+      agrees = agrees_now answer old new is t p q low there clean output alone live later held kept fixed gone freed lives unfixed right.fixed_live right.base right.drivers right.agrees;
+      waves = λ r within.
+          elim (nat_eq p r) as (λ b. nat_eq p r ≡ b → Wave r (now r) (suc t)) [
+            | true ↦ λ same.
+                subst (λ (k : ℕ). Wave k (now k) (suc t)) (same_place p r same)
+                (subst (λ (n : ℕ). Wave p (now p) n) one (left.made (f p) (f_old p) (subst (λ (n : ℕ). Wave p (was p) n) (sym one) (right.waves p low))))
+            | false ↦ λ apart. subst (λ (o : Option (PatchRecord Value)). Wave r o (suc t)) (sym (left.others r apart)) (right.waves r within)
+          ] refl;
+      traces = λ r within.
+          elim (nat_eq q r) as (λ b. nat_eq q r ≡ b → Trace r (has_now r) (suc t)) [
+            | true ↦ λ same.
+                subst (λ (k : ℕ). Trace k (has_now k) (suc t)) (same_place q r same)
+                (subst (λ (n : ℕ). Trace q (has_now q) n) one (quit.made (s q) (s_old q) (subst (λ (n : ℕ). Trace q (had q) n) (sym one) (right.traces q there))))
+            | false ↦ λ apart. subst (λ (o : Option (PatchRecord State)). Trace r o (suc t)) (sym (quit.others r apart)) (right.traces r within)
+          ] refl;
+      wave_ends = λ r.
+          elim (nat_eq p r) as (λ b. nat_eq p r ≡ b → ForSome (now r) (λ patch. end_of patch.line ≤ suc t)) [
+            | true ↦ λ same.
+                subst (λ (k : ℕ). ForSome (now k) (λ patch. end_of patch.line ≤ suc t)) (same_place p r same)
+                (subst (λ (n : ℕ). ForSome (now p) (λ patch. end_of patch.line ≤ n)) one left.end)
+            | false ↦ λ apart. subst (λ (o : Option (PatchRecord Value)). ForSome o (λ patch. end_of patch.line ≤ suc t)) (sym (left.others r apart)) (right.wave_ends r)
+          ] refl;
+      trace_ends = λ r.
+          elim (nat_eq q r) as (λ b. nat_eq q r ≡ b → ForSome (has_now r) (λ patch. end_of patch.line ≤ suc t)) [
+            | true ↦ λ same.
+                subst (λ (k : ℕ). ForSome (has_now k) (λ patch. end_of patch.line ≤ suc t)) (same_place q r same)
+                (subst (λ (n : ℕ). ForSome (has_now q) (λ patch. end_of patch.line ≤ n)) one quit.end)
+            | false ↦ λ apart. subst (λ (o : Option (PatchRecord State)). ForSome o (λ patch. end_of patch.line ≤ suc t)) (sym (quit.others r apart)) (right.trace_ends r)
+          ] refl;
+      own_traces = λ r on.
+          elim (nat_eq q r) as (λ b. nat_eq q r ≡ b → (suc t ≡ 0) ⊎ IsOwn (has_now r)) [
+            | true ↦ λ same. let no : true ≡ false = sym on ∙ taken_off q held kept freed r same in absurd (cc)
+            | false ↦ λ apart.
+                subst (λ (o : Option (PatchRecord State)). (suc t ≡ 0) ⊎ IsOwn o) (sym (quit.others r apart))
+                (right.own_traces r (was_held answer old new is t p q low there clean output alone live later held kept fixed gone freed lives unfixed right.fixed_live right.base right.drivers right.agrees r on))
+          ] refl;
+      kept_waves = λ r on.
+          elim (nat_eq p r) as (λ b. nat_eq p r ≡ b → GoesAlong (now r) (suc t) ⊎ IsOwn (now r)) [
+            | true ↦ λ same. let no : true ≡ false = sym on ∙ taken_off p live later gone r same in absurd (cc)
+            | false ↦ λ apart.
+                subst (λ (o : Option (PatchRecord Value)). GoesAlong o (suc t) ⊎ IsOwn o) (sym (left.others r apart))
+                (right.kept_waves r (was_live answer old new is t p q low there clean output alone live later held kept fixed gone freed lives unfixed right.fixed_live right.base right.drivers right.agrees r on))
+          ] refl;
+      other_waves = λ r off.
+          elim (nat_eq p r) as (λ b. nat_eq p r ≡ b → IsFree (now r)) [
+            | true ↦ λ same. subst (λ (k : ℕ). IsFree (now k)) (same_place p r same) left.free
+            | false ↦ λ apart. subst (λ (o : Option (PatchRecord Value)). IsFree o) (sym (left.others r apart)) (right.other_waves r (stays_off p live later gone r apart off))
+          ] refl;
+      other_traces = λ r off.
+          elim (nat_eq q r) as (λ b. nat_eq q r ≡ b → IsFree (has_now r)) [
+            | true ↦ λ same. subst (λ (k : ℕ). IsFree (has_now k)) (same_place q r same) quit.free
+            | false ↦ λ apart. subst (λ (o : Option (PatchRecord State)). IsFree o) (sym (quit.others r apart)) (right.other_traces r (stays_off q held kept freed r apart off))
+          ] refl;
+      blank = record { wave = right.blank.wave; trace = right.blank.trace };
+      awaits =
+          noted_less answer old new is t p q low there clean output alone live later held kept fixed gone freed lives unfixed right.fixed_live right.base right.drivers right.agrees
+          (noted front.events) (noted front.inputs) (noted front.nets) (noted c.note_readers.new.queue) c.in_ok-note_readers.ensures.kept c.in_ok-note_readers.ensures.early c.in_ok-note_readers.ensures.next right.awaits;
+    }

@@ -1,0 +1,17 @@
+use Rattle.std.proofs.Common.{sym, subst, All}
+use Rattle.rundiff.specs.Fronts.{IsClean}
+use Rattle.rundiff.proofs.Outcoming.{all_more}
+use Rattle.rundiff.proofs.Steps.{mapped}
+use Rattle.rundiff.proofs.gates.add_clean.Goals as goal
+
+pub returns : goal.returns
+returns c = mapped c.add_resting.result c.add_resting.ensures (λ add answer old new t places before off is can same.
+    add answer old new t places (record {
+      working = before.working;
+      tasks = before.tasks;
+      ready = before.ready;
+      resting = before.resting;
+      states = before.states;
+      can = before.can;
+      same = subst (All (IsClean answer old new t)) (sym c.in_ok-push.ensures.items) (all_more (IsClean answer old new t) c.args.out.now.clean.items c.args.place before.same same);
+    }) off is can)

@@ -1,0 +1,31 @@
+use Rattle.std.proofs.Common.{◌≡◌, ◌∙◌, ap, sym, refl, ℕ, List, Bool, true, false, cond, take}
+use Rattle.std.specs.Prelude.{slice_index_or, ◌||◌, ◌==◌}
+use Rattle.std.specs.BTreeSet.{contains}
+use Rattle.std.specs.Ordering.{nat_cmp}
+use Rattle.rundiff.specs.Places.{is_among}
+use Rattle.rundiff.proofs.ByPlace.{get_at}
+use Rattle.rundiff.proofs.Driven.{take_whole}
+use Rattle.rundiff.proofs.Sets.{any_more, cond_or, flips, test_is}
+use Rattle.rundiff.proofs.opening.set_of.Goals as goal
+
+or_swap : (a b : Bool) → (a || b) ≡ (b || a)
+or_swap true true = refl
+or_swap true false = refl
+or_swap false true = refl
+or_swap false false = refl
+
+pub loop-place-preserved : goal.loop-place-preserved
+loop-place-preserved c = λ p.
+    let xs = c.args.places.now in let i = c.loop-place.place-index in let x = slice_index_or xs i 0 in
+    let so_far = is_among (take i xs) p in
+    c.in_ok-insert.ensures.updates.0 p
+    ∙ ap (λ (b : Bool). cond b true (contains nat_cmp c.loop-place.set p)) (sym (test_is x p))
+    ∙ cond_or (p == x) (contains nat_cmp c.loop-place.set p)
+    ∙ ap (λ (b : Bool). p == x || b) (c.loop-place.invariant p)
+    ∙ ap (λ (b : Bool). b || so_far) (flips p x)
+    ∙ or_swap (x == p) so_far
+    ∙ sym (any_more (λ q. q == p) xs i x (get_at xs i 0 c.loop-place-test.true))
+
+pub returns : goal.returns
+returns c = λ p.
+    c.loop-place.invariant p ∙ ap (λ (l : List ℕ). is_among l p) (take_whole c.args.places.now c.loop-place.place-index c.loop-place-test.false)

@@ -1,0 +1,9 @@
+use Rattle.std.proofs.Common.{◌≡◌, ℕ, take}
+use Rattle.std.specs.BTreeSet.{contains}
+use Rattle.std.specs.Ordering.{nat_cmp}
+use Rattle.rundiff.specs.Places.{is_among}
+use Rattle.rundiff.proofs.opening.set_of.Given as goal
+
+-- the places so far are in the set
+abbrev pub invariant-loop-place : goal.invariant-loop-place
+invariant-loop-place l = (p : ℕ) → contains nat_cmp l.set p ≡ is_among (take l.place-index l.places) p

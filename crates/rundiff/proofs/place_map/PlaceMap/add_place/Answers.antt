@@ -1,0 +1,30 @@
+use Rattle.std.proofs.Common.{◌∙◌, ap, sym, ℕ, List, length, arith}
+use Rattle.std.specs.Prelude.{nat_eq, slice_get}
+use Rattle.std.proofs.lemmas.Option.{slice_get_past}
+use Rattle.rundiff.specs.Places.{is_among}
+use Rattle.rundiff.proofs.Driven.{read_get}
+use Rattle.rundiff.proofs.Items.{is_past, no_item, number_itself, some_item}
+use Rattle.rundiff.proofs.Sets.{or_second}
+use Rattle.rundiff.proofs.Steps.{among_push}
+use Rattle.rundiff.proofs.place_map.PlaceMap.add_place.Goals as goal
+
+pub returns-in_ok-push-in-Some-clause-added : goal.returns-in_ok-push-in-Some-clause-added
+returns-in_ok-push-in-Some-clause-added g c =
+    let xs = c.deref.result.now in let items = c.args.self.now.items.items in let i = c.args.i in let e = c.in-Some.item.now in
+    let was = c.args.places.now.items in
+    let read = c.in-Some.ensures.lookup in
+    some_item (slice_get items i) e c.push.new.self.items c.args.count (ap (λ l. slice_get l i) (sym c.deref.ensures.value) ∙ read_get xs i e read.3.0 read.1)
+    (λ low. ap (λ (l : List ℕ). is_among l e.0) c.in_ok-push-in-Some.ensures.items ∙ among_push was e.0 e.0 ∙ or_second (is_among was e.0) (nat_eq e.0 e.0) (number_itself e.0))
+
+pub returns-in_default-clause-added : goal.returns-in_default-clause-added
+returns-in_default-clause-added g c =
+    let xs = c.deref.result.now in let items = c.args.self.now.items.items in let i = c.args.i in let e = c.in-Some.item.now in
+    let read = c.in-Some.ensures.lookup in
+    some_item (slice_get items i) e c.args.places.now.items c.args.count (ap (λ l. slice_get l i) (sym c.deref.ensures.value) ∙ read_get xs i e read.3.0 read.1)
+    (λ low. let high = c.if-item-count.false in absurd (omega (arith, low, high)))
+
+pub returns-in_default-2-clause-added : goal.returns-in_default-2-clause-added
+returns-in_default-2-clause-added g c =
+    let xs = c.deref.result.now in let items = c.args.self.now.items.items in let i = c.args.i in
+    let read = rw c.in_default.is at c.get.ensures.lookup in
+    no_item (slice_get items i) c.args.places.now.items c.args.count (ap (λ l. slice_get l i) (sym c.deref.ensures.value) ∙ slice_get_past xs i (is_past i (length xs) read.0))

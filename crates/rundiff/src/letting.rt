@@ -1,0 +1,162 @@
+//! Nets and gates that go along with the old run again leave what is live.
+
+ghost use Rattle.std.specs.Prelude.{◌≡◌, ◌<◌, ◌≤◌, ℕ, suc, true, false, [], ◌∷◌, All, IfSome, OnOk, length};
+ghost use Rattle.std.specs.Option.{IsSomeAnd};
+ghost use Rattle.event_queue.specs.Noted.{noted};
+ghost use Rattle.design.specs.Connections.{to_net};
+ghost use Rattle.design.specs.Keys.{netlist};
+ghost use Rattle.design.specs.Netlist.{reads};
+ghost use Rattle.design.specs.Places.{driver_places};
+ghost use Rattle.scratch.specs.Places.{IsNotedWithin, Keeps};
+ghost use Rattle.scratch.specs.Run.{IsRun};
+ghost use Rattle.rundiff.specs.Dirty.{is_dirty};
+ghost use Rattle.rundiff.specs.Fronts.{IsClean, IsFront};
+ghost use Rattle.rundiff.specs.Noting.{old_moves};
+ghost use Rattle.rundiff.specs.Places.{gate_at, is_among, net_at};
+
+use crate::front::Front;
+use crate::noting::{next_old_change, note};
+use crate::patches::leave;
+use crate::spreading::add_readers;
+use design::Design;
+use event_queue::EventQueue;
+use fourstate::Value;
+use gatestep::Stepper;
+use std::alloc::{AllocError, Global};
+use waveform::{Run, Wave};
+
+impl Front {
+    /// Lets the gates go that were not dirty at the moment `t`, the last that is done, each with the net that it alone
+    /// drives, where edits did not touch it.
+    pub(crate) fn let_go<S: Stepper>(
+        &mut self,
+        alloc: Global,
+        old: &Design,
+        run: &Run,
+        new: &Design,
+        t: u64,
+    ) -> Result<(), AllocError>
+        requires run { IsRun S.answer old.now run.now }
+        requires front { IsFront S.answer (netlist old.now) (netlist new.now) self.old (suc t) }
+        requires within { t ≤ (netlist old.now).horizon }
+        requires clean { All (IsClean S.answer (netlist old.now) (netlist new.now) t) self.old.clean.items }
+        ensures front { OnOk result (IsFront S.answer (netlist old.now) (netlist new.now) self.new (suc t)) }
+        ensures done { OnOk result (self.new.done ≡ self.old.done) }
+    {
+        for i in 0..self.clean.len() {
+            let gate = self.clean[i];
+            self.let_go_gate::<S>(alloc, old, run, new, gate, t)?;
+        }
+        Ok(())
+    }
+
+    /// Lets one gate go.
+    fn let_go_gate<S: Stepper>(
+        &mut self,
+        alloc: Global,
+        old: &Design,
+        run: &Run,
+        new: &Design,
+        gate: usize,
+        t: u64,
+    ) -> Result<(), AllocError>
+        requires run { IsRun S.answer old.now run.now }
+        requires front { IsFront S.answer (netlist old.now) (netlist new.now) self.old (suc t) }
+        requires within { t ≤ (netlist old.now).horizon }
+        requires gate { IsClean S.answer (netlist old.now) (netlist new.now) t gate }
+        ensures front { OnOk result (IsFront S.answer (netlist old.now) (netlist new.now) self.new (suc t)) }
+        ensures clean { OnOk result (self.new.clean ≡ self.old.clean) }
+        ensures done { OnOk result (self.new.done ≡ self.old.done) }
+    {
+        let Some(net) = lone_output(new, gate) else {
+            return Ok(());
+        };
+        if self.fixed.contains(net) {
+            return Ok(());
+        }
+        if !self.live.contains(net) {
+            return Ok(());
+        }
+        old.lawful();
+        new.lawful();
+        note_readers::<S>(
+            alloc,
+            &mut self.inputs,
+            &self.blank_wave,
+            old,
+            run,
+            new,
+            net,
+            t,
+        )?;
+        leave(&mut self.waves, net, t + 1)?;
+        leave(&mut self.traces, gate, t + 1)?;
+        self.live.remove(net);
+        self.held.remove(gate);
+        Ok(())
+    }
+}
+
+/// The place of the net that a gate drives, if no other gate drives it.
+fn lone_output(new: &Design, gate: usize) -> Option<usize>
+    requires there { gate < length (netlist new.now).gates }
+    ensures net { IfSome result (λ p. p < length (netlist new.now).nets) }
+    ensures output { IfSome result (λ p. (gate_at (netlist new.now) gate).output ≡ (net_at (netlist new.now) p).name) }
+    ensures alone { IfSome result (λ p. length (driver_places (netlist new.now).gates (net_at (netlist new.now) p).name) ≡ 1) }
+{
+    new.places_are_keys();
+    let key = new.gate_at(gate).output();
+    let Some(place) = new.net_place_of(key) else {
+        unreachable!();
+    };
+    if new.drivers(key).len() == 1 {
+        return Some(place);
+    }
+    None
+}
+
+/// Notes for the gates that read a net the next moment after `t` at which it changes in the old run.
+fn note_readers<S: Stepper>(
+    alloc: Global,
+    queue: &mut EventQueue,
+    blank: &Wave,
+    old: &Design,
+    run: &Run,
+    new: &Design,
+    net: usize,
+    t: u64,
+) -> Result<(), AllocError>
+    requires blank { blank.now ≡ (0, Value.Unknown) ∷ [] }
+    requires there { net < length (netlist new.now).nets }
+    requires run { IsRun S.answer old.now run.now }
+    ensures next { OnOk result ((q u : ℕ) → q < length (netlist new.now).gates → reads (gate_at (netlist new.now) q) (net_at (netlist new.now) net).name ≡ true → t < u
+        → old_moves S.answer (netlist old.now) (netlist new.now) (to_net (net_at (netlist new.now) net).name) u ≡ true → IsNotedWithin (noted queue.new) q (suc t) u) }
+    ensures kept { OnOk result (Keeps (noted queue.old) (noted queue.new)) }
+    ensures early { OnOk result ((u : ℕ) → u ≤ t → noted queue.new u ≡ noted queue.old u) }
+{
+    let mut readers = Vec::new(alloc);
+    add_readers(new, net, &mut readers)?;
+    let key = new.net_key_at(net);
+    let name = new.net_at(net).name().as_str();
+    let change = next_old_change::<S>(blank, old, run, key, name, t);
+    note_each(alloc, queue, readers.as_slice(), change, t)
+}
+
+/// Notes each of some gates for the moment `next`, which lies after `t`, if there is one.
+fn note_each(
+    alloc: Global,
+    queue: &mut EventQueue,
+    gates: &[usize],
+    next: Option<u64>,
+    t: u64,
+) -> Result<(), AllocError>
+    requires { IfSome next (λ m. t < m) }
+    ensures next { OnOk result ((q u : ℕ) → is_among gates.now q ≡ true → IsSomeAnd next (λ m. m ≤ u) → IsNotedWithin (noted queue.new) q (suc t) u) }
+    ensures kept { OnOk result (Keeps (noted queue.old) (noted queue.new)) }
+    ensures early { OnOk result ((u : ℕ) → u ≤ t → noted queue.new u ≡ noted queue.old u) }
+{
+    for gate in gates {
+        note(alloc, queue, *gate, next, t)?;
+    }
+    Ok(())
+}
