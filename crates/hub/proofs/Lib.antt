@@ -1,0 +1,4 @@
+pub mod Adding
+pub mod Beginnings
+pub mod Keeping
+pub mod Logging

@@ -1,0 +1,5 @@
+pub mod Commits
+pub mod Histories
+pub mod Issues
+pub mod Rules
+pub mod Desks
