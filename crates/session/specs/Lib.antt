@@ -4,6 +4,7 @@ pub mod Verbs
 pub mod Pins
 pub mod EditLines
 pub mod Commands
+pub mod LineReadings
 pub mod Replies
 pub mod Questions
 pub mod Kept

@@ -1,13 +1,11 @@
 //! The edits of a batch.
 
-ghost use Rattle.std.specs.Prelude.{◌≡◌, ◌++◌, ◌∷◌, [], true, if◌then◌else◌, IfErr, MatchResult, OnErr, OnOk};
-ghost use Rattle.session.specs.EditLines.{edit_of};
+ghost use Rattle.std.specs.Prelude.{◌≡◌, ◌++◌, ◌∷◌, [], true, if◌then◌else◌, IfErr, OnErr, OnOk};
 ghost use Rattle.session.specs.Steps.{has_room};
 
-use crate::commands::EditLine;
 use crate::replies::Refusal;
 use edits::{Edit, EditFault, MAX_EDITS};
-use std::alloc::{AllocError, Global};
+use std::alloc::Global;
 use std::marker::Model;
 
 /// The edits that are kept for a commit, in order. They are not checked before it.
@@ -42,27 +40,26 @@ impl Batch {
         self.edits.as_slice()
     }
 
-    /// Keeps the edit of a line, unless there are as many as a commit may have.
-    pub fn keep(&mut self, alloc: Global, line: &EditLine<'_>) -> Result<(), Refusal>
-        ensures kept { OnOk result (self.new ≡ self.old ++ edit_of line.now ∷ []) }
+    /// Whether there are fewer edits than a commit may have.
+    pub fn has_room(&self) -> bool
+        ensures { result ≡ has_room self.now }
+    {
+        self.edits.len() < MAX_EDITS
+    }
+
+    /// Keeps an edit too, if there is room.
+    pub fn keep(&mut self, edit: Edit) -> Result<(), Refusal>
+        ensures kept { OnOk result (self.new ≡ self.old ++ edit ∷ []) }
         ensures room { OnOk result (has_room self.old ≡ true) }
         ensures unchanged { OnErr result (self.new ≡ self.old) }
         ensures refused { IfErr result (λ refusal. refusal ≡ Refusal.Edit (if has_room self.old then EditFault.OutOfMemory else EditFault.TooMany)) }
     {
-        if self.edits.len() >= MAX_EDITS {
+        if !self.has_room() {
             return Err(Refusal::Edit(EditFault::TooMany));
         }
-        match self.add(alloc, line) {
+        match self.edits.push(edit) {
             Ok(()) => Ok(()),
             Err(_) => Err(Refusal::Edit(EditFault::OutOfMemory)),
         }
-    }
-
-    fn add(&mut self, alloc: Global, line: &EditLine<'_>) -> Result<(), AllocError>
-        ensures { MatchResult result (λ _. self.new ≡ self.old ++ edit_of line.now ∷ []) (λ _. self.new ≡ self.old) }
-    {
-        let edit = line.to_edit(alloc)?;
-        self.edits.push(edit)?;
-        Ok(())
     }
 }

@@ -9,9 +9,13 @@ mod held;
 pub mod laws;
 mod machine;
 mod open;
+mod reading;
 mod replies;
+mod said;
 mod talk;
 mod words;
 
 pub use fault::SessionFault;
 pub use open::{Options, run};
+pub use reading::line;
+pub use said::{Line, LineFault};

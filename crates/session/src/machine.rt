@@ -1,21 +1,28 @@
 //! What a session has: the bench, a batch, and snapshots that are held.
 
-ghost use Rattle.std.specs.Prelude.{◌≡◌, Ok, IfOk, MatchResult};
+ghost use Rattle.std.specs.Prelude.{◌≡◌, false, true, Ok, Err, IfOk, MatchResult};
+ghost use Rattle.std.specs.Option.{option_map_or};
 ghost use Rattle.devices.specs.Outgoing.{Adds};
 ghost use Rattle.gatestep.specs.Step.{advance};
 ghost use Rattle.design.specs.Keys.{netlist};
+ghost use Rattle.session.specs.EditLines.{edit_of};
 ghost use Rattle.session.specs.Held.{held_as};
+ghost use Rattle.session.specs.LineReadings.{IsReadTo, is_other, reading_of};
 ghost use Rattle.session.specs.Refused.{Comes, MayRefuseCommit, refusal_of};
+ghost use Rattle.session.specs.Replies.{refusal_line};
 ghost use Rattle.session.specs.Standing.{opened_with};
-ghost use Rattle.session.specs.State.{ends, held_reply, is_quit, result_line};
-ghost use Rattle.session.specs.Steps.{commit_step};
+ghost use Rattle.session.specs.State.{Replies, ends, held_reply, is_quit, result_line};
+ghost use Rattle.session.specs.declared.commands.edit_line.EditLine.{EditLine};
+ghost use Rattle.session.specs.Steps.{commit_step, has_room};
 ghost use Rattle.session.specs.Talk.{Answered, CarriedOut};
 
 use crate::asking::reply;
 use crate::batch::Batch;
-use crate::commands::{Command, EditLine, Question, read};
+use crate::commands::{Command, Question, read};
 use crate::held::Held;
+use crate::reading::line;
 use crate::replies::{Refusal, no, ok};
+use crate::said::{Line, LineFault};
 use crate::words::WordRef;
 use bench::{Bench, CommitFault};
 use design::Design;
@@ -59,37 +66,77 @@ impl<S: Stepper + Drop> Machine<S> {
     }
 
     /// Answers a line, which comes without its line feed, and tells whether it ends the session.
-    #[tactic(auto, unfolding(crate::specs::State::Answers, crate::specs::State::ends))]
-    pub fn answer<W: Sink>(&mut self, line: &[u8], writer: &mut Writer<'_, W>) -> bool
-        ensures answered { Answered self.old self.new line.now writer.old writer.new }
-        ensures ends { result ≡ ends line.now }
+    #[tactic(auto, unfolding(crate::specs::State::Answers, crate::specs::State::ends), using(crate::proofs::ReadingLemmas::leaves))]
+    pub fn answer<W: Sink>(&mut self, bytes: &[u8], writer: &mut Writer<'_, W>) -> bool
+        ensures answered { Answered self.old self.new bytes.now writer.old writer.new }
+        ensures ends { result ≡ ends bytes.now }
     {
-        self.carry_out(read(line), writer)
+        let said = line(self.alloc, bytes);
+        if is_other(&said) {
+            return self.carry_out(read(bytes), writer);
+        }
+        self.take(said, writer);
+        false
     }
 
+    // Takes what a line says, unless that is left to `carry_out`.
+    #[tactic(auto, using(crate::proofs::ReadingLemmas::refused))]
+    fn take<W: Sink>(&mut self, said: Result<Line, LineFault>, writer: &mut Writer<'_, W>)
+        requires { is_other said ≡ false }
+        ensures { (command : Command) → IsReadTo command said → CarriedOut self.old self.new command writer.old writer.new }
+    {
+        match said {
+            Ok(Line::Skip | Line::Other) => {}
+            Ok(Line::Edit(edit)) => {
+                let result = self.change(edit);
+                self.conclude(result, writer);
+            }
+            Ok(Line::Begin) => {
+                let result = self.begin();
+                self.conclude(result, writer);
+            }
+            Ok(Line::Commit) => {
+                let result = self.commit();
+                self.conclude(result, writer);
+            }
+            Ok(Line::Abort) => {
+                let result = self.abort();
+                self.conclude(result, writer);
+            }
+            Err(fault) => no(writer, self.refusal(fault)),
+        }
+    }
+
+    // Why a line is refused that says nothing. In a full batch there would be no room for its edit either.
+    fn refusal(&self, fault: LineFault) -> Refusal
+        ensures { (command : Command) → IsReadTo command (Err fault) → Replies self.now command (refusal_line result) self.now }
+    {
+        match fault {
+            LineFault::BadCommand => Refusal::BadCommand,
+            LineFault::LongLine => Refusal::LongLine,
+            LineFault::OutOfMemory if self.has_room() => Refusal::Edit(EditFault::OutOfMemory),
+            LineFault::OutOfMemory => Refusal::Edit(EditFault::TooMany),
+        }
+    }
+
+    // Whether an edit could be kept, or committed outside a batch.
+    fn has_room(&self) -> bool
+        ensures { result ≡ option_map_or has_room self.now.batch true }
+    {
+        match &self.batch {
+            Some(batch) => batch.has_room(),
+            None => true,
+        }
+    }
+
+    // Carries out a command that edits nothing, and tells whether it ends the session.
     #[tactic(auto, using(crate::proofs::AnswerLemmas::concludes))]
     fn carry_out<W: Sink>(&mut self, command: Command<'_>, writer: &mut Writer<'_, W>) -> bool
+        requires { reading_of command ≡ Ok Line.Other }
         ensures carried_out { CarriedOut self.old self.new command.entry writer.old writer.new }
         ensures ends { result ≡ is_quit command.entry }
     {
         match command {
-            Command::Skip => return false,
-            Command::Change(line) => {
-                let result = self.change(&line);
-                self.conclude(result, writer);
-            }
-            Command::Begin => {
-                let result = self.begin();
-                self.conclude(result, writer);
-            }
-            Command::Commit => {
-                let result = self.commit();
-                self.conclude(result, writer);
-            }
-            Command::Abort => {
-                let result = self.abort();
-                self.conclude(result, writer);
-            }
             Command::Ask(question) => reply(self.bench.snapshot(), &question, writer),
             Command::Hold(name) => {
                 let result = self.hold(&name);
@@ -104,8 +151,7 @@ impl<S: Stepper + Drop> Machine<S> {
                 ok(writer, self.version());
                 return true;
             }
-            Command::Unreadable => no(writer, Refusal::BadCommand),
-            Command::TooLong => no(writer, Refusal::LongLine),
+            _ => unreachable!(),
         }
         false
     }
@@ -127,15 +173,12 @@ impl<S: Stepper + Drop> Machine<S> {
     }
 
     // Outside a batch an edit is a commit by itself; in a batch it is kept.
-    fn change(&mut self, line: &EditLine<'_>) -> Result<(), Refusal>
-        ensures { Comes self.old self.new (Command.Change line.now) result }
+    fn change(&mut self, edit: Edit) -> Result<(), Refusal>
+        ensures { (line : EditLine) → edit_of line ≡ edit → Comes self.old self.new (Command.Change line) result }
     {
-        if let Some(batch) = &mut self.batch {
-            return batch.keep(self.alloc, line);
-        }
-        match line.to_edit(self.alloc) {
-            Ok(edit) => self.commit_edits(slice::from_ref(&edit)),
-            Err(_) => Err(Refusal::Edit(EditFault::OutOfMemory)),
+        match &mut self.batch {
+            Some(batch) => batch.keep(edit),
+            None => self.commit_edits(slice::from_ref(&edit)),
         }
     }
 
@@ -212,6 +255,15 @@ impl<S: Stepper + Drop> Machine<S> {
             Some(snapshot) => reply(snapshot, question, writer),
             None => no(writer, Refusal::UnknownHold),
         }
+    }
+}
+
+fn is_other(said: &Result<Line, LineFault>) -> bool
+    ensures { result ≡ is_other said.now }
+{
+    match said {
+        Ok(Line::Other) => true,
+        _ => false,
     }
 }
 

@@ -1,7 +1,8 @@
 //! An edit as a line writes it.
 
-ghost use Rattle.std.specs.Prelude.{◌≡◌, IfOk};
+ghost use Rattle.std.specs.Prelude.{◌≡◌, IfOk, is_err, true};
 ghost use Rattle.session.specs.EditLines.{edit_line_of, edit_of};
+ghost use Rattle.session.specs.LineReadings.{has_words};
 
 use crate::commands::gate::{read_gate, read_wire};
 use crate::commands::gates::{read_delay, read_drop, read_type};
@@ -71,7 +72,8 @@ pub enum EditLine<'a> {
 impl EditLine<'_> {
     /// The edit with words of its own.
     pub fn to_edit(&self, alloc: Global) -> Result<Edit, AllocError>
-        ensures { IfOk result (λ edit. edit ≡ edit_of self.now) }
+        ensures edit { IfOk result (λ edit. edit ≡ edit_of self.now) }
+        ensures words { is_err result ≡ true → has_words self.now ≡ true }
     {
         match self {
             EditLine::AddNet { name, kind } => {
