@@ -14,6 +14,7 @@ use Rattle.vtext.specs.Reads.{IsFirstFault, IsRefusedAt, Says, start_of}
 use Rattle.vtext.specs.Turns.{Walk}
 use Rattle.vtext.specs.Walks.{IsFault, Leads, start}
 use Rattle.vtext.specs.Words.{names_of, words_of}
+use Rattle.vtext.proofs.ReadLemmas.{last_of, leads_by}
 use Rattle.vtext.proofs.WalkLaws.{no_fault, one_fault, one_walk}
 
 same_list : (a b : ModuleList) → a.names ≡ b.names → a.unit ≡ b.unit → a.modules ≡ b.modules → a ≡ b
@@ -29,9 +30,12 @@ module _ (default : Option ℕ) (text : List ℕ) (one : (a b : List Token) → 
   pub one_list : (a b : ModuleList) → Says default text a → Says default text b → a ≡ b
   one_list a b s t =
       let e : s.tokens ≡ t.tokens = one s.tokens t.tokens s.spelled t.spelled in
-      let P : List Token → Type 0 = λ tokens. Leads default (names_of text tokens) start (words_of text tokens) None (record { state = Outside; so_far = t.last }) in
-      let last : s.last ≡ t.last = ap (λ (w : Walk). w.so_far)
-      (one_walk default (names_of text s.tokens) (words_of text s.tokens) start None (record { state = Outside; so_far = s.last }) (record { state = Outside; so_far = t.last }) s.leads (subst P (sym e) t.leads)) in
+      let first : Reading = last_of default text a s in
+      let second : Reading = last_of default text b t in
+      let P : List Token → Type 0 = λ tokens. Leads default (names_of text tokens) start (words_of text tokens) None (record { state = Outside; so_far = second }) in
+      let last : first ≡ second = ap (λ (w : Walk). w.so_far)
+      (one_walk default (names_of text s.tokens) (words_of text s.tokens) start None (record { state = Outside; so_far = first }) (record { state = Outside; so_far = second })
+      (leads_by default text a s) (subst P (sym e) (leads_by default text b t))) in
       same_list a b (s.names ∙ ap (names_of text) e ∙ sym t.names) (s.unit ∙ ap (λ (r : Reading). r.unit) last ∙ sym t.unit) (s.modules ∙ ap (λ (r : Reading). r.modules) last ∙ sym t.modules)
 
   refused_once : (f g : ReadFault) → IsRefusedAt default text f → IsRefusedAt default text g → f ≡ g
@@ -54,4 +58,4 @@ module _ (default : Option ℕ) (text : List ℕ) (one : (a b : List Token) → 
   never_both a f s (inr t) =
       let e : s.tokens ≡ t.tokens = one s.tokens t.tokens s.spelled t.spelled in
       let P : List Token → Type 0 = λ tokens. IsFault default (names_of text tokens) (words_of text tokens) t.place t.why in
-      no_fault default (names_of text s.tokens) (words_of text s.tokens) (record { state = Outside; so_far = s.last }) t.place t.why refl s.leads (subst P (sym e) t.first)
+      no_fault default (names_of text s.tokens) (words_of text s.tokens) (record { state = Outside; so_far = last_of default text a s }) t.place t.why refl (leads_by default text a s) (subst P (sym e) t.first)

@@ -10,12 +10,44 @@ use Rattle.vtext.specs.declared.parser_state.ParserState.TheVariants.{Outside}
 use Rattle.vtext.specs.declared.word.Placed.{Placed}
 use Rattle.vtext.specs.Modules.{ModuleList}
 use Rattle.vtext.specs.ReadFaults.{kind_of}
-use Rattle.vtext.specs.Readings.{Reading}
+use Rattle.vtext.specs.Readings.{Reading, unread}
 use Rattle.vtext.specs.Reads.{IsFirstFault, Says, start_of}
+use Rattle.vtext.specs.Trees.{after_parts}
 use Rattle.vtext.specs.Walks.{IsFault, Leads, start}
 use Rattle.vtext.specs.Sound.{AreGoodWords}
 use Rattle.vtext.specs.Words.{names_of, words_of}
 use Rattle.vtext.proofs.GoodWords.{good_words}
+use Rattle.vtext.proofs.SpelledLemmas.{written}
+use Rattle.vtext.proofs.TreeLemmas.{text_read}
+
+-- The walk and the parts.
+
+pub says_by : (default : Option ℕ) (text : List ℕ) (tokens : List Token) (last : Reading) (list : ModuleList) → length text ≤ MAX_TEXT → Spells text 0 tokens
+    → Leads default (names_of text tokens) start (words_of text tokens) None (record { state = Outside; so_far = last })
+    → list ≡ record { names = names_of text tokens; unit = last.unit; modules = last.modules } → Says default text list
+says_by default text tokens last list short spelled leads e =
+    let w = written default (names_of text tokens) (words_of text tokens) last leads in
+    record {
+      short = short;
+      tokens = tokens;
+      spelled = spelled;
+      names = ap (λ (l : ModuleList). l.names) e;
+      parts = w.0;
+      written = w.1;
+      admitted = w.2;
+      unit = ap (λ (l : ModuleList). l.unit) e ∙ ap (λ (r : Reading). r.unit) w.3;
+      modules = ap (λ (l : ModuleList). l.modules) e ∙ ap (λ (r : Reading). r.modules) w.3;
+    }
+
+-- what has been read in the end
+abbrev pub last_of : (default : Option ℕ) (text : List ℕ) (list : ModuleList) → Says default text list → Reading
+last_of default text list s = after_parts default (names_of text s.tokens) unread s.parts
+
+pub leads_by : (default : Option ℕ) (text : List ℕ) (list : ModuleList) (s : Says default text list)
+    → Leads default (names_of text s.tokens) start (words_of text s.tokens) None (record { state = Outside; so_far = last_of default text list s })
+leads_by default text list s = text_read default (names_of text s.tokens) (words_of text s.tokens) s.parts s.written s.admitted
+
+-- What the code has.
 
 -- `read` and `said` are what the code holds of the tokens and the words
 pub says : (default : Option ℕ) (text : List ℕ) (tokens read : List Token) (names : List (List ℕ)) (words said : List Placed) (last : Reading) (list : ModuleList)
@@ -25,18 +57,11 @@ pub says : (default : Option ℕ) (text : List ℕ) (tokens read : List Token) (
     → Says default text list
 says default text tokens read names words said last list short spelled r n w s leads e =
     let P : List (List ℕ) → List Placed → Type 0 = λ ns ws. Leads default ns start ws None (record { state = Outside; so_far = last }) in
+    let Q : List (List ℕ) → Type 0 = λ ns. list ≡ record { names = ns; unit = last.unit; modules = last.modules } in
     let table : names ≡ names_of text tokens = n ∙ ap (names_of text) r in
     let all : said ≡ words_of text tokens = s ∙ w ∙ ap (words_of text) r in
-    record {
-      short = short;
-      tokens = tokens;
-      spelled = spelled;
-      names = ap (λ (l : ModuleList). l.names) e ∙ table;
-      last = last;
-      leads = subst (P (names_of text tokens)) all (subst (λ (ns : List (List ℕ)). P ns said) table leads);
-      unit = ap (λ (l : ModuleList). l.unit) e;
-      modules = ap (λ (l : ModuleList). l.modules) e;
-    }
+    says_by default text tokens last list short spelled
+    (subst (P (names_of text tokens)) all (subst (λ (ns : List (List ℕ)). P ns said) table leads)) (subst Q table e)
 
 pub said_good : (text : List ℕ) (tokens read : List Token) (names : List (List ℕ)) (words said : List Placed)
     → Spells text 0 tokens → read ≡ tokens → names ≡ names_of text read → words ≡ words_of text read → said ≡ words → AreGoodWords names said

@@ -8,7 +8,9 @@ use Rattle.vtext.specs.Modules.{ModuleEntry, ModuleList}
 use Rattle.vtext.specs.Reads.{Says}
 use Rattle.vtext.specs.Sound.{IsSoundModule}
 use Rattle.vtext.specs.Words.{first_unit, names_of, word_of, words_of}
+use Rattle.vtext.specs.Readings.{Reading}
 use Rattle.vtext.proofs.GoodWords.{good_words}
+use Rattle.vtext.proofs.ReadLemmas.{last_of, leads_by}
 use Rattle.vtext.proofs.SoundWalks.{all_sound}
 
 -- each token but the last has a byte of its own
@@ -35,5 +37,6 @@ modules_are_sound default text list s =
     let names : List (List ℕ) = names_of text s.tokens in
     let good = good_words text s.tokens s.spelled in
     let P : List (List ℕ) → List ModuleEntry → Type 0 = λ table ms. All (IsSoundModule table) ms in
-    let there : P names s.last.modules = all_sound default names (words_of text s.tokens) s.last (few_words text s.tokens s.short s.spelled) good s.leads in
+    let last : Reading = last_of default text list s in
+    let there : P names last.modules = all_sound default names (words_of text s.tokens) last (few_words text s.tokens s.short s.spelled) good (leads_by default text list s) in
     subst (λ (table : List (List ℕ)). P table list.modules) (sym s.names) (subst (P names) (sym s.modules) there)

@@ -19,6 +19,7 @@ use Rattle.vtext.specs.Reads.{IsFirstFault, Says, start_of}
 use Rattle.vtext.specs.Turns.{Walk, turn}
 use Rattle.vtext.specs.Walks.{IsFault, Leads, start, word_at}
 use Rattle.vtext.specs.Words.{names_of, words_of}
+use Rattle.vtext.proofs.ReadLemmas.{says_by}
 use Rattle.vtext.proofs.WalkLemmas.{ended, refused_at, refused_end, turned}
 
 outside_or_not : (at : ParserState) → (at ≡ Outside) ⊎ (at ≢ Outside)
@@ -56,10 +57,8 @@ module _ (default : Option ℕ) (names : List (List ℕ)) (words : List Placed) 
 said : (default : Option ℕ) (text : List ℕ) (tokens : List Token) → length text ≤ MAX_TEXT → Spells text 0 tokens → IsDecided default (names_of text tokens) (words_of text tokens)
     → ((list : ModuleList) × Says default text list) ⊎ ((fault : ReadFault) × IsFirstFault default text fault)
 said default text tokens short spelled (inl (last, leads)) =
-    inl (
-      record { names = names_of text tokens; unit = last.unit; modules = last.modules },
-      record { short = short; tokens = tokens; spelled = spelled; names = refl; last = last; leads = leads; unit = refl; modules = refl },
-    )
+    let list : ModuleList = record { names = names_of text tokens; unit = last.unit; modules = last.modules } in
+    inl (list, says_by default text tokens last list short spelled leads refl)
 said default text tokens short spelled (inr (k, (why, fault))) =
     inr (
       record { line = line_of text (start_of text tokens k); kind = kind_of why },

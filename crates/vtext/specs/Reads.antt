@@ -1,5 +1,5 @@
 -- Reading a design text: the modules that it says, or its first fault.
-use Rattle.std.specs.Prelude.{◌≡◌, ℕ, ◌<◌, ◌≤◌, ◌⊎◌, List, length, Option, None, slice_get}
+use Rattle.std.specs.Prelude.{◌≡◌, ℕ, ◌<◌, ◌≤◌, ◌⊎◌, List, length, Option, slice_get}
 use Rattle.std.specs.Option.{option_map_or}
 use Rattle.lexing.specs.Lines.{line_of}
 use Rattle.lexing.specs.Texts.{Spells}
@@ -7,24 +7,25 @@ use Rattle.lexing.specs.declared.limits.TheConstants.{MAX_TEXT}
 use Rattle.lexing.specs.declared.token.Token.{Token}
 use Rattle.vtext.specs.declared.cause.Cause.{Cause}
 use Rattle.vtext.specs.declared.fault.ReadFault.{ReadFault}
-use Rattle.vtext.specs.declared.parser_state.ParserState.TheVariants.{Outside}
 use Rattle.vtext.specs.Modules.{ModuleList}
 use Rattle.vtext.specs.ReadFaults.{kind_of, too_long}
-use Rattle.vtext.specs.Readings.{Reading}
-use Rattle.vtext.specs.Walks.{IsFault, Leads, start}
+use Rattle.vtext.specs.Readings.{unread}
+use Rattle.vtext.specs.Trees.{ArePartsAdmitted, AreWritten, Part, after_parts}
+use Rattle.vtext.specs.Walks.{IsFault}
 use Rattle.vtext.specs.Words.{names_of, words_of}
 
--- The text says these modules: a walk over the words of its tokens leads to its end, outside modules. `default` is the delay of a
--- gate item without one.
+-- The text says these modules: they are what some parts say, at which no cause holds, and the words of its tokens write these parts
+-- by the lines of the grammar. `default` is the delay of a gate item without one.
 pub record Says (default : Option ℕ) (text : List ℕ) (list : ModuleList) : Type 0 where
   pub short : length text ≤ MAX_TEXT
   pub tokens : List Token
   pub spelled : Spells text 0 tokens
   pub names : list.names ≡ names_of text tokens
-  pub last : Reading
-  pub leads : Leads default (names_of text tokens) start (words_of text tokens) None (record { state = Outside; so_far = last })
-  pub unit : list.unit ≡ last.unit
-  pub modules : list.modules ≡ last.modules
+  pub parts : List Part
+  pub written : AreWritten parts (words_of text tokens)
+  pub admitted : ArePartsAdmitted default (names_of text tokens) unread parts
+  pub unit : list.unit ≡ (after_parts default (names_of text tokens) unread parts).unit
+  pub modules : list.modules ≡ (after_parts default (names_of text tokens) unread parts).modules
 
 -- where the token at a place of the list begins; past the last one, the text's end
 abbrev pub start_of : List ℕ → List Token → ℕ → ℕ

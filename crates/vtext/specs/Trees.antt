@@ -13,7 +13,7 @@
 --   delay    : "#" NUMBER | "#" "(" NUMBER optional("," NUMBER) ")"
 --   instance : optional(NAME) "(" terminal { "," terminal } ")"
 --   terminal : NAME | CONSTANT
-use Rattle.std.specs.Prelude.{◌≡◌, true, ℕ, List, [], ◌∷◌, ◌++◌, Option, Some, None, fold, unwrap_or}
+use Rattle.std.specs.Prelude.{◌≡◌, true, false, ℕ, List, [], ◌∷◌, ◌++◌, Option, Some, None, fold, map, unwrap_or}
 use Rattle.fourstate.specs.Delays.{delay_times, uniform_delays}
 use Rattle.fourstate.specs.declared.delay_times.DelayTimes.{DelayTimes}
 use Rattle.fourstate.specs.declared.gate.GateKind.{GateKind}
@@ -24,10 +24,11 @@ use Rattle.vtext.specs.declared.gate.Terminal.TheVariants.{Net, Constant}
 use Rattle.vtext.specs.declared.word.Direction.{Direction}
 use Rattle.vtext.specs.declared.word.Word.{Word}
 use Rattle.vtext.specs.declared.word.Word.TheVariants.{Module, Endmodule, PortWord, NetWord, GateWord, Name, Number, Literal, Open, Close, Comma, Semicolon, Hash, Timescale}
-use Rattle.vtext.specs.Causes.{completed_cause, default_cause, delay_cause, direction_cause, end_cause, header_cause, instance_cause, net_cause, port_cause}
+use Rattle.vtext.specs.declared.word.Placed.{Placed}
+use Rattle.vtext.specs.Causes.{completed_cause, default_cause, delay_cause, direction_cause, end_cause, header_cause, instance_cause, module_cause, net_cause, port_cause}
 use Rattle.vtext.specs.Instances.{completed}
 use Rattle.vtext.specs.Notes.{declare_net, declare_port, direct_port, finished, list_port, name_instance, use_net}
-use Rattle.vtext.specs.Readings.{Reading, unread}
+use Rattle.vtext.specs.Readings.{Reading}
 
 -- Trees.
 
@@ -228,27 +229,60 @@ IsHeaderAdmitted r empty_ports = Unit {0}
 IsHeaderAdmitted r (older_ports n names) = AreAdmitted list_port (λ now name. header_cause now name ≡ None) r (n ∷ names)
 IsHeaderAdmitted r (inline_ports decl ports) = IsDeclAdmitted r decl × ArePortsAdmitted (after_decl (record r { inline = true }) decl) ports
 
--- A module that is the whole text, its word `module` beginning at this place.
+-- A module, its word `module` beginning at this place.
 
-abbrev pub after_body : Option ℕ → List (List ℕ) → ℕ → ℕ → Header → List Item → Reading
-after_body default table start name header items = after_items default table (after_header (record unread { start = start; name = name }) header) items
-
-abbrev pub after_module : Option ℕ → List (List ℕ) → ℕ → ℕ → Header → List Item → Reading
-after_module default table start name header items = finished (after_body default table start name header items)
+abbrev pub after_body : Option ℕ → List (List ℕ) → Reading → ℕ → ℕ → Header → List Item → Reading
+after_body default table r start name header items = after_items default table (after_header (record r { start = start; name = name }) header) items
 
 -- header and items are admitted, and each name of the header has a direction in the end
-pub record IsModuleAdmitted (default : Option ℕ) (table : List (List ℕ)) (start name : ℕ) (header : Header) (items : List Item) : Type 0 where
-  pub header_admitted : IsHeaderAdmitted (record unread { start = start; name = name }) header
-  pub items_admitted : AreItemsAdmitted default table (after_header (record unread { start = start; name = name }) header) items
-  pub directed : end_cause (after_body default table start name header items) ≡ None
+pub record IsModuleAdmitted (default : Option ℕ) (table : List (List ℕ)) (r : Reading) (start name : ℕ) (header : Header) (items : List Item) : Type 0 where
+  pub alone : module_cause r ≡ None
+  pub header_admitted : IsHeaderAdmitted (record r { start = start; name = name }) header
+  pub items_admitted : AreItemsAdmitted default table (after_header (record r { start = start; name = name }) header) items
+  pub directed : end_cause (after_body default table r start name header items) ≡ None
 
 -- Texts: directives and modules in any order.
 
 pub data Part : Type 0 where
   directive : TimeUnit → Part
-  module_part : ℕ → Header → List Item → Part
+  module_part : ℕ → ℕ → Header → List Item → Part
 
 abbrev pub parts_then : List Part → List Word → List Word
 parts_then [] rest = rest
 parts_then (directive unit ∷ parts) rest = Timescale unit ∷ parts_then parts rest
-parts_then (module_part name header items ∷ parts) rest = module_then name header items (parts_then parts rest)
+parts_then (module_part start name header items ∷ parts) rest = module_then name header items (parts_then parts rest)
+
+-- where the modules begin
+abbrev pub part_starts : List Part → List ℕ
+part_starts [] = []
+part_starts (directive unit ∷ parts) = part_starts parts
+part_starts (module_part start name header items ∷ parts) = start ∷ part_starts parts
+
+abbrev pub with_start : Word → ℕ → List ℕ → List ℕ
+with_start Module start starts = start ∷ starts
+with_start word start starts = starts
+
+-- where the words `module` stand
+abbrev pub module_starts : List Placed → List ℕ
+module_starts [] = []
+module_starts (p ∷ words) = with_start p.word p.start (module_starts words)
+
+-- the parts are written by these words
+pub record AreWritten (parts : List Part) (words : List Placed) : Type 0 where
+  pub words_same : map (λ (p : Placed). p.word) words ≡ parts_then parts []
+  pub starts_same : module_starts words ≡ part_starts parts
+
+abbrev pub after_part : Option ℕ → List (List ℕ) → Reading → Part → Reading
+after_part default table r (directive unit) = record r { unit = Some unit }
+after_part default table r (module_part start name header items) = finished (after_body default table r start name header items)
+
+abbrev pub after_parts : Option ℕ → List (List ℕ) → Reading → List Part → Reading
+after_parts default table r parts = fold (after_part default table) r parts
+
+abbrev pub IsPartAdmitted : Option ℕ → List (List ℕ) → Reading → Part → Type 0
+IsPartAdmitted default table r (directive unit) = Unit {0}
+IsPartAdmitted default table r (module_part start name header items) = IsModuleAdmitted default table r start name header items
+
+abbrev pub ArePartsAdmitted : Option ℕ → List (List ℕ) → Reading → List Part → Type 0
+ArePartsAdmitted default table r [] = Unit {0}
+ArePartsAdmitted default table r (part ∷ parts) = IsPartAdmitted default table r part × ArePartsAdmitted default table (after_part default table r part) parts

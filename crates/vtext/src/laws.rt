@@ -1,15 +1,15 @@
 //! Laws of the walk: each contract is the law, and no function gives anything.
 
-ghost use Rattle.std.specs.Prelude.{◌≡◌, ◌<◌, ◌⊎◌, ◌++◌, ℕ, true, List, [], ◌∷◌, Option, None, Some, IsSome, All, length, map};
+ghost use Rattle.std.specs.Prelude.{◌≡◌, ◌<◌, ◌⊎◌, ◌++◌, ℕ, true, List, ◌∷◌, Option, None, Some, IsSome, All, length};
 ghost use Rattle.lexing.specs.Texts.{name_bytes};
 ghost use Rattle.lexing.specs.declared.token.Token as tokens;
 ghost use Rattle.vtext.specs.Names.{name_at, number_of};
 ghost use Rattle.vtext.specs.Words.{is_named, names_of};
 ghost use Rattle.vtext.specs.Modules.{ModuleList};
-ghost use Rattle.vtext.specs.Readings.{Reading};
+ghost use Rattle.vtext.specs.Readings.{Reading, unread};
 ghost use Rattle.vtext.specs.Reads.{IsFirstFault, Says};
 ghost use Rattle.vtext.specs.Sound.{IsSoundModule};
-ghost use Rattle.vtext.specs.Trees.{Header, IsModuleAdmitted, Item, Part, after_module, module_then, parts_then};
+ghost use Rattle.vtext.specs.Trees.{ArePartsAdmitted, AreWritten, Part, after_parts};
 ghost use Rattle.vtext.specs.Turns.{Walk};
 ghost use Rattle.vtext.specs.Walks.{IsFault, Leads, start};
 ghost use Rattle.vtext.specs.declared.cause.Cause as causes;
@@ -39,12 +39,11 @@ pub fn no_fault()
         Leads default names start said None to → ¬ (IsFault default names said k why) }
 {}
 
-/// A module is read from the words that write it, as what its parts say, where no cause holds at any of them.
-pub fn module_is_read()
-    ensures { (default : Option ℕ) (names : List (List ℕ)) (first : placed.Placed) (more : List placed.Placed) (name : ℕ) (header : Header) (items : List Item) →
-        map (λ (next : placed.Placed). next.word) (first ∷ more) ≡ module_then name header items [] →
-        IsModuleAdmitted default names first.start name header items →
-        Leads default names start (first ∷ more) None (record { state = Outside; so_far = after_module default names first.start name header items }) }
+/// What the lines of the grammar write for some parts is read as what these say, where no cause holds at any of them.
+pub fn text_is_read()
+    ensures { (default : Option ℕ) (names : List (List ℕ)) (said : List placed.Placed) (parts : List Part) →
+        AreWritten parts said → ArePartsAdmitted default names unread parts →
+        Leads default names start said None (record { state = Outside; so_far = after_parts default names unread parts }) }
 {}
 
 /// A text says one list of modules, or has one first fault, and not both.
@@ -56,11 +55,11 @@ pub fn one_reading(text: &[u8])
     one_spelling(text);
 }
 
-/// What is read to its end is written by the grammar: by directives and modules in some order.
+/// What is read to its end is what some parts say, at which no cause holds, and which the words write by the lines of the grammar.
 pub fn reading_is_written()
     ensures { (default : Option ℕ) (names : List (List ℕ)) (said : List placed.Placed) (last : Reading) →
         Leads default names start said None (record { state = Outside; so_far = last }) →
-        (parts : List Part) × (map (λ (next : placed.Placed). next.word) said ≡ parts_then parts []) }
+        (parts : List Part) × AreWritten parts said × ArePartsAdmitted default names unread parts × (last ≡ after_parts default names unread parts) }
 {}
 
 /// Each text says a list of modules or has a first fault.
