@@ -118,6 +118,7 @@ impl<J: HubName, L: Ledger, M: Ledger, S: Stepper + Drop, R: Wait + Drop> Desk<J
         ensures reply { IsReply (snapshot_after J.origin self.old.log) edits.now result.reply }
         ensures log { self.new.log ≡ logged self.old.log editor.old.number edits.now result.reply }
         ensures editor { editor.new ≡ answered editor.old result.reply }
+        ensures number { editor.new.number ≡ editor.old.number }
         ensures told { result.told ≡ self.new.shown }
         ensures begins { StartsWith self.new.log self.new.shown }
         ensures shown { IsTrue result.shown ↔ (self.new.shown ≡ self.new.log) }
@@ -135,6 +136,7 @@ impl<J: HubName, L: Ledger, M: Ledger, S: Stepper + Drop, R: Wait + Drop> Desk<J
         ensures reply { IsReply (snapshot_after J.origin self.old.log) edits.now result }
         ensures log { self.new.log ≡ logged self.old.log editor.old.number edits.now result }
         ensures editor { editor.new ≡ answered editor.old result }
+        ensures number { editor.new.number ≡ editor.old.number }
         ensures shown { self.new.shown ≡ self.old.shown }
     {
         editor.audit(&mut self.first, &mut self.second);

@@ -57,6 +57,7 @@ impl<J: HubName, L: Ledger, M: Ledger, S: Stepper + Drop, R: Wait + Drop> Hub<J,
     pub fn submit<W: Wait>(&self, rt: &W, editor: &mut Editor<L, M>, edits: &[Edit]) -> Receipt<J>
         ensures found { FoundSomeLog J.origin editor.old edits.now result }
         ensures editor { editor.new ≡ answered editor.old result.reply }
+        ensures number { editor.new.number ≡ editor.old.number }
     {
         self.desk.lock(rt).submit(editor, edits)
     }
