@@ -26,3 +26,4 @@ pub mod FreshLemmas
 pub mod InstanceLemmas
 pub mod CompletedLemmas
 pub mod SoundLaws
+pub mod BeginLemmas

@@ -19,7 +19,7 @@ ok_same r a b p q = cc
 err_same : {A B : Type 0} (r : Result A B) (a b : B) → r ≡ Err a → r ≡ Err b → a ≡ b
 err_same r a b p q = cc
 
-never_both : {A B : Type 0} (r : Result A B) (a : A) (b : B) → r ≡ Ok a → r ≡ Err b → ⊥
+pub never_both : {A B : Type 0} (r : Result A B) (a : A) (b : B) → r ≡ Ok a → r ≡ Err b → ⊥
 never_both r a b p q = cc
 
 pub one_walk : (default : Option ℕ) (names : List (List ℕ)) (words : List Placed) (from : Walk) (after : Option Word) (a b : Walk)

@@ -11,7 +11,7 @@ ghost use Rattle.vtext.specs.Reads.{IsFirstFault, Says};
 ghost use Rattle.vtext.specs.Sound.{IsSoundModule};
 ghost use Rattle.vtext.specs.Trees.{ArePartsAdmitted, AreWritten, Part, after_parts};
 ghost use Rattle.vtext.specs.Turns.{Walk};
-ghost use Rattle.vtext.specs.Walks.{IsFault, Leads, start};
+ghost use Rattle.vtext.specs.Walks.{IsFault, Leads, first_word, start};
 ghost use Rattle.vtext.specs.declared.cause.Cause as causes;
 ghost use Rattle.vtext.specs.declared.fault.ReadFault as faults;
 ghost use Rattle.vtext.specs.declared.parser_state.ParserState.TheVariants.{Outside};
@@ -60,6 +60,14 @@ pub fn reading_is_written()
     ensures { (default : Option ℕ) (names : List (List ℕ)) (said : List placed.Placed) (last : Reading) →
         Leads default names start said None (record { state = Outside; so_far = last }) →
         (parts : List Part) × AreWritten parts said × ArePartsAdmitted default names unread parts × (last ≡ after_parts default names unread parts) }
+{}
+
+/// Where a word is refused, no text that begins so, up to and with this word, and goes on with the same word, is written by parts
+/// at which no cause holds.
+pub fn no_parts_begin_so()
+    ensures { (default : Option ℕ) (names : List (List ℕ)) (before : List placed.Placed) (refused : placed.Placed) (after other : List placed.Placed) (why : causes.Cause) (parts : List Part) →
+        IsFault default names (before ++ refused ∷ after) (length before) why → first_word other None ≡ first_word after None →
+        AreWritten parts (before ++ refused ∷ other) → ArePartsAdmitted default names unread parts → ⊥ }
 {}
 
 /// Each text says a list of modules or has a first fault.
