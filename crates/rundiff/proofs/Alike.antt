@@ -1,5 +1,6 @@
 -- Names that are live, where more places are.
 use Rattle.std.proofs.Common.{◌≡◌, ℕ, ◌∙◌, sym, Bool, true, false, List, Option, Some, None, inl, inr, refl}
+use Rattle.std.specs.Prelude.{◌||◌}
 use Rattle.std.specs.List.{position_from}
 use Rattle.std.specs.Option.{option_map_or}
 use Rattle.gatestep.specs.Step.{State, Evaluation}
@@ -7,6 +8,7 @@ use Rattle.design.specs.Names.{same_name}
 use Rattle.design.specs.Netlist.{Netlist}
 use Rattle.rundiff.specs.Fronts.{IsAlike}
 use Rattle.rundiff.specs.Places.{gate_at, is_live}
+use Rattle.rundiff.proofs.Sets.{or_first}
 
 live_by : (f g : ℕ → Bool) → ((p : ℕ) → f p ≡ true → g p ≡ true) → (o : Option ℕ) → option_map_or f o false ≡ true → option_map_or g o false ≡ true
 live_by f g more None on = on
@@ -25,3 +27,9 @@ off_shrinks d f g more name off =
 pub alike_grows : (answer : Evaluation → ℕ → State) (old new : Netlist) (f g : ℕ → Bool) (t p : ℕ) → ((p : ℕ) → f p ≡ true → g p ≡ true) → IsAlike answer old new f t p → IsAlike answer old new g t p
 alike_grows answer old new f g t p more (inl same) = inl same
 alike_grows answer old new f g t p more (inr readers) = inr (λ q low reading. live_grows new f g more (gate_at new q).output (readers q low reading))
+
+-- one of two tests passes still where the first one passes more
+pub either_more : (a b c : Bool) → (a ≡ true → b ≡ true) → (a || c) ≡ true → (b || c) ≡ true
+either_more true b c more on = or_first b c (more refl)
+either_more false true c more on = refl
+either_more false false c more on = on

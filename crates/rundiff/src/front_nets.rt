@@ -79,6 +79,7 @@ impl Front {
             run,
             new,
             nets.as_slice(),
+            &self.live,
             t,
         )?;
         hold_found(

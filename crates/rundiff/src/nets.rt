@@ -1,7 +1,9 @@
 //! The live nets at one moment: what they have, and whose readers differ.
 
-ghost use Rattle.std.specs.Prelude.{◌≡◌, ◌<◌, ◌≤◌, ℕ, suc, true, false, nat_eq, [], ◌∷◌, All, AllPairs, IfOk, OnOk, length};
+ghost use Rattle.std.specs.Prelude.{◌≡◌, ◌<◌, ◌≤◌, ◌||◌, ℕ, suc, true, false, nat_eq, [], ◌∷◌, All, AllPairs, IfOk, OnOk, length};
+ghost use Rattle.std.specs.BTreeSet.{contains};
 ghost use Rattle.std.specs.Option.{ForSome};
+ghost use Rattle.std.specs.Ordering.{nat_cmp};
 ghost use Rattle.rundiff.specs.PlaceMaps.{kept_at};
 ghost use Rattle.gatestep.specs.Step.{initial};
 ghost use Rattle.design.specs.Connections.{to_net};
@@ -17,6 +19,7 @@ use crate::former::former_wave;
 use crate::old::old_wave;
 use crate::patches::{put, value_at};
 use crate::place_map::PlaceMap;
+use crate::place_set::PlaceSet;
 use crate::reading::driven_value;
 use design::Design;
 use fourstate::Value;
@@ -99,7 +102,8 @@ fn put_value<S: Stepper>(
     put(waves, alloc, place, former, t, value)
 }
 
-/// The nets that the readers of those of these nets drive that have another value at the moment `t` than in the old run.
+/// The nets that the readers of those of these nets drive that have another value at the moment `t` than in the old run. Where
+/// they are live already they may be left out.
 pub fn find_differing<S: Stepper>(
     alloc: Global,
     waves: &PlaceMap<Patch<Value>>,
@@ -108,6 +112,7 @@ pub fn find_differing<S: Stepper>(
     run: &Run,
     new: &Design,
     live: &[usize],
+    all_live: &PlaceSet,
     t: u64,
 ) -> Result<Vec<usize>, AllocError>
     requires blank { blank.now ≡ (0, Value.Unknown) ∷ [] }
@@ -116,16 +121,17 @@ pub fn find_differing<S: Stepper>(
     requires run { IsRun S.answer old.now run.now }
     requires waves { (p : ℕ) → is_among live.now p ≡ true → IsWave S.answer (netlist old.now) (netlist new.now) waves.now p (suc t) }
     ensures there { IfOk result (λ found. All (λ p. p < length (netlist new.now).nets) found.items) }
-    ensures alike { IfOk result (λ found. (p : ℕ) → is_among live.now p ≡ true → IsAlike S.answer (netlist old.now) (netlist new.now) (is_among found.items) t p) }
+    ensures alike { IfOk result (λ found. (p : ℕ) → is_among live.now p ≡ true → IsAlike S.answer (netlist old.now) (netlist new.now) (λ q. is_among found.items q || contains nat_cmp all_live.now q) t p) }
 {
     let mut found = Vec::new(alloc);
     for place in live {
-        add_differing::<S>(waves, blank, old, run, new, *place, t, &mut found)?;
+        add_differing::<S>(waves, blank, old, run, new, *place, all_live, t, &mut found)?;
     }
     Ok(found)
 }
 
-/// Adds the nets that the readers of a net drive, where it has another value at the moment `t` than in the old run.
+/// Adds the nets that the readers of a net drive, where it has another value at the moment `t` than in the old run, unless all
+/// of them are live.
 fn add_differing<S: Stepper>(
     waves: &PlaceMap<Patch<Value>>,
     blank: &Wave,
@@ -133,6 +139,7 @@ fn add_differing<S: Stepper>(
     run: &Run,
     new: &Design,
     place: usize,
+    all_live: &PlaceSet,
     t: u64,
     found: &mut Vec<usize>,
 ) -> Result<(), AllocError>
@@ -143,12 +150,35 @@ fn add_differing<S: Stepper>(
     requires wave { IsWave S.answer (netlist old.now) (netlist new.now) waves.now place (suc t) }
     ensures there { OnOk result (All (λ p. p < length (netlist new.now).nets) found.old.items → All (λ p. p < length (netlist new.now).nets) found.new.items) }
     ensures more { OnOk result ((p : ℕ) → is_among found.old.items p ≡ true → is_among found.new.items p ≡ true) }
-    ensures alike { OnOk result (IsAlike S.answer (netlist old.now) (netlist new.now) (is_among found.new.items) t place) }
+    ensures alike { OnOk result (IsAlike S.answer (netlist old.now) (netlist new.now) (λ q. is_among found.new.items q || contains nat_cmp all_live.now q) t place) }
 {
+    if readers_drive_live(new, place, all_live) {
+        return Ok(());
+    }
     if differs::<S>(waves, blank, old, run, new, place, t) {
         return add_readers(new, place, found);
     }
     Ok(())
+}
+
+/// Whether the readers of a net drive live nets alone.
+fn readers_drive_live(new: &Design, place: usize, all_live: &PlaceSet) -> bool
+    requires there { place < length (netlist new.now).nets }
+    ensures { result ≡ true → (q : ℕ) → q < length (netlist new.now).gates → reads (gate_at (netlist new.now) q) (net_at (netlist new.now) place).name ≡ true
+        → is_live (netlist new.now) (contains nat_cmp all_live.now) (gate_at (netlist new.now) q).output ≡ true }
+{
+    new.lawful();
+    new.places_are_keys();
+    let readers = new.fanout(new.net_key_at(place));
+    for reader in readers {
+        let Some(output) = new.net_place_of(new.gate_of(*reader).output()) else {
+            unreachable!();
+        };
+        if !all_live.contains(output) {
+            return false;
+        }
+    }
+    true
 }
 
 /// Whether a net has another value at the moment `t` than in the old run.

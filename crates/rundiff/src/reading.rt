@@ -18,8 +18,12 @@ use arrayvec::ArrayVec;
 use design::{Design, Gate, Terminal};
 use fourstate::{MAX_INPUTS, Value, resolve};
 use gatestep::{Driver, Stepper};
+use smallvec::SmallVec;
 use std::alloc::{AllocError, Global};
 use waveform::{Patch, Run, Trace, Wave, laws};
+
+/// The values of so many drivers of a net need no memory of their own.
+const NEAR_DRIVERS: usize = 4;
 
 /// The value of a net at `m`, a moment at which it is known.
 pub fn net_value(
@@ -188,7 +192,7 @@ pub fn driven_value<S: Stepper>(
         return Ok(net.stimulus_at(t));
     }
     let drivers = new.drivers(new.net_key_at(place));
-    let mut values = Vec::with_capacity(alloc, drivers.len())?;
+    let mut values: SmallVec<Value, NEAR_DRIVERS> = SmallVec::new(alloc);
     for driver in drivers {
         let Some(gate) = new.gate_place_of(*driver) else {
             unreachable!();

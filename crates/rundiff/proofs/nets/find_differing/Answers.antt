@@ -1,9 +1,11 @@
-use Rattle.std.proofs.Common.{◌≡◌, ◌∙◌, ap, sym, subst, refl, ℕ, List, true, false, take}
-use Rattle.std.specs.Prelude.{slice_index_or, nat_eq}
+use Rattle.std.proofs.Common.{◌≡◌, ◌∙◌, ap, sym, subst, refl, Bool, ℕ, List, true, false, take}
+use Rattle.std.specs.Prelude.{◌||◌, slice_index_or, nat_eq}
+use Rattle.std.specs.BTreeSet.{contains}
+use Rattle.std.specs.Ordering.{nat_cmp}
 use Rattle.design.specs.Keys.{netlist}
 use Rattle.rundiff.specs.Fronts.{IsAlike}
 use Rattle.rundiff.specs.Places.{is_among}
-use Rattle.rundiff.proofs.Alike.{alike_grows}
+use Rattle.rundiff.proofs.Alike.{alike_grows, either_more}
 use Rattle.rundiff.proofs.ByPlace.{get_at}
 use Rattle.rundiff.proofs.Driven.{take_whole}
 use Rattle.rundiff.proofs.Steps.{among_more, is_one, or_splits, same_place}
@@ -24,13 +26,16 @@ loop-place-preserved g c =
     let xs = c.args.live.now in let i = c.loop-place.place-index in let x = slice_index_or xs i 0 in
     let old = netlist c.args.old.now in let new = netlist c.args.new.now in let t = c.args.t in
     let done = c.in_ok-add_differing.ensures in
+    let live : ℕ → Bool = contains nat_cmp c.args.all_live.now in
+    let was : ℕ → Bool = λ q. is_among c.loop-place.found.items q || live q in
+    let now : ℕ → Bool = λ q. is_among c.add_differing.new.found.items q || live q in
     record {
       there = done.there c.loop-place.invariant.there;
       alike = λ p among.
-          elim (nat_eq x p) as (λ b. nat_eq x p ≡ b → IsAlike g.S.Stepper.answer old new (is_among c.add_differing.new.found.items) t p) [
-            | true ↦ λ same. subst (λ (q : ℕ). IsAlike g.S.Stepper.answer old new (is_among c.add_differing.new.found.items) t q) (same_place x p same) done.alike
+          elim (nat_eq x p) as (λ b. nat_eq x p ≡ b → IsAlike g.S.Stepper.answer old new now t p) [
+            | true ↦ λ same. subst (λ (q : ℕ). IsAlike g.S.Stepper.answer old new now t q) (same_place x p same) done.alike
             | false ↦ λ apart.
-                alike_grows g.S.Stepper.answer old new (is_among c.loop-place.found.items) (is_among c.add_differing.new.found.items) t p done.more
+                alike_grows g.S.Stepper.answer old new was now t p (λ q on. either_more (is_among c.loop-place.found.items q) (is_among c.add_differing.new.found.items q) (live q) (done.more q) on)
                 (c.loop-place.invariant.alike p (or_splits (is_among (take i xs) p) (nat_eq x p) (sym (among_more xs i x p (get_at xs i 0 c.loop-place-test.true)) ∙ among) apart))
           ] refl;
     }

@@ -1,4 +1,7 @@
 use Rattle.std.proofs.Common.{◌≡◌, ◌<◌, ℕ, true, take, All, length}
+use Rattle.std.specs.Prelude.{◌||◌}
+use Rattle.std.specs.BTreeSet.{contains}
+use Rattle.std.specs.Ordering.{nat_cmp}
 use Rattle.design.specs.Keys.{netlist}
 use Rattle.rundiff.specs.Fronts.{IsAlike}
 use Rattle.rundiff.specs.Places.{is_among}
@@ -8,5 +11,5 @@ use Rattle.rundiff.proofs.nets.find_differing.Given as goal
 abbrev pub invariant-loop-place : goal.invariant-loop-place
 invariant-loop-place g l = record {
   there : All (λ p. p < length (netlist l.new).nets) l.found.items;
-  alike : (p : ℕ) → is_among (take l.place-index l.live) p ≡ true → IsAlike g.S.Stepper.answer (netlist l.old) (netlist l.new) (is_among l.found.items) l.t p;
+  alike : (p : ℕ) → is_among (take l.place-index l.live) p ≡ true → IsAlike g.S.Stepper.answer (netlist l.old) (netlist l.new) (λ q. is_among l.found.items q || contains nat_cmp l.all_live q) l.t p;
 }

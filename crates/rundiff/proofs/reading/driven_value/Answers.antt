@@ -22,4 +22,4 @@ returns g c =
     let whole = c.loop-driver.invariant ∙ ap (map (λ gate. option_map states (place_of keyed.gates gate))) (take_whole c.drivers-drivers.result.now c.loop-driver.driver-index c.loop-driver-test.false ∙ c.drivers-drivers.ensures.drivers) in
     driven_is answer keyed key c.args.place c.args.t n c.loop-driver.values.items c.resolve.result c.net_at-net.ensures (c.net_key_at.ensures.net ∙ c.net_at-net.ensures) driven
     (c.places_are_keys.ensures.drivers key) whole
-    (c.resolve.ensures ∙ ap (λ (kind : _). net_of kind c.as_slice.result.now) c.kind.ensures ∙ ap (net_of n.kind) c.as_slice.ensures.value)
+    (c.resolve.ensures ∙ ap (λ (kind : _). net_of kind c.as_slice.result.now) c.kind.ensures ∙ ap (net_of n.kind) c.as_slice.ensures)

@@ -1,5 +1,5 @@
-use Rattle.std.proofs.Common.{◌≡◌, ◌∙◌, ◌<◌, ap, sym, subst, refl, suc, ℕ, List, true, false, length, not, Option, ◌⊎◌, inl, inr, ⊎_elim, arith}
-use Rattle.std.specs.Prelude.{◌&&◌, AllPairs}
+use Rattle.std.proofs.Common.{◌≡◌, ◌∙◌, ◌<◌, ◌≤◌, ap, sym, subst, refl, suc, ℕ, List, true, false, length, not, Option, ◌⊎◌, inl, inr, ⊎_elim, arith}
+use Rattle.std.specs.Prelude.{◌&&◌, ◌||◌, AllPairs}
 use Rattle.rundiff.specs.PlaceMaps.{kept_at}
 use Rattle.std.specs.BTreeSet.{contains}
 use Rattle.std.specs.Ordering.{nat_cmp}
@@ -21,7 +21,7 @@ use Rattle.rundiff.proofs.LookedAt.{IsPassed, alike_all, calm_all, own_all, pass
 use Rattle.rundiff.proofs.NetsDone.{agrees_now, clean_now, closed_now, free_before, free_wave}
 use Rattle.rundiff.proofs.Quiet.{AreLookedAt, not_so}
 use Rattle.rundiff.proofs.Resting.{along_more, free_along}
-use Rattle.rundiff.proofs.Sets.{or_first, or_none, or_second}
+use Rattle.rundiff.proofs.Sets.{or_none, or_second}
 use Rattle.rundiff.proofs.front.Front.look_at_nets.Goals as goal
 
 pub put_values-requires-clause-there : goal.put_values-requires-clause-there
@@ -89,7 +89,7 @@ returns g c =
     let grows : (p : ℕ) → live p ≡ true → later p ≡ true = λ p on. holds.live p ∙ or_second (found p) (live p) on in
     let alike : (p : ℕ) → live p ≡ true → IsAlike answer old new later t p =
     alike_all answer old new current pending is live held events_at inputs_at nets_at looked t are later grows
-    (λ p at. alike_grows answer old new found later t p (λ q on. holds.live q ∙ or_first (found q) (live q) on) (c.in_ok-found.ensures.alike p (ap (λ (l : List ℕ). is_among l p) c.as_slice-3.ensures.value ∙ at))) in
+    (λ p at. alike_grows answer old new (λ q. found q || live q) later t p (λ q on. holds.live q ∙ on) (c.in_ok-found.ensures.alike p (ap (λ (l : List ℕ). is_among l p) c.as_slice-3.ensures.value ∙ at))) in
     let steady : (p : ℕ) → looked p ≡ true → IsSteady answer new marked t p = λ p at. marks.steady p (ap (λ (l : List ℕ). is_among l p) c.as_slice-2.ensures.value ∙ at) in
     let passed : (q : ℕ) → (kept q && not (chosen q)) ≡ true → IsPassed held marked (events_at t) (inputs_at t) q =
     passed_by held kept marked (is_among c.hold_found.new.gates.items) chosen (events_at t) (inputs_at t) (λ q on there. marks.more q (chose.gates q on there)) holds.gates_more holds.gates gates.more gates.noted in

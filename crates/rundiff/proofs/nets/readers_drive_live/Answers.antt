@@ -1,0 +1,53 @@
+use Rattle.std.proofs.Common.{◌≡◌, ◌∙◌, ap, sym, refl, ℕ, List, [], true, false, take, Option, Some}
+use Rattle.std.specs.Prelude.{nat_eq}
+use Rattle.std.specs.BTreeSet.{contains}
+use Rattle.std.specs.Ordering.{nat_cmp}
+use Rattle.std.specs.Option.{option_map_or}
+use Rattle.catalog.specs.Catalog.{place_of}
+use Rattle.design.specs.Keys.{KeyedGate, gate_by_key, name_of, net_by_key, netlist}
+use Rattle.fourstate.specs.declared.gate.GateKind.TheVariants.{Buf}
+use Rattle.design.specs.Netlist.{GateEntry, NetEntry, reads}
+use Rattle.rundiff.specs.Places.{blank_net, gate_at, is_among, is_live, net_at}
+use Rattle.rundiff.proofs.ByPlace.{get_at}
+use Rattle.rundiff.proofs.Driven.{is_there, read_get, take_whole}
+use Rattle.rundiff.proofs.OldLines.{some_equal}
+use Rattle.rundiff.proofs.ReaderKeys.{reader_at}
+use Rattle.rundiff.proofs.Steps.{among_more, or_splits, same_place}
+use Rattle.rundiff.proofs.nets.readers_drive_live.Goals as goal
+
+pub loop-reader-preserved : goal.loop-reader-preserved
+loop-reader-preserved c =
+    let keys = c.fanout-readers.result.now in let i = c.loop-reader.reader-index in let x = c.reader-item.result in
+    let at = read_get keys i x c.loop-reader-test.true c.reader-item.is in
+    let keyed = c.args.new.now in
+    let output = c.in-Some.output in
+    let live = contains nat_cmp c.args.all_live.now in
+    λ key among gate found.
+    elim (nat_eq x key) as (λ b. nat_eq x key ≡ b → (q : ℕ) × (place_of keyed.nets gate.output ≡ Some q) × (live q ≡ true)) [
+      | true ↦ λ same.
+          let e = same_place x key same in
+          let one : c.gate_of.result.now ≡ gate = some_equal c.gate_of.result.now gate (sym c.gate_of.ensures.gate ∙ ap (λ (k : ℕ). gate_by_key keyed k) e ∙ found) in
+          let at_output : place_of keyed.nets gate.output ≡ Some output =
+          ap (λ (h : KeyedGate). place_of keyed.nets h.output) (sym one) ∙ ap (place_of keyed.nets) (sym c.output.ensures) ∙ sym c.in-Some.ensures.place in
+          (output, at_output, sym c.contains.ensures ∙ c.if-not-contains.false)
+      | false ↦ λ apart. c.loop-reader.invariant key (or_splits (is_among (take i keys) key) (nat_eq x key) (sym (among_more keys i x key at) ∙ among) apart) gate found
+    ] refl
+
+pub returns : goal.returns
+returns c = λ all q low reading.
+    let keyed = c.args.new.now in let d = netlist keyed in
+    let key = c.net_key_at.result in
+    let n = net_at d c.args.place in
+    let live = contains nat_cmp c.args.all_live.now in
+    let there : net_by_key keyed key ≡ Some n = c.net_key_at.ensures.net ∙ get_at d.nets c.args.place blank_net c.requires.there in
+    let named : name_of keyed.nets key ≡ n.name = ap (λ (o : Option NetEntry). option_map_or (λ m. m.name) o []) there in
+    let whole = take_whole c.fanout-readers.result.now c.loop-reader.reader-index c.loop-reader-test.false in
+    let reader = reader_at keyed c.lawful.ensures.keys c.places_are_keys.ensures.nets (0, blank_net) (0, record { name = []; kind = Buf; delays = record { rise = 0; fall = 0 }; output = 0; inputs = [] })
+    key q (is_there (net_by_key keyed key) n there) low (ap (reads (gate_at d q)) named ∙ reading) in
+    let k : ℕ = reader.0 in
+    let gate : KeyedGate = reader.1 in
+    let facts = reader.2 in
+    let out = c.loop-reader.invariant k (ap (λ (l : List ℕ). is_among l k) (whole ∙ c.fanout-readers.ensures.readers) ∙ facts.among) gate facts.found in
+    ap (λ (g : GateEntry). is_live d live g.output) facts.entry
+    ∙ ap (λ (o : Option ℕ). option_map_or live o false) (c.places_are_keys.ensures.nets gate.output facts.there ∙ out.1)
+    ∙ out.2
