@@ -9,11 +9,8 @@ mod named;
 mod names;
 mod order;
 mod places;
-#[cfg(test)]
-mod plain;
+pub mod plain;
 mod slots;
-#[cfg(test)]
-mod tests;
 
 pub use catalog::Catalog;
 pub use hasher::NameHasher;

@@ -1,4 +1,4 @@
-//! Records by name and by key, as one list that is walked: the reference implementation, whose contract is that of `Catalog`.
+//! Records by name and by key, as one list that is walked: the reference implementation, for tests: its contract is that of `Catalog`.
 
 ghost use Rattle.std.specs.Prelude.{◌≡◌, ◌<◌, ◌∷◌, [], ◌++◌, length, map, slice_get, option_map, IfOk, IfSome, IsSome, ◌==◌};
 ghost use Rattle.std.specs.List.{position_from};

@@ -1,25 +1,55 @@
 //! Events of editors and viewers: by hand, and random ones beside what their history says.
 
-ghost use Rattle.std.specs.Prelude.{◌<◌};
-
+use crate::dice::Dice;
 use bench::CommitFault;
 use edits::Edit;
 use hubcore::{Core, CoreFault, Event, Reply};
 use std::alloc::Global;
 use std::process::Abort;
 
+/// A call of an editor or of a viewer.
+#[derive(Clone, Copy)]
+enum Call {
+    /// A commit that makes this version, or one that is refused.
+    Accept(u64),
+    Refuse,
+    Show,
+    Look(u32),
+    Learn(u32, u64),
+    Release(u32, u64),
+}
+
 fn edits(rt: &impl Abort, alloc: Global, time: u64) -> Vec<Edit> {
     let mut edits = Vec::new(alloc);
-    edits.push(Edit::Horizon { time }).ok().expect(rt, "room");
+    edits.push(Edit::Horizon { time }).expect(rt, "room");
     edits
 }
 
-fn accepted(rt: &impl Abort, alloc: Global, version: u64) -> Event {
-    Event::Submit(edits(rt, alloc, version), Ok(version))
+fn event(rt: &impl Abort, alloc: Global, call: Call) -> Event {
+    match call {
+        Call::Accept(version) => Event::Submit(edits(rt, alloc, version), Ok(version)),
+        Call::Refuse => Event::Submit(edits(rt, alloc, 7), Err(CommitFault::WorkerLost)),
+        Call::Show => Event::Show,
+        Call::Look(number) => Event::Look(number),
+        Call::Learn(number, length) => Event::Learn(number, length),
+        Call::Release(number, length) => Event::Release(number, length),
+    }
 }
 
-fn refused(rt: &impl Abort, alloc: Global) -> Event {
-    Event::Submit(edits(rt, alloc, 7), Err(CommitFault::WorkerLost))
+/// A call, and its reply.
+type Case = (Call, Result<Reply, CoreFault>);
+
+fn check(rt: &impl Abort, alloc: Global, core: &mut Core, case: Case) {
+    let (call, wanted) = case;
+    assert_eq!(rt; core.step(event(rt, alloc, call)), wanted);
+}
+
+fn check_all(rt: &impl Abort, alloc: Global, viewers: u32, cases: &[Case]) {
+    let mut core = Core::open(alloc, viewers).expect(rt, "room");
+    for case in cases {
+        check(rt, alloc, &mut core, *case);
+    }
+    drop(core);
 }
 
 #[test]
@@ -30,57 +60,43 @@ fn numbers_of_faults(rt: HostRuntime) {
     assert_eq!(&rt; CoreFault::OutOfMemory as u8, 4);
 }
 
+const BEFORE: [Case; 6] = [
+    (Call::Look(1), Err(CoreFault::UnknownViewer)),
+    (Call::Release(0, 0), Err(CoreFault::NotHeld)),
+    (Call::Learn(0, 1), Err(CoreFault::AheadOfLog)),
+    (Call::Look(0), Ok(Reply::At(0))),
+    (Call::Release(0, 0), Ok(Reply::Done)),
+    (Call::Release(0, 0), Err(CoreFault::NotHeld)),
+];
+
 #[test]
 fn before_any_commit(rt: HostRuntime) {
-    let mut core = Core::open(rt.alloc(), 1).expect(&rt, "room");
-    assert_eq!(&rt; core.step(Event::Look(1)), Err(CoreFault::UnknownViewer));
-    assert_eq!(&rt; core.step(Event::Release(0, 0)), Err(CoreFault::NotHeld));
-    assert_eq!(&rt; core.step(Event::Learn(0, 1)), Err(CoreFault::AheadOfLog));
-    assert_eq!(&rt; core.step(Event::Look(0)), Ok(Reply::At(0)));
-    assert_eq!(&rt; core.step(Event::Release(0, 0)), Ok(Reply::Done));
-    assert_eq!(&rt; core.step(Event::Release(0, 0)), Err(CoreFault::NotHeld));
-    drop(core);
+    check_all(&rt, rt.alloc(), 1, &BEFORE);
 }
+
+const TWO_COMMITS: [Case; 16] = [
+    (Call::Accept(1), Ok(Reply::Done)),
+    (Call::Look(0), Ok(Reply::At(0))),
+    (Call::Show, Ok(Reply::Done)),
+    (Call::Learn(1, 1), Ok(Reply::Done)),
+    (Call::Look(1), Ok(Reply::At(1))),
+    (Call::Refuse, Ok(Reply::Done)),
+    (Call::Accept(2), Ok(Reply::Done)),
+    (Call::Learn(1, 2), Err(CoreFault::AheadOfLog)),
+    (Call::Show, Ok(Reply::Done)),
+    (Call::Look(0), Ok(Reply::At(2))),
+    (Call::Look(0), Ok(Reply::At(2))),
+    (Call::Release(0, 2), Ok(Reply::Done)),
+    (Call::Release(0, 1), Err(CoreFault::NotHeld)),
+    (Call::Release(0, 0), Ok(Reply::Done)),
+    (Call::Release(0, 2), Ok(Reply::Done)),
+    (Call::Release(0, 2), Err(CoreFault::NotHeld)),
+];
 
 // A commit is seen once it is shown, a refused one never, and a held snapshot is let go of as often as it was taken.
 #[test]
 fn two_commits(rt: HostRuntime) {
-    let alloc = rt.alloc();
-    let mut core = Core::open(alloc, 2).expect(&rt, "room");
-    assert_eq!(&rt; core.step(accepted(&rt, alloc, 1)), Ok(Reply::Done));
-    assert_eq!(&rt; core.step(Event::Look(0)), Ok(Reply::At(0)));
-    assert_eq!(&rt; core.step(Event::Show), Ok(Reply::Done));
-    assert_eq!(&rt; core.step(Event::Learn(1, 1)), Ok(Reply::Done));
-    assert_eq!(&rt; core.step(Event::Look(1)), Ok(Reply::At(1)));
-    assert_eq!(&rt; core.step(refused(&rt, alloc)), Ok(Reply::Done));
-    assert_eq!(&rt; core.step(accepted(&rt, alloc, 2)), Ok(Reply::Done));
-    assert_eq!(&rt; core.step(Event::Learn(1, 2)), Err(CoreFault::AheadOfLog));
-    assert_eq!(&rt; core.step(Event::Show), Ok(Reply::Done));
-    assert_eq!(&rt; core.step(Event::Look(0)), Ok(Reply::At(2)));
-    assert_eq!(&rt; core.step(Event::Look(0)), Ok(Reply::At(2)));
-    assert_eq!(&rt; core.step(Event::Release(0, 2)), Ok(Reply::Done));
-    assert_eq!(&rt; core.step(Event::Release(0, 1)), Err(CoreFault::NotHeld));
-    assert_eq!(&rt; core.step(Event::Release(0, 0)), Ok(Reply::Done));
-    assert_eq!(&rt; core.step(Event::Release(0, 2)), Ok(Reply::Done));
-    assert_eq!(&rt; core.step(Event::Release(0, 2)), Err(CoreFault::NotHeld));
-    drop(core);
-}
-
-/// Numbers in a fixed order that looks like none.
-#[derive(Drop)]
-struct Dice(u64);
-
-impl Dice {
-    fn below(&mut self, n: u64) -> u64
-        requires { 0 < n }
-        ensures { result < n }
-    {
-        self.0 = self
-            .0
-            .wrapping_mul(6_364_136_223_846_793_005)
-            .wrapping_add(1_442_695_040_888_963_407);
-        (self.0 >> 33) % n
-    }
+    check_all(&rt, rt.alloc(), 2, &TWO_COMMITS);
 }
 
 /// What happened.
@@ -119,17 +135,17 @@ fn count_of(history: &[Past], wanted: Past) -> u64 {
 }
 
 // The reply that the history demands.
-fn reply_of(history: &[Past], event: &Event) -> Result<Reply, CoreFault> {
-    match event {
-        Event::Submit(_, _) | Event::Show => Ok(Reply::Done),
-        Event::Look(number) | Event::Learn(number, _) | Event::Release(number, _)
-            if *number >= VIEWERS => { Err(CoreFault::UnknownViewer) }
-        Event::Look(_) => Ok(Reply::At(shown(history))),
-        Event::Learn(_, length) if *length > shown(history) => Err(CoreFault::AheadOfLog),
-        Event::Learn(_, _) => Ok(Reply::Done),
-        Event::Release(number, length) => {
-            let taken = count_of(history, Past::Taken(*number, *length));
-            if taken > count_of(history, Past::LetGo(*number, *length)) {
+fn reply_of(history: &[Past], call: Call) -> Result<Reply, CoreFault> {
+    match call {
+        Call::Accept(_) | Call::Refuse | Call::Show => Ok(Reply::Done),
+        Call::Look(number) | Call::Learn(number, _) | Call::Release(number, _)
+            if number >= VIEWERS => { Err(CoreFault::UnknownViewer) }
+        Call::Look(_) => Ok(Reply::At(shown(history))),
+        Call::Learn(_, length) if length > shown(history) => Err(CoreFault::AheadOfLog),
+        Call::Learn(_, _) => Ok(Reply::Done),
+        Call::Release(number, length) => {
+            let taken = count_of(history, Past::Taken(number, length));
+            if taken > count_of(history, Past::LetGo(number, length)) {
                 Ok(Reply::Done)
             } else {
                 Err(CoreFault::NotHeld)
@@ -138,28 +154,39 @@ fn reply_of(history: &[Past], event: &Event) -> Result<Reply, CoreFault> {
     }
 }
 
-// What an event that is not refused adds to the history.
-fn past_of(history: &[Past], event: &Event) -> Option<Past> {
-    match event {
-        Event::Submit(_, Ok(_)) => Some(Past::Accepted),
-        Event::Submit(_, Err(_)) => None,
-        Event::Show => Some(Past::Shown),
-        Event::Look(number) => Some(Past::Taken(*number, shown(history))),
-        Event::Learn(_, _) => None,
-        Event::Release(number, length) => Some(Past::LetGo(*number, *length)),
+// What a call that is not refused adds to the history.
+fn past_of(history: &[Past], call: Call) -> Option<Past> {
+    match call {
+        Call::Accept(_) => Some(Past::Accepted),
+        Call::Show => Some(Past::Shown),
+        Call::Look(number) => Some(Past::Taken(number, shown(history))),
+        Call::Refuse | Call::Learn(_, _) => None,
+        Call::Release(number, length) => Some(Past::LetGo(number, length)),
     }
 }
 
-fn random_event(rt: &impl Abort, alloc: Global, dice: &mut Dice, shown: u64) -> Event {
+fn random_call(dice: &mut Dice, shown: u64) -> Call {
     let number = dice.below(u64::from(VIEWERS) + 1) as u32;
     let length = shown.wrapping_add(1).saturating_sub(dice.below(4));
     match dice.below(10) {
-        0 | 1 => accepted(rt, alloc, dice.below(9)),
-        2 => refused(rt, alloc),
-        3 => Event::Show,
-        4 | 5 => Event::Look(number),
-        6 => Event::Learn(number, length),
-        _ => Event::Release(number, length),
+        0 | 1 => Call::Accept(dice.below(9)),
+        2 => Call::Refuse,
+        3 => Call::Show,
+        4 | 5 => Call::Look(number),
+        6 => Call::Learn(number, length),
+        _ => Call::Release(number, length),
+    }
+}
+
+/// A random call, whose reply is the one that the history demands.
+fn turn(rt: &impl Abort, alloc: Global, dice: &mut Dice, core: &mut Core, history: &mut Vec<Past>) {
+    let call = random_call(dice, shown(history.as_slice()));
+    let wanted = reply_of(history.as_slice(), call);
+    check(rt, alloc, core, (call, wanted));
+    if wanted.is_ok() {
+        if let Some(past) = past_of(history.as_slice(), call) {
+            history.push(past).expect(rt, "room");
+        }
     }
 }
 
@@ -170,15 +197,7 @@ fn random_events(rt: HostRuntime) {
     let mut core = Core::open(alloc, VIEWERS).expect(&rt, "room");
     let mut history = Vec::new(alloc);
     for _round in 0..2000 {
-        let event = random_event(&rt, alloc, &mut dice, shown(history.as_slice()));
-        let wanted = reply_of(history.as_slice(), &event);
-        let past = past_of(history.as_slice(), &event);
-        assert_eq!(&rt; core.step(event), wanted);
-        if wanted.is_ok() {
-            if let Some(past) = past {
-                history.push(past).ok().expect(&rt, "room");
-            }
-        }
+        turn(&rt, alloc, &mut dice, &mut core, &mut history);
     }
     assert!(&rt; shown(history.as_slice()) > 50);
     assert!(&rt; count_of(history.as_slice(), Past::Shown) > 50);

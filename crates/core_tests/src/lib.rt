@@ -6,9 +6,15 @@ mod benches;
 #[cfg(test)]
 mod bytes;
 #[cfg(test)]
+mod calls;
+#[cfg(test)]
+mod catalogs;
+#[cfg(test)]
 mod chunks;
 #[cfg(test)]
 mod designs;
+#[cfg(test)]
+mod dice;
 #[cfg(test)]
 mod dumps;
 #[cfg(test)]
@@ -25,6 +31,8 @@ mod patches;
 mod pools;
 #[cfg(test)]
 mod reruns;
+#[cfg(test)]
+mod runs;
 #[cfg(test)]
 mod shortened;
 #[cfg(test)]

@@ -1,8 +1,8 @@
 //! Runs from former runs, beside runs worked out by hand and beside a reference implementation.
 
-mod counting;
+pub mod counting;
 mod definition;
 mod horizons;
-mod plain;
-mod random;
+pub mod plain;
+pub mod random;
 mod rows;

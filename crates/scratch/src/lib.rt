@@ -7,16 +7,13 @@ mod engine;
 mod extending;
 mod moment;
 mod opening;
-#[cfg(test)]
-mod plain;
+pub mod plain;
 mod recording;
 mod resolving;
 mod resuming;
 mod run;
 mod settling;
 mod stirring;
-#[cfg(test)]
-mod tests;
 mod waves;
 mod wiring;
 

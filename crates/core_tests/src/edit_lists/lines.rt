@@ -35,7 +35,7 @@ fn value(rt: &impl Abort, text: &str) -> Value {
     }
 }
 
-fn word(rt: &impl Abort, alloc: Global, text: &str) -> Word {
+pub fn word(rt: &impl Abort, alloc: Global, text: &str) -> Word {
     Word::new(alloc, text).expect(rt, "a word")
 }
 

@@ -176,7 +176,7 @@ fn check_gate(rt: &impl Abort, design: &Design, run: &Run, rows: &[Row], place: 
     }
 }
 
-fn check_run(rt: &impl Abort, design: &Design, run: &Run, rows: &[Row]) {
+pub fn check_run(rt: &impl Abort, design: &Design, run: &Run, rows: &[Row]) {
     assert_eq!(rt; run.horizon(), design.horizon());
     assert_eq!(rt; Some(rows.len() as u64), design.horizon().checked_add(1));
     for place in 0..design.net_count() {

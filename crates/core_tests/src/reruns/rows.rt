@@ -4,13 +4,12 @@ ghost use Rattle.gatestep.specs.Step.{advance};
 ghost use Rattle.scratch.specs.Run.{IsRun};
 
 use super::counting::Counting;
+use crate::calls::{changed, rerun, simulated};
 use crate::edit_lists::lines::{carried_out, edits, empty};
 use crate::waves::{Named, check_waves};
 use design::Design;
-use edits::{Edit, apply_all_with_touched};
+use edits::Edit;
 use gatestep::Serial;
-use resim::rerun_touched;
-use scratch::simulate;
 use std::alloc::Global;
 use std::process::Abort;
 use waveform::Run;
@@ -46,8 +45,8 @@ fn check_beside(rt: &impl Abort, alloc: Global, old: &Design, run: &Run, case: &
 {
     let mut stepper = Counting::new();
     let edits = edits(rt, alloc, case.edits);
-    let (new, touched) = apply_all_with_touched(alloc, old, &edits).expect(rt, "accepted edits");
-    let made = rerun_touched(alloc, old, run, &new, &touched, &mut stepper).expect(rt, "a run");
+    let (new, touched) = changed(alloc, old, &edits).expect(rt, "accepted edits");
+    let made = rerun(rt, alloc, old, run, &new, &touched, &mut stepper);
     check_waves(rt, alloc, &new, &made, case.waves);
     drop(made);
     drop(new);
@@ -59,7 +58,7 @@ fn check_beside(rt: &impl Abort, alloc: Global, old: &Design, run: &Run, case: &
 
 fn check(rt: &impl Abort, alloc: Global, case: &Case<'_>) {
     let old = design_of(rt, alloc, case);
-    let run = simulate(alloc, &old, &mut Serial::new()).expect(rt, "a run");
+    let run = simulated(rt, alloc, &old, &mut Serial::new());
     check_beside(rt, alloc, &old, &run, case);
     drop(run);
     drop(old);

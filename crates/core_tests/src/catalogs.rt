@@ -1,8 +1,8 @@
 //! Catalogs worked out by hand, and catalogs beside the reference implementation. Each test gives its catalogs to `drop`:
 //! one that goes at the end of a body costs its proof 10 seconds and more.
 
-use crate::plain::PlainCatalog;
-use crate::{Catalog, NameHasher, Named};
+use catalog::plain::PlainCatalog;
+use catalog::{Catalog, NameHasher, Named};
 use std::alloc::Global;
 use std::process::Abort;
 
@@ -175,20 +175,18 @@ fn many_names_are_found_in_a_copy(rt: HostRuntime) {
     drop(catalog);
 }
 
-/// A record more in both.
-fn add_to_both(
+/// A record more.
+fn plain_add(
     rt: &impl Abort,
     alloc: Global,
-    both: (Catalog<Item>, PlainCatalog<Item>),
+    plain: PlainCatalog<Item>,
     name: &str,
     value: u32,
-) -> (Catalog<Item>, PlainCatalog<Item>) {
-    let (catalog, plain) = both;
+) -> PlainCatalog<Item> {
     let item = make_item(rt, alloc, name, value);
     assert!(rt; plain.key(item.name()).is_none(), "{name}");
     let (plain, _) = plain.push(item).expect(rt, "a record more");
-    let (catalog, _) = add(rt, alloc, catalog, name, value);
-    (catalog, plain)
+    plain
 }
 
 fn plain_put(
@@ -214,25 +212,35 @@ fn plain_copy(rt: &impl Abort, plain: &PlainCatalog<Item>) -> PlainCatalog<Item>
     plain.try_clone().expect(rt, "a copy")
 }
 
-/// One change to both, where it can be made: a record more, another value or a removal.
-fn step(
+/// The change to a catalog, where it can be made: a record more, another value or a removal.
+fn changed(
     rt: &impl Abort,
     alloc: Global,
-    both: (Catalog<Item>, PlainCatalog<Item>),
+    catalog: Catalog<Item>,
     change: u64,
     name: &str,
     value: u32,
-) -> (Catalog<Item>, PlainCatalog<Item>) {
-    let (Some(key), Some(plain_key)) = (both.0.key(name), both.1.key(name)) else {
-        return add_to_both(rt, alloc, both, name, value);
-    };
-    let (catalog, plain) = both;
-    if change < 5 {
-        let plain = plain_take(rt, plain, plain_key);
-        (take(rt, catalog, key), plain)
-    } else {
-        let plain = plain_put(rt, alloc, plain, plain_key, name, value);
-        (put(rt, alloc, catalog, key, name, value), plain)
+) -> Catalog<Item> {
+    match catalog.key(name) {
+        None => add(rt, alloc, catalog, name, value).0,
+        Some(key) if change < 5 => take(rt, catalog, key),
+        Some(key) => put(rt, alloc, catalog, key, name, value),
+    }
+}
+
+/// The same change to a plain one.
+fn plain_changed(
+    rt: &impl Abort,
+    alloc: Global,
+    plain: PlainCatalog<Item>,
+    change: u64,
+    name: &str,
+    value: u32,
+) -> PlainCatalog<Item> {
+    match plain.key(name) {
+        None => plain_add(rt, alloc, plain, name, value),
+        Some(key) if change < 5 => plain_take(rt, plain, key),
+        Some(key) => plain_put(rt, alloc, plain, key, name, value),
     }
 }
 
@@ -253,29 +261,34 @@ fn check_same(rt: &impl Abort, catalog: &Catalog<Item>, plain: &PlainCatalog<Ite
 #[test]
 fn random_changes_make_of_a_catalog_what_they_make_of_its_plain_form(rt: HostRuntime) {
     let alloc = rt.alloc();
-    let mut both = (
-        Catalog::new(alloc, NameHasher::fixed()),
-        PlainCatalog::new(alloc, NameHasher::fixed()),
-    );
-    let mut old = (copy(&rt, &both.0), plain_copy(&rt, &both.1));
+    let mut catalog = Catalog::new(alloc, NameHasher::fixed());
+    let mut plain = PlainCatalog::new(alloc, NameHasher::fixed());
+    let mut old = copy(&rt, &catalog);
+    let mut old_plain = plain_copy(&rt, &plain);
     let mut seed = 20_261u64;
     for i in 0..600u32 {
         seed = seed
             .wrapping_mul(6_364_136_223_846_793_005)
             .wrapping_add(1_442_695_040_888_963_407);
         let name = numbered(&rt, alloc, "n", (seed >> 33) % 24);
-        both = step(&rt, alloc, both, (seed >> 48) % 8, name.as_str(), i);
+        let change = (seed >> 48) % 8;
+        catalog = changed(&rt, alloc, catalog, change, name.as_str(), i);
+        plain = plain_changed(&rt, alloc, plain, change, name.as_str(), i);
         if i % 16 == 15 {
-            both.0 = closed_up(&rt, both.0);
-            check_same(&rt, &both.0, &both.1);
+            catalog = closed_up(&rt, catalog);
+            check_same(&rt, &catalog, &plain);
         }
         if i % 50 == 49 {
-            check_same(&rt, &old.0, &old.1);
+            check_same(&rt, &old, &old_plain);
             drop(old);
-            old = (copy(&rt, &both.0), plain_copy(&rt, &both.1));
+            drop(old_plain);
+            old = copy(&rt, &catalog);
+            old_plain = plain_copy(&rt, &plain);
         }
     }
-    check_same(&rt, &both.0, &both.1);
+    check_same(&rt, &catalog, &plain);
     drop(old);
-    drop(both);
+    drop(old_plain);
+    drop(catalog);
+    drop(plain);
 }

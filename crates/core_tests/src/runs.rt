@@ -1,0 +1,7 @@
+//! Runs from scratch and up to a later horizon.
+
+mod counts;
+mod extended;
+mod keyed;
+mod random;
+mod small;

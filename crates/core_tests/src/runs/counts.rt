@@ -1,0 +1,70 @@
+//! How much a run asks of its stepper.
+
+use crate::calls::simulated;
+use crate::edit_lists::lines::design_of;
+use crate::reruns::counting::Counting;
+use std::alloc::Global;
+use std::process::Abort;
+
+/// The run of the design asks for so many steps, and for so many tasks in them all.
+fn check(rt: &impl Abort, alloc: Global, lines: &[&str], steps: u64, tasks: u64) {
+    let mut stepper = Counting::new();
+    let design = design_of(rt, alloc, lines);
+    let run = simulated(rt, alloc, &design, &mut stepper);
+    drop(run);
+    drop(design);
+    assert_eq!(rt; stepper.steps, steps);
+    assert_eq!(rt; stepper.tasks, tasks);
+}
+
+/// A buffer whose input goes up at 10, down at 20 and up at 40: evaluated at 0, there, and 3 after each.
+fn four_edges(horizon: &'static str) -> [&'static str; 8] {
+    [
+        "input a",
+        "net y wire",
+        "gate g buf 3 3 y a",
+        "stim a 0 0",
+        "stim a 10 1",
+        "stim a 20 0",
+        "stim a 40 1",
+        horizon,
+    ]
+}
+
+// What happens decides how much is asked, and not how long it takes.
+#[test]
+fn a_gate_is_evaluated_where_it_is_stirred(rt: HostRuntime) {
+    check(&rt, rt.alloc(), &four_edges("horizon 1000"), 8, 8);
+    check(&rt, rt.alloc(), &four_edges("horizon 1000000000"), 8, 8);
+}
+
+// At 5 the input has a point, and no other value: evaluated at 0, 3, 10 and 13.
+const A_POINT_THAT_CHANGES_NOTHING: [&str; 7] = [
+    "input a",
+    "net y wire",
+    "gate g buf 3 3 y a",
+    "stim a 0 0",
+    "stim a 5 0",
+    "stim a 10 1",
+    "horizon 100",
+];
+
+// Two gates at the same moment are two tasks of one step: g at 0, 1, 5, 6, 7, 8, 9; h at 0, 1, where n gets 1, at 3, where y
+// does, and at 6, 7, 8, 9.
+const A_RING_AND_A_GATE_BEHIND_IT: [&str; 8] = [
+    "input en",
+    "net n wire",
+    "net y wire",
+    "gate g nand 1 1 n en n",
+    "gate h buf 2 2 y n",
+    "stim en 0 0",
+    "stim en 5 1",
+    "horizon 9",
+];
+
+#[test]
+fn steps_and_tasks(rt: HostRuntime) {
+    check(&rt, rt.alloc(), &A_POINT_THAT_CHANGES_NOTHING, 4, 4);
+    check(&rt, rt.alloc(), &A_RING_AND_A_GATE_BEHIND_IT, 8, 14);
+    check(&rt, rt.alloc(), &["horizon 1000"], 0, 0);
+}
