@@ -9,6 +9,7 @@ pub mod NameLemmas
 pub mod NetLemmas
 pub mod NextLemmas
 pub mod OrderLemmas
+pub mod PartLemmas
 pub mod PieceLemmas
 pub mod PlaceByNameLemmas
 pub mod PlaceLemmas

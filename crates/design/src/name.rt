@@ -2,14 +2,14 @@
 
 ghost use Rattle.std.specs.Prelude.{◌≡◌, IsTrue, IfOk};
 ghost use Rattle.std.specs.List.{list_all};
-ghost use Rattle.design.specs.Names.{is_name, is_name_byte};
+ghost use Rattle.design.specs.Names.{is_name, is_name_byte, is_part, parts};
 
 use crate::limits::MAX_NAME;
 use std::alloc::{AllocError, Global};
 use std::marker::Model;
 
-/// A name: 1 to 1,024 bytes, each 33 to 126 without the apostrophe and the dot, and not `$end` (own). The type keeps
-/// this.
+/// A name: 1 to 1,024 bytes, each 33 to 126 without the apostrophe. A dot parts scopes: what stands between the dots is
+/// not empty and not `$end` (own). The type keeps this.
 #[derive(Debug, Drop)]
 pub struct Name {
     text: String,
@@ -31,10 +31,7 @@ impl Name {
     pub fn is_valid(text: &str) -> bool
         ensures { result ≡ is_name text.now }
     {
-        1 <= text.len()
-            && text.len() <= MAX_NAME
-            && are_name_bytes(text.as_bytes())
-            && text != "$end"
+        text.len() <= MAX_NAME && are_parts(text)
     }
 
     /// The name that a text is.
@@ -70,6 +67,18 @@ impl Clone for Name {
         let text = self.text.clone()?;
         Ok(Name { text })
     }
+}
+
+fn are_parts(text: &str) -> bool
+    ensures { result ≡ list_all is_part (parts text.now) }
+{
+    text.split('.').all(|part| is_part(part))
+}
+
+fn is_part(text: &str) -> bool
+    ensures { result ≡ is_part text.now }
+{
+    1 <= text.len() && are_name_bytes(text.as_bytes()) && text != "$end"
 }
 
 fn are_name_bytes(bytes: &[u8]) -> bool
