@@ -3,7 +3,7 @@ use Rattle.std.proofs.Common.{◌≡◌, ◌≢◌, ℕ, ◌+◌, ◌^◌, ◌<�
 use Rattle.std.proofs.lemmas.Bool.{false≢true}
 use Rattle.std.proofs.lemmas.List.Elements.{All-weaker}
 use Rattle.std.specs.Option.{option_map_or}
-use Rattle.design.specs.Names.{is_name}
+use Rattle.design.specs.Names.{is_part}
 use Rattle.vtext.specs.declared.gate.InstanceName.{InstanceName}
 use Rattle.vtext.specs.declared.gate.InstanceName.TheVariants.{Written, Unnamed}
 use Rattle.vtext.specs.GateNames.{gate_bytes, instance_bytes, is_name_taken, part_bytes}
@@ -42,7 +42,7 @@ settled_more names taken later unnamed count gates keeps more =
 -- No name is empty.
 
 pub good_some : (names : List (List ℕ)) (n : ℕ) → IsGoodNumber names n → name_at names n ≢ []
-good_some names n good e = false≢true (subst (λ (bytes : List ℕ). IsTrue (is_name bytes)) e good.named)
+good_some names n good e = false≢true (subst (λ (bytes : List ℕ). IsTrue (is_part bytes)) e good.part)
 
 pub base_some : (names : List (List ℕ)) (unnamed : ℕ) (instance : InstanceName) → IsKnown names unnamed instance → instance_bytes names instance ≢ []
 base_some names unnamed (Written n) known = good_some names n known

@@ -1,5 +1,5 @@
--- Each word of a text that is a name is a good one: its number is known, and a design may have it.
-use Rattle.std.proofs.Common.{◌≡◌, ℕ, Bool, true, false, cond, IsTrue, nat_le, nat_lt, ◌==◌, ◌||◌, List, [], ◌∷◌, Option, Some, None, length, slice_index, codes, refl, sym, ap, subst, ◌∙◌, arith}
+-- Each word of a text that is a name is a good one: its number is known, and it is a part of a name of a design.
+use Rattle.std.proofs.Common.{◌≡◌, ◌≤◌, ℕ, Bool, true, false, cond, IsTrue, nat_le, nat_lt, ◌==◌, ◌||◌, List, [], ◌∷◌, Option, Some, None, length, slice_index, codes, refl, sym, ap, subst, ◌∙◌, arith}
 use Rattle.std.specs.List.{list_all, list_any}
 use Rattle.std.specs.Option.{option_map_or}
 use Rattle.std.specs.Str.{bytes_eq}
@@ -13,7 +13,7 @@ use Rattle.lexing.specs.declared.token.Shape.{Shape}
 use Rattle.lexing.specs.declared.token.Shape.TheVariants as shape
 use Rattle.lexing.specs.declared.token.Token.{Token}
 use Rattle.fourstate.specs.declared.unit.TimeUnit.{TimeUnit}
-use Rattle.design.specs.Names.{is_name, is_name_byte, same_name}
+use Rattle.design.specs.Names.{is_name_byte, is_part, same_name}
 use Rattle.vtext.specs.declared.word.Direction.TheVariants.{Input, Output}
 use Rattle.vtext.specs.declared.word.Word.{Word}
 use Rattle.vtext.specs.declared.word.Word.TheVariants.{Module, Endmodule, PortWord, NetWord, GateWord, Name, Misnamed, Open, Close, Comma, Semicolon, Hash, Dot, Colon, OpenBracket, CloseBracket, Refused, Broken, Timescale}
@@ -25,7 +25,7 @@ use Rattle.vtext.specs.Words.{directive_word, first_unit, is_named, names_of, sa
 use Rattle.vtext.proofs.NamedBytes.{IsPlain, IsPlainToken, names_are_plain}
 use Rattle.vtext.proofs.NumberLemmas.{numbered}
 
--- The bytes of a name that is not misnamed are a name of a design.
+-- The bytes of a name that is not misnamed are a part of a name, and no longer than one.
 
 good_byte : (b : ℕ) → is_printed b ≡ true → is_bad_byte b ≡ false → is_name_byte b ≡ true
 unfolding is_printed
@@ -41,23 +41,25 @@ good_bytes (b ∷ bs) printed good =
     let others = or_parts (is_bad_byte b) (list_any is_bad_byte bs) good in
     rw (good_byte b prints.0 others.0, good_bytes bs prints.1 others.1) refl
 
-good_spelling : (bytes : List ℕ) → IsPlain bytes → is_misnamed bytes ≡ false → IsTrue (is_name bytes)
-good_spelling bytes plain good =
+good_part : (bytes : List ℕ) → IsPlain bytes → is_misnamed bytes ≡ false → IsTrue (is_part bytes) × (length bytes ≤ MAX_NAME)
+good_part bytes plain good =
     let parts = or_parts (nat_lt MAX_NAME (length bytes) || list_any is_bad_byte bytes) (bytes_eq bytes (codes "$end")) good in
     let more = or_parts (nat_lt MAX_NAME (length bytes)) (list_any is_bad_byte bytes) parts.0 in
     let short = more.0 in
     let long = plain.some in
     let some : nat_le 1 (length bytes) ≡ true = grind (arith, nat_tests) in
-    let fits : nat_le (length bytes) 1024 ≡ true = grind (arith, nat_tests) in
+    let fits : length bytes ≤ MAX_NAME = grind (arith, nat_tests) in
     let free : same_name bytes (codes "$end") ≡ false = parts.1 in
-    rw (some, fits, good_bytes bytes plain.printed more.1, free) refl
+    (rw (some, good_bytes bytes plain.printed more.1, free) refl, fits)
 
 good_number : (names : List (List ℕ)) (bytes : List ℕ) (n : ℕ) → IsPlain bytes → is_misnamed bytes ≡ false → number_of names bytes ≡ Some n → IsGoodNumber names n
 good_number names bytes n plain good e =
     let same = (numbered names bytes n e).1 in
+    let there = good_part bytes plain good in
     record {
       known = ap (number_of names) same ∙ e;
-      named = subst (λ (b : List ℕ). IsTrue (is_name b)) (sym same) (good_spelling bytes plain good);
+      part = subst (λ (b : List ℕ). IsTrue (is_part b)) (sym same) there.0;
+      short = subst (λ (b : List ℕ). length b ≤ MAX_NAME) (sym same) there.1;
     }
 
 -- Words that are chosen from good ones.

@@ -1,17 +1,16 @@
--- The names of gates are spelled as names are.
-use Rattle.std.proofs.Common.{◌≡◌, ℕ, zero, suc, ◌/◌, ◌%◌, ◌<◌, ◌≤◌, Bool, true, false, cond, ltb, ◌==◌, ◌&&◌, not, List, [], ◌∷◌, ◌++◌, Option, Some, None, length, nat_eq, nat_le, codes, refl, ◌∙◌, arith}
+-- The names of gates are parts of names, but for their number of bytes, which has no limit here.
+use Rattle.std.proofs.Common.{◌≡◌, ℕ, zero, suc, ◌/◌, ◌%◌, ◌<◌, ◌≤◌, Bool, true, false, cond, IsTrue, ltb, ◌==◌, ◌&&◌, not, List, [], ◌∷◌, ◌++◌, Option, Some, None, length, nat_eq, nat_le, codes, refl, ◌∙◌, arith}
 use Rattle.std.proofs.lemmas.Bool.Decides.{nat_tests}
 use Rattle.std.proofs.lemmas.List.Folds.{list_all-append}
 use Rattle.std.specs.Fmt.{decimal, digits, digits_onto, digit_glyph}
 use Rattle.std.specs.Cmp.Lexicographic.{pointwise}
 use Rattle.std.specs.List.{list_all}
 use Rattle.std.specs.Option.{option_map_or}
-use Rattle.design.specs.Names.{is_name, is_name_byte, same_name}
-use Rattle.design.specs.declared.limits.TheConstants.{MAX_NAME}
+use Rattle.design.specs.Names.{is_name_byte, is_part, same_name}
 use Rattle.vtext.specs.declared.gate.InstanceName.{InstanceName}
 use Rattle.vtext.specs.declared.gate.InstanceName.TheVariants.{Written, Unnamed}
 use Rattle.vtext.specs.GateNames.{instance_bytes, part_bytes}
-use Rattle.vtext.specs.Sound.{IsGoodNumber, IsSpelling}
+use Rattle.vtext.specs.Sound.{IsGoodNumber}
 
 and_parts : (a b : Bool) → (a && b) ≡ true → (a ≡ true) × (b ≡ true)
 and_parts true b h = (refl, h)
@@ -23,10 +22,6 @@ and_from a b p q = rw (p, q) refl
 and_last : (a b : Bool) → b ≡ false → (a && b) ≡ false
 and_last true b h = h
 and_last false b h = refl
-
-not_true : (b : Bool) → not b ≡ true → b ≡ false
-not_true true h = absurd cc
-not_true false h = refl
 
 -- Digits.
 
@@ -79,7 +74,7 @@ decimal_digits : (n : ℕ) → SomeDigits (decimal n)
 unfolding digits
 decimal_digits n = front_digits 63 n
 
--- Spellings.
+-- Parts.
 
 digit_plain : (d : ℕ) → IsDigit d → is_name_byte d ≡ true
 digit_plain d (low, high) = grind (arith, nat_tests)
@@ -94,13 +89,14 @@ dollar_plain ds h = digits_plain ds h
 no_e : (d : ℕ) → IsDigit d → nat_eq d 101 ≡ false
 no_e d (low, high) = grind (arith, nat_tests)
 
-number_spelled : (ds : List ℕ) → SomeDigits ds → IsSpelling (36 ∷ ds)
+part_from : (b : ℕ) (bytes : List ℕ) → list_all is_name_byte (b ∷ bytes) ≡ true → same_name (b ∷ bytes) (codes "$end") ≡ false → IsTrue (is_part (b ∷ bytes))
+part_from b bytes plain free =
+    let some : nat_le 1 (length (b ∷ bytes)) ≡ true = grind (arith, nat_tests) in
+    rw (some, plain, free) refl
+
+number_spelled : (ds : List ℕ) → SomeDigits ds → IsTrue (is_part (36 ∷ ds))
 number_spelled [] h = absurd h
-number_spelled (d ∷ ds) h = record {
-  some = omega arith;
-  plain = dollar_plain (d ∷ ds) h;
-  free = rw (no_e d h.0) refl;
-}
+number_spelled (d ∷ ds) h = part_from 36 (d ∷ ds) (dollar_plain (d ∷ ds) h) (rw (no_e d h.0) refl)
 
 -- a text is none that has no dollar sign, if it has one itself
 abbrev IsDollarless : List ℕ → Type 0
@@ -118,24 +114,18 @@ part_free b before after =
     and_last (nat_eq b 36) (pointwise nat_eq (before ++ 36 ∷ after) (101 ∷ 110 ∷ 100 ∷ []))
     (dollar_apart before after (101 ∷ 110 ∷ 100 ∷ []) (refl, (refl, (refl, tt))))
 
-joined_spelled : (base ds : List ℕ) → IsSpelling base → SomeDigits ds → IsSpelling (base ++ 36 ∷ ds)
-joined_spelled [] ds h digits = absurd (let less = h.some in omega arith)
-joined_spelled (b ∷ before) ds h digits = record {
-  some = omega arith;
-  plain = list_all-append is_name_byte (b ∷ before) (36 ∷ ds)
-      ∙ and_from (list_all is_name_byte (b ∷ before)) (list_all is_name_byte (36 ∷ ds)) h.plain (dollar_plain ds (weaken ds digits));
-  free = part_free b before ds;
-}
+part_plain : (bytes : List ℕ) → IsTrue (is_part bytes) → list_all is_name_byte bytes ≡ true
+part_plain bytes h =
+    let front = and_parts (nat_le 1 (length bytes) && list_all is_name_byte bytes) (not (same_name bytes (codes "$end"))) h in
+    (and_parts (nat_le 1 (length bytes)) (list_all is_name_byte bytes) front.0).1
 
-one_at_least : (n : ℕ) → nat_le 1 n ≡ true → 1 ≤ n
-one_at_least n h = grind (arith, nat_tests)
-
-name_spelled : (bytes : List ℕ) → is_name bytes ≡ true → IsSpelling bytes
-name_spelled bytes h =
-    let named = and_parts (nat_le 1 (length bytes) && nat_le (length bytes) MAX_NAME && list_all is_name_byte bytes) (not (same_name bytes (codes "$end"))) h in
-    let plain = and_parts (nat_le 1 (length bytes) && nat_le (length bytes) MAX_NAME) (list_all is_name_byte bytes) named.0 in
-    let long = and_parts (nat_le 1 (length bytes)) (nat_le (length bytes) MAX_NAME) plain.0 in
-    record { some = one_at_least (length bytes) long.0; plain = plain.1; free = not_true (same_name bytes (codes "$end")) named.1 }
+joined_spelled : (base ds : List ℕ) → IsTrue (is_part base) → SomeDigits ds → IsTrue (is_part (base ++ 36 ∷ ds))
+joined_spelled [] ds h digits = absurd cc
+joined_spelled (b ∷ before) ds h digits =
+    let plain : list_all is_name_byte (b ∷ (before ++ 36 ∷ ds)) ≡ true =
+    list_all-append is_name_byte (b ∷ before) (36 ∷ ds)
+    ∙ and_from (list_all is_name_byte (b ∷ before)) (list_all is_name_byte (36 ∷ ds)) (part_plain (b ∷ before) h) (dollar_plain ds (weaken ds digits)) in
+    part_from b (before ++ 36 ∷ ds) plain (part_free b before ds)
 
 -- Gates.
 
@@ -144,12 +134,12 @@ abbrev pub IsGoodInstance : List (List ℕ) → InstanceName → Type 0
 IsGoodInstance names (Written n) = IsGoodNumber names n
 IsGoodInstance names (Unnamed n) = Unit {0}
 
-instance_spelled : (names : List (List ℕ)) (i : InstanceName) → IsGoodInstance names i → IsSpelling (instance_bytes names i)
-instance_spelled names (Written n) good = name_spelled (instance_bytes names (Written n)) good.named
+instance_spelled : (names : List (List ℕ)) (i : InstanceName) → IsGoodInstance names i → IsTrue (is_part (instance_bytes names i))
+instance_spelled names (Written n) good = good.part
 instance_spelled names (Unnamed n) good = number_spelled (decimal n) (decimal_digits n)
 
 -- the name of a gate, with the number of its output or without
 pub gate_spelled : (names : List (List ℕ)) (i : InstanceName) (part : Option ℕ) → IsGoodInstance names i
-    → IsSpelling (option_map_or (part_bytes (instance_bytes names i)) part (instance_bytes names i))
+    → IsTrue (is_part (option_map_or (part_bytes (instance_bytes names i)) part (instance_bytes names i)))
 gate_spelled names i None good = instance_spelled names i good
 gate_spelled names i (Some n) good = joined_spelled (instance_bytes names i) (decimal n) (instance_spelled names i good) (decimal_digits n)

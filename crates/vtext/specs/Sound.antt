@@ -1,10 +1,10 @@
--- What holds of the modules of every text: they have names that a design may have, nets and gates have different ones, and each gate
+-- What holds of the modules of every text: their names are parts of names of a design, nets and gates have different ones, and each gate
 -- fits its nets.
-use Rattle.std.specs.Prelude.{◌≡◌, ◌≢◌, ◌≤◌, ℕ, false, IsTrue, IsSome, List, Some, length, All, AllPairs, codes}
-use Rattle.std.specs.List.{list_all}
+use Rattle.std.specs.Prelude.{◌≡◌, ◌≢◌, ◌≤◌, ℕ, IsTrue, IsSome, List, Some, length, All, AllPairs}
 use Rattle.fourstate.specs.Delays.{AreDelays}
 use Rattle.fourstate.specs.Gates.{takes_inputs}
-use Rattle.design.specs.Names.{is_name, is_name_byte, same_name}
+use Rattle.design.specs.declared.limits.TheConstants.{MAX_NAME}
+use Rattle.design.specs.Names.{is_part}
 use Rattle.vtext.specs.declared.gate.Terminal.{Terminal}
 use Rattle.vtext.specs.declared.gate.Terminal.TheVariants.{Net, Constant}
 use Rattle.vtext.specs.declared.net.Net as nets
@@ -16,16 +16,11 @@ use Rattle.vtext.specs.Modules.{GateEntry, ModuleEntry}
 use Rattle.vtext.specs.Names.{name_at, number_of}
 use Rattle.vtext.specs.Nets.{net_of}
 
--- the bytes are a name, but for their number, which has no limit here
-pub record IsSpelling (bytes : List ℕ) : Type 0 where
-  pub some : 1 ≤ length bytes
-  pub plain : IsTrue (list_all is_name_byte bytes)
-  pub free : same_name bytes (codes "$end") ≡ false
-
--- the number of a name of the table, which a design may have
+-- the number of a name of the table, which is one part of a name and no longer than one
 pub record IsGoodNumber (names : List (List ℕ)) (n : ℕ) : Type 0 where
   pub known : number_of names (name_at names n) ≡ Some n
-  pub named : IsTrue (is_name (name_at names n))
+  pub part : IsTrue (is_part (name_at names n))
+  pub short : length (name_at names n) ≤ MAX_NAME
 
 -- where a word is a name, it is a good one
 abbrev pub IsGoodWord : List (List ℕ) → Word → Type 0
@@ -40,9 +35,9 @@ abbrev pub IsConnected : List (ℕ × nets.Net) → Terminal → Type 0
 IsConnected nets (Net n) = IsSome (net_of nets n)
 IsConnected nets (Constant value) = Unit {0}
 
--- a gate among the nets of its module
+-- a gate among the nets of its module: its name is one part, of any length
 pub record IsSoundGate (names : List (List ℕ)) (nets : List (ℕ × nets.Net)) (g : GateEntry) : Type 0 where
-  pub spelled : IsSpelling (gate_bytes names g)
+  pub spelled : IsTrue (is_part (gate_bytes names g))
   pub fits : IsTrue (takes_inputs g.kind (length g.inputs))
   pub delays : AreDelays g.delays
   pub output : IsSome (net_of nets g.output)
