@@ -1,11 +1,12 @@
 -- The gates of a design that is made of a module.
-use Rattle.std.proofs.Common.{◌≡◌, ◌≢◌, ℕ, ◌<◌, Bool, false, List, length, map, take, get_or, Option, Some, None, IsSome, IsSomeAnd, All, refl, sym, ap, subst, ◌∙◌}
+use Rattle.std.proofs.Common.{◌≡◌, ◌≢◌, ℕ, ◌<◌, ◌≤◌, Bool, false, IsTrue, List, length, map, take, get_or, Option, Some, None, IsSome, IsSomeAnd, All, refl, sym, ap, subst, ◌∙◌}
 use Rattle.std.specs.List.{list_any, slice_get}
 use Rattle.std.specs.Option.{option_map_or}
 use Rattle.std.proofs.lemmas.Bool.{both_ways, false_from_ne_true}
 use Rattle.std.proofs.lemmas.List.Folds.{list_any_at}
 use Rattle.std.proofs.lemmas.Option.{get_or_from_slice_get, slice_get_read, slice_get_within}
-use Rattle.design.specs.Names.{same_name}
+use Rattle.design.specs.declared.limits.TheConstants.{MAX_NAME}
+use Rattle.design.specs.Names.{is_name, is_part, same_name}
 use Rattle.design.specs.Netlist as netlist
 use Rattle.design.specs.Netlist.{Netlist, has_gate}
 use Rattle.vtext.specs.declared.net.Net as nets
@@ -17,7 +18,7 @@ use Rattle.vread.specs.LateFaults.{drives_input, is_long_named}
 use Rattle.vread.specs.Netlists.{gate_entry}
 use Rattle.vread.specs.Parts.{IsFitGate, IsFitModule}
 use Rattle.vread.proofs.Lists.{names_differ, none_earlier}
-use Rattle.vread.proofs.NameLemmas.{spelling_is_name}
+use Rattle.vread.proofs.NameLemmas.{no_longer}
 
 any_fails : {X : Type 0} (p : X → Bool) (xs : List X) (k : ℕ) (d : X) → list_any p xs ≡ false → k < length xs → p (get_or xs k d) ≡ false
 any_fails p xs k d none within = false_from_ne_true (p (get_or xs k d)) (λ t. both_ways (list_any p xs) none (list_any_at p xs k d within t))
@@ -45,9 +46,10 @@ module _ (names : List (List ℕ)) (top : ModuleEntry) (fit : IsFitModule names 
     sound = let P : GateEntry → Type 0 = λ g. IsSoundGate names top.nets g in subst P (at gate) (fit.sound.gates place gate within)
 
     -- it may be made
-    pub fit_at : IsFitGate names gate
-    fit_at = record {
-      named = spelling_is_name (gate_bytes names gate) sound.spelled (sym (ap (is_long_named names) (at gate)) ∙ any_fails (is_long_named names) top.gates place gate fit.short within);
+    pub fit_at : ((part : List ℕ) → IsTrue (is_part part) → length part ≤ MAX_NAME → IsTrue (is_name part)) → IsFitGate names gate
+    fit_at named = record {
+      named = named (gate_bytes names gate) sound.spelled
+          (no_longer (gate_bytes names gate) (sym (ap (is_long_named names) (at gate)) ∙ any_fails (is_long_named names) top.gates place gate fit.short within));
       fits = sound.fits;
       delays = sound.delays;
     }

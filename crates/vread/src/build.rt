@@ -12,6 +12,7 @@ use crate::gates::with_gates;
 use crate::late::{fault_at, no_top, top_fault};
 use crate::names::name_of;
 use crate::nets::with_nets;
+use design::laws::parts_are_names;
 use design::{Design, NameHasher};
 use fourstate::TimeUnit;
 use std::alloc::{AllocError, Global};
@@ -49,6 +50,7 @@ fn design_from(
     requires { IsFitModule modules.now.names top.now }
     ensures { IfOk result (λ design. netlist design ≡ netlist_of modules.now top.now) }
 {
+    parts_are_names();
     let names = modules.names();
     let name = name_of(alloc, names, top.name())?;
     let design = Design::empty(alloc, hasher, name, unit_of(modules.unit()));

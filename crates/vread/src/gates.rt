@@ -13,6 +13,7 @@ ghost use Rattle.vtext.specs.Sound.{IsConnected};
 
 use crate::names::{name_from, name_of};
 use crate::nets::key_of;
+use design::laws::parts_are_names;
 use design::{Design, Gate, Name, Terminal};
 use fourstate::Delays;
 use std::alloc::{AllocError, Global};
@@ -51,6 +52,7 @@ fn with_gate_at(
     requires before { (netlist design).gates ≡ map (gate_entry names.now) (take place top.now.gates) }
     ensures { IfOk result (λ made. netlist made ≡ record (netlist design) { gates = map (gate_entry names.now) (take (place + 1) top.now.gates) }) }
 {
+    parts_are_names();
     let gate = gate_of(alloc, &design, names, top, &top.gates()[place])?;
     let (design, _key) = design.add_gate(gate)?;
     Ok(design)

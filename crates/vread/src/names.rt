@@ -6,6 +6,7 @@ ghost use Rattle.vread.specs.Parts.{IsNamed};
 ghost use Rattle.vtext.specs.Names.{name_at};
 
 use design::Name;
+use design::laws::names_print;
 use std::alloc::{AllocError, Global};
 use vtext::Names;
 
@@ -18,11 +19,12 @@ pub fn name_from(alloc: Global, bytes: &[u8]) -> Result<Name, AllocError>
 }
 
 /// The text that these bytes are.
-#[tactic(auto, using(crate::proofs::NameLemmas::name_is_text))]
+#[tactic(auto, using(crate::proofs::NameLemmas::printed_is_text))]
 fn text_of(bytes: &[u8]) -> &str
     requires { IsTrue (is_name bytes.now) }
     ensures { result.now ≡ bytes.now }
 {
+    names_print();
     let Ok(text) = str::from_utf8(bytes) else {
         unreachable!()
     };

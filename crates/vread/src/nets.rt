@@ -10,6 +10,7 @@ ghost use Rattle.vtext.specs.Names.{name_at};
 ghost use Rattle.vtext.specs.Nets.{is_input, net_kind, net_of};
 
 use crate::names::name_of;
+use design::laws::parts_are_names;
 use design::{Design, Name, NetKey};
 use fourstate::NetKind;
 use std::alloc::{AllocError, Global};
@@ -49,6 +50,7 @@ fn with_net_at(
     let Some((number, net)) = top.net_at(place) else {
         unreachable!()
     };
+    parts_are_names();
     let name = name_of(alloc, names, number)?;
     with_net(design, name, net)
 }

@@ -10,6 +10,7 @@ pub gate_of-requires-clause-fit : goal.gate_of-requires-clause-fit
 gate_of-requires-clause-fit c =
     let top = c.args.top.now in let gate = c.index-gates-place.result in
     fit_at c.args.names.now top c.requires.fit c.args.place gate (gate_at top.gates c.gates.result.now c.args.place gate c.gates.ensures c.requires.within c.index-gates-place.is)
+    c.parts_are_names.ensures.named
 
 pub gate_of-requires-clause-output : goal.gate_of-requires-clause-output
 gate_of-requires-clause-output c =
