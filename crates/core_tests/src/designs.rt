@@ -259,10 +259,19 @@ fn bytes_of_names(rt: HostRuntime) {
         ("a b", false),
         ("\u{7f}", false),
         ("é", false),
-        ("a.b", false),
+        ("a.b", true),
+        ("u.v.w", true),
+        (".", false),
+        (".a", false),
+        ("a.", false),
+        ("a..b", false),
         ("a'b", false),
+        ("u.a'b", false),
         ("$end", false),
+        ("a.$end", false),
+        ("$end.a", false),
         ("$endx", true),
+        ("a.$endx", true),
         ("$en", true),
         ("\t", false),
     ] {
@@ -278,6 +287,20 @@ fn longest_name(rt: HostRuntime) {
     }
     let kept = name(&rt, rt.alloc(), long.as_str());
     assert_eq!(rt; kept.as_str(), long.as_str());
+    long.push('n').expect(&rt, "one more");
+    assert!(rt; !Name::is_valid(long.as_str()));
+}
+
+// The parts of a name and its dots are counted together.
+#[test]
+fn longest_name_with_dots(rt: HostRuntime) {
+    let mut long = String::new(rt.alloc());
+    for _ in 0..511 {
+        long.push_str("u.").expect(&rt, "two more");
+    }
+    long.push_str("nn").expect(&rt, "two more");
+    assert_eq!(rt; long.len(), 1024);
+    assert!(rt; Name::is_valid(long.as_str()));
     long.push('n').expect(&rt, "one more");
     assert!(rt; !Name::is_valid(long.as_str()));
 }

@@ -1,4 +1,4 @@
-//! Names in scopes, which no design has yet.
+//! What stands between names in scopes.
 
 use devices::faulty::Failing;
 use devices::{Device, Sink, Writer};

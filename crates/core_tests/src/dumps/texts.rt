@@ -144,6 +144,36 @@ fn kinds_and_high_z(rt: HostRuntime) {
     drop(bench);
 }
 
+const SCOPES: [&str; 3] = ["net u.a wand", "input b", "net u.c tri"];
+
+const SCOPES_DUMP: &[u8] = b"$version gatebench $end
+$timescale 1 ns $end
+$scope module m $end
+$scope module u $end
+$var wand 1 ! a $end
+$upscope $end
+$var wire 1 \" b $end
+$scope module u $end
+$var tri 1 # c $end
+$upscope $end
+$upscope $end
+$enddefinitions $end
+#0
+$dumpvars
+z!
+x\"
+z#
+$end
+";
+
+// A scope that was closed is opened again.
+#[test]
+fn names_in_scopes(rt: HostRuntime) {
+    let bench = open(&rt, rt.alloc(), &SCOPES);
+    check(&rt, rt.alloc(), bench.snapshot(), SCOPES_DUMP);
+    drop(bench);
+}
+
 fn of_unit(rt: &impl Abort, alloc: Global, magnitude: Magnitude, unit: Unit) -> Design {
     assert!(rt; Name::is_valid("top$1"));
     let top = Name::new(alloc, "top$1").expect(rt, "a name");

@@ -51,15 +51,22 @@ fn check_edits(rt: &impl Abort, alloc: Global, cases: &[Case<'_>]) {
     drop(design);
 }
 
-const EDITS_OF_NETS: [Case<'static>; 20] = [
+const EDITS_OF_NETS: [Case<'static>; 27] = [
     ("net m wire", None),
+    ("net u.t wire", None),
     ("net m' wire", Some(BadName)),
     ("net $end wire", Some(BadName)),
+    ("net .a wire", Some(BadName)),
+    ("net a. wire", Some(BadName)),
+    ("net a..b wire", Some(BadName)),
+    ("net a.$end wire", Some(BadName)),
     ("net y tri", Some(DuplicateName)),
     ("net a wire", Some(DuplicateName)),
     ("net g wire", None),
     ("input m", None),
     ("input m'", Some(BadName)),
+    ("input u.a", None),
+    ("input u..a", Some(BadName)),
     ("input y", Some(DuplicateName)),
     ("input g", None),
     ("dropnet u", None),
@@ -79,10 +86,12 @@ fn edits_of_nets(rt: HostRuntime) {
     check_edits(&rt, rt.alloc(), &EDITS_OF_NETS);
 }
 
-const NEW_GATES: [Case<'static>; 23] = [
+const NEW_GATES: [Case<'static>; 25] = [
     ("gate k and 1 1000000 u a y 1'b0", None),
     ("gate a buf 1 1 u u", None),
     ("gate k' buf 1 1 u a", Some(BadName)),
+    ("gate u.g buf 1 1 u a", None),
+    ("gate u. buf 1 1 u a", Some(BadName)),
     ("gate h buf 1 1 u a", Some(DuplicateName)),
     ("gate k buf 0 1 u a", Some(ZeroDelay)),
     ("gate k buf 1 0 u a", Some(ZeroDelay)),
