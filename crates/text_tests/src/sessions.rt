@@ -4,6 +4,7 @@ mod batches;
 mod bytes;
 mod changes;
 mod questions;
+mod scopes;
 mod texts;
 
 use devices::Device;
@@ -209,7 +210,7 @@ fn a_source_that_would_fail_is_left_alone_after_quit(rt: HostRuntime) {
 }
 
 const EDITS: &[u8] =
-    b"net a'b wire\nnet a.b wire\ninput $end\ninput a\nnet a wire\ninput a\nnet y wire\n\
+    b"net a'b wire\nnet a..b wire\ninput $end\ninput a\nnet a wire\ninput a\nnet y wire\n\
 gate g' not 1 1 y a\ngate g not 1 1 y a\ngate g not 0 1 y a\ngate h not 0 1 y a\ngate h not 1000001 0 y a\n\
 gate h not 1 1000001 y a\ngate h not 1 1 y a a\ngate h not 1 1 y b b\ngate h not 1 1 y\ngate h not 1 1 q a\n\
 gate h not 1 1 y b\ngate h not 1 1 a b\ngate h not 1 1 a y\ngate h not 1 1 1'b0 a\ngate h not 1 1 y 1'b2\n\

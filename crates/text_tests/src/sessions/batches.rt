@@ -88,7 +88,8 @@ const HELD: &[(&[u8], &[u8])] = &[
     (b"input a", b"ok 1\n"),
     (b"stim a 5 1", b"ok 2\n"),
     // the checks of a name, in order
-    (b"hold a.b", b"no 4 BadName\n"),
+    (b"hold a.b", b"ok 2\n"),
+    (b"hold a..b", b"no 4 BadName\n"),
     (b"hold a'b", b"no 4 BadName\n"),
     (b"hold", b"no 16 BadCommand\n"),
     (b"hold k l", b"no 16 BadCommand\n"),
