@@ -1,12 +1,7 @@
 -- The scopes that names stand in (IEEE 1364-2005, 18.2.3: $scope and $upscope).
-use Rattle.std.specs.Prelude.{ℕ, ◌==◌, if◌then◌else◌, List, [], ◌∷◌, ◌++◌, codes}
+use Rattle.std.specs.Prelude.{ℕ, if◌then◌else◌, List, [], ◌∷◌, ◌++◌, codes}
 use Rattle.std.specs.List.{flat_map}
-use Rattle.design.specs.Names.{same_name}
-
--- the parts of a name that follow these bytes of a part: what stands between its dots
-abbrev pub parts_after : List ℕ → List ℕ → List (List ℕ)
-parts_after part [] = part ∷ []
-parts_after part (byte ∷ bytes) = if byte == 46 then part ∷ parts_after [] bytes else parts_after (part ++ byte ∷ []) bytes
+use Rattle.design.specs.Names.{parts, same_name}
 
 -- the parts before the last one, and the last one
 abbrev pub scopes_in : List (List ℕ) → List (List ℕ)
@@ -21,11 +16,11 @@ last_in (part ∷ next ∷ parts) = last_in (next ∷ parts)
 
 -- the scopes of a name, outermost first: its parts before the last dot
 unfoldable pub scopes_of : List ℕ → List (List ℕ)
-scopes_of name = scopes_in (parts_after [] name)
+scopes_of name = scopes_in (parts name)
 
 -- the name within its scopes: its last part
 unfoldable pub reference_of : List ℕ → List ℕ
-reference_of name = last_in (parts_after [] name)
+reference_of name = last_in (parts name)
 
 -- Lines.
 
