@@ -1,6 +1,7 @@
 //! Catalogs worked out by hand, and catalogs beside the reference implementation. Each test gives its catalogs to `drop`:
 //! one that goes at the end of a body costs its proof 10 seconds and more.
 
+use crate::compare::equal;
 use catalog::plain::PlainCatalog;
 use catalog::{Catalog, NameHasher, Named};
 use std::alloc::Global;
@@ -75,17 +76,21 @@ fn value_of(catalog: &Catalog<Item>, name: &str) -> Option<u32> {
     Some(catalog.get(key)?.value)
 }
 
+/// The record at a place has this name and this value, and is found by name, key and place.
+fn check_record(rt: &impl Abort, catalog: &Catalog<Item>, place: usize, name: &str, value: u32) {
+    assert!(rt; place < catalog.len());
+    let key = catalog.key_at(place);
+    equal(rt, name, catalog.key(name), Some(key));
+    equal(rt, name, catalog.place(key), Some(place));
+    equal(rt, place, catalog.record_at_place(place).name(), name);
+    equal(rt, name, value_of(catalog, name), Some(value));
+}
+
 /// The catalog has these names and values in this order, and finds each by name, key and place.
 fn check_all(rt: &impl Abort, catalog: &Catalog<Item>, wanted: &[(&str, u32)]) {
-    assert_eq!(rt; catalog.len(), wanted.len());
-    for (place, pair) in wanted.iter().enumerate() {
-        let (name, value) = *pair;
-        assert!(rt; place < catalog.len());
-        let key = catalog.key_at(place);
-        assert_eq!(rt; catalog.key(name), Some(key), "{name}");
-        assert_eq!(rt; catalog.place(key), Some(place), "{name}");
-        assert!(rt; catalog.record_at_place(place).name() == name, "{name}");
-        assert_eq!(rt; value_of(catalog, name), Some(value), "{name}");
+    equal(rt, "number of records", catalog.len(), wanted.len());
+    for (place, (name, value)) in wanted.iter().enumerate() {
+        check_record(rt, catalog, place, name, *value);
     }
 }
 
@@ -99,9 +104,9 @@ fn records_are_found_by_name_key_and_place(rt: HostRuntime) {
     let (catalog, c) = add(&rt, alloc, catalog, "c", 3);
     check_all(&rt, &catalog, &[("a", 1), ("b", 2), ("c", 3)]);
     assert!(rt; a != b && b != c && a != c);
-    assert_eq!(rt; catalog.key("d"), None);
+    equal(&rt, "key", catalog.key("d"), None);
     assert!(rt; catalog.get(99).is_none());
-    assert_eq!(rt; catalog.place(99), None);
+    equal(&rt, "place", catalog.place(99), None);
     let catalog = put(&rt, alloc, catalog, b, "b", 20);
     check_all(&rt, &catalog, &[("a", 1), ("b", 20), ("c", 3)]);
     drop(catalog);
@@ -116,14 +121,14 @@ fn a_removal_keeps_the_order_and_its_key_may_come_again(rt: HostRuntime) {
     let (catalog, c) = add(&rt, alloc, catalog, "c", 3);
     let catalog = take(&rt, catalog, b);
     check_all(&rt, &catalog, &[("a", 1), ("c", 3)]);
-    assert_eq!(rt; catalog.key("b"), None);
+    equal(&rt, "key", catalog.key("b"), None);
     let (catalog, d) = add(&rt, alloc, catalog, "d", 4);
-    assert_eq!(rt; d, b, "the key is used again");
-    assert_eq!(rt; catalog.key("b"), None);
+    equal(&rt, "the key is used again", d, b);
+    equal(&rt, "key", catalog.key("b"), None);
     check_all(&rt, &catalog, &[("a", 1), ("c", 3), ("d", 4)]);
     let catalog = closed_up(&rt, catalog);
     check_all(&rt, &catalog, &[("a", 1), ("c", 3), ("d", 4)]);
-    assert_eq!(rt; catalog.key("c"), Some(c));
+    equal(&rt, "key", catalog.key("c"), Some(c));
     let (catalog, _) = add(&rt, alloc, catalog, "b", 5);
     check_all(&rt, &catalog, &[("a", 1), ("c", 3), ("d", 4), ("b", 5)]);
     drop(catalog);
@@ -164,11 +169,11 @@ fn many_names_are_found_in_a_copy(rt: HostRuntime) {
         let (more, _) = add(&rt, alloc, catalog, name.as_str(), i);
         catalog = more;
     }
-    assert_eq!(rt; catalog.len(), 2_101);
-    assert_eq!(rt; value_of(&catalog, "first"), Some(7));
+    equal(&rt, "number of records", catalog.len(), 2_101);
+    equal(&rt, "first", value_of(&catalog, "first"), Some(7));
     for i in 0..2_100u32 {
         let name = numbered(&rt, alloc, "name_", u64::from(i));
-        assert_eq!(rt; value_of(&catalog, name.as_str()), Some(i));
+        equal(&rt, i, value_of(&catalog, name.as_str()), Some(i));
     }
     check_all(&rt, &kept, &[("first", 7)]);
     drop(kept);
@@ -245,16 +250,10 @@ fn plain_changed(
 }
 
 fn check_same(rt: &impl Abort, catalog: &Catalog<Item>, plain: &PlainCatalog<Item>) {
-    assert_eq!(rt; catalog.len(), plain.len());
+    equal(rt, "number of records", catalog.len(), plain.len());
     for place in 0..plain.len() {
-        assert!(rt; place < catalog.len());
-        let left = catalog.record_at_place(place);
-        let right = plain.record_at_place(place);
-        assert!(rt; left.name() == right.name(), "{place}");
-        assert_eq!(rt; left.value, right.value, "{place}");
-        let key = catalog.key_at(place);
-        assert_eq!(rt; catalog.key(left.name()), Some(key), "{place}");
-        assert_eq!(rt; catalog.place(key), Some(place));
+        let wanted = plain.record_at_place(place);
+        check_record(rt, catalog, place, wanted.name(), wanted.value);
     }
 }
 

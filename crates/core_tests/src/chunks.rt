@@ -1,5 +1,6 @@
 //! Lists in chunks, worked out by hand.
 
+use crate::compare::equal;
 use chunked::Chunked;
 use std::alloc::Global;
 use std::process::Abort;
@@ -27,11 +28,11 @@ fn check_but(rt: &impl Abort, list: &Chunked<u64>, end: u64, index: usize, numbe
     let mut next = 0;
     for at in 0..list.len() {
         let wanted = if at == index { number } else { next };
-        assert_eq!(rt; list.get(at).copied(), Some(wanted), "{at}");
+        equal(rt, at, list.get(at).copied(), Some(wanted));
         next = u64::wrapping_add(next, 1);
     }
-    assert_eq!(rt; next, end);
-    assert_eq!(rt; list.get(list.len()), None);
+    equal(rt, "number of elements", next, end);
+    equal(rt, "behind the last", list.get(list.len()), None);
 }
 
 fn check(rt: &impl Abort, list: &Chunked<u64>, end: u64) {

@@ -9,6 +9,7 @@ mod changes;
 mod many_points;
 mod random;
 
+use crate::compare::equal;
 use catalog::NameHasher;
 use design::{Design, Gate, GateKey, MAX_GATES, MAX_NETS, MAX_POINTS, Name, Net, NetKey, Terminal};
 use fourstate::{
@@ -130,9 +131,9 @@ fn gate_key(rt: &impl Abort, design: &Design, text: &str) -> GateKey {
 }
 
 fn check_counts(rt: &impl Abort, design: &Design, nets: usize, gates: usize, points: usize) {
-    assert_eq!(rt; design.net_count(), nets);
-    assert_eq!(rt; design.gate_count(), gates);
-    assert_eq!(rt; design.point_count(), points);
+    equal(rt, "net count", design.net_count(), nets);
+    equal(rt, "gate count", design.gate_count(), gates);
+    equal(rt, "point count", design.point_count(), points);
 }
 
 /// The gates that read a net and those that drive it.
@@ -145,24 +146,29 @@ fn check_lists(
 ) {
     let net = net_key(rt, design, net);
     assert!(rt; design.net_place_of(net).is_some());
-    assert_eq!(rt; design.fanout(net), readers);
-    assert_eq!(rt; design.drivers(net), drivers);
+    equal(rt, "fanout", design.fanout(net), readers);
+    equal(rt, "drivers", design.drivers(net), drivers);
 }
 
 fn check_stimulus(rt: &impl Abort, design: &Design, net: NetKey, values: &[(u64, Value)]) {
     assert!(rt; design.net_place_of(net).is_some());
     for (t, value) in values {
-        assert_eq!(rt; design.net_of(net).stimulus_at(*t), *value, "at {t}");
+        equal(rt, t, design.net_of(net).stimulus_at(*t), *value);
     }
 }
 
 fn check_points(rt: &impl Abort, design: &Design, net: NetKey, points: &[(u64, Value)]) {
     assert!(rt; design.net_place_of(net).is_some());
-    assert_eq!(rt; design.net_of(net).point_count(), points.len());
-    assert_eq!(rt; design.point_count(), points.len());
+    equal(
+        rt,
+        "point count",
+        design.net_of(net).point_count(),
+        points.len(),
+    );
+    equal(rt, "point count", design.point_count(), points.len());
     for (t, value) in points {
         assert!(rt; design.has_point(net, *t), "at {t}");
-        assert_eq!(rt; design.net_of(net).stimulus_at(*t), *value, "at {t}");
+        equal(rt, t, design.net_of(net).stimulus_at(*t), *value);
     }
 }
 
@@ -177,54 +183,61 @@ fn check_net(
 ) {
     check_net_at(rt, design, place, net, text);
     assert!(rt; design.net_place_of(net).is_some());
-    assert_eq!(rt; design.net_of(net).kind(), kind);
-    assert_eq!(rt; design.net(text), Some(net));
-    assert_eq!(rt; design.net_place(text), Some(place));
+    equal(rt, "kind", design.net_of(net).kind(), kind);
+    equal(rt, "net", design.net(text), Some(net));
+    equal(rt, "net place", design.net_place(text), Some(place));
 }
 
 fn check_net_at(rt: &impl Abort, design: &Design, place: usize, net: NetKey, text: &str) {
     assert!(rt; place < design.net_count());
-    assert_eq!(rt; design.net_key_at(place), net);
-    assert_eq!(rt; design.net_at(place).name().as_str(), text);
+    equal(rt, "key", design.net_key_at(place), net);
+    equal(rt, "name", design.net_at(place).name().as_str(), text);
 }
 
 fn check_no_net(rt: &impl Abort, design: &Design, text: &str) {
     assert!(rt; !design.has_net(text));
-    assert_eq!(rt; design.net(text), None);
-    assert_eq!(rt; design.net_place(text), None);
+    equal(rt, "net", design.net(text), None);
+    equal(rt, "net place", design.net_place(text), None);
 }
 
 /// The gate at a place: what it is, and the look-ups of it.
 fn check_gate(rt: &impl Abort, design: &Design, place: usize, gate: GateKey, text: &str) {
     check_gate_at(rt, design, place, gate, text);
     assert!(rt; design.gate_place_of(gate).is_some());
-    assert_eq!(rt; Some(design.gate_of(gate).output()), design.net("y"));
-    assert_eq!(rt; design.gate(text), Some(gate));
-    assert_eq!(rt; design.gate_place(text), Some(place));
+    equal(
+        rt,
+        "output",
+        Some(design.gate_of(gate).output()),
+        design.net("y"),
+    );
+    equal(rt, "gate", design.gate(text), Some(gate));
+    equal(rt, "gate place", design.gate_place(text), Some(place));
 }
 
 fn check_gate_at(rt: &impl Abort, design: &Design, place: usize, gate: GateKey, text: &str) {
     assert!(rt; place < design.gate_count());
-    assert_eq!(rt; design.gate_key_at(place), gate);
-    assert_eq!(rt; design.gate_at(place).name().as_str(), text);
+    equal(rt, "key", design.gate_key_at(place), gate);
+    equal(rt, "name", design.gate_at(place).name().as_str(), text);
 }
 
 fn check_no_gate(rt: &impl Abort, design: &Design, gate: GateKey, text: &str) {
     assert!(rt; !design.gate_place_of(gate).is_some());
-    assert_eq!(rt; design.gate(text), None);
-    assert_eq!(rt; design.gate_place(text), None);
+    equal(rt, "gate", design.gate(text), None);
+    equal(rt, "gate place", design.gate_place(text), None);
 }
 
 fn check_header(rt: &impl Abort, design: &Design, horizon: u64) {
-    assert_eq!(rt; design.top().as_str(), "top");
-    assert_eq!(rt;
+    equal(rt, "top", design.top().as_str(), "top");
+    equal(
+        rt,
+        "unit",
         design.unit(),
         TimeUnit {
             magnitude: Magnitude::One,
-            unit: Unit::Nanosecond
-        }
+            unit: Unit::Nanosecond,
+        },
     );
-    assert_eq!(rt; design.horizon(), horizon);
+    equal(rt, "horizon", design.horizon(), horizon);
 }
 
 /// A buffer g from an input a to a net y.
@@ -275,7 +288,7 @@ fn bytes_of_names(rt: HostRuntime) {
         ("$en", true),
         ("\t", false),
     ] {
-        assert_eq!(rt; Name::is_valid(text), valid, "{text:?}");
+        equal(&rt, text, Name::is_valid(text), valid);
     }
 }
 
@@ -286,7 +299,7 @@ fn longest_name(rt: HostRuntime) {
         long.push('n').expect(&rt, "one more");
     }
     let kept = name(&rt, rt.alloc(), long.as_str());
-    assert_eq!(rt; kept.as_str(), long.as_str());
+    equal(&rt, "kept", kept.as_str(), long.as_str());
     long.push('n').expect(&rt, "one more");
     assert!(rt; !Name::is_valid(long.as_str()));
 }
@@ -330,9 +343,9 @@ fn gates_by_place_and_name(rt: HostRuntime) {
 }
 
 fn check_gate_parts(rt: &impl Abort, gate: &Gate, a: NetKey, y: NetKey) {
-    assert_eq!(rt; gate.kind(), GateKind::And);
-    assert_eq!(rt; delay(&gate.delays(), Value::Zero), 4);
-    assert_eq!(rt; gate.output(), y);
+    equal(rt, "kind", gate.kind(), GateKind::And);
+    equal(rt, "delay", delay(&gate.delays(), Value::Zero), 4);
+    equal(rt, "output", gate.output(), y);
     assert!(rt;
         matches!(
         gate.inputs(),
@@ -391,7 +404,7 @@ fn stimulus(rt: HostRuntime) {
 
 fn check_has_point(rt: &impl Abort, design: &Design, net: NetKey, t: u64, there: bool) {
     assert!(rt; design.net_place_of(net).is_some());
-    assert_eq!(rt; design.has_point(net, t), there);
+    equal(rt, "has point", design.has_point(net, t), there);
 }
 
 #[test]

@@ -1,5 +1,6 @@
 //! Events of editors and viewers: by hand, and random ones beside what their history says.
 
+use crate::compare::equal;
 use crate::dice::Dice;
 use bench::CommitFault;
 use edits::Edit;
@@ -41,7 +42,7 @@ type Case = (Call, Result<Reply, CoreFault>);
 
 fn check(rt: &impl Abort, alloc: Global, core: &mut Core, case: Case) {
     let (call, wanted) = case;
-    assert_eq!(rt; core.step(event(rt, alloc, call)), wanted);
+    equal(rt, "reply", core.step(event(rt, alloc, call)), wanted);
 }
 
 fn check_all(rt: &impl Abort, alloc: Global, viewers: u32, cases: &[Case]) {
@@ -54,10 +55,10 @@ fn check_all(rt: &impl Abort, alloc: Global, viewers: u32, cases: &[Case]) {
 
 #[test]
 fn numbers_of_faults(rt: HostRuntime) {
-    assert_eq!(&rt; CoreFault::UnknownViewer as u8, 1);
-    assert_eq!(&rt; CoreFault::NotHeld as u8, 2);
-    assert_eq!(&rt; CoreFault::AheadOfLog as u8, 3);
-    assert_eq!(&rt; CoreFault::OutOfMemory as u8, 4);
+    equal(&rt, "UnknownViewer", CoreFault::UnknownViewer as u8, 1);
+    equal(&rt, "NotHeld", CoreFault::NotHeld as u8, 2);
+    equal(&rt, "AheadOfLog", CoreFault::AheadOfLog as u8, 3);
+    equal(&rt, "OutOfMemory", CoreFault::OutOfMemory as u8, 4);
 }
 
 const BEFORE: [Case; 6] = [

@@ -1,5 +1,6 @@
 //! Numbers noted for moments to come.
 
+use crate::compare::equal;
 use event_queue::EventQueue;
 use std::alloc::Global;
 use std::process::Abort;
@@ -22,11 +23,11 @@ fn moments_in_order(rt: HostRuntime) {
         &[(7, 1), (3, 2), (7, 0), (1_000_000_000, 4), (7, 1)],
     );
     let mut out = Vec::new(alloc);
-    assert_eq!(&rt; queue.first(), Some(3));
+    equal(&rt, "first", queue.first(), Some(3));
     queue.take(3, &mut out).expect(&rt, "room");
-    assert_eq!(&rt; queue.first(), Some(7));
+    equal(&rt, "first", queue.first(), Some(7));
     queue.take(7, &mut out).expect(&rt, "room");
-    assert_eq!(&rt; queue.first(), Some(1_000_000_000));
+    equal(&rt, "first", queue.first(), Some(1_000_000_000));
     assert!(&rt; out.as_slice() == [2, 1, 0, 1].as_slice());
 }
 
@@ -41,7 +42,7 @@ fn a_moment_is_taken_once(rt: HostRuntime) {
     queue.take(5, &mut out).expect(&rt, "room");
     queue.take(5, &mut out).expect(&rt, "room");
     assert!(&rt; out.as_slice() == [9].as_slice());
-    assert_eq!(&rt; queue.first(), None);
+    equal(&rt, "first", queue.first(), None);
     queue.add(alloc, 5, 8).expect(&rt, "room");
     queue.take(5, &mut out).expect(&rt, "room");
     assert!(&rt; out.as_slice() == [9, 8].as_slice());

@@ -1,5 +1,6 @@
 //! Five tasks in two pieces, event by event, with strangers and doubles.
 
+use crate::compare::equal;
 use floor::{Floor, FloorFault, Piece};
 use fourstate::Value;
 use fourstate::Value::{One, Unknown, Zero};
@@ -32,17 +33,27 @@ fn take(rt: &impl Abort, floor: &mut Floor, event: Event) {
     match event {
         Event::Deal(wanted) => {
             let wanted = wanted.map(|(number, first, end)| Piece { number, first, end });
-            assert_eq!(rt; floor.deal(), wanted);
+            equal(rt, "piece", floor.deal(), wanted);
         }
         Event::Answer(number, count, wanted) => {
             let answers = [driver(Unknown, 0), driver(One, 4), driver(Zero, 5)];
             assert!(rt; count <= 3);
-            assert_eq!(rt; floor.answer(number, &answers[..count]), wanted);
+            equal(
+                rt,
+                "answer",
+                floor.answer(number, &answers[..count]),
+                wanted,
+            );
         }
-        Event::Fail(number, wanted) => assert_eq!(rt; floor.fail(number), wanted),
+        Event::Fail(number, wanted) => equal(rt, number, floor.fail(number), wanted),
         Event::Finish(wanted) => {
             let all = floor.finish();
-            assert_eq!(rt; all.as_ref().map(|all| all.len()), wanted);
+            equal(
+                rt,
+                "number of answers",
+                all.as_ref().map(|all| all.len()),
+                wanted,
+            );
         }
     }
 }
@@ -71,7 +82,7 @@ fn five_tasks_in_two_pieces(rt: HostRuntime) {
     let mut floor = Floor::open(rt.alloc(), 5, 2).ok().expect(&rt, "a floor");
     take_all(&rt, &mut floor, &BEFORE);
     let first = [driver(Zero, 1), driver(One, 2)];
-    assert_eq!(rt; floor.answer(0, &first), Ok(()));
+    equal(&rt, "answer", floor.answer(0, &first), Ok(()));
     let all = floor.finish().expect(&rt, "each piece was answered");
     let wanted = [
         first[0],
@@ -80,7 +91,7 @@ fn five_tasks_in_two_pieces(rt: HostRuntime) {
         driver(One, 4),
         driver(Zero, 5),
     ];
-    assert_eq!(rt; all.as_slice(), wanted.as_slice());
+    equal(&rt, "all", all.as_slice(), wanted.as_slice());
     take(&rt, &mut floor, Event::Finish(None));
     drop(floor);
 }

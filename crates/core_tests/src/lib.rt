@@ -12,6 +12,8 @@ mod catalogs;
 #[cfg(test)]
 mod chunks;
 #[cfg(test)]
+mod compare;
+#[cfg(test)]
 mod designs;
 #[cfg(test)]
 mod dice;

@@ -1,162 +1,258 @@
 //! Waves and traces put together from those of a former run and from values of their own, with their entries worked out by
-//! hand.
+//! hand. Each call stands in a helper that says what the next call needs and no more.
 
 ghost use Rattle.std.specs.Prelude.{◌≡◌, ◌<◌, ◌≤◌, ℕ, suc, IfOk};
 ghost use Rattle.fourstate.specs.declared.value.Value as values;
+ghost use Rattle.std.specs.Option.{ForSome};
 ghost use Rattle.waveform.specs.Changes.{wave_changes_below};
-ghost use Rattle.waveform.specs.Timelines.{IsAlwaysSettled, changes_below};
+ghost use Rattle.waveform.specs.Timelines.{IsAlwaysSettled, changes_below, end_of};
 
-use crate::timelines::{change, moving, pulse, standing};
+use crate::compare::equal;
+use crate::timelines::{check_changes, check_entries, moving, pulse, standing};
 use fourstate::Value;
+use fourstate::Value::{HighZ, One, Unknown, Zero};
 use gatestep::Driver;
 use std::alloc::{AllocError, Global};
 use std::process::Abort;
-use waveform::{Patch, Sample, Timeline, Trace, TraceEntry, Wave, laws};
+use waveform::{Patch, Sample, Timeline, Trace, Wave, laws};
+
+/// The timeline up to a moment.
+fn forked<V: Sample>(rt: &impl Abort, alloc: Global, line: &Timeline<V>, t: u64) -> Timeline<V>
+    ensures { end_of result ≤ suc t }
+{
+    line.fork(alloc, t).expect(rt, "room")
+}
+
+/// The timeline that follows another one from a moment to another.
+fn followed<V: Sample>(
+    rt: &impl Abort,
+    line: Timeline<V>,
+    from: u64,
+    to: u64,
+    other: &Timeline<V>,
+) -> Timeline<V>
+    requires later { end_of line ≤ from }
+    requires order { from ≤ to }
+    ensures { end_of result ≤ suc to }
+{
+    line.follow(from, to, other).expect(rt, "room")
+}
+
+/// A patch that has this value at a moment, and the former ones before it.
+fn opened<V: Sample>(
+    rt: &impl Abort,
+    alloc: Global,
+    old: &Timeline<V>,
+    t: u64,
+    value: V,
+) -> Patch<V>
+    requires { V.can_store t value }
+    ensures { end_of result.line ≤ suc t }
+{
+    Patch::open(alloc, old, t, value).expect(rt, "room")
+}
+
+/// The patch with this value at a moment.
+fn put<V: Sample>(rt: &impl Abort, patch: Patch<V>, old: &Timeline<V>, t: u64, value: V) -> Patch<V>
+    requires can { V.can_store t value }
+    requires later { end_of patch.line ≤ t }
+    ensures { end_of result.line ≤ suc t }
+{
+    patch.put(old, t, value).expect(rt, "room")
+}
+
+/// The patch left at a moment: from then on it has the former values.
+fn left<V: Sample>(patch: Patch<V>, t: u64) -> Patch<V>
+    requires { end_of patch.line ≤ t }
+    ensures { result.line ≡ patch.line }
+{
+    let mut patch = patch;
+    patch.leave(t);
+    patch
+}
+
+/// The timeline of the patch up to a moment.
+fn finished<V: Sample>(rt: &impl Abort, patch: Patch<V>, old: &Timeline<V>, end: u64) -> Timeline<V>
+    requires { end_of patch.line ≤ end }
+{
+    patch.finish(old, end).expect(rt, "room")
+}
+
+fn check_value(rt: &impl Abort, patch: &Patch<Value>, old: &Wave, t: u64, value: Value) {
+    equal(rt, t, patch.at(old, t), value);
+}
+
+fn check_state(rt: &impl Abort, patch: &Patch<Driver>, old: &Trace, t: u64, state: Driver) {
+    equal(rt, t, patch.at(old, t), state);
+}
+
+const PULSE: [(u64, Value); 4] = [(0, Unknown), (3, Zero), (13, One), (16, Zero)];
+
+/// The pulse up to a moment has so many changes.
+fn check_fork(rt: &impl Abort, alloc: Global, pulse: &Wave, t: u64, count: usize) {
+    assert!(rt; count <= PULSE.len());
+    let fork = forked(rt, alloc, pulse, t);
+    check_changes(rt, &fork, &PULSE[..count]);
+    drop(fork);
+}
 
 #[test]
 fn a_forked_wave_has_the_changes_so_far(rt: HostRuntime) {
     let wave = pulse(&rt, rt.alloc());
-    let changes = [
-        change(0, Value::Unknown),
-        change(3, Value::Zero),
-        change(13, Value::One),
-        change(16, Value::Zero),
-    ];
     // Before the second change, at one, between two, after the last.
     for (t, count) in [(0, 1), (2, 1), (3, 2), (12, 2), (13, 3), (15, 3), (900, 4)] {
-        let fork = wave.fork(rt.alloc(), t).expect(&rt, "room");
-        assert_eq!(rt; fork.changes(), &changes[..count], "at {t}");
-        drop(fork);
+        check_fork(&rt, rt.alloc(), &wave, t, count);
     }
-    let fork = wave.fork(rt.alloc(), 15).expect(&rt, "room");
-    assert_eq!(rt; fork.at(16), Value::One);
-    assert_eq!(rt; wave.changes(), changes.as_slice());
-    drop(fork);
+    check_changes(&rt, &wave, &PULSE);
     drop(wave);
 }
 
 #[test]
+fn a_forked_wave_keeps_its_last_value(rt: HostRuntime) {
+    let wave = pulse(&rt, rt.alloc());
+    let fork = forked(&rt, rt.alloc(), &wave, 15);
+    equal(&rt, "at 16", fork.at(16), One);
+    drop(fork);
+    drop(wave);
+}
+
+/// The wave `0 z`, and another value from 2 on.
+fn two_values(rt: &impl Abort, alloc: Global, second: Value) -> Wave
+    ensures { end_of result ≤ 3 }
+{
+    let mut wave = Wave::open(alloc, HighZ).expect(rt, "room");
+    wave.push(2, second).expect(rt, "room");
+    wave
+}
+
+// With changes of the other one in the gap, and the value of the other one from the first moment on.
+#[test]
 fn a_wave_follows_another_one_over_a_gap(rt: HostRuntime) {
     let other = pulse(&rt, rt.alloc());
-    // With changes in it, and the value of the other one from the first moment on.
-    let mut wave = Wave::open(rt.alloc(), Value::HighZ).expect(&rt, "room");
-    wave.push(2, Value::One).expect(&rt, "room");
-    let wave = wave.follow(5, 15, &other).expect(&rt, "room");
-    let changes = [
-        change(0, Value::HighZ),
-        change(2, Value::One),
-        change(5, Value::Zero),
-        change(13, Value::One),
-    ];
-    assert_eq!(rt; wave.changes(), changes.as_slice());
-    assert_eq!(rt; wave.at(16), Value::One);
+    let wave = two_values(&rt, rt.alloc(), One);
+    let wave = followed(&rt, wave, 5, 15, &other);
+    check_changes(&rt, &wave, &[(0, HighZ), (2, One), (5, Zero), (13, One)]);
+    equal(&rt, "at 16", wave.at(16), One);
     drop(wave);
+    drop(other);
+}
 
-    // With none in it, from a moment at which both have the same value.
-    let mut wave = Wave::open(rt.alloc(), Value::HighZ).expect(&rt, "room");
-    wave.push(2, Value::Zero).expect(&rt, "room");
-    let wave = wave.follow(4, 12, &other).expect(&rt, "room");
-    let changes = [change(0, Value::HighZ), change(2, Value::Zero)];
-    assert_eq!(rt; wave.changes(), changes.as_slice());
-
-    // A single moment, at which the other one changes.
-    let wave = wave.follow(13, 13, &other).expect(&rt, "room");
-    assert_eq!(rt; wave.last(), (13, Value::One));
-    assert_eq!(rt; wave.at(16), Value::One);
+// With none in the gap, from a moment at which both have the same value; then a single moment, at which the other one changes.
+#[test]
+fn a_wave_follows_one_that_stays(rt: HostRuntime) {
+    let other = pulse(&rt, rt.alloc());
+    let wave = two_values(&rt, rt.alloc(), Zero);
+    let wave = followed(&rt, wave, 4, 12, &other);
+    check_changes(&rt, &wave, &[(0, HighZ), (2, Zero)]);
+    let wave = followed(&rt, wave, 13, 13, &other);
+    equal(&rt, "last", wave.last(), (13, One));
+    equal(&rt, "at 16", wave.at(16), One);
     drop(wave);
     drop(other);
 }
 
 /// The wave `0 0 / 10 1 / 20 0 / 30 1 / 40 0`.
 fn former_wave(rt: &impl Abort, alloc: Global) -> Wave {
-    let mut wave = Wave::open(alloc, Value::Zero).expect(rt, "room");
-    wave.push(10, Value::One).expect(rt, "room");
-    wave.push(20, Value::Zero).expect(rt, "room");
-    wave.push(30, Value::One).expect(rt, "room");
-    wave.push(40, Value::Zero).expect(rt, "room");
+    let mut wave = Wave::open(alloc, Zero).expect(rt, "room");
+    wave.push(10, One).expect(rt, "room");
+    wave.push(20, Zero).expect(rt, "room");
+    wave.push(30, One).expect(rt, "room");
+    wave.push(40, Zero).expect(rt, "room");
     wave
+}
+
+/// The new wave rises at 12 in place of 10, and is left at 13, before it is left again at 15.
+fn late_rise(rt: &impl Abort, alloc: Global, old: &Wave) -> Patch<Value>
+    ensures { end_of result.line ≤ 13 }
+{
+    let patch = opened(rt, alloc, old, 10, Zero);
+    let patch = put(rt, patch, old, 12, One);
+    equal(rt, "since", patch.since(), None);
+    let patch = left(patch, 13);
+    for (t, value) in [(9, Zero), (11, Zero), (12, One), (13, One), (20, Zero)] {
+        check_value(rt, &patch, old, t, value);
+    }
+    let patch = left(patch, 15);
+    equal(rt, "since", patch.since(), Some(13));
+    patch
+}
+
+/// It is unknown from 25 to 26 and falls at 33 in place of 40.
+fn early_fall(rt: &impl Abort, old: &Wave, patch: Patch<Value>) -> Patch<Value>
+    requires { end_of patch.line ≤ 25 }
+    ensures { end_of result.line ≤ 34 }
+{
+    let patch = put(rt, patch, old, 25, Unknown);
+    equal(rt, "since", patch.since(), None);
+    let patch = left(put(rt, patch, old, 27, Zero), 28);
+    left(put(rt, patch, old, 33, Zero), 40)
 }
 
 #[test]
 fn a_wave_leaves_and_comes_back_twice(rt: HostRuntime) {
     let old = former_wave(&rt, rt.alloc());
-    // The new wave rises at 12 in place of 10, is unknown from 25 to 26 and falls at 33 in place of 40.
-    let patch = Patch::open(rt.alloc(), &old, 10, Value::Zero).expect(&rt, "room");
-    let mut patch = patch.put(&old, 12, Value::One).expect(&rt, "room");
-    assert_eq!(rt; patch.since(), None);
-    patch.leave(13);
+    let patch = late_rise(&rt, rt.alloc(), &old);
+    let patch = early_fall(&rt, &old, patch);
     for (t, value) in [
-        (9, Value::Zero),
-        (11, Value::Zero),
-        (12, Value::One),
-        (13, Value::One),
-        (20, Value::Zero),
+        (19, One),
+        (24, Zero),
+        (26, Unknown),
+        (29, Zero),
+        (32, One),
+        (39, Zero),
+        (50, Zero),
     ] {
-        assert_eq!(rt; patch.at(&old, t), value, "at {t}");
+        check_value(&rt, &patch, &old, t, value);
     }
-    patch.leave(15);
-    assert_eq!(rt; patch.since(), Some(13));
-
-    let patch = patch.put(&old, 25, Value::Unknown).expect(&rt, "room");
-    assert_eq!(rt; patch.since(), None);
-    let mut patch = patch.put(&old, 27, Value::Zero).expect(&rt, "room");
-    patch.leave(28);
-    let mut patch = patch.put(&old, 33, Value::Zero).expect(&rt, "room");
-    patch.leave(40);
-    for (t, value) in [
-        (19, Value::One),
-        (24, Value::Zero),
-        (26, Value::Unknown),
-        (29, Value::Zero),
-        (32, Value::One),
-        (39, Value::Zero),
-        (50, Value::Zero),
-    ] {
-        assert_eq!(rt; patch.at(&old, t), value, "at {t}");
-    }
-    let wave = patch.finish(&old, 101).expect(&rt, "room");
+    let wave = finished(&rt, patch, &old, 101);
     let changes = [
-        change(0, Value::Zero),
-        change(12, Value::One),
-        change(20, Value::Zero),
-        change(25, Value::Unknown),
-        change(27, Value::Zero),
-        change(30, Value::One),
-        change(33, Value::Zero),
+        (0, Zero),
+        (12, One),
+        (20, Zero),
+        (25, Unknown),
+        (27, Zero),
+        (30, One),
+        (33, Zero),
     ];
-    assert_eq!(rt; wave.changes(), changes.as_slice());
+    check_changes(&rt, &wave, &changes);
+    drop(wave);
+    drop(old);
+}
+
+/// The patch with this value at a moment; one that is opened for it where there is none.
+fn put_or_opened(
+    rt: &impl Abort,
+    alloc: Global,
+    patch: Option<Patch<Value>>,
+    old: &Wave,
+    t: u64,
+    value: Value,
+) -> Patch<Value>
+    requires { ForSome patch (λ p. end_of p.line ≤ t) }
+    ensures { end_of result.line ≤ suc t }
+{
+    Patch::put_or_open(patch, alloc, old, t, value).expect(rt, "room")
+}
+
+#[test]
+fn a_patch_that_is_there(rt: HostRuntime) {
+    let old = former_wave(&rt, rt.alloc());
+    let patch = Patch::fork(rt.alloc(), &old, 19).expect(&rt, "room");
+    equal(&rt, "since", patch.since(), None);
+    let patch = put_or_opened(&rt, rt.alloc(), Some(patch), &old, 20, One);
+    let patch = put_or_opened(&rt, rt.alloc(), Some(patch), &old, 22, Zero);
+    let wave = finished(&rt, patch, &old, 30);
+    check_changes(&rt, &wave, &[(0, Zero), (10, One), (22, Zero)]);
     drop(wave);
     drop(old);
 }
 
 #[test]
-fn a_patch_may_be_there_or_not(rt: HostRuntime) {
+fn a_patch_that_is_not_there(rt: HostRuntime) {
     let old = former_wave(&rt, rt.alloc());
-    let patch = Patch::fork(rt.alloc(), &old, 19).expect(&rt, "room");
-    assert_eq!(rt; patch.since(), None);
-    let patch = Patch::put_or_open(Some(patch), rt.alloc(), &old, 20, Value::One).expect(
-        &rt, "room",
-    );
-    let patch = Patch::put_or_open(Some(patch), rt.alloc(), &old, 22, Value::Zero).expect(
-        &rt, "room",
-    );
-    let wave = patch.finish(&old, 30).expect(&rt, "room");
-    let changes = [
-        change(0, Value::Zero),
-        change(10, Value::One),
-        change(22, Value::Zero),
-    ];
-    assert_eq!(rt; wave.changes(), changes.as_slice());
-    drop(wave);
-    let patch = Patch::put_or_open(None, rt.alloc(), &old, 30, Value::HighZ).expect(&rt, "room");
-    let wave = patch.finish(&old, 31).expect(&rt, "room");
-    let changes = [
-        change(0, Value::Zero),
-        change(10, Value::One),
-        change(20, Value::Zero),
-        change(30, Value::HighZ),
-    ];
-    assert_eq!(rt; wave.changes(), changes.as_slice());
+    let patch = put_or_opened(&rt, rt.alloc(), None, &old, 30, HighZ);
+    let wave = finished(&rt, patch, &old, 31);
+    check_changes(&rt, &wave, &[(0, Zero), (10, One), (20, Zero), (30, HighZ)]);
     drop(wave);
     drop(old);
 }
@@ -183,16 +279,16 @@ fn with_one_other_value(
 #[test]
 fn a_wave_with_one_other_value(rt: HostRuntime) {
     let old = former_wave(&rt, rt.alloc());
-    let wave = with_one_other_value(rt.alloc(), &old, 12, Value::Unknown, 31).expect(&rt, "room");
+    let wave = with_one_other_value(rt.alloc(), &old, 12, Unknown, 31).expect(&rt, "room");
     let changes = [
-        change(0, Value::Zero),
-        change(10, Value::One),
-        change(12, Value::Unknown),
-        change(13, Value::One),
-        change(20, Value::Zero),
-        change(30, Value::One),
+        (0, Zero),
+        (10, One),
+        (12, Unknown),
+        (13, One),
+        (20, Zero),
+        (30, One),
     ];
-    assert_eq!(rt; wave.changes(), changes.as_slice());
+    check_changes(&rt, &wave, &changes);
     drop(wave);
     drop(old);
 }
@@ -213,123 +309,125 @@ fn quiet_until<V: Sample>(line: &Timeline<V>, t: u64, end: u64) -> u64
 #[test]
 fn nothing_changes_up_to_the_next_entry(rt: HostRuntime) {
     let wave = former_wave(&rt, rt.alloc());
-    let trace = former_trace(&rt, rt.alloc());
-    for (t, until) in [(0, 10), (9, 10), (10, 20), (39, 40), (40, 50)] {
-        assert_eq!(rt; quiet_until::<Value>(&wave, t, 50), until, "at {t}");
+    for (t, end, until) in [
+        (0, 50, 10),
+        (9, 50, 10),
+        (10, 50, 20),
+        (39, 50, 40),
+        (40, 50, 50),
+        (20, 25, 25),
+    ] {
+        equal(&rt, t, quiet_until::<Value>(&wave, t, end), until);
     }
-    assert_eq!(rt; quiet_until::<Value>(&wave, 20, 25), 25);
-    assert_eq!(rt; quiet_until::<Driver>(&trace, 5, 50), 20);
-    assert_eq!(rt; quiet_until::<Driver>(&trace, 20, 50), 50);
     drop(wave);
+    let trace = former_trace(&rt, rt.alloc());
+    equal(&rt, 5, quiet_until::<Driver>(&trace, 5, 50), 20);
+    equal(&rt, 20, quiet_until::<Driver>(&trace, 20, 50), 50);
     drop(trace);
 }
 
 #[test]
 fn a_wave_that_differs_from_the_first_moment(rt: HostRuntime) {
     let old = former_wave(&rt, rt.alloc());
-    let mut patch = Patch::open(rt.alloc(), &old, 0, Value::HighZ).expect(&rt, "room");
-    patch.leave(1);
+    let patch = left(opened(&rt, rt.alloc(), &old, 0, HighZ), 1);
     // Back at the moment at which it was left: nothing is taken from the former wave.
-    let mut patch = patch.put(&old, 1, Value::HighZ).expect(&rt, "room");
-    patch.leave(30);
-    let wave = patch.finish(&old, 40).expect(&rt, "room");
-    let changes = [change(0, Value::HighZ), change(30, Value::One)];
-    assert_eq!(rt; wave.changes(), changes.as_slice());
+    let patch = left(put(&rt, patch, &old, 1, HighZ), 30);
+    let wave = finished(&rt, patch, &old, 40);
+    check_changes(&rt, &wave, &[(0, HighZ), (30, One)]);
     drop(wave);
     drop(old);
 }
 
 /// The trace of a driver of x that schedules 0 at 5 for 8, and 1 at 20 for 23.
 fn former_trace(rt: &impl Abort, alloc: Global) -> Trace {
-    let mut trace = Trace::open(alloc, standing(Value::Unknown)).expect(rt, "room");
-    trace
-        .push(5, moving(Value::Unknown, Value::Zero, 8))
-        .expect(rt, "room");
-    trace
-        .push(20, moving(Value::Zero, Value::One, 23))
-        .expect(rt, "room");
+    let mut trace = Trace::open(alloc, standing(Unknown)).expect(rt, "room");
+    trace.push(5, moving(Unknown, Zero, 8)).expect(rt, "room");
+    trace.push(20, moving(Zero, One, 23)).expect(rt, "room");
     trace
 }
 
 #[test]
 fn a_forked_trace_keeps_what_is_pending(rt: HostRuntime) {
     let trace = former_trace(&rt, rt.alloc());
-    let falling = moving(Value::Unknown, Value::Zero, 8);
-    let fork = trace.fork(rt.alloc(), 6).expect(&rt, "room");
-    let entries = [
-        TraceEntry::new(0, standing(Value::Unknown)),
-        TraceEntry::new(5, falling),
-    ];
-    assert_eq!(rt; fork.entries(), entries.as_slice());
-    assert_eq!(rt; fork.at(7), falling);
-    assert_eq!(rt; fork.at(8), standing(Value::Zero));
-
-    // Up to 21 the other trace's event falls due by itself, up to 19 there is none.
-    let rising = moving(Value::Zero, Value::One, 23);
-    let fork = fork.follow(10, 19, &trace).expect(&rt, "room");
-    assert_eq!(rt; fork.entries(), entries.as_slice());
-    let fork = fork.follow(21, 21, &trace).expect(&rt, "room");
-    assert_eq!(rt; fork.last(), (21, rising));
-    assert_eq!(rt; fork.at(23), standing(Value::One));
-    assert_eq!(rt; fork.entries().len(), 3);
+    let falling = moving(Unknown, Zero, 8);
+    let fork = forked(&rt, rt.alloc(), &trace, 6);
+    check_entries(&rt, &fork, &[(0, standing(Unknown)), (5, falling)]);
+    equal(&rt, "at 7", fork.at(7), falling);
+    equal(&rt, "at 8", fork.at(8), standing(Zero));
     drop(fork);
     drop(trace);
+}
+
+// Up to 21 the other trace's event falls due by itself, up to 19 there is none.
+#[test]
+fn a_trace_follows_another_one_with_an_event(rt: HostRuntime) {
+    let trace = former_trace(&rt, rt.alloc());
+    let (falling, rising) = (moving(Unknown, Zero, 8), moving(Zero, One, 23));
+    let fork = forked(&rt, rt.alloc(), &trace, 6);
+    let fork = followed(&rt, fork, 10, 19, &trace);
+    check_entries(&rt, &fork, &[(0, standing(Unknown)), (5, falling)]);
+    let fork = followed(&rt, fork, 21, 21, &trace);
+    equal(&rt, "last", fork.last(), (21, rising));
+    equal(&rt, "at 23", fork.at(23), standing(One));
+    equal(&rt, "number of entries", fork.entries().len(), 3);
+    drop(fork);
+    drop(trace);
+}
+
+/// The new driver cancels its event at 6, falls at 9, and rises as the former one does.
+fn cancelled(rt: &impl Abort, alloc: Global, old: &Trace) -> Patch<Driver>
+    ensures { end_of result.line ≤ 10 }
+{
+    let patch = opened(rt, alloc, old, 6, standing(Unknown));
+    let patch = left(put(rt, patch, old, 9, standing(Zero)), 10);
+    for (t, state) in [
+        (5, moving(Unknown, Zero, 8)),
+        (8, standing(Unknown)),
+        (22, moving(Zero, One, 23)),
+        (23, standing(One)),
+    ] {
+        check_state(rt, &patch, old, t, state);
+    }
+    patch
 }
 
 #[test]
 fn a_trace_leaves_and_comes_back_twice(rt: HostRuntime) {
     let old = former_trace(&rt, rt.alloc());
-    let unknown = standing(Value::Unknown);
-    let low = standing(Value::Zero);
-    let high = standing(Value::One);
-    let falling = moving(Value::Unknown, Value::Zero, 8);
-    let rising = moving(Value::Zero, Value::One, 23);
-    // The new driver cancels its event at 6, falls at 9, and rises as the former one does.
-    let patch = Patch::open(rt.alloc(), &old, 6, unknown).expect(&rt, "room");
-    let mut patch = patch.put(&old, 9, low).expect(&rt, "room");
-    patch.leave(10);
-    assert_eq!(rt; patch.at(&old, 5), falling);
-    assert_eq!(rt; patch.at(&old, 8), unknown);
-    assert_eq!(rt; patch.at(&old, 22), rising);
-    assert_eq!(rt; patch.at(&old, 23), high);
+    let patch = cancelled(&rt, rt.alloc(), &old);
     // What it rises to by itself is no entry.
-    let mut patch = patch.put(&old, 25, high).expect(&rt, "room");
-    patch.leave(26);
-    let patch = patch
-        .put(&old, 29, moving(Value::One, Value::Zero, 31))
-        .expect(&rt, "room");
-    assert_eq!(rt; patch.at(&old, 30), moving(Value::One, Value::Zero, 31));
-    assert_eq!(rt; patch.at(&old, 31), low);
-    let trace = patch.finish(&old, 101).expect(&rt, "room");
+    let patch = left(put(&rt, patch, &old, 25, standing(One)), 26);
+    let patch = put(&rt, patch, &old, 29, moving(One, Zero, 31));
+    check_state(&rt, &patch, &old, 30, moving(One, Zero, 31));
+    check_state(&rt, &patch, &old, 31, standing(Zero));
+    let trace = finished(&rt, patch, &old, 101);
     let entries = [
-        TraceEntry::new(0, unknown),
-        TraceEntry::new(5, falling),
-        TraceEntry::new(6, unknown),
-        TraceEntry::new(9, low),
-        TraceEntry::new(20, rising),
-        TraceEntry::new(29, moving(Value::One, Value::Zero, 31)),
+        (0, standing(Unknown)),
+        (5, moving(Unknown, Zero, 8)),
+        (6, standing(Unknown)),
+        (9, standing(Zero)),
+        (20, moving(Zero, One, 23)),
+        (29, moving(One, Zero, 31)),
     ];
-    assert_eq!(rt; trace.entries(), entries.as_slice());
+    check_entries(&rt, &trace, &entries);
     drop(trace);
     drop(old);
 }
 
+// From 21 on it has the former one's pending event, which falls due while it is left.
 #[test]
 fn a_trace_left_while_its_event_is_pending(rt: HostRuntime) {
     let old = former_trace(&rt, rt.alloc());
-    let rising = moving(Value::Zero, Value::One, 23);
-    // From 21 on it has the former one's pending event, which falls due while it is left.
-    let mut patch = Patch::open(rt.alloc(), &old, 0, standing(Value::Zero)).expect(&rt, "room");
-    patch.leave(21);
-    assert_eq!(rt; patch.at(&old, 20), standing(Value::Zero));
-    assert_eq!(rt; patch.at(&old, 21), rising);
-    let trace = patch.finish(&old, 50).expect(&rt, "room");
-    let entries = [
-        TraceEntry::new(0, standing(Value::Zero)),
-        TraceEntry::new(21, rising),
-    ];
-    assert_eq!(rt; trace.entries(), entries.as_slice());
-    assert_eq!(rt; trace.at(23), standing(Value::One));
+    let patch = left(opened(&rt, rt.alloc(), &old, 0, standing(Zero)), 21);
+    check_state(&rt, &patch, &old, 20, standing(Zero));
+    check_state(&rt, &patch, &old, 21, moving(Zero, One, 23));
+    let trace = finished(&rt, patch, &old, 50);
+    check_entries(
+        &rt,
+        &trace,
+        &[(0, standing(Zero)), (21, moving(Zero, One, 23))],
+    );
+    equal(&rt, "at 23", trace.at(23), standing(One));
     drop(trace);
     drop(old);
 }

@@ -1,5 +1,6 @@
 //! Runs with an earlier horizon, worked out by hand.
 
+use crate::compare::equal;
 use crate::edit_lists::lines::design_of;
 use design::Design;
 use gatestep::Serial;
@@ -34,10 +35,10 @@ fn check(rt: &impl Abort, alloc: Global, design: &Design, run: &Run, case: (u64,
     let (horizon, [a, y, g]) = case;
     assert!(rt; horizon <= design.horizon());
     let short = shorten(alloc, design, run, horizon).expect(rt, "a shorter run");
-    assert_eq!(rt; short.horizon(), horizon);
-    assert_eq!(rt; changes_of(rt, design, &short, "a"), a);
-    assert_eq!(rt; changes_of(rt, design, &short, "y"), y);
-    assert_eq!(rt; entries_of(rt, design, &short, "g"), g);
+    equal(rt, "horizon", short.horizon(), horizon);
+    equal(rt, "changes of a", changes_of(rt, design, &short, "a"), a);
+    equal(rt, "changes of y", changes_of(rt, design, &short, "y"), y);
+    equal(rt, "entries of g", entries_of(rt, design, &short, "g"), g);
     drop(short);
 }
 

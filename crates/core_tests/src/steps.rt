@@ -2,13 +2,13 @@
 
 ghost use Rattle.std.specs.Prelude.{◌≡◌, ◌<◌};
 
+use crate::compare::equal;
 use arrayvec::ArrayVec;
 use fourstate::Value::{One, Unknown, Zero};
 use fourstate::{Delays, GateKind, Value, fits};
 use gatestep::{Driver, Serial, StepFault, Stepper, Task, next};
 use std::alloc::Global;
 use std::process::Abort;
-use std::test::Fail;
 
 /// The value at a time of a list of changes, in order of time; x before the first.
 fn held(changes: &[(u64, Value)], t: u64) -> Value {
@@ -53,7 +53,7 @@ fn follow(
 {
     let mut state = Driver::start();
     for t in 0..horizon + 1 {
-        assert_eq!(rt; state.due(t).cur, held(wanted, t), "{kind:?} at {t}");
+        equal(rt, (kind, t), state.due(t).cur, held(wanted, t));
         state = match second {
             None => next(&task(rt, kind, delays, state, &[held(first, t)]), t),
             Some(second) => {
@@ -77,7 +77,7 @@ fn follow_loop(
     let mut state = Driver::start();
     for t in 0..horizon + 1 {
         let output = state.due(t).cur;
-        assert_eq!(rt; output, held(wanted, t), "{kind:?} at {t}");
+        equal(rt, (kind, t), output, held(wanted, t));
         state = match first {
             None => next(&task(rt, kind, (1, 1), state, &[output]), t),
             Some(first) => {
@@ -144,59 +144,62 @@ fn a_pending_event_keeps_its_time(rt: HostRuntime) {
 #[test]
 fn states_and_faults(rt: HostRuntime) {
     let start = Driver::start();
-    assert_eq!(rt; start.cur, Unknown);
-    assert_eq!(rt; start.pend, None);
+    equal(&rt, "value at the start", start.cur, Unknown);
+    equal(&rt, "pending at the start", start.pend, None);
     let waiting = Driver {
         cur: Unknown,
         pend: Some((One, 7)),
     };
-    assert_eq!(rt; waiting.due(6), waiting);
-    assert_eq!(rt; waiting.due(7).cur, One);
-    assert_eq!(rt; waiting.due(7).pend, None);
-    assert_eq!(rt; StepFault::OutOfMemory as u8, 1);
-    assert_eq!(rt; StepFault::WorkerLost as u8, 2);
+    equal(&rt, "due at 6", waiting.due(6), waiting);
+    equal(&rt, "value at 7", waiting.due(7).cur, One);
+    equal(&rt, "pending at 7", waiting.due(7).pend, None);
+    equal(&rt, "OutOfMemory", StepFault::OutOfMemory as u8, 1);
+    equal(&rt, "WorkerLost", StepFault::WorkerLost as u8, 2);
 }
 
-/// Three buffers at one moment: one waits for its event, one gets one, one has its value.
-fn step_three<S: Stepper>(rt: &impl Abort, alloc: Global, stepper: &mut S) -> Result<(), Fail> {
-    let waiting = Driver {
-        cur: Zero,
-        pend: Some((One, 9)),
-    };
-    let mut tasks = Vec::new(alloc);
-    tasks.push(task(rt, GateKind::Buf, (3, 4), waiting, &[One]))?;
-    tasks.push(task(rt, GateKind::Not, (3, 4), Driver::start(), &[One]))?;
-    tasks.push(task(rt, GateKind::Buf, (3, 4), Driver::start(), &[Unknown]))?;
+const WAITING: Driver = Driver {
+    cur: Zero,
+    pend: Some((One, 9)),
+};
+
+/// Three gates at one moment: one waits for its event, one gets one, one has its value.
+fn step_three<S: Stepper>(rt: &impl Abort, alloc: Global, stepper: &mut S) {
+    let tasks = [
+        task(rt, GateKind::Buf, (3, 4), WAITING, &[One]),
+        task(rt, GateKind::Not, (3, 4), Driver::start(), &[One]),
+        task(rt, GateKind::Buf, (3, 4), Driver::start(), &[Unknown]),
+    ];
     let mut answers = Vec::new(alloc);
-    assert_eq!(rt; stepper.step(tasks.as_slice(), 5, &mut answers), Ok(()));
-    assert_eq!(rt; answers.len(), 3);
-    assert_eq!(rt; answers[0].pend, Some((One, 9)));
-    assert_eq!(rt; answers[1].pend, Some((Zero, 9)));
-    assert_eq!(rt; answers[2], Driver::start());
-    Ok(())
+    equal(rt, "step", stepper.step(&tasks, 5, &mut answers), Ok(()));
+    drop(tasks);
+    assert!(rt; answers.len() == 3);
+    equal(rt, "first answer", answers[0].pend, Some((One, 9)));
+    equal(rt, "second answer", answers[1].pend, Some((Zero, 9)));
+    equal(rt, "third answer", answers[2], Driver::start());
+    drop(answers);
 }
 
 #[test]
-fn serial_answers_in_order(rt: HostRuntime) -> Result<(), Fail> {
-    step_three(&rt, rt.alloc(), &mut Serial::new())
+fn serial_answers_in_order(rt: HostRuntime) {
+    step_three(&rt, rt.alloc(), &mut Serial::new());
+}
+
+fn check_parts(rt: &impl Abort, task: &Task) {
+    equal(rt, "kind", task.kind(), GateKind::Nand);
+    equal(rt, "delays", Some(task.delays()), Delays::new(3, 4));
+    equal(rt, "state", task.state(), WAITING);
+    equal(rt, "inputs", task.inputs(), [One, Unknown].as_slice());
 }
 
 #[test]
-fn a_task_is_read_and_copied(rt: HostRuntime) -> Result<(), Fail> {
-    let waiting = Driver {
-        cur: Zero,
-        pend: Some((One, 9)),
-    };
-    let task = task(&rt, GateKind::Nand, (3, 4), waiting, &[One, Unknown]);
+fn a_task_is_read_and_copied(rt: HostRuntime) {
+    let task = task(&rt, GateKind::Nand, (3, 4), WAITING, &[One, Unknown]);
     task.lawful();
-    let copy = task.clone()?;
-    for it in [&task, &copy] {
-        assert_eq!(rt; it.kind(), GateKind::Nand);
-        assert_eq!(rt; Some(it.delays()), Delays::new(3, 4));
-        assert_eq!(rt; it.state(), waiting);
-        assert_eq!(rt; it.inputs(), [One, Unknown].as_slice());
-    }
-    Ok(())
+    let copy = task.clone().expect(&rt, "a copy");
+    check_parts(&rt, &task);
+    check_parts(&rt, &copy);
+    drop(task);
+    drop(copy);
 }
 
 // No moment is too late for it.
@@ -204,6 +207,7 @@ fn a_task_is_read_and_copied(rt: HostRuntime) -> Result<(), Fail> {
 fn a_step_without_a_task_gives_nothing(rt: HostRuntime) {
     let mut answers = Vec::new(rt.alloc());
     let result = Serial::new().step(&[], 2_000_000_000, &mut answers);
-    assert_eq!(rt; result, Ok(()));
-    assert_eq!(rt; answers.len(), 0);
+    equal(&rt, "result", result, Ok(()));
+    equal(&rt, "number of answers", answers.len(), 0);
+    drop(answers);
 }

@@ -1,5 +1,6 @@
 //! The tables of the standard, written out by hand.
 
+use crate::compare::equal;
 use fourstate::{
     DelayTimes, Delays, GateKind, MAX_INPUTS, NetKind, Value, delay, fits, gate_value, resolve,
 };
@@ -16,11 +17,7 @@ fn check_gate(rt: &impl Abort, kind: GateKind, table: Table) {
     for (row, first) in table.iter().zip(ORDER.iter()) {
         for (symbol, second) in row.iter().zip(ORDER.iter()) {
             let value = gate_value(kind, &[*first, *second]);
-            assert_eq!(rt;
-                value.symbol(),
-                *symbol,
-                "{kind:?} of {first:?} and {second:?}"
-            );
+            equal(rt, (kind, first, second), value.symbol(), *symbol);
         }
     }
 }
@@ -29,20 +26,16 @@ fn check_net(rt: &impl Abort, kind: NetKind, table: Table) {
     for (row, first) in table.iter().zip(ORDER.iter()) {
         for (symbol, second) in row.iter().zip(ORDER.iter()) {
             let value = resolve(kind, &[*first, *second]);
-            assert_eq!(rt;
-                value.symbol(),
-                *symbol,
-                "{kind:?} of {first:?} and {second:?}"
-            );
+            equal(rt, (kind, first, second), value.symbol(), *symbol);
         }
     }
-    assert_eq!(rt; resolve(kind, &[]), Value::HighZ);
+    equal(rt, "resolve", resolve(kind, &[]), Value::HighZ);
 }
 
 fn check_delays(rt: &impl Abort, rise: u64, fall: u64, table: [u32; 4]) {
     let delays = Delays::new(rise, fall).expect(rt, "lawful delays");
     for (value, time) in ORDER.iter().zip(table) {
-        assert_eq!(rt; delay(&delays, *value), time);
+        equal(rt, *value, delay(&delays, *value), time);
     }
 }
 
@@ -74,8 +67,18 @@ fn gates_of_one_input(rt: HostRuntime) {
         .iter()
         .zip([(b'0', b'1'), (b'1', b'0'), (b'x', b'x'), (b'x', b'x')])
     {
-        assert_eq!(rt; gate_value(GateKind::Buf, &[*input]).symbol(), same);
-        assert_eq!(rt; gate_value(GateKind::Not, &[*input]).symbol(), inverted);
+        equal(
+            &rt,
+            *input,
+            gate_value(GateKind::Buf, &[*input]).symbol(),
+            same,
+        );
+        equal(
+            &rt,
+            *input,
+            gate_value(GateKind::Not, &[*input]).symbol(),
+            inverted,
+        );
     }
 }
 
@@ -100,7 +103,7 @@ const MORE: [(GateKind, &[Value], Value); 6] = [
 fn more_than_two_inputs(rt: HostRuntime) {
     for (kind, inputs, value) in MORE {
         assert!(rt; fits(kind, inputs.len()));
-        assert_eq!(rt; gate_value(kind, inputs), value, "{kind:?} of {inputs:?}");
+        equal(&rt, (kind, inputs), gate_value(kind, inputs), value);
     }
 }
 
@@ -118,7 +121,7 @@ fn numbers_of_inputs(rt: HostRuntime) {
         (GateKind::Notif0, 2, true),
         (GateKind::Notif1, 3, false),
     ] {
-        assert_eq!(rt; fits(kind, inputs), fit, "{kind:?} of {inputs}");
+        equal(&rt, (kind, inputs), fits(kind, inputs), fit);
     }
 }
 
@@ -150,11 +153,7 @@ fn delays_and_their_range(rt: HostRuntime) {
         (1, 1_000_001, false),
         (u64::MAX, 1, false),
     ] {
-        assert_eq!(rt;
-            Delays::new(rise, fall).is_some(),
-            lawful,
-            "{rise} and {fall}"
-        );
+        equal(&rt, (rise, fall), Delays::new(rise, fall).is_some(), lawful);
     }
     check_delays(&rt, 10, 1, [1, 10, 1, 1]);
     check_delays(&rt, 2, 3, [3, 2, 2, 2]);
@@ -172,18 +171,33 @@ fn times_that_no_gate_may_have(rt: HostRuntime) {
         (0, 1_000_001, true, true),
     ] {
         let times = DelayTimes::new(rise, fall);
-        assert_eq!(rt; times.has_zero(), zero, "{rise} and {fall}");
-        assert_eq!(rt; times.exceeds_limit(), over, "{rise} and {fall}");
-        assert_eq!(rt; Delays::from_times(times).is_some(), !zero && !over);
+        equal(&rt, (rise, fall), times.has_zero(), zero);
+        equal(&rt, (rise, fall), times.exceeds_limit(), over);
+        equal(
+            &rt,
+            (rise, fall),
+            Delays::from_times(times).is_some(),
+            !zero && !over,
+        );
     }
 }
 
 #[test]
 fn times_of_one_number_and_of_two(rt: HostRuntime) {
     let one = DelayTimes::uniform(3);
-    assert_eq!(rt; one, DelayTimes::new(3, 3));
-    assert_eq!(rt; one.with_fall(4), DelayTimes::new(3, 4));
-    assert_eq!(rt; one.with_fall(0).has_zero(), true);
+    equal(&rt, "one of 3", one, DelayTimes::new(3, 3));
+    equal(
+        &rt,
+        "one with a fall of 4",
+        one.with_fall(4),
+        DelayTimes::new(3, 4),
+    );
+    equal(
+        &rt,
+        "one with a fall of 0",
+        one.with_fall(0).has_zero(),
+        true,
+    );
 }
 
 const GATE_WORDS: [(&[u8], Option<GateKind>); 4] = [
@@ -202,20 +216,20 @@ const NET_WORDS: [(&[u8], Option<NetKind>); 3] = [
 #[test]
 fn words(rt: HostRuntime) {
     for (word, kind) in GATE_WORDS {
-        assert_eq!(rt; GateKind::from_keyword(word), kind);
+        equal(&rt, word, GateKind::from_keyword(word), kind);
     }
     for (word, kind) in NET_WORDS {
-        assert_eq!(rt; NetKind::from_keyword(word), kind);
+        equal(&rt, word, NetKind::from_keyword(word), kind);
     }
-    assert_eq!(rt; GateKind::Xnor.keyword(), "xnor");
-    assert_eq!(rt; NetKind::Trior.keyword(), "trior");
+    equal(&rt, "keyword", GateKind::Xnor.keyword(), "xnor");
+    equal(&rt, "keyword", NetKind::Trior.keyword(), "trior");
 }
 
 #[test]
 fn values(rt: HostRuntime) {
-    assert_eq!(rt; Value::from_symbol(b'z'), Some(Value::HighZ));
-    assert_eq!(rt; Value::from_symbol(b'X'), None);
-    assert_eq!(rt; Value::Unknown.inverted(), Value::Unknown);
-    assert_eq!(rt; Value::HighZ.as_input(), Value::Unknown);
-    assert_eq!(rt; Value::default(), Value::Unknown);
+    equal(&rt, "z", Value::from_symbol(b'z'), Some(Value::HighZ));
+    equal(&rt, "X", Value::from_symbol(b'X'), None);
+    equal(&rt, "inverted", Value::Unknown.inverted(), Value::Unknown);
+    equal(&rt, "as input", Value::HighZ.as_input(), Value::Unknown);
+    equal(&rt, "default", Value::default(), Value::Unknown);
 }

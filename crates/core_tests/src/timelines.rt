@@ -1,16 +1,17 @@
 //! Waves, traces and runs, with their entries worked out by hand.
 
-ghost use Rattle.std.specs.Prelude.{◌≡◌, ◌≢◌, ◌<◌, ℕ, Some, None};
+ghost use Rattle.std.specs.Prelude.{◌≡◌, ◌≢◌, ◌<◌, ◌≤◌, ℕ, Some, None};
 ghost use Rattle.fourstate.specs.declared.value.Value as values;
 ghost use Rattle.gatestep.specs.Step.{State, due};
 ghost use Rattle.waveform.specs.Changes.{trace_below, wave_changes_below};
 ghost use Rattle.waveform.specs.Timelines.{IsAlwaysSettled};
 
+use crate::compare::equal;
 use fourstate::Value;
 use gatestep::Driver;
 use std::alloc::Global;
 use std::process::Abort;
-use waveform::{Change, Run, Trace, TraceEntry, Wave, laws};
+use waveform::{Run, Sample, Timeline, Trace, TraceEntry, Wave, laws};
 
 /// The value at a moment, which is that of the function whose changes the wave keeps.
 fn value_at(wave: &Wave, t: u64) -> Value
@@ -37,52 +38,100 @@ pub fn pulse(rt: &impl Abort, alloc: Global) -> Wave {
     wave
 }
 
-/// A change.
-pub fn change(time: u64, value: Value) -> Change {
-    Change { time, value }
+/// The wave has these changes.
+pub fn check_changes(rt: &impl Abort, wave: &Wave, changes: &[(u64, Value)]) {
+    equal(rt, "number of changes", wave.changes().len(), changes.len());
+    for (change, (time, value)) in wave.changes().iter().zip(changes) {
+        equal(rt, "time", change.time, *time);
+        equal(rt, "value", change.value, *value);
+    }
 }
+
+/// The trace has these entries.
+pub fn check_entries(rt: &impl Abort, trace: &Trace, entries: &[(u64, Driver)]) {
+    equal(
+        rt,
+        "number of entries",
+        trace.entries().len(),
+        entries.len(),
+    );
+    for (entry, (time, state)) in trace.entries().iter().zip(entries) {
+        equal(rt, "time", entry.time(), *time);
+        equal(rt, "state", entry.state(), *state);
+    }
+}
+
+const PULSE: [(u64, Value); 4] = [
+    (0, Value::Unknown),
+    (3, Value::Zero),
+    (13, Value::One),
+    (16, Value::Zero),
+];
 
 #[test]
 fn waves_keep_changes_alone(rt: HostRuntime) {
     let mut wave = pulse(&rt, rt.alloc());
-    let changes = [
-        change(0, Value::Unknown),
-        change(3, Value::Zero),
-        change(13, Value::One),
-        change(16, Value::Zero),
-    ];
-    assert_eq!(rt; wave.changes(), changes.as_slice());
-    assert_eq!(rt; wave.last(), (16, Value::Zero));
+    check_changes(&rt, &wave, &PULSE);
+    equal(&rt, "last", wave.last(), (16, Value::Zero));
     wave.cut(13);
-    assert_eq!(rt; wave.changes(), &changes[..3]);
+    check_changes(&rt, &wave, &PULSE[..3]);
     wave.cut(12);
-    assert_eq!(rt; wave.changes(), &changes[..2]);
+    check_changes(&rt, &wave, &PULSE[..2]);
     drop(wave);
+}
+
+const LOOKED_UP: [(u64, Value); 7] = [
+    (0, Value::Unknown),
+    (2, Value::Unknown),
+    (3, Value::Zero),
+    (12, Value::Zero),
+    (13, Value::One),
+    (15, Value::One),
+    (1000, Value::Zero),
+];
+
+fn check_values(rt: &impl Abort, wave: &Wave) {
+    for (t, value) in LOOKED_UP {
+        equal(rt, t, value_at(wave, t), value);
+    }
+}
+
+/// The changes behind a moment of the pulse and before it.
+fn check_neighbours(rt: &impl Abort, wave: &Wave) {
+    for (t, next) in [
+        (3, Some((13, Value::One))),
+        (2, Some((3, Value::Zero))),
+        (16, None),
+    ] {
+        equal(rt, t, wave.next_after(t), next);
+    }
+    for (t, last) in [
+        (3, Some((0, Value::Unknown))),
+        (4, Some((3, Value::Zero))),
+        (0, None),
+    ] {
+        equal(rt, t, wave.last_before(t), last);
+    }
+}
+
+/// The next change to a value.
+fn check_next_values(rt: &impl Abort, wave: &Wave) {
+    for (t, value, time) in [
+        (0, Value::Zero, Some(3)),
+        (3, Value::Zero, Some(16)),
+        (0, Value::HighZ, None),
+    ] {
+        let next = time.map(|time| (time, value));
+        equal(rt, t, wave.next_value(t, value), next);
+    }
 }
 
 #[test]
 fn waves_are_looked_up(rt: HostRuntime) {
     let wave = pulse(&rt, rt.alloc());
-    for (t, value) in [
-        (0, Value::Unknown),
-        (2, Value::Unknown),
-        (3, Value::Zero),
-        (12, Value::Zero),
-        (13, Value::One),
-        (15, Value::One),
-        (1000, Value::Zero),
-    ] {
-        assert_eq!(rt; value_at(&wave, t), value, "at {t}");
-    }
-    assert_eq!(rt; wave.next_after(3), Some((13, Value::One)));
-    assert_eq!(rt; wave.next_after(2), Some((3, Value::Zero)));
-    assert_eq!(rt; wave.next_after(16), None);
-    assert_eq!(rt; wave.last_before(3), Some((0, Value::Unknown)));
-    assert_eq!(rt; wave.last_before(4), Some((3, Value::Zero)));
-    assert_eq!(rt; wave.last_before(0), None);
-    assert_eq!(rt; wave.next_value(0, Value::Zero), Some((3, Value::Zero)));
-    assert_eq!(rt; wave.next_value(3, Value::Zero), Some((16, Value::Zero)));
-    assert_eq!(rt; wave.next_value(0, Value::HighZ), None);
+    check_values(&rt, &wave);
+    check_neighbours(&rt, &wave);
+    check_next_values(&rt, &wave);
     drop(wave);
 }
 
@@ -92,38 +141,58 @@ fn repeated_values_are_not_stored(rt: HostRuntime) {
     wave.push(4, Value::Zero).expect(&rt, "room");
     wave.push(5, Value::One).expect(&rt, "room");
     wave.push(9, Value::One).expect(&rt, "room");
-    let changes = [change(0, Value::Zero), change(5, Value::One)];
-    assert_eq!(rt; wave.changes(), changes.as_slice());
+    check_changes(&rt, &wave, &[(0, Value::Zero), (5, Value::One)]);
     drop(wave);
+}
+
+/// The timeline with the values of another one from a moment to another.
+fn spliced<V: Sample>(
+    rt: &impl Abort,
+    line: Timeline<V>,
+    from: u64,
+    to: u64,
+    other: &Timeline<V>,
+) -> Timeline<V>
+    requires order { from ≤ to }
+    requires within { to < 1000 }
+{
+    let mut line = line;
+    line.splice(from, to, other).expect(rt, "room");
+    line
+}
+
+/// The wave `0 0 / 5 1`.
+fn rise(rt: &impl Abort, alloc: Global) -> Wave {
+    let mut wave = Wave::open(alloc, Value::Zero).expect(rt, "room");
+    wave.push(5, Value::One).expect(rt, "room");
+    wave
 }
 
 #[test]
 fn waves_are_spliced(rt: HostRuntime) {
     let unknown = Wave::open(rt.alloc(), Value::Unknown).expect(&rt, "room");
-    let mut wave = Wave::open(rt.alloc(), Value::Zero).expect(&rt, "room");
-    wave.push(5, Value::One).expect(&rt, "room");
-    wave.splice(3, 6, &unknown).expect(&rt, "room");
-    let changes = [
-        change(0, Value::Zero),
-        change(3, Value::Unknown),
-        change(7, Value::One),
-    ];
-    assert_eq!(rt; wave.changes(), changes.as_slice());
-
+    let wave = spliced(&rt, rise(&rt, rt.alloc()), 3, 6, &unknown);
+    let changes = [(0, Value::Zero), (3, Value::Unknown), (7, Value::One)];
+    check_changes(&rt, &wave, &changes);
     drop(wave);
-    // From 0 on, over changes of its own, up to a moment after which the old value is the same.
-    let mut wave = pulse(&rt, rt.alloc());
-    let mut other = Wave::open(rt.alloc(), Value::HighZ).expect(&rt, "room");
-    other.push(6, Value::One).expect(&rt, "room");
-    other.push(15, Value::Zero).expect(&rt, "room");
-    wave.splice(0, 13, &other).expect(&rt, "room");
-    let changes = [
-        change(0, Value::HighZ),
-        change(6, Value::One),
-        change(16, Value::Zero),
-    ];
-    assert_eq!(rt; wave.changes(), changes.as_slice());
     drop(unknown);
+}
+
+/// The wave `0 z / 6 1 / 15 0`.
+fn late_rise(rt: &impl Abort, alloc: Global) -> Wave {
+    let mut wave = Wave::open(alloc, Value::HighZ).expect(rt, "room");
+    wave.push(6, Value::One).expect(rt, "room");
+    wave.push(15, Value::Zero).expect(rt, "room");
+    wave
+}
+
+// From 0 on, over changes of its own, up to a moment after which the old value is the same.
+#[test]
+fn waves_are_spliced_over_changes_of_their_own(rt: HostRuntime) {
+    let other = late_rise(&rt, rt.alloc());
+    let wave = spliced(&rt, pulse(&rt, rt.alloc()), 0, 13, &other);
+    let changes = [(0, Value::HighZ), (6, Value::One), (16, Value::Zero)];
+    check_changes(&rt, &wave, &changes);
     drop(wave);
     drop(other);
 }
@@ -149,46 +218,67 @@ pub fn moving(value: Value, next: Value, time: u64) -> Driver
     }
 }
 
+/// A driver of x that falls at 3 and rises at 12: the fall is stored with the first entry, the rise is scheduled at 7.
+fn fall_and_rise(rt: &impl Abort, alloc: Global) -> Trace {
+    let falling = moving(Value::Unknown, Value::Zero, 3);
+    let mut trace = Trace::open(alloc, falling).expect(rt, "room");
+    trace.push(3, standing(Value::Zero)).expect(rt, "room");
+    let rising = moving(Value::Zero, Value::One, 12);
+    trace.push(7, rising).expect(rt, "room");
+    trace
+}
+
+/// Its state at moments, and what the entries around them are.
+fn check_states(rt: &impl Abort, trace: &Trace) {
+    let falling = moving(Value::Unknown, Value::Zero, 3);
+    let rising = moving(Value::Zero, Value::One, 12);
+    let low = standing(Value::Zero);
+    equal(rt, "state at", state_at(trace, 2), falling);
+    for (t, state) in [(3, low), (6, low), (11, rising), (12, standing(Value::One))] {
+        equal(rt, t, trace.at(t), state);
+    }
+    equal(rt, "next after", trace.next_after(0), Some((7, rising)));
+    equal(rt, "last before", trace.last_before(7), Some((0, falling)));
+    equal(rt, "next value", trace.next_value(0, low), None);
+}
+
 #[test]
 fn a_due_event_has_no_entry(rt: HostRuntime) {
     let falling = moving(Value::Unknown, Value::Zero, 3);
-    let low = standing(Value::Zero);
-    let rising = moving(Value::Zero, Value::One, 12);
-    let mut trace = Trace::open(rt.alloc(), falling).expect(&rt, "room");
-    trace.push(3, low).expect(&rt, "room");
-    trace.push(7, rising).expect(&rt, "room");
-    assert_eq!(rt;
-        trace.entries(),
-        [TraceEntry::new(0, falling), TraceEntry::new(7, rising)].as_slice()
-    );
-    assert_eq!(rt; state_at(&trace, 2), falling);
-    assert_eq!(rt; trace.at(3), low);
-    assert_eq!(rt; trace.at(6), low);
-    assert_eq!(rt; trace.at(11), rising);
-    assert_eq!(rt; trace.at(12), standing(Value::One));
-    assert_eq!(rt; trace.next_after(0), Some((7, rising)));
-    assert_eq!(rt; trace.last_before(7), Some((0, falling)));
-    assert_eq!(rt; trace.next_value(0, low), None);
-    let entry = TraceEntry::new(7, rising);
-    assert_eq!(rt; entry.time(), 7);
-    assert_eq!(rt; entry.state(), rising);
+    let mut trace = fall_and_rise(&rt, rt.alloc());
+    let entries = [(0, falling), (7, moving(Value::Zero, Value::One, 12))];
+    check_entries(&rt, &trace, &entries);
+    check_states(&rt, &trace);
     trace.cut(6);
-    assert_eq!(rt; trace.last(), (0, falling));
+    equal(&rt, "last", trace.last(), (0, falling));
     drop(trace);
+}
+
+#[test]
+fn an_entry_has_its_moment_and_its_state(rt: HostRuntime) {
+    let rising = moving(Value::Zero, Value::One, 12);
+    let entry = TraceEntry::new(7, rising);
+    equal(&rt, "time", entry.time(), 7);
+    equal(&rt, "state", entry.state(), rising);
 }
 
 #[test]
 fn a_spliced_trace_takes_over_what_is_pending(rt: HostRuntime) {
     let rising = moving(Value::Zero, Value::One, 12);
-    let mut trace = Trace::open(rt.alloc(), standing(Value::Unknown)).expect(&rt, "room");
+    let unknown = standing(Value::Unknown);
     let other = Trace::open(rt.alloc(), rising).expect(&rt, "room");
-    trace.splice(4, 20, &other).expect(&rt, "room");
-    assert_eq!(rt; trace.at(3), standing(Value::Unknown));
-    assert_eq!(rt; trace.at(4), rising);
-    assert_eq!(rt; trace.at(12), standing(Value::One));
-    assert_eq!(rt; trace.at(20), standing(Value::One));
-    assert_eq!(rt; trace.at(21), standing(Value::Unknown));
-    assert_eq!(rt; trace.entries().len(), 3);
+    let trace = Trace::open(rt.alloc(), unknown).expect(&rt, "room");
+    let trace = spliced(&rt, trace, 4, 20, &other);
+    for (t, state) in [
+        (3, unknown),
+        (4, rising),
+        (12, standing(Value::One)),
+        (20, standing(Value::One)),
+        (21, unknown),
+    ] {
+        equal(&rt, t, trace.at(t), state);
+    }
+    equal(&rt, "number of entries", trace.entries().len(), 3);
     drop(trace);
     drop(other);
 }
@@ -223,21 +313,31 @@ fn driven_under(run: &Run, key: usize) -> Option<Value> {
 }
 
 fn check_whole(rt: &impl Abort, run: &Run) {
-    assert_eq!(rt; value_under(run, 300), Some(Value::One));
-    assert_eq!(rt; value_under(run, 2), Some(Value::HighZ));
-    assert_eq!(rt; value_under(run, 0), None);
-    assert_eq!(rt; value_under(run, 3), None);
-    assert_eq!(rt; value_under(run, 1_000), None);
-    assert_eq!(rt; driven_under(run, 300), Some(Value::Unknown));
-    assert_eq!(rt; driven_under(run, 2), None);
-    assert_eq!(rt; run.horizon(), 20);
+    equal(
+        rt,
+        "wave under 300",
+        value_under(run, 300),
+        Some(Value::One),
+    );
+    equal(rt, "wave under 2", value_under(run, 2), Some(Value::HighZ));
+    equal(rt, "wave under 0", value_under(run, 0), None);
+    equal(rt, "wave under 3", value_under(run, 3), None);
+    equal(rt, "wave under 1_000", value_under(run, 1_000), None);
+    equal(
+        rt,
+        "trace under 300",
+        driven_under(run, 300),
+        Some(Value::Unknown),
+    );
+    equal(rt, "trace under 2", driven_under(run, 2), None);
+    equal(rt, "horizon", run.horizon(), 20);
 }
 
 #[test]
 fn a_run_keeps_waves_and_traces_by_key(rt: HostRuntime) {
     let empty = Run::new(rt.alloc(), 20);
-    assert_eq!(rt; value_under(&empty, 0), None);
-    assert_eq!(rt; driven_under(&empty, 0), None);
+    equal(&rt, "wave under 0", value_under(&empty, 0), None);
+    equal(&rt, "trace under 0", driven_under(&empty, 0), None);
     drop(empty);
     let run = run_by_keys(&rt, rt.alloc());
     check_whole(&rt, &run);
@@ -256,11 +356,16 @@ fn what_changes_in_a_copy_of_a_run_stays_in_it(rt: HostRuntime) {
     copy.clear_trace(300).expect(&rt, "room");
     copy.set_horizon(30);
     check_whole(&rt, &run);
-    assert_eq!(rt; value_under(&copy, 2), Some(Value::One));
-    assert_eq!(rt; value_under(&copy, 300), None);
-    assert_eq!(rt; driven_under(&copy, 2), Some(Value::Unknown));
-    assert_eq!(rt; driven_under(&copy, 300), None);
-    assert_eq!(rt; copy.horizon(), 30);
+    equal(&rt, "wave under 2", value_under(&copy, 2), Some(Value::One));
+    equal(&rt, "wave under 300", value_under(&copy, 300), None);
+    equal(
+        &rt,
+        "trace under 2",
+        driven_under(&copy, 2),
+        Some(Value::Unknown),
+    );
+    equal(&rt, "trace under 300", driven_under(&copy, 300), None);
+    equal(&rt, "horizon", copy.horizon(), 30);
     drop(copy);
     check_whole(&rt, &run);
     drop(run);

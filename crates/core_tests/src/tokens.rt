@@ -1,5 +1,6 @@
 //! Texts written out by hand.
 
+use crate::compare::equal;
 use fourstate::{Magnitude, TimeUnit, Unit, Value};
 use lexing::{MAX_TEXT, Shape, constant_value, line, number_value, timescale, tokens};
 use std::alloc::Global;
@@ -12,10 +13,10 @@ fn check(rt: &impl Abort, alloc: Global, case: Case<'_>) {
     let (text, want) = case;
     assert!(rt; text.len() <= MAX_TEXT);
     let found = tokens(alloc, text).expect(rt, "room");
-    assert_eq!(rt; found.len(), want.len(), "{text:?}");
+    equal(rt, text, found.len(), want.len());
     for (token, (shape, bytes)) in found.iter().zip(want.iter()) {
-        assert_eq!(rt; token.shape, *shape, "{text:?}");
-        assert_eq!(rt; token.bytes(text), *bytes, "{text:?}");
+        equal(rt, text, token.shape, *shape);
+        equal(rt, text, token.bytes(text), *bytes);
     }
 }
 
@@ -188,7 +189,7 @@ fn directives(rt: HostRuntime) {
     check_all(&rt, rt.alloc(), &DIRECTIVES);
     for (text, want) in UNITS {
         let want = want.map(|(magnitude, unit)| TimeUnit { magnitude, unit });
-        assert_eq!(&rt; timescale(text), want, "{text:?}");
+        equal(&rt, text, timescale(text), want);
     }
 }
 
@@ -210,10 +211,10 @@ const CONSTANTS: [(&[u8], Value); 4] = [
 #[test]
 fn numbers_and_constants(rt: HostRuntime) {
     for (text, want) in NUMBERS {
-        assert_eq!(&rt; number_value(text), want);
+        equal(&rt, text, number_value(text), want);
     }
     for (text, want) in CONSTANTS {
-        assert_eq!(&rt; constant_value(text), want);
+        equal(&rt, text, constant_value(text), want);
     }
 }
 
@@ -221,9 +222,9 @@ fn numbers_and_constants(rt: HostRuntime) {
 fn names_are_plain_or_escaped(rt: HostRuntime) {
     let text = b"n1 \\n1 ";
     let found = tokens(rt.alloc(), text).expect(&rt, "room");
-    assert_eq!(&rt; found.len(), 2);
+    equal(&rt, "number of tokens", found.len(), 2);
     for token in &found {
-        assert_eq!(&rt; token.name(text), b"n1".as_slice());
+        equal(&rt, "name", token.name(text), b"n1".as_slice());
     }
 }
 
@@ -232,7 +233,7 @@ fn lines(rt: HostRuntime) {
     let text = b"a\n/* \r\n */ b\n".as_slice();
     for (place, want) in [(0, 1), (1, 1), (2, 2), (11, 3), (13, 4)] {
         assert!(&rt; place <= text.len());
-        assert_eq!(&rt; line(text, place), want, "{place}");
+        equal(&rt, place, line(text, place), want);
     }
 }
 

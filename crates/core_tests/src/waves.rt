@@ -1,5 +1,6 @@
 //! Waves as texts.
 
+use crate::compare::equal;
 use design::Design;
 use scratch::wave_named;
 use std::alloc::Global;
@@ -29,6 +30,8 @@ pub fn check_waves(
 ) {
     for (net, wanted) in waves {
         let wave = wave_named(design, run, net).expect(rt, "a net of this name");
-        assert_eq!(rt; text_of(rt, alloc, wave).as_str(), *wanted, "{net}");
+        let text = text_of(rt, alloc, wave);
+        equal(rt, *net, text.as_str(), *wanted);
+        drop(text);
     }
 }

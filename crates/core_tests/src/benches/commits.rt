@@ -1,6 +1,7 @@
 //! What commits do, and what refused ones leave.
 
-use super::opened::{check, commit, open};
+use super::opened::{check, check_commit, open};
+use crate::compare::equal;
 use crate::waves::Named;
 use bench::{Bench, CommitFault};
 use edits::EditFault;
@@ -26,7 +27,7 @@ fn check_case(rt: &impl Abort, alloc: Global, case: Case<'_>) {
     let (lines, before, edits, after) = case;
     let mut bench = open(rt, alloc, lines);
     check_each(rt, alloc, &bench, before);
-    assert_eq!(rt; commit(rt, alloc, &mut bench, edits), Ok(1));
+    check_commit(rt, alloc, &mut bench, edits, Ok(1));
     check_each(rt, alloc, &bench, after);
     drop(bench);
 }
@@ -101,9 +102,9 @@ const BUFFER: [&str; 4] = ["input a", "net y wire", "gate g buf 3 3 y a", "horiz
 
 /// Three commits, which let a short pulse come to the buffer.
 fn send_pulse<S: Stepper + Drop>(rt: &impl Abort, alloc: Global, bench: &mut Bench<S>) {
-    assert_eq!(rt; commit(rt, alloc, bench, &["stim a 0 0"]), Ok(1));
-    assert_eq!(rt; commit(rt, alloc, bench, &["stim a 10 1"]), Ok(2));
-    assert_eq!(rt; commit(rt, alloc, bench, &["stim a 12 0"]), Ok(3));
+    check_commit(rt, alloc, bench, &["stim a 0 0"], Ok(1));
+    check_commit(rt, alloc, bench, &["stim a 10 1"], Ok(2));
+    check_commit(rt, alloc, bench, &["stim a 12 0"], Ok(3));
 }
 
 const THIRD_REFUSED: [&str; 5] = [
@@ -120,23 +121,20 @@ fn refused_edit(rt: HostRuntime) {
     send_pulse(&rt, rt.alloc(), &mut bench);
     check(&rt, rt.alloc(), &bench, "y", " 0:x 3:0");
     let refused = Err(CommitFault::Edit(2, EditFault::ZeroDelay));
-    assert_eq!(rt;
-        commit(&rt, rt.alloc(), &mut bench, &THIRD_REFUSED),
-        refused
-    );
+    check_commit(&rt, rt.alloc(), &mut bench, &THIRD_REFUSED, refused);
     check(&rt, rt.alloc(), &bench, "y", " 0:x 3:0");
     check(&rt, rt.alloc(), &bench, "a", " 0:0 10:1 12:0");
-    assert_eq!(rt; bench.snapshot().version(), 3);
-    assert_eq!(rt; bench.snapshot().horizon(), 30);
+    equal(&rt, "version", bench.snapshot().version(), 3);
+    equal(&rt, "horizon", bench.snapshot().horizon(), 30);
     drop(bench);
 }
 
 #[test]
 fn no_edits(rt: HostRuntime) {
     let mut bench = open(&rt, rt.alloc(), &ONE_BUFFER);
-    assert_eq!(rt; bench.snapshot().version(), 0);
-    assert_eq!(rt; commit(&rt, rt.alloc(), &mut bench, &[]), Ok(1));
-    assert_eq!(rt; bench.snapshot().version(), 1);
+    equal(&rt, "version", bench.snapshot().version(), 0);
+    check_commit(&rt, rt.alloc(), &mut bench, &[], Ok(1));
+    equal(&rt, "version", bench.snapshot().version(), 1);
     check(&rt, rt.alloc(), &bench, "y", " 0:x 5:0");
     drop(bench);
 }
@@ -153,5 +151,5 @@ fn no_such_net(rt: HostRuntime) {
 fn texts_of_faults(rt: HostRuntime) {
     let fault = CommitFault::Edit(2, EditFault::ZeroDelay);
     let text = format!(in rt.alloc(); "{fault}").expect(&rt, "a text");
-    assert_eq!(rt; text.as_str(), "edit 2: zero delay");
+    equal(&rt, "text", text.as_str(), "edit 2: zero delay");
 }

@@ -1,6 +1,7 @@
 //! Cursors, moved by hand.
 
 use super::opened::open;
+use crate::compare::equal;
 use bench::{Bench, Cursor};
 use fourstate::Value;
 use gatestep::Serial;
@@ -23,33 +24,48 @@ fn change(time: u64, value: Value) -> Option<Change> {
 }
 
 fn stand(rt: &impl Abort, cursor: &Cursor<'_>, time: u64, value: Value) {
-    assert_eq!(rt; cursor.time(), time);
-    assert_eq!(rt; cursor.value(), value);
+    equal(rt, "time", cursor.time(), time);
+    equal(rt, "value", cursor.value(), value);
 }
 
 // y changes to x at 0, to 0 at 3, to 1 at 13 and to 0 at 16.
 fn go_on(rt: &impl Abort, cursor: &mut Cursor<'_>) {
     stand(rt, cursor, 0, Value::Unknown);
-    assert_eq!(rt; cursor.next(), change(3, Value::Zero));
+    equal(rt, "change behind", cursor.next(), change(3, Value::Zero));
     stand(rt, cursor, 3, Value::Zero);
-    assert_eq!(rt; cursor.next(), change(13, Value::One));
-    assert_eq!(rt; cursor.next(), change(16, Value::Zero));
-    assert_eq!(rt; cursor.next(), None);
+    equal(rt, "change behind", cursor.next(), change(13, Value::One));
+    equal(rt, "change behind", cursor.next(), change(16, Value::Zero));
+    equal(rt, "change behind", cursor.next(), None);
     stand(rt, cursor, 16, Value::Zero);
 }
 
 fn go_back(rt: &impl Abort, cursor: &mut Cursor<'_>) {
-    assert_eq!(rt; cursor.prev(), change(13, Value::One));
-    assert_eq!(rt; cursor.prev(), change(3, Value::Zero));
-    assert_eq!(rt; cursor.prev(), change(0, Value::Unknown));
-    assert_eq!(rt; cursor.prev(), None);
+    equal(rt, "change before", cursor.prev(), change(13, Value::One));
+    equal(rt, "change before", cursor.prev(), change(3, Value::Zero));
+    equal(
+        rt,
+        "change before",
+        cursor.prev(),
+        change(0, Value::Unknown),
+    );
+    equal(rt, "change before", cursor.prev(), None);
     stand(rt, cursor, 0, Value::Unknown);
 }
 
 fn find(rt: &impl Abort, cursor: &mut Cursor<'_>) {
-    assert_eq!(rt; cursor.find(Value::Zero), change(3, Value::Zero));
-    assert_eq!(rt; cursor.find(Value::Zero), change(16, Value::Zero));
-    assert_eq!(rt; cursor.find(Value::One), None);
+    equal(
+        rt,
+        Value::Zero,
+        cursor.find(Value::Zero),
+        change(3, Value::Zero),
+    );
+    equal(
+        rt,
+        Value::Zero,
+        cursor.find(Value::Zero),
+        change(16, Value::Zero),
+    );
+    equal(rt, Value::One, cursor.find(Value::One), None);
     stand(rt, cursor, 16, Value::Zero);
 }
 
@@ -83,14 +99,19 @@ fn from_a_moment(rt: HostRuntime) {
 
 fn look_round(rt: &impl Abort, cursor: &mut Cursor<'_>) {
     stand_at(rt, cursor, 12);
-    assert_eq!(rt; cursor.value(), Value::Zero);
+    equal(rt, "value", cursor.value(), Value::Zero);
     stand_at(rt, cursor, 3);
-    assert_eq!(rt; cursor.prev(), change(0, Value::Unknown));
+    equal(
+        rt,
+        "change before",
+        cursor.prev(),
+        change(0, Value::Unknown),
+    );
     stand_at(rt, cursor, 16);
-    assert_eq!(rt; cursor.next(), None);
-    assert_eq!(rt; cursor.time(), 16);
+    equal(rt, "change behind", cursor.next(), None);
+    equal(rt, "time", cursor.time(), 16);
     stand_at(rt, cursor, 100);
-    assert_eq!(rt; cursor.prev(), change(16, Value::Zero));
+    equal(rt, "change before", cursor.prev(), change(16, Value::Zero));
 }
 
 #[test]

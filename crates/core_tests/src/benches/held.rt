@@ -1,6 +1,7 @@
 //! Snapshots that are held.
 
 use super::opened::{check, check_wave, commit, open};
+use crate::compare::equal;
 use bench::{Bench, Snapshot};
 use gatestep::{Serial, Stepper};
 use std::alloc::Global;
@@ -39,9 +40,9 @@ fn after_a_hundred_commits(rt: HostRuntime) {
     let mut bench = open(&rt, rt.alloc(), &BUFFER);
     let held = hold(&rt, &bench);
     commit_often(&rt, rt.alloc(), &mut bench);
-    assert_eq!(rt; bench.snapshot().version(), 100);
+    equal(&rt, "version", bench.snapshot().version(), 100);
     check(&rt, rt.alloc(), &bench, "y", " 0:x 1:1");
-    assert_eq!(rt; held.version(), 0);
+    equal(&rt, "version", held.version(), 0);
     check_wave(&rt, rt.alloc(), &held, "y", " 0:x 3:0");
     drop(bench);
     check_wave(&rt, rt.alloc(), &held, "a", " 0:0");
@@ -57,9 +58,19 @@ fn waves_by_place(rt: HostRuntime) {
 }
 
 fn check_places(rt: &impl Abort, snapshot: &Snapshot) {
-    assert_eq!(rt; snapshot.design().net_count(), 2);
-    assert_eq!(rt; snapshot.wave_at(0).changes().len(), 1);
-    assert_eq!(rt; snapshot.wave_at(1).changes().len(), 2);
+    assert!(rt; snapshot.design().net_count() == 2);
+    equal(
+        rt,
+        "number of changes",
+        snapshot.wave_at(0).changes().len(),
+        1,
+    );
+    equal(
+        rt,
+        "number of changes",
+        snapshot.wave_at(1).changes().len(),
+        2,
+    );
 }
 
 fn may_cross<T: Send>(value: T) -> T {
@@ -75,7 +86,7 @@ fn may_be_shared<T: Sync>(value: &T) -> &T {
 fn across_threads(rt: HostRuntime) {
     let bench: Bench<Serial> = may_cross(open(&rt, rt.alloc(), &BUFFER));
     let held = may_cross(hold(&rt, &bench));
-    assert_eq!(rt; may_be_shared(&held).version(), 0);
+    equal(&rt, "version", may_be_shared(&held).version(), 0);
     drop(held);
     drop(bench);
 }

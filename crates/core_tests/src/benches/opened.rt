@@ -1,5 +1,6 @@
 //! Benches of lines, and what their snapshots are asked.
 
+use crate::compare::equal;
 use crate::edit_lists::lines::{design_of, edits};
 use crate::waves::text_of;
 use bench::{Bench, CommitFault, Snapshot};
@@ -26,10 +27,23 @@ pub fn commit<S: Stepper + Drop>(
     reply
 }
 
+/// A commit of the edits of lines has this reply.
+pub fn check_commit<S: Stepper + Drop>(
+    rt: &impl Abort,
+    alloc: Global,
+    bench: &mut Bench<S>,
+    lines: &[&str],
+    wanted: Result<u64, CommitFault>,
+) {
+    equal(rt, lines, commit(rt, alloc, bench, lines), wanted);
+}
+
 /// The net of this name has this wave in the snapshot.
 pub fn check_wave(rt: &impl Abort, alloc: Global, snapshot: &Snapshot, net: &str, wanted: &str) {
     let wave = snapshot.wave(net).expect(rt, "a net of this name");
-    assert_eq!(rt; text_of(rt, alloc, wave).as_str(), wanted);
+    let text = text_of(rt, alloc, wave);
+    equal(rt, net, text.as_str(), wanted);
+    drop(text);
 }
 
 /// The net of this name has this wave now.

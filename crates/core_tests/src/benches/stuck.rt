@@ -3,7 +3,8 @@
 ghost use Rattle.gatestep.specs.Step.{advance};
 ghost use Rattle.gatestep.specs.StepLaws.{advance_current, advance_later, advance_near, advance_stays};
 
-use super::opened::{check, commit};
+use super::opened::{check, check_commit};
+use crate::compare::equal;
 use crate::edit_lists::lines::design_of;
 use bench::{Bench, CommitFault};
 use edits::EditFault;
@@ -62,16 +63,21 @@ fn open(rt: &impl Abort, alloc: Global, left: u32) -> Result<Bench<Losing>, Step
 
 #[test]
 fn at_the_opening(rt: HostRuntime) {
-    assert_eq!(rt; open(&rt, rt.alloc(), 0).err(), Some(StepFault::WorkerLost));
+    equal(
+        &rt,
+        "opening",
+        open(&rt, rt.alloc(), 0).err(),
+        Some(StepFault::WorkerLost),
+    );
 }
 
 #[test]
 fn at_a_commit(rt: HostRuntime) {
     let mut bench = open(&rt, rt.alloc(), 2).expect(&rt, "a bench");
-    assert_eq!(rt; commit(&rt, rt.alloc(), &mut bench, &["stim a 0 0"]), Ok(1));
-    let lost = commit(&rt, rt.alloc(), &mut bench, &["unstim a 0"]);
-    assert_eq!(rt; lost, Err(CommitFault::WorkerLost));
-    assert_eq!(rt; bench.snapshot().version(), 1);
+    check_commit(&rt, rt.alloc(), &mut bench, &["stim a 0 0"], Ok(1));
+    let lost = Err(CommitFault::WorkerLost);
+    check_commit(&rt, rt.alloc(), &mut bench, &["unstim a 0"], lost);
+    equal(&rt, "version", bench.snapshot().version(), 1);
     check(&rt, rt.alloc(), &bench, "a", " 0:0");
     drop(bench);
 }
@@ -80,9 +86,14 @@ fn at_a_commit(rt: HostRuntime) {
 #[test]
 fn behind_a_refused_edit(rt: HostRuntime) {
     let mut bench = open(&rt, rt.alloc(), 2).expect(&rt, "a bench");
-    let refused = commit(&rt, rt.alloc(), &mut bench, &["stim a 0 0", "drop h"]);
-    let unknown = CommitFault::Edit(1, EditFault::UnknownGate);
-    assert_eq!(rt; refused, Err(unknown));
-    assert_eq!(rt; commit(&rt, rt.alloc(), &mut bench, &["stim a 0 0"]), Ok(1));
+    let unknown = Err(CommitFault::Edit(1, EditFault::UnknownGate));
+    check_commit(
+        &rt,
+        rt.alloc(),
+        &mut bench,
+        &["stim a 0 0", "drop h"],
+        unknown,
+    );
+    check_commit(&rt, rt.alloc(), &mut bench, &["stim a 0 0"], Ok(1));
     drop(bench);
 }

@@ -8,6 +8,7 @@ use super::{
     check_no_gate, check_no_net, check_points, check_stimulus, copy_of, empty, net_driven, net_key,
     nets_read, set_point,
 };
+use crate::compare::equal;
 use design::{Design, GateKey, NetKey, Terminal};
 use fourstate::{Delays, GateKind, NetKind, Value, delay, fits};
 use std::alloc::Global;
@@ -81,13 +82,18 @@ fn close_up(rt: &impl Abort, design: Design) -> Design {
 
 fn check_used(rt: &impl Abort, design: &Design, net: NetKey, used: bool) {
     assert!(rt; design.net_place_of(net).is_some());
-    assert_eq!(rt; design.is_used(net), used);
+    equal(rt, "is used", design.is_used(net), used);
 }
 
 fn check_kind_and_fall(rt: &impl Abort, design: &Design, gate: GateKey, kind: GateKind, fall: u32) {
     assert!(rt; design.gate_place_of(gate).is_some());
-    assert_eq!(rt; design.gate_of(gate).kind(), kind);
-    assert_eq!(rt; delay(&design.gate_of(gate).delays(), Value::Zero), fall);
+    equal(rt, "kind", design.gate_of(gate).kind(), kind);
+    equal(
+        rt,
+        "delay",
+        delay(&design.gate_of(gate).delays(), Value::Zero),
+        fall,
+    );
 }
 
 #[test]

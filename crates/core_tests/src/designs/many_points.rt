@@ -2,6 +2,7 @@
 
 use super::changes::remove_point;
 use super::{add_input, check_stimulus, copy_of, empty, set_point};
+use crate::compare::equal;
 use design::{Design, NetKey};
 use fourstate::Value;
 use std::process::Abort;
@@ -37,20 +38,20 @@ fn thinned(rt: &impl Abort, mut design: Design, net: NetKey, count: u64) -> Desi
 fn check_set(rt: &impl Abort, design: &Design, net: NetKey, points: &[(u64, bool)]) {
     assert!(rt; design.net_place_of(net).is_some());
     for (t, is_set) in points {
-        assert_eq!(rt; design.has_point(net, *t), *is_set, "at {t}");
+        equal(rt, t, design.has_point(net, *t), *is_set);
     }
 }
 
 fn check_count(rt: &impl Abort, design: &Design, net: NetKey, count: usize) {
     assert!(rt; design.net_place_of(net).is_some());
-    assert_eq!(rt; design.net_of(net).point_count(), count);
-    assert_eq!(rt; design.point_count(), count);
+    equal(rt, "point count", design.net_of(net).point_count(), count);
+    equal(rt, "point count", design.point_count(), count);
 }
 
 fn check_next(rt: &impl Abort, design: &Design, net: NetKey, next: &[(u64, Option<u64>)]) {
     assert!(rt; design.net_place_of(net).is_some());
     for (t, wanted) in next {
-        assert_eq!(rt; design.net_of(net).next_point(*t), *wanted, "after {t}");
+        equal(rt, t, design.net_of(net).next_point(*t), *wanted);
     }
 }
 

@@ -1,9 +1,9 @@
 //! Random lists of edits, and the same edits of plain vectors.
 
-ghost use Rattle.std.specs.Prelude.{◌<◌};
-
 use super::changes::{remove_gate, remove_net, rewire};
 use super::{add_gate, empty, gate, name, nets_read, put_net};
+use crate::compare::equal;
+use crate::dice::Dice;
 use design::{Design, GateKey, Name, NetKey};
 use fourstate::GateKind;
 use std::alloc::Global;
@@ -12,23 +12,6 @@ use std::process::Abort;
 const NETS: [&str; 5] = ["a", "b", "c", "d", "e"];
 
 const GATES: [&str; 5] = ["g", "h", "i", "j", "k"];
-
-/// Numbers in a fixed order that looks like none.
-#[derive(Drop)]
-struct Dice(u64);
-
-impl Dice {
-    fn below(&mut self, n: u64) -> u64
-        requires { 0 < n }
-        ensures { result < n }
-    {
-        self.0 = self
-            .0
-            .wrapping_mul(6_364_136_223_846_793_005)
-            .wrapping_add(1_442_695_040_888_963_407);
-        (self.0 >> 33) % n
-    }
-}
 
 /// A gate by name: its output and its two inputs.
 #[derive(Clone, Copy, Debug, PartialEq, Eq)]
@@ -105,7 +88,7 @@ fn net_step(
     }
     let net = design.net(text).expect(rt, "a net of this name");
     assert!(rt; design.net_place_of(net).is_some());
-    assert_eq!(rt; design.is_used(net), plain.uses(text));
+    equal(rt, "is used", design.is_used(net), plain.uses(text));
     if plain.uses(text) {
         return Step::Nothing;
     }
@@ -189,25 +172,42 @@ fn keys(
     keys
 }
 
+/// The net at a place, and the gates that read it and drive it.
+fn check_net(
+    rt: &impl Abort,
+    alloc: Global,
+    design: &Design,
+    plain: &Plain,
+    place: usize,
+    name: &str,
+) {
+    equal(rt, name, design.net_place(name), Some(place));
+    let net = design.net(name).expect(rt, "a net of this name");
+    assert!(rt; design.net_place_of(net).is_some());
+    let readers = keys(rt, alloc, design, plain, name, false);
+    equal(rt, name, design.fanout(net), readers.as_slice());
+    drop(readers);
+    let drivers = keys(rt, alloc, design, plain, name, true);
+    equal(rt, name, design.drivers(net), drivers.as_slice());
+    drop(drivers);
+}
+
+/// The gate at a place, and the net that it drives.
+fn check_gate(rt: &impl Abort, design: &Design, place: usize, gate: &PlainGate) {
+    equal(rt, gate.name, design.gate_place(gate.name), Some(place));
+    assert!(rt; place < design.gate_count());
+    let output = design.gate_at(place).output();
+    equal(rt, gate.name, Some(output), design.net(gate.output));
+}
+
 fn compare(rt: &impl Abort, alloc: Global, design: &Design, plain: &Plain) {
-    assert_eq!(rt; design.net_count(), plain.nets.len());
-    assert_eq!(rt; design.gate_count(), plain.gates.len());
+    equal(rt, "net count", design.net_count(), plain.nets.len());
+    equal(rt, "gate count", design.gate_count(), plain.gates.len());
     for (place, name) in plain.nets.iter().enumerate() {
-        assert_eq!(rt; design.net_place(name), Some(place));
-        let net = design.net(name).expect(rt, "a net of this name");
-        assert!(rt; design.net_place_of(net).is_some());
-        let readers = keys(rt, alloc, design, plain, name, false);
-        assert_eq!(rt; design.fanout(net), readers.as_slice());
-        let drivers = keys(rt, alloc, design, plain, name, true);
-        assert_eq!(rt; design.drivers(net), drivers.as_slice());
+        check_net(rt, alloc, design, plain, place, name);
     }
     for (place, gate) in plain.gates.iter().enumerate() {
-        assert_eq!(rt; design.gate_place(gate.name), Some(place));
-        assert!(rt; place < design.gate_count());
-        assert_eq!(rt;
-            Some(design.gate_at(place).output()),
-            design.net(gate.output)
-        );
+        check_gate(rt, design, place, gate);
     }
 }
 

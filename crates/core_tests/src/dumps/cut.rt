@@ -2,6 +2,7 @@
 
 use super::texts::{BUFFER, BUFFER_DUMP};
 use crate::benches::opened::open;
+use crate::compare::equal;
 use bench::Snapshot;
 use devices::Device;
 use devices::faulty::{Failing, Pieces};
@@ -18,11 +19,21 @@ fn check_cut(rt: &impl Abort, alloc: Global, snapshot: &Snapshot, text: &[u8], p
         Err(VcdFault::Write(place as u64))
     };
     let mut device = Device::new(Failing::new(Vec::new(alloc), place));
-    assert_eq!(rt; write(snapshot, &mut device), wanted);
-    assert_eq!(rt; device.inner.inner.as_slice(), &text[..place]);
+    equal(rt, "write", write(snapshot, &mut device), wanted);
+    equal(
+        rt,
+        "bytes that arrived",
+        device.inner.inner.as_slice(),
+        &text[..place],
+    );
     let mut device = Device::new(Pieces::new(Failing::new(Vec::new(alloc), place), 1));
-    assert_eq!(rt; write(snapshot, &mut device), wanted);
-    assert_eq!(rt; device.inner.inner.inner.as_slice(), &text[..place]);
+    equal(rt, "write", write(snapshot, &mut device), wanted);
+    equal(
+        rt,
+        "bytes that arrived",
+        device.inner.inner.inner.as_slice(),
+        &text[..place],
+    );
 }
 
 #[test]
@@ -38,13 +49,17 @@ fn a_writer_that_fails_at_each_byte(rt: HostRuntime) {
 fn a_writer_that_fails_after_17_bytes(rt: HostRuntime) {
     let bench = open(&rt, rt.alloc(), &BUFFER);
     let mut device = Device::new(Failing::new(Vec::new(rt.alloc()), 17));
-    assert_eq!(rt;
+    equal(
+        &rt,
+        "write",
         write(bench.snapshot(), &mut device),
-        Err(VcdFault::Write(17))
+        Err(VcdFault::Write(17)),
     );
-    assert_eq!(rt;
+    equal(
+        &rt,
+        "bytes that arrived",
         device.inner.inner.as_slice(),
-        b"$version gatebenc".as_slice()
+        b"$version gatebenc".as_slice(),
     );
     drop(bench);
 }

@@ -1,6 +1,7 @@
 //! Dumps of many nets.
 
 use crate::benches::opened::open;
+use crate::compare::equal;
 use bench::{Bench, Snapshot};
 use devices::Device;
 use edits::{Edit, Word};
@@ -46,24 +47,22 @@ pub fn times(rt: &impl Abort, text: &[u8], part: &[u8]) -> usize {
     text.windows(part.len()).filter(|w| *w == part).count()
 }
 
-/// How often a text stands in the dump of a snapshot.
-fn times_in_dump(rt: &impl Abort, alloc: Global, snapshot: &Snapshot, part: &[u8]) -> usize {
+/// A text stands so often in the dump of a snapshot.
+fn check_times(rt: &impl Abort, alloc: Global, snapshot: &Snapshot, part: &[u8], count: usize) {
     let mut device = Device::new(Vec::new(alloc));
-    assert_eq!(rt; write(snapshot, &mut device), Ok(()));
-    times(rt, device.inner.as_slice(), part)
+    equal(rt, "write", write(snapshot, &mut device), Ok(()));
+    equal(rt, part, times(rt, device.inner.as_slice(), part), count);
+    drop(device);
 }
 
 #[test]
 fn codes_of_95_nets(rt: HostRuntime) {
     let bench = nets(&rt, rt.alloc(), 95);
     let heads = b"$var wire 1 ~ n93 $end\n$var wire 1 !! n94 $end\n$upscope $end\n";
-    assert_eq!(rt; times_in_dump(&rt, rt.alloc(), bench.snapshot(), heads), 1);
+    check_times(&rt, rt.alloc(), bench.snapshot(), heads, 1);
     let values = b"z~\nz!!\n$end\n#5\n";
-    assert_eq!(rt; times_in_dump(&rt, rt.alloc(), bench.snapshot(), values), 1);
-    assert_eq!(rt;
-        times_in_dump(&rt, rt.alloc(), bench.snapshot(), b"\nz"),
-        95
-    );
+    check_times(&rt, rt.alloc(), bench.snapshot(), values, 1);
+    check_times(&rt, rt.alloc(), bench.snapshot(), b"\nz", 95);
     drop(bench);
 }
 
@@ -71,13 +70,10 @@ fn codes_of_95_nets(rt: HostRuntime) {
 fn codes_of_three_bytes(rt: HostRuntime) {
     let bench = nets(&rt, rt.alloc(), 8931);
     let heads = b"$var wire 1 ~~ n8929 $end\n$var wire 1 !!! n8930 $end\n$upscope $end\n";
-    assert_eq!(rt; times_in_dump(&rt, rt.alloc(), bench.snapshot(), heads), 1);
+    check_times(&rt, rt.alloc(), bench.snapshot(), heads, 1);
     let values = b"z~~\nz!!!\n$end\n#5\n";
-    assert_eq!(rt; times_in_dump(&rt, rt.alloc(), bench.snapshot(), values), 1);
-    assert_eq!(rt;
-        times_in_dump(&rt, rt.alloc(), bench.snapshot(), b"\nz"),
-        8931
-    );
+    check_times(&rt, rt.alloc(), bench.snapshot(), values, 1);
+    check_times(&rt, rt.alloc(), bench.snapshot(), b"\nz", 8931);
     drop(bench);
 }
 
@@ -110,6 +106,6 @@ fn inputs(rt: &impl Abort, alloc: Global) -> Bench<Serial> {
 fn changes_far_apart(rt: HostRuntime) {
     let bench = inputs(&rt, rt.alloc());
     let tail = b"\nx2#\n$end\n#5\n1!\n12#\n#7\n1d\"\n1e\"\n#9\n";
-    assert_eq!(rt; times_in_dump(&rt, rt.alloc(), bench.snapshot(), tail), 1);
+    check_times(&rt, rt.alloc(), bench.snapshot(), tail, 1);
     drop(bench);
 }

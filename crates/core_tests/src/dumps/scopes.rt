@@ -1,5 +1,6 @@
 //! What stands between names in scopes.
 
+use crate::compare::equal;
 use devices::faulty::Failing;
 use devices::{Device, Sink, Writer};
 use std::alloc::Global;
@@ -22,8 +23,8 @@ fn write_scopes<W: Sink>(sink: &mut W, names: &[&str]) -> Result<(), u64> {
 
 fn check(rt: &impl Abort, alloc: Global, names: &[&str], wanted: &[u8]) {
     let mut device = Device::new(Vec::new(alloc));
-    assert_eq!(rt; write_scopes(&mut device, names), Ok(()));
-    assert_eq!(rt; device.inner.as_slice(), wanted);
+    equal(rt, "write scopes", write_scopes(&mut device, names), Ok(()));
+    equal(rt, "bytes that arrived", device.inner.as_slice(), wanted);
 }
 
 const OPENED_AGAIN: &[u8] = b"$scope module u $end
@@ -42,8 +43,13 @@ fn a_writer_that_fails_at_each_byte(rt: HostRuntime) {
     for place in 0..OPENED_AGAIN.len() {
         let mut device = Device::new(Failing::new(Vec::new(rt.alloc()), place));
         let result = write_scopes(&mut device, &["u.a", "b", "u.c"]);
-        assert_eq!(rt; result, Err(place as u64));
-        assert_eq!(rt; device.inner.inner.as_slice(), &OPENED_AGAIN[..place]);
+        equal(&rt, place, result, Err(place as u64));
+        equal(
+            &rt,
+            "bytes that arrived",
+            device.inner.inner.as_slice(),
+            &OPENED_AGAIN[..place],
+        );
     }
 }
 

@@ -1,6 +1,7 @@
 //! Whole dumps.
 
 use crate::benches::opened::{commit, open};
+use crate::compare::equal;
 use crate::edit_lists::lines::empty;
 use bench::{Bench, Snapshot};
 use design::{Design, Name, NameHasher};
@@ -67,8 +68,8 @@ $end
 /// The dump of a snapshot is this text.
 fn check(rt: &impl Abort, alloc: Global, snapshot: &Snapshot, wanted: &[u8]) {
     let mut device = Device::new(Vec::new(alloc));
-    assert_eq!(rt; write(snapshot, &mut device), Ok(()));
-    assert_eq!(rt; device.inner.as_slice(), wanted);
+    equal(rt, "write", write(snapshot, &mut device), Ok(()));
+    equal(rt, "bytes that arrived", device.inner.as_slice(), wanted);
 }
 
 #[test]

@@ -1,5 +1,6 @@
 //! What accepted edits do.
 
+use crate::compare::equal;
 use crate::edit_lists::lines::{carried_out, design_of, edit, edits, empty};
 use crate::edit_lists::shown::show;
 use design::Design;
@@ -21,7 +22,7 @@ fn shown_with(rt: &impl Abort, alloc: Global, start: &Design, edits: &[Edit]) ->
 fn check_case(rt: &impl Abort, alloc: Global, start: &Design, lines: &[&str], want: &str) {
     let edits = edits(rt, alloc, lines);
     let text = shown_with(rt, alloc, start, &edits);
-    assert_eq!(rt; text.as_str(), want);
+    equal(rt, "text", text.as_str(), want);
     drop(edits);
 }
 
@@ -181,7 +182,7 @@ fn check_clone(rt: &impl Abort, alloc: Global, line: &str) {
     let copy = edit.try_clone().expect(rt, "a copy");
     let text = format!(in alloc; "{edit:?}").expect(rt, "its text");
     let same = format!(in alloc; "{copy:?}").expect(rt, "the text of the copy");
-    assert_eq!(rt; text.as_str(), same.as_str());
+    equal(rt, "text", text.as_str(), same.as_str());
     drop(edit);
     drop(copy);
 }
@@ -208,9 +209,9 @@ fn as_many_edits_as_may_be(rt: HostRuntime) {
     let list = full_list(&rt, rt.alloc());
     let start = empty(&rt, rt.alloc());
     let text = shown_with(&rt, rt.alloc(), &start, &list);
-    assert_eq!(rt; text.as_str(), "input a wire\nhorizon 4095\n");
+    equal(&rt, "text", text.as_str(), "input a wire\nhorizon 4095\n");
     let kept = show(&rt, rt.alloc(), &start);
-    assert_eq!(rt; kept.as_str(), "horizon 0\n");
+    equal(&rt, "what was given", kept.as_str(), "horizon 0\n");
     drop(start);
     drop(list);
 }

@@ -1,6 +1,7 @@
 //! What differs between two designs.
 
 use super::touched::{BUFFER, Case, check_gates, check_nets};
+use crate::compare::equal;
 use crate::edit_lists::lines::{design_of, edits};
 use design::Design;
 use edits::apply_all;
@@ -61,8 +62,8 @@ fn net_added_again(rt: HostRuntime) {
     let new = apply_all(alloc, &old, &edits).expect(&rt, "accepted edits");
     let touched = touched_between(alloc, &old, &new).expect(&rt, "the keys that differ");
     let differing = if old.net("u") == new.net("u") { 0 } else { 2 };
-    assert_eq!(&rt; touched.nets.len(), differing);
-    assert_eq!(&rt; touched.gates.len(), 0);
+    equal(&rt, "number of nets", touched.nets.len(), differing);
+    equal(&rt, "number of gates", touched.gates.len(), 0);
     drop(touched);
     drop(new);
     drop(edits);

@@ -1,5 +1,6 @@
 //! Edits and designs of tests, written as lines.
 
+use crate::compare::equal;
 use design::{Design, Name, NameHasher};
 use edits::{Edit, EditFault, Pin, Pins, Word, apply_all};
 use fourstate::{DelayTimes, GateKind, NetKind, TimeUnit, Value};
@@ -29,7 +30,7 @@ fn value(rt: &impl Abort, text: &str) -> Value {
         "1" => Value::One,
         "x" => Value::Unknown,
         _ => {
-            assert_eq!(rt; text, "z");
+            equal(rt, "text", text, "z");
             Value::HighZ
         }
     }
@@ -133,7 +134,7 @@ fn timed(rt: &impl Abort, words: &[&str], net: Word) -> Edit {
             time: number(rt, at(rt, words, 2)),
         },
         verb => {
-            assert_eq!(rt; verb, "horizon");
+            equal(rt, "verb", verb, "horizon");
             Edit::Horizon {
                 time: number(rt, at(rt, words, 1)),
             }

@@ -1,5 +1,6 @@
 //! Why edits are refused: each cause, and beside it an edit that is accepted.
 
+use crate::compare::equal;
 use crate::edit_lists::lines::{carried_out, design_of, edit, edits, outcome, refused};
 use crate::edit_lists::shown::show;
 use design::{Design, MAX_GATES, MAX_NETS, MAX_POINTS};
@@ -35,7 +36,7 @@ fn check_edit(
     want: Option<EditFault>,
 ) {
     let outcome = refused(rt, alloc, design, &[line]);
-    assert_eq!(rt; outcome, want.map(|fault| (0, fault)), "{line}");
+    equal(rt, line, outcome, want.map(|fault| (0, fault)));
 }
 
 /// Each edit of its own.
@@ -211,9 +212,9 @@ const LISTS: [(&[&str], Option<(usize, EditFault)>); 4] = [
 fn check_lists(rt: &impl Abort, alloc: Global, design: &Design) {
     let before = show(rt, alloc, design);
     for (lines, want) in LISTS {
-        assert_eq!(rt; refused(rt, alloc, design, lines), want);
+        equal(rt, lines, refused(rt, alloc, design, lines), want);
         let after = show(rt, alloc, design);
-        assert_eq!(rt; after.as_str(), before.as_str());
+        equal(rt, "design", after.as_str(), before.as_str());
     }
 }
 
@@ -252,7 +253,7 @@ const LONG_LISTS: [(u64, &str, u64, Option<(usize, EditFault)>); 4] = [
 fn check_long_lists(rt: &impl Abort, alloc: Global, design: &Design) {
     for (before, line, behind, want) in LONG_LISTS {
         let list = between(rt, alloc, before, line, behind);
-        assert_eq!(rt; outcome(alloc, design, &list), want);
+        equal(rt, line, outcome(alloc, design, &list), want);
         drop(list);
     }
 }
@@ -395,7 +396,7 @@ fn numbers_and_names(rt: HostRuntime) {
         (TooMany, 13, "TooMany"),
         (EditFault::OutOfMemory, 14, "OutOfMemory"),
     ] {
-        assert_eq!(rt; fault.code(), code);
-        assert_eq!(rt; fault.name(), name);
+        equal(&rt, name, fault.code(), code);
+        equal(&rt, code, fault.name(), name);
     }
 }

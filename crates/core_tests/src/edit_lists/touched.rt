@@ -1,5 +1,6 @@
 //! What lists of edits touch.
 
+use crate::compare::equal;
 use crate::edit_lists::lines::{design_of, edits};
 use design::{Design, GateKey, NetKey};
 use edits::apply_all_with_touched;
@@ -25,16 +26,16 @@ fn gate_of(rt: &impl Abort, old: &Design, new: &Design, word: &str) -> GateKey {
 }
 
 pub fn check_nets(rt: &impl Abort, old: &Design, new: &Design, nets: &[NetKey], want: &[&str]) {
-    assert_eq!(rt; nets.len(), want.len());
+    equal(rt, "number of nets", nets.len(), want.len());
     for (net, word) in nets.iter().zip(want) {
-        assert_eq!(rt; *net, net_of(rt, old, new, word), "{word}");
+        equal(rt, word, *net, net_of(rt, old, new, word));
     }
 }
 
 pub fn check_gates(rt: &impl Abort, old: &Design, new: &Design, gates: &[GateKey], want: &[&str]) {
-    assert_eq!(rt; gates.len(), want.len());
+    equal(rt, "number of gates", gates.len(), want.len());
     for (gate, word) in gates.iter().zip(want) {
-        assert_eq!(rt; *gate, gate_of(rt, old, new, word), "{word}");
+        equal(rt, word, *gate, gate_of(rt, old, new, word));
     }
 }
 
@@ -144,8 +145,8 @@ fn check_passing(rt: &impl Abort, alloc: Global, old: &Design) {
     let lines = ["net n wire", "gate h buf 1 1 n a", "drop h", "dropnet n"];
     let edits = edits(rt, alloc, &lines);
     let (new, touched) = apply_all_with_touched(alloc, old, &edits).expect(rt, "accepted edits");
-    assert_eq!(rt; touched.nets.len(), 4);
-    assert_eq!(rt; touched.gates.len(), 2);
+    equal(rt, "number of nets", touched.nets.len(), 4);
+    equal(rt, "number of gates", touched.gates.len(), 2);
     for net in &touched.nets {
         assert!(rt; new.net_place_of(*net).is_none());
     }

@@ -4,6 +4,7 @@ ghost use Rattle.std.specs.Prelude.{◌≡◌, ◌<◌, ◌≤◌};
 ghost use Rattle.gatestep.specs.Step.{advance};
 ghost use Rattle.parstep.specs.declared.limits.TheConstants.{MAX_WORKERS};
 
+use crate::compare::equal;
 use crate::dumps::many::times;
 use crate::edit_lists::lines::{design_of, edit};
 use bench::Bench;
@@ -61,7 +62,7 @@ fn dump<S: Stepper + Drop>(rt: &impl Abort, alloc: Global, wanted: Gates, steppe
         drop(edits);
     }
     let mut device = Device::new(Vec::new(alloc));
-    assert_eq!(rt; write(bench.snapshot(), &mut device), Ok(()));
+    equal(rt, "write", write(bench.snapshot(), &mut device), Ok(()));
     drop(bench);
     device.inner
 }
@@ -78,7 +79,7 @@ fn check_pool<R: Threads + Wait + Abort + Copy + Drop + Send + 'static>(
 {
     let pool = Pool::open(rt, alloc, workers, Quiet).expect(&rt, "a pool");
     let bytes = dump(&rt, alloc, gates, pool);
-    assert_eq!(&rt; bytes.as_slice(), wanted);
+    equal(&rt, "bytes", bytes.as_slice(), wanted);
 }
 
 /// All steppers give the bytes of `Serial`.
@@ -89,14 +90,19 @@ fn compare<R: Threads + Wait + Abort + Copy + Drop + Send + Sync + 'static>(
 ) -> Vec<u8> {
     let wanted = dump(&rt, alloc, gates, Serial::new());
     let bytes = dump(&rt, alloc, gates, Bulk::open(rt, alloc));
-    assert_eq!(&rt; bytes.as_slice(), wanted.as_slice());
+    equal(&rt, "bytes", bytes.as_slice(), wanted.as_slice());
     check_pool(rt, alloc, gates, 1, wanted.as_slice());
     check_pool(rt, alloc, gates, 2, wanted.as_slice());
     check_pool(rt, alloc, gates, 64, wanted.as_slice());
     let stepper = Adaptive::open(rt, alloc, 2, Quiet).expect(&rt, "a stepper");
     let bytes = dump(&rt, alloc, gates, stepper);
-    assert_eq!(&rt; bytes.as_slice(), wanted.as_slice());
+    equal(&rt, "bytes", bytes.as_slice(), wanted.as_slice());
     wanted
+}
+
+/// A part stands so often in a text.
+fn check_times(rt: &impl Abort, text: &[u8], part: &[u8], count: usize) {
+    equal(rt, part, times(rt, text, part), count);
 }
 
 // The codes of the input and of the first and last nets are `!`, `"` and `~`, those of the two last nets `~` and `!!`.
@@ -108,17 +114,15 @@ fn ninety_five_nets_that_move(rt: HostRuntime) {
     };
     let bytes = compare(rt, rt.alloc(), gates);
     let text = bytes.as_slice();
-    assert_eq!(rt;
-        times(
-            &rt,
-            text,
-            b"$var wire 1 ~ y92 $end\n$var wire 1 !! y93 $end\n"
-        ),
-        1
+    check_times(
+        &rt,
+        text,
+        b"$var wire 1 ~ y92 $end\n$var wire 1 !! y93 $end\n",
+        1,
     );
-    assert_eq!(rt; times(&rt, text, b"\n#1\n1\"\n#2\n1#\n#3\n1$\n"), 1);
-    assert_eq!(rt; times(&rt, text, b"\n#50\n1!\n1S\n#51\n0\"\n#52\n0#\n"), 1);
-    assert_eq!(rt; times(&rt, text, b"\n#100\n0S\n"), 1);
+    check_times(&rt, text, b"\n#1\n1\"\n#2\n1#\n#3\n1$\n", 1);
+    check_times(&rt, text, b"\n#50\n1!\n1S\n#51\n0\"\n#52\n0#\n", 1);
+    check_times(&rt, text, b"\n#100\n0S\n", 1);
     drop(bytes);
 }
 
@@ -131,9 +135,9 @@ fn gates_that_read_one_input(rt: HostRuntime) {
     };
     let bytes = compare(rt, rt.alloc(), gates);
     let text = bytes.as_slice();
-    assert_eq!(rt; times(&rt, text, b"\n1"), 4_097);
-    assert_eq!(rt; times(&rt, text, b"\n0"), 4_097);
-    assert_eq!(rt; times(&rt, text, b"\n#1\n1\"\n"), 1);
-    assert_eq!(rt; times(&rt, text, b"\n#50\n1!\n#51\n0\"\n"), 1);
+    check_times(&rt, text, b"\n1", 4_097);
+    check_times(&rt, text, b"\n0", 4_097);
+    check_times(&rt, text, b"\n#1\n1\"\n", 1);
+    check_times(&rt, text, b"\n#50\n1!\n#51\n0\"\n", 1);
     drop(bytes);
 }

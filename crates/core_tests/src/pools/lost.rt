@@ -1,7 +1,9 @@
 //! Workers that end.
 
 use super::probes::Ending;
-use super::tasks::{Dice, MOMENT, tasks};
+use super::tasks::{MOMENT, tasks};
+use crate::compare::equal;
+use crate::dice::Dice;
 use gatestep::{Driver, StepFault, Stepper};
 use parstep::Pool;
 use std::alloc::Global;
@@ -20,9 +22,14 @@ fn check<S: Stepper>(
 ) {
     let tasks = tasks(rt, alloc, &mut Dice(1), count);
     let mut answers: Vec<Driver> = Vec::new(alloc);
-    assert_eq!(rt; stepper.step(&tasks, MOMENT, &mut answers), wanted);
+    equal(
+        rt,
+        "step",
+        stepper.step(&tasks, MOMENT, &mut answers),
+        wanted,
+    );
     let expected = if wanted.is_ok() { count } else { 0 };
-    assert_eq!(rt; answers.len() as u64, expected);
+    equal(rt, "number of answers", answers.len() as u64, expected);
 }
 
 /// Two workers, of which the second ends at its next piece once the flag is set.

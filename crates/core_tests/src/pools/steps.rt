@@ -3,7 +3,9 @@
 ghost use Rattle.std.specs.Prelude.{◌<◌, ◌≤◌};
 ghost use Rattle.parstep.specs.declared.limits.TheConstants.{MAX_WORKERS};
 
-use super::tasks::{Dice, MOMENT, tasks};
+use super::tasks::{MOMENT, tasks};
+use crate::compare::equal;
+use crate::dice::Dice;
 use design::MAX_GATES;
 use gatestep::{Serial, Stepper};
 use parstep::{Adaptive, Bulk, LEAST_DEALT, Pool, Quiet};
@@ -22,11 +24,21 @@ fn compare<S: Stepper>(
 ) {
     let tasks = tasks(rt, alloc, dice, count);
     let mut wanted = Vec::new(alloc);
-    assert_eq!(rt; Serial::new().step(&tasks, MOMENT, &mut wanted), Ok(()));
+    equal(
+        rt,
+        "step",
+        Serial::new().step(&tasks, MOMENT, &mut wanted),
+        Ok(()),
+    );
     let mut answers = Vec::new(alloc);
-    assert_eq!(rt; stepper.step(&tasks, MOMENT, &mut answers), Ok(()));
-    assert_eq!(rt; answers.as_slice(), wanted.as_slice());
-    assert_eq!(rt; answers.len() as u64, count);
+    equal(
+        rt,
+        "step",
+        stepper.step(&tasks, MOMENT, &mut answers),
+        Ok(()),
+    );
+    equal(rt, "answers", answers.as_slice(), wanted.as_slice());
+    equal(rt, "number of answers", answers.len() as u64, count);
 }
 
 /// Steps of random sizes.

@@ -4,7 +4,9 @@ ghost use Rattle.std.specs.Prelude.{◌<◌, ◌≤◌};
 ghost use Rattle.parstep.specs.declared.limits.TheConstants.{MAX_WORKERS};
 
 use super::probes::{Behind, Together};
-use super::tasks::{Dice, MOMENT, tasks};
+use super::tasks::{MOMENT, tasks};
+use crate::compare::equal;
+use crate::dice::Dice;
 use crossbeam_channel::{Sender, bounded};
 use gatestep::{Serial, Stepper};
 use parstep::{Pool, Probe, Quiet};
@@ -25,10 +27,15 @@ fn step<
     let mut pool = Pool::open(rt, alloc, workers, probe).expect(&rt, "a pool");
     let tasks = tasks(&rt, alloc, &mut Dice(2), count);
     let mut wanted = Vec::new(alloc);
-    assert_eq!(&rt; Serial::new().step(&tasks, MOMENT, &mut wanted), Ok(()));
+    equal(
+        &rt,
+        "step",
+        Serial::new().step(&tasks, MOMENT, &mut wanted),
+        Ok(()),
+    );
     let mut answers = Vec::new(alloc);
-    assert_eq!(&rt; pool.step(&tasks, MOMENT, &mut answers), Ok(()));
-    assert_eq!(&rt; answers.as_slice(), wanted.as_slice());
+    equal(&rt, "step", pool.step(&tasks, MOMENT, &mut answers), Ok(()));
+    equal(&rt, "answers", answers.as_slice(), wanted.as_slice());
 }
 
 // Piece 0 is held until piece 1 is done, so they are not computed one after another.

@@ -1,13 +1,15 @@
 //! Random lists of edits, one behind the other, over small designs: each run from the former one beside the reference
 //! implementation and the count by the definition.
 
-ghost use Rattle.std.specs.Prelude.{◌<◌, IfSome};
+ghost use Rattle.std.specs.Prelude.{IfSome};
 ghost use Rattle.gatestep.specs.Step.{advance};
 ghost use Rattle.scratch.specs.Run.{IsRun};
 
 use super::counting::Counting;
 use super::definition::{Side, count};
 use super::plain::{Row, rows};
+use crate::compare::equal;
+use crate::dice::Dice;
 use crate::edit_lists::lines::{design_of, edit};
 use design::Design;
 use edits::{Edit, apply_all_with_touched};
@@ -17,23 +19,6 @@ use scratch::{simulate, wave_named};
 use std::alloc::Global;
 use std::process::Abort;
 use waveform::Run;
-
-/// Numbers in a fixed order that looks like none.
-#[derive(Drop)]
-struct Dice(u64);
-
-impl Dice {
-    fn below(&mut self, n: u64) -> u64
-        requires { 0 < n }
-        ensures { result < n }
-    {
-        self.0 = self
-            .0
-            .wrapping_mul(6_364_136_223_846_793_005)
-            .wrapping_add(1_442_695_040_888_963_407);
-        (self.0 >> 33) % n
-    }
-}
 
 const INPUTS: [&str; 2] = ["a", "b"];
 
@@ -146,16 +131,18 @@ fn check_net(rt: &impl Abort, design: &Design, run: &Run, rows: &[Row], place: u
     let name = design.net_at(place).name().as_str();
     let wave = wave_named(design, run, name).expect(rt, "a wave of the net");
     for (t, row) in rows.iter().enumerate() {
-        assert_eq!(rt;
+        equal(
+            rt,
+            (name, t),
             Some(wave.at(t as u64)),
             row.values.get(place).copied(),
-            "{name} at {t}"
         );
     }
-    assert_eq!(rt;
+    equal(
+        rt,
+        name,
         wave.changes().len(),
         change_count(rt, rows, place),
-        "{name}"
     );
 }
 
@@ -168,17 +155,23 @@ fn check_gate(rt: &impl Abort, design: &Design, run: &Run, rows: &[Row], place: 
     for (t, row) in rows.iter().enumerate().skip(1) {
         let t = t as u64;
         assert!(rt; 0 < t);
-        assert_eq!(rt;
+        equal(
+            rt,
+            (gate, t),
             Some(trace.at(t - 1)),
             row.before.get(place).copied(),
-            "{gate} before {t}"
         );
     }
 }
 
 pub fn check_run(rt: &impl Abort, design: &Design, run: &Run, rows: &[Row]) {
-    assert_eq!(rt; run.horizon(), design.horizon());
-    assert_eq!(rt; Some(rows.len() as u64), design.horizon().checked_add(1));
+    equal(rt, "horizon", run.horizon(), design.horizon());
+    equal(
+        rt,
+        "number of rows",
+        Some(rows.len() as u64),
+        design.horizon().checked_add(1),
+    );
     for place in 0..design.net_count() {
         check_net(rt, design, run, rows, place);
     }
@@ -207,7 +200,7 @@ fn check(rt: &impl Abort, alloc: Global, old: &State, new: &State, tasks: u64) {
         design: &new.design,
         rows: after.as_slice(),
     };
-    assert_eq!(rt; tasks, count(rt, old_side, new_side));
+    equal(rt, "tasks", tasks, count(rt, old_side, new_side));
     drop(before);
     drop(after);
 }
@@ -240,7 +233,7 @@ fn check_compared(rt: &impl Abort, alloc: Global, old: &State, new: &State, task
 {
     let mut stepper = Counting::new();
     let run = rerun(alloc, &old.design, &old.run, &new.design, &mut stepper).expect(rt, "a run");
-    assert_eq!(rt; stepper.tasks, tasks);
+    equal(rt, "tasks", stepper.tasks, tasks);
     drop(run);
 }
 

@@ -5,6 +5,7 @@ ghost use Rattle.scratch.specs.Run.{IsRun};
 
 use super::counting::Counting;
 use crate::calls::{changed, rerun, simulated};
+use crate::compare::equal;
 use crate::edit_lists::lines::{carried_out, edits, empty};
 use crate::waves::{Named, check_waves};
 use design::Design;
@@ -53,7 +54,7 @@ fn check_beside(rt: &impl Abort, alloc: Global, old: &Design, run: &Run, case: &
     drop(touched);
     drop(edits);
     assert!(rt; stepper.steps <= stepper.tasks, "a step without a task");
-    assert_eq!(rt; stepper.tasks, case.tasks, "{}", case.name);
+    equal(rt, case.name, stepper.tasks, case.tasks);
 }
 
 fn check(rt: &impl Abort, alloc: Global, case: &Case<'_>) {

@@ -1,6 +1,7 @@
 //! How much a run asks of its stepper.
 
 use crate::calls::simulated;
+use crate::compare::equal;
 use crate::edit_lists::lines::design_of;
 use crate::reruns::counting::Counting;
 use std::alloc::Global;
@@ -13,8 +14,8 @@ fn check(rt: &impl Abort, alloc: Global, lines: &[&str], steps: u64, tasks: u64)
     let run = simulated(rt, alloc, &design, &mut stepper);
     drop(run);
     drop(design);
-    assert_eq!(rt; stepper.steps, steps);
-    assert_eq!(rt; stepper.tasks, tasks);
+    equal(rt, "steps", stepper.steps, steps);
+    equal(rt, "tasks", stepper.tasks, tasks);
 }
 
 /// A buffer whose input goes up at 10, down at 20 and up at 40: evaluated at 0, there, and 3 after each.

@@ -3,6 +3,7 @@
 ghost use Rattle.std.specs.Prelude.{◌≡◌};
 
 use crate::calls::simulated;
+use crate::compare::equal;
 use crate::edit_lists::lines::design_of;
 use crate::reruns::counting::Counting;
 use crate::waves::{Named, check_waves};
@@ -36,12 +37,12 @@ fn check_design(
     let run = simulated(rt, alloc, &former, &mut Counting::new());
     let mut stepper = Counting::new();
     let longer = extend(alloc, &former, &run, design, &mut stepper).expect(rt, "a longer run");
-    assert_eq!(rt; longer.horizon(), design.horizon());
+    equal(rt, "horizon", longer.horizon(), design.horizon());
     check_waves(rt, alloc, design, &longer, waves);
     drop(longer);
     drop(run);
     drop(former);
-    assert_eq!(rt; (stepper.steps, stepper.tasks), asked);
+    equal(rt, "steps and tasks", (stepper.steps, stepper.tasks), asked);
 }
 
 fn check(

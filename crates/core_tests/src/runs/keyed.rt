@@ -4,6 +4,7 @@ ghost use Rattle.gatestep.specs.Step.{advance};
 ghost use Rattle.scratch.specs.Run.{IsRun};
 
 use crate::calls::simulated;
+use crate::compare::equal;
 use crate::edit_lists::lines::{carried_out, design_of, edits};
 use crate::waves::{check_waves, text_of};
 use design::{Design, GateKey, NetKey};
@@ -36,19 +37,21 @@ fn check_trace(rt: &impl Abort, design: &Design, run: &Run) {
         cur: One,
         pend: None,
     };
-    assert_eq!(rt; trace.entries().len(), 1);
-    assert_eq!(rt; trace.at(1), rising);
-    assert_eq!(rt; trace.at(2), risen);
+    equal(rt, "number of entries", trace.entries().len(), 1);
+    equal(rt, "at 1", trace.at(1), rising);
+    equal(rt, "at 2", trace.at(2), risen);
 }
 
 fn check_places(rt: &impl Abort, alloc: Global, design: &Design, run: &Run)
     requires { IsRun advance design.now run.now }
 {
-    assert_eq!(rt; design.net_count(), 2);
+    assert!(rt; design.net_count() == 2);
     for (place, wave) in [(0, " 0:0"), (1, " 0:x 2:1")] {
-        assert_eq!(rt;
+        equal(
+            rt,
+            "wave",
             text_of(rt, alloc, wave_at(design, run, place)).as_str(),
-            wave
+            wave,
         );
     }
 }

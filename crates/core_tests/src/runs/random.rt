@@ -2,6 +2,7 @@
 //! the one whose contract is the definition.
 
 use crate::calls::simulated;
+use crate::compare::equal;
 use crate::dice::Dice;
 use crate::edit_lists::lines::{carried_out, empty, word};
 use crate::reruns::plain::{Row, rows};
@@ -93,9 +94,9 @@ fn random_edits(rt: &impl Abort, alloc: Global, seed: u64) -> Vec<Edit> {
 /// The reference implementation of `scratch` has the values of the rows at each moment.
 fn check_values(rt: &impl Abort, alloc: Global, design: &Design, rows: &[Row]) {
     let values = values(alloc, design, &mut Serial::new()).expect(rt, "the values");
-    assert_eq!(rt; values.len(), rows.len());
+    equal(rt, "number of values", values.len(), rows.len());
     for (values, row) in values.iter().zip(rows) {
-        assert_eq!(rt; values.as_slice(), row.values.as_slice());
+        equal(rt, "values", values.as_slice(), row.values.as_slice());
     }
     drop(values);
 }
@@ -103,7 +104,7 @@ fn check_values(rt: &impl Abort, alloc: Global, design: &Design, rows: &[Row]) {
 fn check(rt: &impl Abort, alloc: Global, design: &Design) {
     let run = simulated(rt, alloc, design, &mut Serial::new());
     let rows = rows(rt, alloc, design);
-    assert_eq!(rt; rows.len(), 61);
+    equal(rt, "number of rows", rows.len(), 61);
     check_values(rt, alloc, design, rows.as_slice());
     check_run(rt, design, &run, rows.as_slice());
     drop(rows);

@@ -1,6 +1,7 @@
 //! Runs of small designs, net by net, worked out by hand.
 
 use crate::calls::simulated;
+use crate::compare::equal;
 use crate::edit_lists::lines::design_of;
 use crate::waves::{Named, check_waves};
 use gatestep::Serial;
@@ -13,7 +14,7 @@ type Case<'a> = (&'a [&'a str], &'a [Named<'a>]);
 fn check(rt: &impl Abort, alloc: Global, lines: &[&str], waves: &[Named<'_>]) {
     let design = design_of(rt, alloc, lines);
     let run = simulated(rt, alloc, &design, &mut Serial::new());
-    assert_eq!(rt; run.horizon(), design.horizon());
+    equal(rt, "horizon", run.horizon(), design.horizon());
     check_waves(rt, alloc, &design, &run, waves);
     drop(run);
     drop(design);
