@@ -3,10 +3,12 @@
 ghost use Rattle.gatestep.specs.Step.{advance};
 ghost use Rattle.gatestep.specs.StepLaws.{advance_current, advance_later, advance_near, advance_stays};
 
+use crate::compare::equal;
 use devices::Device;
 use gatestep::{Driver, Record, Serial, StepFault, Stepper, Task};
 use session::{Options, SessionFault, run};
 use std::alloc::Global;
+use std::process::Abort;
 use std::random::RandomSource;
 use std::sync::Wait;
 
@@ -70,15 +72,33 @@ fn ended<'a>(
     (result, source.inner, sink.inner)
 }
 
+// The session ends so, with these replies.
+fn check(
+    rt: &(impl Wait + RandomSource + Abort),
+    alloc: Global,
+    design: &[u8],
+    left: u32,
+    input: &[u8],
+    want: (Result<(), SessionFault>, &[u8]),
+) {
+    let (result, _, replies) = ended(rt, alloc, design, left, input);
+    equal(rt, "result", result, want.0);
+    equal(rt, "replies", replies.as_slice(), want.1);
+    drop(replies);
+}
+
 #[test]
 fn a_lost_worker_changes_nothing(rt: HostRuntime) {
-    let input = b"input a\nnet y wire\ngate g not 1 1 y a\nstim a 0 0\nwave y\nquit\n".as_slice();
-    let design = b"module m; endmodule".as_slice();
-    let (result, _, replies) = ended(&rt, rt.alloc(), design, 1, input);
-    assert_eq!(rt; result, Ok(()));
-    let want = b"ok 1\nok 2\nok 3\nno 15 WorkerLost\n0 x\nok 3\nok 3\n".as_slice();
-    assert_eq!(rt; replies.as_slice(), want);
-    drop(replies);
+    let input = b"input a\nnet y wire\ngate g not 1 1 y a\nstim a 0 0\nwave y\nquit\n";
+    let want = b"ok 1\nok 2\nok 3\nno 15 WorkerLost\n0 x\nok 3\nok 3\n";
+    check(
+        &rt,
+        rt.alloc(),
+        b"module m; endmodule",
+        1,
+        input,
+        (Ok(()), want),
+    );
 }
 
 const GATE: &[u8] = b"module m(input a, output y); not #1 g(y, a); endmodule";
@@ -87,29 +107,28 @@ const GATE: &[u8] = b"module m(input a, output y); not #1 g(y, a); endmodule";
 fn a_worker_lost_at_the_opening_opens_nothing(rt: HostRuntime) {
     let input = b"wave y\n".as_slice();
     let (result, unread, replies) = ended(&rt, rt.alloc(), GATE, 0, input);
-    assert_eq!(rt; result, Err(SessionFault::WorkerLost));
-    assert_eq!(rt; unread, input);
+    equal(&rt, "result", result, Err(SessionFault::WorkerLost));
+    equal(&rt, "what is not read", unread, input);
     assert!(rt; replies.is_empty());
     drop(replies);
 }
 
 #[test]
 fn an_opening_of_one_moment_takes_one_step(rt: HostRuntime) {
-    let (result, _, replies) = ended(&rt, rt.alloc(), GATE, 1, b"wave y\nstim a 0 0\n");
-    assert_eq!(rt; result, Ok(()));
-    assert_eq!(rt;
-        replies.as_slice(),
-        b"0 x\nok 0\nno 15 WorkerLost\n".as_slice()
+    let want = b"0 x\nok 0\nno 15 WorkerLost\n";
+    check(
+        &rt,
+        rt.alloc(),
+        GATE,
+        1,
+        b"wave y\nstim a 0 0\n",
+        (Ok(()), want),
     );
-    drop(replies);
 }
 
 #[test]
 fn a_commit_that_loses_a_worker_ends_its_batch(rt: HostRuntime) {
     let input = b"begin\nstim a 0 0\ncommit\ncommit\nwave y\n";
-    let (result, _, replies) = ended(&rt, rt.alloc(), GATE, 1, input);
-    assert_eq!(rt; result, Ok(()));
-    let want = b"ok 0\nok 0\nno 15 WorkerLost\nno 19 NoBatch\n0 x\nok 0\n".as_slice();
-    assert_eq!(rt; replies.as_slice(), want);
-    drop(replies);
+    let want = b"ok 0\nok 0\nno 15 WorkerLost\nno 19 NoBatch\n0 x\nok 0\n";
+    check(&rt, rt.alloc(), GATE, 1, input, (Ok(()), want));
 }

@@ -1,9 +1,10 @@
 //! Words of Verilog that are refused, and which of two faults of one text is told.
 
+use crate::compare::equal;
 use design::NameHasher;
 use edits::EditFault;
-use std::alloc::{AllocError, Global};
-use std::test::Fail;
+use std::alloc::Global;
+use std::process::Abort;
 use vread::{ReadFault, ReadFaultKind, read};
 
 // The keywords of IEEE 1364-2005, Annex B, that are refused (own).
@@ -105,49 +106,49 @@ fn fault_of(alloc: Global, text: &str) -> Option<ReadFault> {
     }
 }
 
-#[test]
-fn words_that_are_left_out(rt: HostRuntime) -> Result<(), Fail> {
+fn check_word(rt: &impl Abort, alloc: Global, word: &str) {
+    let text = format!(in alloc; "module m;\n{word} w;\nendmodule").expect(rt, "room");
     let unsupported = ReadFault {
         line: 2,
         kind: ReadFaultKind::Unsupported,
     };
+    equal(rt, word, fault_of(alloc, text.as_str()), Some(unsupported));
+    drop(text);
+}
+
+#[test]
+fn words_that_are_left_out(rt: HostRuntime) {
     for word in WORDS {
-        let text = format!(in rt.alloc(); "module m;\n{word} w;\nendmodule")?;
-        assert_eq!(rt;
-            fault_of(rt.alloc(), text.as_str()),
-            Some(unsupported),
-            "{word}"
-        );
+        check_word(&rt, rt.alloc(), word);
     }
-    Ok(())
 }
 
 // A module of 65,537 nets, with a gate of two outputs whose name is so long.
-fn crowded(alloc: Global, length: usize) -> Result<String, AllocError> {
+fn crowded(rt: &impl Abort, alloc: Global, length: usize) -> String {
     let mut text = String::new(alloc);
-    text.push_str("module m; wire n")?;
+    text.push_str("module m; wire n").expect(rt, "room");
     for place in 0..65_536u32 {
-        let net = format!(in alloc; ",n{place}")?;
-        text.push_str(net.as_str())?;
+        write!(text, ",n{place}").expect(rt, "room");
     }
-    text.push_str("; buf #1 ")?;
+    text.push_str("; buf #1 ").expect(rt, "room");
     for _ in 0..length {
-        text.push('g')?;
+        text.push('g').expect(rt, "room");
     }
-    text.push_str(" (n0,n1,n); endmodule")?;
-    Ok(text)
+    text.push_str(" (n0,n1,n); endmodule").expect(rt, "room");
+    text
+}
+
+fn check_crowded(rt: &impl Abort, alloc: Global, length: usize, fault: EditFault) {
+    let text = crowded(rt, alloc, length);
+    let kind = ReadFaultKind::Edit(fault);
+    let want = Some(ReadFault { line: 1, kind });
+    equal(rt, length, fault_of(alloc, text.as_str()), want);
+    drop(text);
 }
 
 // The two names that are made of a name of 1,023 bytes are over their limit of 1,024, and that is looked for first.
 #[test]
-fn a_long_name_among_too_many_nets(rt: HostRuntime) -> Result<(), Fail> {
-    for (length, fault) in [(1_022, EditFault::TooMany), (1_023, EditFault::BadName)] {
-        let text = crowded(rt.alloc(), length)?;
-        let kind = ReadFaultKind::Edit(fault);
-        assert_eq!(rt;
-            fault_of(rt.alloc(), text.as_str()),
-            Some(ReadFault { line: 1, kind })
-        );
-    }
-    Ok(())
+fn a_long_name_among_too_many_nets(rt: HostRuntime) {
+    check_crowded(&rt, rt.alloc(), 1_022, EditFault::TooMany);
+    check_crowded(&rt, rt.alloc(), 1_023, EditFault::BadName);
 }

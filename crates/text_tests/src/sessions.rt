@@ -1,3 +1,6 @@
+//! Sessions: what they are answered, line by line. `check` and its like compare the replies to an input, so that a test
+//! owns nothing.
+
 ghost use Rattle.std.specs.Prelude.{◌<◌};
 
 mod batches;
@@ -7,15 +10,16 @@ mod questions;
 mod scopes;
 mod texts;
 
+use crate::compare::equal;
 use devices::Device;
 use devices::faulty::{Failing, Pieces};
 use edits::EditFault;
 use gatestep::Serial;
 use session::{Options, SessionFault, run};
-use std::alloc::{AllocError, Global};
+use std::alloc::Global;
+use std::process::Abort;
 use std::random::RandomSource;
 use std::sync::Wait;
-use std::test::Fail;
 
 const EMPTY: &[u8] = b"module m; endmodule";
 
@@ -26,24 +30,12 @@ fn up_to(horizon: u64) -> Options {
     }
 }
 
-// What a session writes for this input.
-fn answered(
-    rt: &(impl Wait + RandomSource),
-    alloc: Global,
-    design: &[u8],
-    horizon: u64,
-    input: &[u8],
-) -> (Result<(), SessionFault>, Vec<u8>) {
-    opened(rt, alloc, design, horizon, None, input)
-}
-
-// The same of a text with gates that have this delay where it writes none.
+// What a session of a text with gates that have this delay where it writes none writes for this input.
 fn opened(
     rt: &(impl Wait + RandomSource),
     alloc: Global,
     design: &[u8],
-    horizon: u64,
-    delay: Option<u32>,
+    options: &Options,
     input: &[u8],
 ) -> (Result<(), SessionFault>, Vec<u8>) {
     let mut source = Device::new(input);
@@ -52,7 +44,7 @@ fn opened(
         rt,
         alloc,
         design,
-        &Options { horizon, delay },
+        options,
         &mut source,
         &mut sink,
         Serial::new(),
@@ -60,7 +52,7 @@ fn opened(
     (result, sink.inner)
 }
 
-// The same of an empty design, where reads and writes go at most so many bytes at a time.
+// The same of an empty design and no delay, where reads and writes go at most so many bytes at a time.
 fn answered_in_pieces(
     rt: &(impl Wait + RandomSource),
     alloc: Global,
@@ -84,54 +76,100 @@ fn answered_in_pieces(
     (result, sink.inner.inner)
 }
 
+// A session comes to its end, with these replies.
+fn check_opened(
+    rt: &(impl Wait + RandomSource + Abort),
+    alloc: Global,
+    design: &[u8],
+    options: &Options,
+    input: &[u8],
+    want: &[u8],
+) {
+    let (result, replies) = opened(rt, alloc, design, options, input);
+    equal(rt, input, result, Ok(()));
+    equal(rt, input, replies.as_slice(), want);
+    drop(replies);
+}
+
+// The same up to this horizon.
+fn check(
+    rt: &(impl Wait + RandomSource + Abort),
+    alloc: Global,
+    design: &[u8],
+    horizon: u64,
+    input: &[u8],
+    want: &[u8],
+) {
+    check_opened(rt, alloc, design, &up_to(horizon), input, want);
+}
+
+// The replies in pieces of one byte, of two, and of all.
+fn check_in_pieces(
+    rt: &(impl Wait + RandomSource + Abort),
+    alloc: Global,
+    horizon: u64,
+    input: &[u8],
+    want: &[u8],
+) {
+    for most in [1, 2, 4096] {
+        let (result, replies) = answered_in_pieces(rt, alloc, horizon, input, most);
+        equal(rt, most, result, Ok(()));
+        equal(rt, most, replies.as_slice(), want);
+        drop(replies);
+    }
+}
+
 const FIRST: &[u8] = b"input a\nnet y wire\ngate g not 2 3 y a\nstim a 0 0\nwave y\n";
 
 const FIRST_REPLIES: &[u8] = b"ok 1\nok 2\nok 3\nok 4\n0 x\n2 1\nok 4\n";
 
 #[test]
 fn the_first_wave(rt: HostRuntime) {
-    let (result, replies) = answered(&rt, rt.alloc(), EMPTY, 10, FIRST);
-    assert_eq!(rt; result, Ok(()));
-    assert_eq!(rt; replies.as_slice(), FIRST_REPLIES);
+    check(&rt, rt.alloc(), EMPTY, 10, FIRST, FIRST_REPLIES);
 }
 
 #[test]
 fn pieces_make_no_difference(rt: HostRuntime) {
-    for most in [1, 2, 4096] {
-        let (result, replies) = answered_in_pieces(&rt, rt.alloc(), 10, FIRST, most);
-        assert_eq!(rt; result, Ok(()), "in {most}");
-        assert_eq!(rt; replies.as_slice(), FIRST_REPLIES, "in {most}");
-    }
+    check_in_pieces(&rt, rt.alloc(), 10, FIRST, FIRST_REPLIES);
+}
+
+// What the first wave is answered into a sink that fails behind so many bytes.
+fn into_failing(
+    rt: &(impl Wait + RandomSource),
+    alloc: Global,
+    place: usize,
+) -> (Result<(), SessionFault>, Vec<u8>) {
+    let mut source = Device::new(FIRST);
+    let mut sink = Device::new(Failing::new(Vec::new(alloc), place));
+    let result = run(
+        rt,
+        alloc,
+        EMPTY,
+        &up_to(10),
+        &mut source,
+        &mut sink,
+        Serial::new(),
+    );
+    (result, sink.inner.inner)
+}
+
+fn check_failing_sink(rt: &(impl Wait + RandomSource + Abort), alloc: Global, place: usize) {
+    let (result, replies) = into_failing(rt, alloc, place);
+    let want = if place >= FIRST_REPLIES.len() {
+        Ok(())
+    } else {
+        Err(SessionFault::Write)
+    };
+    let end = place.min(FIRST_REPLIES.len());
+    equal(rt, place, result, want);
+    equal(rt, place, replies.as_slice(), &FIRST_REPLIES[..end]);
+    drop(replies);
 }
 
 #[test]
 fn a_sink_that_fails_holds_a_beginning(rt: HostRuntime) {
-    for place in 0..35usize {
-        let mut source = Device::new(FIRST);
-        let mut sink = Device::new(Failing::new(Vec::new(rt.alloc()), place));
-        let options = up_to(10);
-        let result = run(
-            &rt,
-            rt.alloc(),
-            EMPTY,
-            &options,
-            &mut source,
-            &mut sink,
-            Serial::new(),
-        );
-        let fits = place >= FIRST_REPLIES.len();
-        let want = if fits {
-            Ok(())
-        } else {
-            Err(SessionFault::Write)
-        };
-        assert_eq!(rt; result, want, "at {place}");
-        let end = place.min(FIRST_REPLIES.len());
-        assert_eq!(rt;
-            sink.inner.inner.as_slice(),
-            &FIRST_REPLIES[..end],
-            "at {place}"
-        );
+    for place in 0..35 {
+        check_failing_sink(&rt, rt.alloc(), place);
     }
 }
 
@@ -147,66 +185,91 @@ fn replies_before(place: usize) -> &'static [u8] {
     }
 }
 
+// What is answered to an input whose source fails behind so many bytes.
+fn from_failing(
+    rt: &(impl Wait + RandomSource),
+    alloc: Global,
+    input: &[u8],
+    place: usize,
+) -> (Result<(), SessionFault>, Vec<u8>) {
+    let mut source = Device::new(Failing::new(input, place));
+    let mut sink = Device::new(Vec::new(alloc));
+    let result = run(
+        rt,
+        alloc,
+        EMPTY,
+        &up_to(10),
+        &mut source,
+        &mut sink,
+        Serial::new(),
+    );
+    (result, sink.inner)
+}
+
+fn check_failing_source(
+    rt: &(impl Wait + RandomSource + Abort),
+    alloc: Global,
+    input: &[u8],
+    place: usize,
+    want: Result<(), SessionFault>,
+    want_replies: &[u8],
+) {
+    let (result, replies) = from_failing(rt, alloc, input, place);
+    equal(rt, place, result, want);
+    equal(rt, place, replies.as_slice(), want_replies);
+    drop(replies);
+}
+
 #[test]
 fn a_source_that_fails_leaves_the_replies_to_whole_lines(rt: HostRuntime) {
-    for place in 0..59usize {
-        let mut source = Device::new(Failing::new(FIRST, place));
-        let mut sink = Device::new(Vec::new(rt.alloc()));
-        let options = up_to(10);
-        let result = run(
-            &rt,
-            rt.alloc(),
-            EMPTY,
-            &options,
-            &mut source,
-            &mut sink,
-            Serial::new(),
-        );
+    for place in 0..59 {
         let want = if place > 56 {
             Ok(())
         } else {
             Err(SessionFault::Read)
         };
-        assert_eq!(rt; result, want, "at {place}");
-        assert_eq!(rt; sink.inner.as_slice(), replies_before(place), "at {place}");
+        check_failing_source(&rt, rt.alloc(), FIRST, place, want, replies_before(place));
     }
 }
 
 #[test]
-fn lines_after_quit_stay_in_the_source(rt: HostRuntime) {
-    let input = b"input a\nquit\nwave a\n".as_slice();
+fn a_source_that_would_fail_is_left_alone_after_quit(rt: HostRuntime) {
+    let input = b"input a\nquit\n";
+    check_failing_source(&rt, rt.alloc(), input, input.len(), Ok(()), b"ok 1\nok 1\n");
+}
+
+// What a session that reads byte by byte writes for this input, and what it leaves of it.
+fn unread<'a>(
+    rt: &(impl Wait + RandomSource),
+    alloc: Global,
+    input: &'a [u8],
+) -> (Result<(), SessionFault>, Vec<u8>, &'a [u8]) {
     let mut source = Device::new(Pieces::new(input, 1));
-    let mut sink = Device::new(Vec::new(rt.alloc()));
+    let mut sink = Device::new(Vec::new(alloc));
     let result = run(
-        &rt,
-        rt.alloc(),
+        rt,
+        alloc,
         EMPTY,
         &up_to(10),
         &mut source,
         &mut sink,
         Serial::new(),
     );
-    assert_eq!(rt; result, Ok(()));
-    assert_eq!(rt; sink.inner.as_slice(), b"ok 1\nok 1\n".as_slice());
-    assert_eq!(rt; source.inner.inner, b"wave a\n".as_slice());
+    (result, sink.inner, source.inner.inner)
 }
 
 #[test]
-fn a_source_that_would_fail_is_left_alone_after_quit(rt: HostRuntime) {
-    let input = b"input a\nquit\n".as_slice();
-    let mut source = Device::new(Failing::new(input, input.len()));
-    let mut sink = Device::new(Vec::new(rt.alloc()));
-    let result = run(
+fn lines_after_quit_stay_in_the_source(rt: HostRuntime) {
+    let (result, replies, left) = unread(&rt, rt.alloc(), b"input a\nquit\nwave a\n");
+    equal(&rt, "result", result, Ok(()));
+    equal(
         &rt,
-        rt.alloc(),
-        EMPTY,
-        &up_to(10),
-        &mut source,
-        &mut sink,
-        Serial::new(),
+        "replies",
+        replies.as_slice(),
+        b"ok 1\nok 1\n".as_slice(),
     );
-    assert_eq!(rt; result, Ok(()));
-    assert_eq!(rt; sink.inner.as_slice(), b"ok 1\nok 1\n".as_slice());
+    equal(&rt, "what is not read", left, b"wave a\n".as_slice());
+    drop(replies);
 }
 
 const EDITS: &[u8] =
@@ -227,9 +290,7 @@ no 11 TimeTooLarge\nok 5\nno 16 BadCommand\nno 16 BadCommand\nno 16 BadCommand\n
 
 #[test]
 fn each_fault_of_an_edit_in_order(rt: HostRuntime) {
-    let (result, replies) = answered(&rt, rt.alloc(), EMPTY, 20, EDITS);
-    assert_eq!(rt; result, Ok(()));
-    assert_eq!(rt; replies.as_slice(), EDIT_REPLIES);
+    check(&rt, rt.alloc(), EMPTY, 20, EDITS, EDIT_REPLIES);
 }
 
 const LINES: &[u8] =
@@ -241,63 +302,72 @@ no 16 BadCommand\nno 16 BadCommand\n0 x\nok 1\nok 1\n";
 
 #[test]
 fn blank_lines_comments_and_bad_bytes(rt: HostRuntime) {
-    let (result, replies) = answered(&rt, rt.alloc(), EMPTY, 0, LINES);
-    assert_eq!(rt; result, Ok(()));
-    assert_eq!(rt; replies.as_slice(), LINE_REPLIES);
+    check(&rt, rt.alloc(), EMPTY, 0, LINES, LINE_REPLIES);
 }
 
 #[test]
 fn the_input_end_ends_a_line(rt: HostRuntime) {
-    let (result, replies) = answered(&rt, rt.alloc(), EMPTY, 0, b"input a\nwave a");
-    assert_eq!(rt; result, Ok(()));
-    assert_eq!(rt; replies.as_slice(), b"ok 1\n0 x\nok 1\n".as_slice());
+    check(
+        &rt,
+        rt.alloc(),
+        EMPTY,
+        0,
+        b"input a\nwave a",
+        b"ok 1\n0 x\nok 1\n",
+    );
+}
+
+fn add(rt: &impl Abort, text: &mut Vec<u8>, more: &[u8]) {
+    text.extend_from_slice(more).expect(rt, "room");
 }
 
 // `length` bytes `byte` and `end`, twice.
-fn long_lines(alloc: Global, byte: u8, length: usize, end: &[u8]) -> Result<Vec<u8>, AllocError> {
+fn long_lines(rt: &impl Abort, alloc: Global, byte: u8, length: usize, end: &[u8]) -> Vec<u8> {
     let mut text = Vec::new(alloc);
     for _ in 0..2 {
         for _ in 0..length {
-            text.push(byte)?;
+            text.push(byte).expect(rt, "room");
         }
-        text.extend_from_slice(end)?;
+        add(rt, &mut text, end);
     }
-    Ok(text)
+    text
 }
 
+const BAD: &[u8] = b"no 16 BadCommand\nno 16 BadCommand\n";
+
+const LONG: &[u8] = b"no 17 LongLine\nno 17 LongLine\n";
+
+// A byte, how often it stands in a line, the end of the line, and the replies to two of them.
+const LENGTHS: [(u8, usize, &[u8], &[u8]); 9] = [
+    (b'a', 4096, b"\n", BAD),
+    (b'a', 4097, b"\n", LONG),
+    (b'a', 9000, b"\n", LONG),
+    (b'a', 4095, b"\r\n", BAD),
+    (b'a', 4096, b"\r\n", LONG),
+    (b' ', 4096, b"\n", b""),
+    (b' ', 4097, b"\n", LONG),
+    (b'#', 4097, b"\n", LONG),
+    (128, 4097, b"\n", LONG),
+];
+
 #[test]
-fn lines_that_are_too_long(rt: HostRuntime) -> Result<(), Fail> {
-    let bad = b"no 16 BadCommand\nno 16 BadCommand\n".as_slice();
-    let long = b"no 17 LongLine\nno 17 LongLine\n".as_slice();
-    let empty = b"".as_slice();
-    let line_feed = b"\n".as_slice();
-    let return_too = b"\r\n".as_slice();
-    for (byte, length, end, want) in [
-        (b'a', 4096, line_feed, bad),
-        (b'a', 4097, line_feed, long),
-        (b'a', 9000, line_feed, long),
-        (b'a', 4095, return_too, bad),
-        (b'a', 4096, return_too, long),
-        (b' ', 4096, line_feed, empty),
-        (b' ', 4097, line_feed, long),
-        (b'#', 4097, line_feed, long),
-        (128, 4097, line_feed, long),
-    ] {
-        let text = long_lines(rt.alloc(), byte, length, end)?;
-        let (result, replies) = answered(&rt, rt.alloc(), EMPTY, 0, text.as_slice());
-        assert_eq!(rt; result, Ok(()), "{byte} {length}");
-        assert_eq!(rt; replies.as_slice(), want, "{byte} {length}");
+fn lines_that_are_too_long(rt: HostRuntime) {
+    for (byte, length, end, want) in LENGTHS {
+        let text = long_lines(&rt, rt.alloc(), byte, length, end);
+        check(&rt, rt.alloc(), EMPTY, 0, text.as_slice(), want);
+        drop(text);
     }
-    Ok(())
 }
 
 #[test]
 fn codes_and_names(rt: HostRuntime) {
-    assert_eq!(rt; EditFault::UnknownNet.code(), 1);
-    assert_eq!(rt; EditFault::NetInUse.code(), 10);
-    assert_eq!(rt; EditFault::OutOfMemory.code(), 14);
-    assert_eq!(rt;
+    equal(&rt, "code", EditFault::UnknownNet.code(), 1);
+    equal(&rt, "code", EditFault::NetInUse.code(), 10);
+    equal(&rt, "code", EditFault::OutOfMemory.code(), 14);
+    equal(
+        &rt,
+        "name",
         EditFault::NoSuchPoint.name().as_bytes(),
-        b"NoSuchPoint".as_slice()
+        b"NoSuchPoint".as_slice(),
     );
 }

@@ -1,8 +1,8 @@
 //! Batches, and snapshots that are held by name.
 
-use super::{EMPTY, answered};
-use std::alloc::{AllocError, Global};
-use std::test::Fail;
+use super::{EMPTY, add, check};
+use std::alloc::Global;
+use std::process::Abort;
 
 const SLOW: &[u8] = b"module m(a,y); input a; output y; buf #(5,5) g(y,a); endmodule";
 
@@ -13,20 +13,16 @@ const BUFFER: &[u8] = b"module m(a,y); input a; output y; buf #(3,3) g(y,a); end
 fn a_point_is_moved(rt: HostRuntime) {
     let lines =
         b"stim a 0 0\nstim a 10 1\nwave y\nbegin\nunstim a 10\nstim a 12 1\nwave y\ncommit\nwave y\n";
-    let (result, replies) = answered(&rt, rt.alloc(), SLOW, 30, lines);
     let want =
         b"ok 1\nok 2\n0 x\n5 0\n15 1\nok 2\nok 2\nok 2\nok 2\n0 x\n5 0\n15 1\nok 2\nok 3\n0 x\n5 0\n17 1\nok 3\n";
-    assert_eq!(rt; result, Ok(()));
-    assert_eq!(rt; replies.as_slice(), want.as_slice());
+    check(&rt, rt.alloc(), SLOW, 30, lines, want);
 }
 
 #[test]
 fn a_gate_is_replaced(rt: HostRuntime) {
     let lines = b"stim a 0 0\nwave y\nbegin\ndrop g\ngate h not 2 2 y a\ncommit\nwave y\n";
-    let (result, replies) = answered(&rt, rt.alloc(), SLOW, 10, lines);
     let want = b"ok 1\n0 x\n5 0\nok 1\nok 1\nok 1\nok 1\nok 2\n0 x\n2 1\nok 2\n";
-    assert_eq!(rt; result, Ok(()));
-    assert_eq!(rt; replies.as_slice(), want.as_slice());
+    check(&rt, rt.alloc(), SLOW, 10, lines, want);
 }
 
 // The net n is driven to 0 and to 1: x as a wire, 1 as a wor.
@@ -36,12 +32,10 @@ fn a_net_is_replaced(rt: HostRuntime) {
     let lines =
         b"stim a 0 0\nstim b 0 1\nwave n\nwave q\nbegin\ndrop g0\ndrop g1\ndrop h\ndropnet n\nnet n wor\n\
 gate g0 buf 1 1 n a\ngate g1 buf 1 1 n b\ngate h buf 1 1 q n\ncommit\nwave n\nwave q\n";
-    let (result, replies) = answered(&rt, rt.alloc(), text, 10, lines);
     let want =
         b"ok 1\nok 2\n0 x\nok 2\n0 x\nok 2\nok 2\nok 2\nok 2\nok 2\nok 2\nok 2\nok 2\nok 2\nok 2\nok 3\n\
 0 x\n1 1\nok 3\n0 x\n2 1\nok 3\n";
-    assert_eq!(rt; result, Ok(()));
-    assert_eq!(rt; replies.as_slice(), want.as_slice());
+    check(&rt, rt.alloc(), text, 10, lines, want);
 }
 
 // The third edit has a delay of 0, and so none of the five is carried out; `old` is held before.
@@ -50,23 +44,19 @@ fn a_refused_batch_changes_nothing(rt: HostRuntime) {
     let lines =
         b"stim a 0 0\nstim a 10 1\nstim a 12 0\nhold old\nbegin\nstim a 20 1\nstim a 25 0\ndelay g 0 3\n\
 horizon 50\nstim a 30 1\nvalue y 23\ncommit\nwave y\nat old wave y\n";
-    let (result, replies) = answered(&rt, rt.alloc(), BUFFER, 30, lines);
     let want =
         b"ok 1\nok 2\nok 3\nok 3\nok 3\nok 3\nok 3\nok 3\nok 3\nok 3\n0\nok 3\nno 5 ZeroDelay\n\
 0 x\n3 0\nok 3\n0 x\n3 0\nok 3\n";
-    assert_eq!(rt; result, Ok(()));
-    assert_eq!(rt; replies.as_slice(), want.as_slice());
+    check(&rt, rt.alloc(), BUFFER, 30, lines, want);
 }
 
 #[test]
 fn a_shorter_horizon_keeps_the_points(rt: HostRuntime) {
     let lines =
         b"stim a 0 0\nstim a 10 1\nstim a 13 0\nhorizon 10\nwave y\nwave a\nhorizon 100\nwave y\n";
-    let (result, replies) = answered(&rt, rt.alloc(), BUFFER, 100, lines);
     let want =
         b"ok 1\nok 2\nok 3\nok 4\n0 x\n3 0\nok 4\n0 0\n10 1\nok 4\nok 5\n0 x\n3 0\n13 1\n16 0\nok 5\n";
-    assert_eq!(rt; result, Ok(()));
-    assert_eq!(rt; replies.as_slice(), want.as_slice());
+    check(&rt, rt.alloc(), BUFFER, 100, lines, want);
 }
 
 #[test]
@@ -74,13 +64,11 @@ fn refusals_of_each_kind(rt: HostRuntime) {
     let lines =
         b"frob\nstim a 1000000001 1\nstim a 1000000000 1\ndelay g 1000000 1\ndelay g 1 1000001\nfree k\n\
 commit\nabort\nstim y 0 1\ndropnet y\nwave q\nhold k\nat k at k wave y\nat q wave y\nbegin\nbegin\nquit\n";
-    let (result, replies) = answered(&rt, rt.alloc(), BUFFER, 10, lines);
     let want =
         b"no 16 BadCommand\nno 11 TimeTooLarge\nok 1\nok 2\nno 6 DelayTooLarge\nno 18 UnknownHold\n\
 no 19 NoBatch\nno 19 NoBatch\nno 9 NotInput\nno 10 NetInUse\nno 1 UnknownNet\nok 2\nno 16 BadCommand\nno 18 UnknownHold\n\
 ok 2\nno 20 InBatch\nok 2\n";
-    assert_eq!(rt; result, Ok(()));
-    assert_eq!(rt; replies.as_slice(), want.as_slice());
+    check(&rt, rt.alloc(), BUFFER, 10, lines, want);
 }
 
 // What the lines of this session are answered, a pair each. The empty design is up to 20.
@@ -140,81 +128,91 @@ const HELD: &[(&[u8], &[u8])] = &[
     (b"wave a", b"0 x\n5 0\nok 5\n"),
 ];
 
-#[test]
-fn held_snapshots_line_by_line(rt: HostRuntime) -> Result<(), Fail> {
-    let mut lines = Vec::new(rt.alloc());
-    let mut want = Vec::new(rt.alloc());
-    for (line, reply) in HELD {
-        lines.extend_from_slice(line)?;
-        lines.push(b'\n')?;
-        want.extend_from_slice(reply)?;
+// The lines of rows, each with an end, and the replies to them.
+fn joined(rt: &impl Abort, alloc: Global, rows: &[(&[u8], &[u8])]) -> (Vec<u8>, Vec<u8>) {
+    let mut lines = Vec::new(alloc);
+    let mut want = Vec::new(alloc);
+    for (line, reply) in rows {
+        add(rt, &mut lines, line);
+        add(rt, &mut lines, b"\n");
+        add(rt, &mut want, reply);
     }
-    let (result, replies) = answered(&rt, rt.alloc(), EMPTY, 20, lines.as_slice());
-    assert_eq!(rt; result, Ok(()));
-    assert_eq!(rt; replies.as_slice(), want.as_slice());
-    Ok(())
+    (lines, want)
+}
+
+#[test]
+fn held_snapshots_line_by_line(rt: HostRuntime) {
+    let (lines, want) = joined(&rt, rt.alloc(), HELD);
+    check(
+        &rt,
+        rt.alloc(),
+        EMPTY,
+        20,
+        lines.as_slice(),
+        want.as_slice(),
+    );
+    drop(lines);
+    drop(want);
 }
 
 // So many of a line, between two others.
 fn repeated(
+    rt: &impl Abort,
     alloc: Global,
     first: &[u8],
     line: &[u8],
     times: usize,
     last: &[u8],
-) -> Result<Vec<u8>, AllocError> {
-    let mut text = first.to_vec(alloc)?;
+) -> Vec<u8> {
+    let mut text = Vec::new(alloc);
+    add(rt, &mut text, first);
     for _ in 0..times {
-        text.extend_from_slice(line)?;
+        add(rt, &mut text, line);
     }
-    text.extend_from_slice(last)?;
-    Ok(text)
+    add(rt, &mut text, last);
+    text
 }
 
 #[test]
-fn a_batch_keeps_4096_edits(rt: HostRuntime) -> Result<(), Fail> {
-    let lines = repeated(
+fn a_batch_keeps_4096_edits(rt: HostRuntime) {
+    let (begin, commit) = (b"begin\n", b"commit\nvalue a 1\n");
+    let refused = b"no 13 TooMany\nok 1\nx\nok 1\n";
+    let lines = repeated(&rt, rt.alloc(), begin, b"horizon 1\n", 4097, commit);
+    let want = repeated(&rt, rt.alloc(), b"", b"ok 0\n", 4097, refused);
+    check(
+        &rt,
         rt.alloc(),
-        b"begin\n",
-        b"horizon 1\n",
-        4097,
-        b"commit\nvalue a 1\n",
-    )?;
-    let want = repeated(
-        rt.alloc(),
-        b"",
-        b"ok 0\n",
-        4097,
-        b"no 13 TooMany\nok 1\nx\nok 1\n",
-    )?;
-    let (result, replies) = answered(&rt, rt.alloc(), BUFFER, 0, lines.as_slice());
-    assert_eq!(rt; result, Ok(()));
-    assert_eq!(rt; replies.as_slice(), want.as_slice());
-    Ok(())
+        BUFFER,
+        0,
+        lines.as_slice(),
+        want.as_slice(),
+    );
+    drop(lines);
+    drop(want);
 }
 
-// The names k!, k", .. of two bytes; the 65th is one too many, and there is room again once one is freed.
-#[test]
-fn names_of_64_snapshots(rt: HostRuntime) -> Result<(), Fail> {
-    let mut lines = Vec::new(rt.alloc());
-    let names = (33..100u8).filter(|byte| *byte != b'\'' && *byte != b'.');
-    for byte in names {
-        lines.extend_from_slice(b"hold k")?;
-        lines.push(byte)?;
-        lines.push(b'\n')?;
+// Lines that hold the names k!, k", .. of two bytes, but for those with a quote or a dot; then one is freed and another held.
+fn holds(rt: &impl Abort, alloc: Global) -> Vec<u8> {
+    let mut lines = Vec::new(alloc);
+    for byte in 33..100u8 {
+        if byte != b'\'' && byte != b'.' {
+            add(rt, &mut lines, b"hold k");
+            add(rt, &mut lines, &[byte, b'\n']);
+        }
     }
-    lines.extend_from_slice(b"free k!\nhold k\n")?;
-    let want = repeated(
-        rt.alloc(),
-        b"",
-        b"ok 0\n",
-        64,
-        b"no 13 TooMany\nok 0\nok 0\n",
-    )?;
-    let (result, replies) = answered(&rt, rt.alloc(), EMPTY, 0, lines.as_slice());
-    assert_eq!(rt; result, Ok(()));
-    assert_eq!(rt; replies.as_slice(), want.as_slice());
-    Ok(())
+    add(rt, &mut lines, b"free k!\nhold k\n");
+    lines
+}
+
+// The 65th name is one too many, and there is room again once one is freed.
+#[test]
+fn names_of_64_snapshots(rt: HostRuntime) {
+    let lines = holds(&rt, rt.alloc());
+    let refused = b"no 13 TooMany\nok 0\nok 0\n";
+    let want = repeated(&rt, rt.alloc(), b"", b"ok 0\n", 64, refused);
+    check(&rt, rt.alloc(), EMPTY, 0, lines.as_slice(), want.as_slice());
+    drop(lines);
+    drop(want);
 }
 
 // The dump of the pulse, of a shorter run, and of the longer one again; and that of a held snapshot.
@@ -224,25 +222,23 @@ $var wire 1 \" y $end\n$upscope $end\n$enddefinitions $end\n#0\n$dumpvars\n0!\nx
 
 const DUMP_REST: &[u8] = b"#13\n0!\n1\"\n#16\n0\"\n#100\n";
 
+const DUMP_REPLIES: [&[u8]; 9] = [
+    b"ok 1\nok 2\nok 3\n",
+    DUMP_HEAD,
+    DUMP_REST,
+    b"ok 3\nok 3\nok 4\n",
+    DUMP_HEAD,
+    b"ok 4\n",
+    DUMP_HEAD,
+    DUMP_REST,
+    b"ok 3\nno 16 BadCommand\nno 18 UnknownHold\n",
+];
+
 #[test]
-fn dumps(rt: HostRuntime) -> Result<(), Fail> {
+fn dumps(rt: HostRuntime) {
     let lines =
         b"stim a 0 0\nstim a 10 1\nstim a 13 0\nvcd\nhold long\nhorizon 10\nvcd\nat long vcd\nvcd now\nat short vcd\n";
-    let (result, replies) = answered(&rt, rt.alloc(), BUFFER, 100, lines);
-    let mut want = b"ok 1\nok 2\nok 3\n".as_slice().to_vec(rt.alloc())?;
-    for part in [
-        DUMP_HEAD,
-        DUMP_REST,
-        b"ok 3\nok 3\nok 4\n",
-        DUMP_HEAD,
-        b"ok 4\n",
-        DUMP_HEAD,
-        DUMP_REST,
-        b"ok 3\nno 16 BadCommand\nno 18 UnknownHold\n",
-    ] {
-        want.extend_from_slice(part)?;
-    }
-    assert_eq!(rt; result, Ok(()));
-    assert_eq!(rt; replies.as_slice(), want.as_slice());
-    Ok(())
+    let want = DUMP_REPLIES.concat(rt.alloc()).expect(&rt, "room");
+    check(&rt, rt.alloc(), BUFFER, 100, lines, want.as_slice());
+    drop(want);
 }

@@ -1,6 +1,6 @@
 //! The bytes that a line may hold: tab and 32 to 126, and any in a comment.
 
-use super::{EMPTY, answered};
+use super::{EMPTY, check};
 
 // A line, and the replies to it.
 const LINES: [(&[u8], &[u8]); 7] = [
@@ -16,8 +16,6 @@ const LINES: [(&[u8], &[u8]); 7] = [
 #[test]
 fn bytes_of_a_line(rt: HostRuntime) {
     for (line, want) in LINES {
-        let (result, replies) = answered(&rt, rt.alloc(), EMPTY, 10, line);
-        assert_eq!(rt; result, Ok(()), "{line:?}");
-        assert_eq!(rt; replies.as_slice(), want, "{line:?}");
+        check(&rt, rt.alloc(), EMPTY, 10, line, want);
     }
 }

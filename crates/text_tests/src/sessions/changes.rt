@@ -1,7 +1,10 @@
 //! Edits, one by one, and what they make of waves.
 
-use super::{EMPTY, answered};
-use std::test::Fail;
+use super::{EMPTY, add, check};
+use std::alloc::Global;
+use std::process::Abort;
+use std::random::RandomSource;
+use std::sync::Wait;
 
 const CHANGES: &[u8] =
     b"input a\nnet y wire\ngate g buf 5 5 y a\nstim a 0 0\nstim a 10 1\nwave y\nunstim a 10\nstim a 12 1\nwave y\n\
@@ -16,9 +19,7 @@ no 11 TimeTooLarge\nok 17\n0 x\n1 0\n16 1\nok 17\n";
 
 #[test]
 fn each_edit_changes_the_waves(rt: HostRuntime) {
-    let (result, replies) = answered(&rt, rt.alloc(), EMPTY, 20, CHANGES);
-    assert_eq!(rt; result, Ok(()));
-    assert_eq!(rt; replies.as_slice(), CHANGE_REPLIES);
+    check(&rt, rt.alloc(), EMPTY, 20, CHANGES, CHANGE_REPLIES);
 }
 
 // A design to be refused edits of: the input a, the net b, and h, which drives b by a.
@@ -61,18 +62,36 @@ const REFUSALS: [(&[u8], &[u8]); 34] = [
     (b"commit", b"19 NoBatch"),
 ];
 
-#[test]
-fn refused_edits_change_nothing(rt: HostRuntime) -> Result<(), Fail> {
-    for (line, cause) in REFUSALS {
-        let mut input = Vec::from_slice(rt.alloc(), BASE)?;
-        input.extend_from_slice(line)?;
-        input.extend_from_slice(b"\nwave b\n")?;
-        let mut want = Vec::from_slice(rt.alloc(), b"ok 1\nok 2\nok 3\nok 4\nno ")?;
-        want.extend_from_slice(cause)?;
-        want.extend_from_slice(b"\n0 x\n1 1\nok 4\n")?;
-        let (result, replies) = answered(&rt, rt.alloc(), EMPTY, 5, input.as_slice());
-        assert_eq!(rt; result, Ok(()));
-        assert_eq!(rt; replies.as_slice(), want.as_slice());
+// Parts in a row.
+fn joined(rt: &impl Abort, alloc: Global, parts: &[&[u8]]) -> Vec<u8> {
+    let mut text = Vec::new(alloc);
+    for part in parts {
+        add(rt, &mut text, part);
     }
-    Ok(())
+    text
+}
+
+// The line is refused for this cause, and the wave of b is as before.
+fn check_refused(
+    rt: &(impl Wait + RandomSource + Abort),
+    alloc: Global,
+    line: &[u8],
+    cause: &[u8],
+) {
+    let input = joined(rt, alloc, &[BASE, line, b"\nwave b\n"]);
+    let want = joined(
+        rt,
+        alloc,
+        &[b"ok 1\nok 2\nok 3\nok 4\nno ", cause, b"\n0 x\n1 1\nok 4\n"],
+    );
+    check(rt, alloc, EMPTY, 5, input.as_slice(), want.as_slice());
+    drop(input);
+    drop(want);
+}
+
+#[test]
+fn refused_edits_change_nothing(rt: HostRuntime) {
+    for (line, cause) in REFUSALS {
+        check_refused(&rt, rt.alloc(), line, cause);
+    }
 }

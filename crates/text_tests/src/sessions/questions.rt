@@ -1,5 +1,11 @@
-use super::{EMPTY, answered, answered_in_pieces};
-use std::test::Fail;
+//! Questions about waves.
+
+use super::{EMPTY, add, check, check_in_pieces, opened, up_to};
+use crate::compare::equal;
+use std::alloc::Global;
+use std::process::Abort;
+use std::random::RandomSource;
+use std::sync::Wait;
 
 // A pulse of 3 units through a buffer of 3 and 3: the wave of y is x from 0, 0 from 3, 1 from 13, 0 from 16. The net n has no
 // driver and the input b no point, so their waves have the value at 0 alone, z and x.
@@ -12,18 +18,12 @@ const PULSE_REPLIES: &[u8] = b"ok 1\nok 2\nok 3\nok 4\nok 5\nok 6\nok 7\nok 8\n\
 
 #[test]
 fn the_pulse(rt: HostRuntime) {
-    let (result, replies) = answered(&rt, rt.alloc(), EMPTY, 100, PULSE);
-    assert_eq!(rt; result, Ok(()));
-    assert_eq!(rt; replies.as_slice(), PULSE_REPLIES);
+    check(&rt, rt.alloc(), EMPTY, 100, PULSE, PULSE_REPLIES);
 }
 
 #[test]
 fn pieces_make_no_difference_to_questions(rt: HostRuntime) {
-    for most in [1, 2, 4096] {
-        let (result, replies) = answered_in_pieces(&rt, rt.alloc(), 100, PULSE, most);
-        assert_eq!(rt; result, Ok(()), "in {most}");
-        assert_eq!(rt; replies.as_slice(), PULSE_REPLIES, "in {most}");
-    }
+    check_in_pieces(&rt, rt.alloc(), 100, PULSE, PULSE_REPLIES);
 }
 
 // What is answered behind the replies of the pulse, up to the horizon 100.
@@ -97,17 +97,34 @@ const ROWS: &[(&[u8], &[u8])] = &[
     (b"wave y 0", b"no 16 BadCommand\n"),
 ];
 
+// The lines of the pulse, and one more.
+fn behind_the_pulse(rt: &impl Abort, alloc: Global, line: &[u8]) -> Vec<u8> {
+    let mut input = Vec::new(alloc);
+    add(rt, &mut input, PULSE);
+    add(rt, &mut input, line);
+    input
+}
+
+fn check_question(
+    rt: &(impl Wait + RandomSource + Abort),
+    alloc: Global,
+    line: &[u8],
+    want: &[u8],
+) {
+    let input = behind_the_pulse(rt, alloc, line);
+    let (result, replies) = opened(rt, alloc, EMPTY, &up_to(100), input.as_slice());
+    drop(input);
+    equal(rt, "result", result, Ok(()));
+    let last = replies.as_slice().strip_prefix(PULSE_REPLIES);
+    equal(rt, line, last, Some(want));
+    drop(replies);
+}
+
 #[test]
-fn each_question(rt: HostRuntime) -> Result<(), Fail> {
-    for (line, want) in ROWS.iter().copied() {
-        let mut input = Vec::from_slice(rt.alloc(), PULSE)?;
-        input.extend_from_slice(line)?;
-        let (result, replies) = answered(&rt, rt.alloc(), EMPTY, 100, input.as_slice());
-        assert_eq!(rt; result, Ok(()));
-        let last = replies.as_slice().strip_prefix(PULSE_REPLIES);
-        assert_eq!(rt; last, Some(want), "{line:?}");
+fn each_question(rt: HostRuntime) {
+    for (line, want) in ROWS {
+        check_question(&rt, rt.alloc(), line, want);
     }
-    Ok(())
 }
 
 #[test]
@@ -116,7 +133,5 @@ fn questions_ask_the_present_design(rt: HostRuntime) {
         b"input a\nstim a 5 1\nvalue a 7\nseek a 0 1\nstim a 5 0\nvalue a 7\nseek a 0 1\nvalue a 9\nstim a 11 1\nnext a 5\n";
     let want =
         b"ok 1\nok 2\n1\nok 2\n5 1\nok 2\nok 3\n0\nok 3\nnone\nok 3\n0\nok 3\nok 4\nnone\nok 4\n";
-    let (result, replies) = answered(&rt, rt.alloc(), EMPTY, 10, input);
-    assert_eq!(rt; result, Ok(()));
-    assert_eq!(rt; replies.as_slice(), want.as_slice());
+    check(&rt, rt.alloc(), EMPTY, 10, input, want);
 }

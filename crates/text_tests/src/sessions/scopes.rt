@@ -1,6 +1,6 @@
 //! Names with dots.
 
-use super::{EMPTY, answered};
+use super::{EMPTY, check};
 
 const LINES: &[u8] =
     b"net u.t wire\ninput u.a\ngate u.g not 1 2 u.t u.a\nstim u.a 5 1\nwave u.t\nwave t\nhold a.b\ndrop u.g\n\
@@ -13,7 +13,5 @@ no 4 BadName\nno 4 BadName\nno 4 BadName\n";
 
 #[test]
 fn names_with_dots(rt: HostRuntime) {
-    let (result, replies) = answered(&rt, rt.alloc(), EMPTY, 20, LINES);
-    assert_eq!(rt; result, Ok(()));
-    assert_eq!(rt; replies.as_slice(), REPLIES);
+    check(&rt, rt.alloc(), EMPTY, 20, LINES, REPLIES);
 }

@@ -1,8 +1,13 @@
 //! Design texts, and the waves of the designs that they spell.
 
-use super::{EMPTY, answered, opened};
+use super::{EMPTY, check, check_opened, opened};
+use crate::compare::equal;
 use edits::EditFault;
-use session::SessionFault;
+use session::{Options, SessionFault};
+use std::alloc::Global;
+use std::process::Abort;
+use std::random::RandomSource;
+use std::sync::Wait;
 use vtext::{ReadFault, ReadFaultKind};
 
 // A text, the delay of gates without one, lines, and the replies to them, up to the horizon 40.
@@ -72,10 +77,23 @@ nand NAND2_4 (N19, N11, N7);\nnand NAND2_5 (N22, N10, N16);\nnand NAND2_6 (N23, 
 #[test]
 fn waves_of_texts(rt: HostRuntime) {
     for (text, delay, input, want) in TEXTS {
-        let (result, replies) = opened(&rt, rt.alloc(), text, 40, delay, input);
-        assert_eq!(rt; result, Ok(()));
-        assert_eq!(rt; replies.as_slice(), want);
+        let options = Options { horizon: 40, delay };
+        check_opened(&rt, rt.alloc(), text, &options, input, want);
     }
+}
+
+// The session is not opened: it has this fault and no reply.
+fn check_refused(
+    rt: &(impl Wait + RandomSource + Abort),
+    alloc: Global,
+    design: &[u8],
+    options: &Options,
+    fault: SessionFault,
+) {
+    let (result, replies) = opened(rt, alloc, design, options, b"quit");
+    equal(rt, design, result, Err(fault));
+    equal(rt, design, replies.as_slice(), b"".as_slice());
+    drop(replies);
 }
 
 // Texts that open no session: the line and the kind of the fault.
@@ -117,45 +135,50 @@ const FAULTS: [(&[u8], u64, ReadFaultKind); 17] = [
 
 #[test]
 fn texts_that_are_refused(rt: HostRuntime) {
+    let options = Options {
+        horizon: 0,
+        delay: None,
+    };
     for (text, line, kind) in FAULTS {
-        let (result, replies) = answered(&rt, rt.alloc(), text, 0, b"quit");
         let fault = SessionFault::Design(ReadFault { line, kind });
-        assert_eq!(rt; result, Err(fault));
-        assert_eq!(rt; replies.as_slice(), b"".as_slice());
+        check_refused(&rt, rt.alloc(), text, &options, fault);
     }
 }
+
+const GATE: &[u8] = b"module m;\nnot (y, y);\nendmodule";
 
 // A default delay out of its range is a fault of the first gate without one, and of no other.
 #[test]
 fn default_delays(rt: HostRuntime) {
-    let gate = b"module m;\nnot (y, y);\nendmodule".as_slice();
     for (delay, fault) in [
         (0, EditFault::ZeroDelay),
         (1_000_001, EditFault::DelayTooLarge),
     ] {
-        let (result, _) = opened(&rt, rt.alloc(), gate, 0, Some(delay), b"");
+        let options = Options {
+            horizon: 0,
+            delay: Some(delay),
+        };
         let kind = ReadFaultKind::Edit(fault);
-        assert_eq!(rt;
-            result,
-            Err(SessionFault::Design(ReadFault { line: 2, kind }))
-        );
-        let (result, _) = opened(&rt, rt.alloc(), EMPTY, 0, Some(delay), b"");
-        assert_eq!(rt; result, Ok(()));
+        let fault = SessionFault::Design(ReadFault { line: 2, kind });
+        check_refused(&rt, rt.alloc(), GATE, &options, fault);
+        check_opened(&rt, rt.alloc(), EMPTY, &options, b"", b"");
     }
 }
 
+const OVER: Options = Options {
+    horizon: 1_000_000_001,
+    delay: None,
+};
+
+// A fault of the text comes first.
 #[test]
 fn horizons(rt: HostRuntime) {
-    let over = Err(SessionFault::Edit(EditFault::TimeTooLarge));
-    let (result, replies) = answered(&rt, rt.alloc(), EMPTY, 1_000_000_001, b"quit");
-    assert_eq!(rt; result, over);
-    assert_eq!(rt; replies.as_slice(), b"".as_slice());
-    let (result, _) = answered(&rt, rt.alloc(), EMPTY, 1_000_000_000, b"quit");
-    assert_eq!(rt; result, Ok(()));
-    let text_first = SessionFault::Design(ReadFault {
+    let over = SessionFault::Edit(EditFault::TimeTooLarge);
+    check_refused(&rt, rt.alloc(), EMPTY, &OVER, over);
+    check(&rt, rt.alloc(), EMPTY, 1_000_000_000, b"quit", b"ok 0\n");
+    let text = SessionFault::Design(ReadFault {
         line: 1,
         kind: ReadFaultKind::Syntax,
     });
-    let (result, _) = answered(&rt, rt.alloc(), b"x", 1_000_000_001, b"quit");
-    assert_eq!(rt; result, Err(text_first));
+    check_refused(&rt, rt.alloc(), b"x", &OVER, text);
 }
