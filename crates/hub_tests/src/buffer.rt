@@ -1,5 +1,6 @@
 //! A bench of a buffer with delays of 3, whose input `a` and output `y` are x at first. The horizon is 30.
 
+use crate::compare::equal;
 use bench::{Bench, Snapshot};
 use design::{Design, Name, NameHasher};
 use edits::{Edit, Pin, Pins, Word, apply_all};
@@ -74,8 +75,8 @@ pub fn stim(rt: &impl Abort, alloc: Global, time: u64, value: Value) -> Edit {
 pub fn check(rt: &impl Abort, snapshot: &Snapshot, count: usize, time: u64, value: Value) {
     let wave = snapshot.wave("y").expect(rt, "a net of this name");
     let changes = wave.changes();
-    assert_eq!(rt; changes.len(), count);
+    equal(rt, "number of changes", changes.len(), count);
     let last = changes.last().expect(rt, "a change");
-    assert_eq!(rt; last.time, time);
-    assert_eq!(rt; last.value, value);
+    equal(rt, "time", last.time, time);
+    equal(rt, "value", last.value, value);
 }

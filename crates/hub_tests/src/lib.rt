@@ -4,6 +4,8 @@
 #[cfg(test)]
 mod buffer;
 #[cfg(test)]
+mod compare;
+#[cfg(test)]
 mod rows;
 #[cfg(test)]
 mod threads;
