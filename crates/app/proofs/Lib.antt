@@ -1,5 +1,3 @@
 pub mod CommandLineLemmas
-pub mod FileLemmas
-pub mod NumberLemmas
-pub mod SayLemmas
+pub mod StartLemmas
 pub mod WordLemmas

@@ -1,21 +1,14 @@
 -- Why the words are refused: the fault that the form of the command line, or a range of its numbers, finds in them.
-use Rattle.std.specs.Prelude.{◌≡◌, ◌≢◌, List, true, Option, None, Some, codes, string_bytes}
-use Rattle.clap.specs.Words.{IsAmong, Text, fault_of}
-use Rattle.clap.specs.declared.error.ErrorKind.{ErrorKind}
-use Rattle.clap.specs.declared.error.ErrorKind.TheVariants as kind
+use Rattle.std.specs.Prelude.{◌≡◌, List, true, Option, None, Some, codes, string_bytes}
+use Rattle.clap.specs.Words.{Text, fault_of}
+use Rattle.programs.specs.Words.{IsFaultAmong}
 use Rattle.app.specs.Arguments.{asked}
 use Rattle.app.specs.CommandLine.{command_line, is_taken, value_of}
 use Rattle.app.specs.Numbers.{delay_of_text, horizon_of_text, workers_of_text}
 use Rattle.app.specs.declared.complaint.Complaint.{Complaint}
-use Rattle.app.specs.declared.complaint.Complaint.TheVariants.{Help, Form, NoDesign, Horizon, Workers, Delay}
+use Rattle.app.specs.declared.complaint.Complaint.TheVariants.{Words, NoDesign, Horizon, Workers, Delay}
 use Rattle.app.specs.declared.complaint.StartFault.{StartFault}
 use Rattle.app.specs.declared.complaint.StartFault.TheVariants.{OutOfMemory, Refused}
-
--- the fault of words whose parse failed by this kind; their text is `clap`'s
-abbrev pub IsFormFault : ErrorKind → Complaint → Type 0
-IsFormFault k Help = k ≡ kind.DisplayHelp
-IsFormFault k (Form k' lines) = (k' ≡ k) × (k ≢ kind.OutOfMemory) × (k ≢ kind.DisplayHelp)
-IsFormFault k _ = ⊥
 
 -- the fault of words that are of the form, by what they give for DESIGN, H, N and D
 abbrev pub IsValueFault : (design horizon workers delay : Option Text) → Complaint → Type 0
@@ -25,10 +18,9 @@ IsValueFault design horizon workers delay (Workers value) = (workers ≡ Some (s
 IsValueFault design horizon workers delay (Delay value) = (delay ≡ Some (string_bytes value)) × (delay_of_text (string_bytes value) ≡ None)
 IsValueFault design horizon workers delay _ = ⊥
 
--- `clap` refuses the words by this kind, or it takes them and a value is missing or out of its range
+-- `clap` refuses the words by this fault, or it takes them and a value is missing or out of its range
 abbrev pub Explains : List Text → Complaint → Type 0
-Explains words Help = IsAmong kind.DisplayHelp (fault_of command_line words)
-Explains words (Form k lines) = IsAmong k (fault_of command_line words) × (k ≢ kind.DisplayHelp)
+Explains words (Words fault) = IsFaultAmong (fault_of command_line words) fault
 Explains words complaint = (is_taken words ≡ true)
     × IsValueFault (value_of (codes "design") words) (value_of (codes "horizon") words) (value_of (codes "workers") words) (value_of (codes "delay") words) complaint
 

@@ -3,7 +3,6 @@ pub mod Arguments
 pub mod CommandLine
 pub mod Complaints
 pub mod Endings
-pub mod Files
 pub mod Numbers
 pub mod Refusals
 pub mod Start

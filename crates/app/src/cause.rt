@@ -1,15 +1,13 @@
 //! Why the words are refused, by the definition that refuses them.
 
 ghost use Rattle.std.specs.Prelude.{◌≡◌, IfOk, None, map, option_map};
-ghost use Rattle.std.specs.Io.{StartsWith};
-ghost use Rattle.clap.specs.Words.{kind_of};
 ghost use Rattle.app.specs.Arguments.{arguments_of, asked, delay_given, horizon_given, workers_given};
-ghost use Rattle.app.specs.Complaints.{Explains, IsFormFault, IsValueFault};
+ghost use Rattle.app.specs.Complaints.{Explains, IsValueFault};
 
 use crate::command_line::parse;
 use crate::complaint::Complaint;
 use crate::numbers::{horizon_of, workers_of};
-use clap::error::ErrorKind;
+use programs::fault_of_form;
 use std::alloc::{AllocError, Global};
 use std::convert::AsStr;
 
@@ -26,7 +24,7 @@ pub fn complaint_of<S: AsStr>(alloc: Global, words: &[S]) -> Result<Complaint, A
             matches.get_str("workers"),
             matches.get_str("delay"),
         ),
-        Err(error) => complaint_of_form(alloc, &error),
+        Err(error) => Ok(Complaint::Words(fault_of_form(alloc, &error)?)),
     }
 }
 
@@ -57,34 +55,5 @@ fn complaint_of_values(
     match delay {
         Some(text) => Ok(Complaint::Delay(String::from_str(alloc, text)?)),
         None => unreachable!(),
-    }
-}
-
-// What is wrong with words that are not of the form.
-fn complaint_of_form(alloc: Global, error: &clap::Error) -> Result<Complaint, AllocError>
-    ensures { IfOk result (IsFormFault (kind_of error.now)) }
-{
-    match error.kind() {
-        ErrorKind::OutOfMemory => Err(AllocError),
-        ErrorKind::DisplayHelp => Ok(Complaint::Help),
-        kind => {
-            let text = format!(in alloc; "{error}")?;
-            let lines = String::from_str(alloc, before_usage(text.as_str()))?;
-            Ok(Complaint::Form(kind, lines))
-        }
-    }
-}
-
-// A text of `clap` without the usage and the hint at its end.
-fn before_usage(text: &str) -> &str
-    ensures { StartsWith text.now result.now }
-{
-    let text = match text.rsplit_once("\n\nFor more information, ") {
-        Some((before, _)) => before,
-        None => text,
-    };
-    match text.rsplit_once("\n\nUsage: ") {
-        Some((before, _)) => before,
-        None => text,
     }
 }

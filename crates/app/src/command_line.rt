@@ -1,31 +1,23 @@
 //! The words after the program's name, parted by `clap`.
 
-ghost use Rattle.std.specs.Prelude.{◌≡◌, ℕ, List, IfErr, IfOk, false, true, map};
-ghost use Rattle.clap.specs.Words.{HasKind, app_of, fault_of, first_value, found_of, rule_of};
-ghost use Rattle.app.specs.CommandLine.{command_line, is_taken, option_rule, value_of};
+ghost use Rattle.std.specs.Prelude.{◌≡◌, ℕ, List, IfErr, IfOk, true, map};
+ghost use Rattle.clap.specs.Words.{HasKind, app_of, fault_of, first_value, found_of};
+ghost use Rattle.app.specs.CommandLine.{command_line, is_taken, value_of};
 
-use clap::{Arg, ArgMatches, Command, Error};
+use clap::{ArgMatches, Command, Error};
+use programs::{option_of, positional, program};
 use std::alloc::{AllocError, Global};
 use std::convert::AsStr;
-
-// The option of a name, with one value.
-fn option_of<'a>(alloc: Global, name: &'a str, value: &'a str) -> Arg<'a>
-    ensures rule { rule_of result ≡ option_rule name.now }
-    ensures own { result.global ≡ false }
-{
-    Arg::new(alloc, name).long(name).value_name(value)
-}
 
 // The form of the command line.
 fn form<'a>(alloc: Global) -> Result<Command<'a>, AllocError>
     ensures { IfOk result (λ c. app_of c ≡ command_line) }
 {
-    let design = Arg::new(alloc, "design").value_name("DESIGN");
+    let design = positional(alloc, "design", "DESIGN");
     let horizon = option_of(alloc, "horizon", "H");
     let workers = option_of(alloc, "workers", "N");
     let delay = option_of(alloc, "delay", "D");
-    Command::new(alloc, "gatebench")
-        .no_binary_name(true)
+    program(alloc, "gatebench")
         .arg(design)?
         .arg(horizon)?
         .arg(workers)?
@@ -38,5 +30,5 @@ pub fn parse<'a, S: AsStr>(alloc: Global, words: &'a [S]) -> Result<ArgMatches<'
         × ((name : List ℕ) → first_value (found_of m) name ≡ value_of name (map S.text words.entry.now))) }
     ensures refused { IfErr result (HasKind (fault_of command_line (map S.text words.entry.now))) }
 {
-    form(alloc)?.try_get_matches_from(words)
+    programs::parse(form(alloc)?, words)
 }

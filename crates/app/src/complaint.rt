@@ -1,17 +1,13 @@
 //! What is wrong with the words after the program's name.
 
-use clap::error::ErrorKind;
+use programs::WordsFault;
 use std::alloc::AllocError;
 
 /// What is wrong with the words, and which of them is at fault.
 #[derive(Debug, Drop)]
 pub enum Complaint {
-    /// Nothing is wrong: they ask for help.
-    Help,
-    /// One of them is no text.
-    NotText,
-    /// They are not of the form. The lines are `clap`'s: they name the word at fault and what was wanted.
-    Form(ErrorKind, String),
+    /// They do not have the form of the command line, or ask for help.
+    Words(WordsFault),
     /// DESIGN is missing.
     NoDesign,
     /// The value of `--horizon`, which is no number of its range.

@@ -2,13 +2,13 @@
 
 ghost use Rattle.std.specs.Prelude.{◌≡◌};
 ghost use Rattle.devices.specs.Outgoing.{Adds};
-ghost use Rattle.app.specs.Endings.{Says, design_line, edit_line, ending_status, ending_text, fault_line, fault_status};
+ghost use Rattle.programs.specs.Endings.{Says};
+ghost use Rattle.app.specs.Endings.{edit_line, ending_status, ending_text, fault_line, fault_status};
 
-use crate::status::{BROKEN_OFF, DESIGN_REFUSED, ENDED, WORDS_REFUSED};
 use devices::{Sink, Writer};
 use edits::EditFault;
+use programs::{BROKEN_OFF, Breakdown, ENDED, REFUSED, WORDS_REFUSED, say_breakdown, say_design};
 use session::SessionFault;
-use vtext::ReadFault;
 
 /// Writes a line to `sink` that says why a session broke off or did not open, and answers the status.
 /// It writes nothing where the session ended well, and a write that fails is passed over (own).
@@ -29,7 +29,7 @@ fn status_of(outcome: &Result<(), SessionFault>) -> u8
 {
     match outcome {
         Ok(()) => ENDED,
-        Err(SessionFault::Design(_)) => DESIGN_REFUSED,
+        Err(SessionFault::Design(_)) => REFUSED,
         Err(SessionFault::Edit(_)) => WORDS_REFUSED,
         Err(_) => BROKEN_OFF,
     }
@@ -50,23 +50,11 @@ fn say_fault<W: Sink>(writer: &mut Writer<'_, W>, fault: SessionFault)
     match fault {
         SessionFault::Design(fault) => say_design(writer, fault),
         SessionFault::Edit(fault) => say_edit(writer, fault),
-        SessionFault::OutOfMemory => writer.text(b"out of memory\n"),
+        SessionFault::OutOfMemory => say_breakdown(writer, Breakdown::OutOfMemory),
         SessionFault::WorkerLost => writer.text(b"worker lost\n"),
-        SessionFault::Read => writer.text(b"read failed\n"),
-        SessionFault::Write => writer.text(b"write failed\n"),
+        SessionFault::Read => say_breakdown(writer, Breakdown::Read),
+        SessionFault::Write => say_breakdown(writer, Breakdown::Write),
     }
-}
-
-fn say_design<W: Sink>(writer: &mut Writer<'_, W>, fault: ReadFault)
-    ensures { Adds writer.old writer.new (design_line fault) }
-{
-    writer.text(b"line ");
-    writer.number(fault.line);
-    writer.text(b": ");
-    writer.number(u64::from(fault.kind.code()));
-    writer.text(b" ");
-    writer.text(fault.kind.name().as_bytes());
-    writer.text(b"\n");
 }
 
 fn say_edit<W: Sink>(writer: &mut Writer<'_, W>, fault: EditFault)

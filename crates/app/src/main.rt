@@ -5,19 +5,19 @@ mod arguments;
 mod cause;
 mod command_line;
 mod complaint;
-mod design_file;
 mod ending;
 mod help;
 mod numbers;
 mod refusal;
 mod session_run;
 mod start;
-mod status;
 #[cfg(test)]
 mod tests;
 
 use complaint::StartFault;
 use devices::Device;
+use lexing::MAX_TEXT;
+use programs::first_bytes_of;
 use session::SessionFault;
 use std::env;
 use std::fs::File;
@@ -27,10 +27,9 @@ fn main(rt: HostRuntime) -> ExitCode {
     let mut errors = Device::new(rt.stderr());
     let status = match start::asked(rt.alloc(), env::args(&rt)) {
         Ok(args) => {
-            let file = design_file::first_bytes_of(
-                rt.alloc(),
-                File::open(&rt, args.design.as_str()),
-            );
+            // A text over its limit is read as far as it takes to refuse it.
+            let design = File::open(&rt, args.design.as_str());
+            let file = first_bytes_of(rt.alloc(), design, MAX_TEXT + 1);
             let mut source = Device::new(rt.stdin());
             let mut sink = Device::new(rt.stdout());
             let outcome = session_run::run_session(&rt, file, &args, &mut source, &mut sink);

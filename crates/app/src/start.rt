@@ -5,13 +5,14 @@ ghost use Rattle.std.specs.Vec.Iter.{into_iter_items};
 ghost use Rattle.std.specs.IoError.{error_kind};
 ghost use Rattle.app.specs.Arguments.{asked};
 ghost use Rattle.app.specs.Complaints.{StopsBy};
-ghost use Rattle.app.specs.Start.{no_words_fault, unread_fault};
+ghost use Rattle.app.specs.Start.{no_words_fault, stop_by, unread_by, unread_fault};
 
 use crate::arguments::{Args, ArgsFault, options};
 use crate::cause::complaint_of;
 use crate::complaint::{Complaint, StartFault};
+use programs::{Breakdown, NoWords, WordsFault, text_of, words_after_name};
 use session::SessionFault;
-use std::alloc::{AllocError, Global};
+use std::alloc::Global;
 use std::convert::AsStr;
 use std::{env, io};
 
@@ -23,12 +24,9 @@ pub fn asked(alloc: Global, words: io::Result<env::Args>) -> Result<Args, StartF
     ensures stopped { IfOk words (λ all. IfErr result (StopsBy (map string_bytes (drop 1 (into_iter_items all))))) }
     ensures unknown { IfErr words (λ error. result ≡ Err (no_words_fault (error_kind error))) }
 {
-    match words {
-        Ok(words) => {
-            let after_name = without_first(alloc, words)?;
-            asked_by(alloc, after_name.as_slice())
-        }
-        Err(error) => Err(words_fault(&error)),
+    match words_after_name(alloc, words) {
+        Ok(words) => asked_by(alloc, words.as_slice()),
+        Err(why) => Err(stop_for(why)),
     }
 }
 
@@ -44,18 +42,12 @@ fn asked_by<S: AsStr>(alloc: Global, words: &[S]) -> Result<Args, StartFault>
     }
 }
 
-fn without_first(alloc: Global, words: env::Args) -> Result<Vec<String>, AllocError>
-    ensures { IfOk result (λ rest. rest.items ≡ drop 1 (into_iter_items words)) }
+fn stop_for(why: NoWords) -> StartFault
+    ensures { result ≡ stop_by why }
 {
-    words.skip(1).collect(alloc)
-}
-
-fn words_fault(error: &io::Error) -> StartFault
-    ensures { result ≡ no_words_fault (error_kind error.now) }
-{
-    match error.kind() {
-        io::ErrorKind::OutOfMemory => StartFault::OutOfMemory,
-        _ => StartFault::Refused(Complaint::NotText),
+    match why {
+        NoWords::NotText => StartFault::Refused(Complaint::Words(WordsFault::NotText)),
+        NoWords::OutOfMemory => StartFault::OutOfMemory,
     }
 }
 
@@ -64,17 +56,18 @@ pub fn design_text(file: io::Result<Vec<u8>>) -> Result<Vec<u8>, SessionFault>
     ensures read { IfOk file (λ bytes. result ≡ Ok bytes) }
     ensures unread { IfErr file (λ error. result ≡ Err (unread_fault (error_kind error))) }
 {
-    match file {
+    match text_of(file) {
         Ok(text) => Ok(text),
-        Err(error) => Err(text_fault(&error)),
+        Err(breakdown) => Err(unread(breakdown)),
     }
 }
 
-fn text_fault(error: &io::Error) -> SessionFault
-    ensures { result ≡ unread_fault (error_kind error.now) }
+fn unread(breakdown: Breakdown) -> SessionFault
+    ensures { result ≡ unread_by breakdown }
 {
-    match error.kind() {
-        io::ErrorKind::OutOfMemory => SessionFault::OutOfMemory,
-        _ => SessionFault::Read,
+    match breakdown {
+        Breakdown::OutOfMemory => SessionFault::OutOfMemory,
+        Breakdown::Read => SessionFault::Read,
+        Breakdown::Write => SessionFault::Write,
     }
 }

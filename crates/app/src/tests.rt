@@ -1,6 +1,5 @@
 use crate::arguments::{Args, ArgsFault, options};
 use crate::complaint::{Complaint, StartFault};
-use crate::design_file::first_bytes_of;
 use crate::ending::ending;
 use crate::help::HELP;
 use crate::refusal::refuse;
@@ -10,6 +9,7 @@ use devices::Device;
 use devices::faulty::Failing;
 use edits::EditFault;
 use lexing::MAX_TEXT;
+use programs::{WordsFault, first_bytes_of};
 use session::SessionFault;
 use std::alloc::{AllocError, Global};
 use std::io;
@@ -167,7 +167,7 @@ fn the_first_word_is_the_name_of_the_program(rt: HostRuntime) -> Result<(), Fail
     assert!(rt;
         matches!(
             asked(rt.alloc(), words),
-            Err(StartFault::Refused(Complaint::NotText))
+            Err(StartFault::Refused(Complaint::Words(WordsFault::NotText)))
         )
     );
     Ok(())
@@ -368,12 +368,16 @@ fn a_file_that_can_not_be_read_is_told(rt: HostRuntime) {
 
 #[test]
 fn a_file_is_read_as_far_as_the_limit(rt: HostRuntime) -> Result<(), Fail> {
-    let text = first_bytes_of(rt.alloc(), Ok(b"module m; endmodule".as_slice()))?;
+    let text = first_bytes_of(
+        rt.alloc(),
+        Ok(b"module m; endmodule".as_slice()),
+        MAX_TEXT + 1,
+    )?;
     assert_eq!(rt; text.as_slice(), b"module m; endmodule".as_slice());
     let blanks = vec![in rt.alloc(); b' '; MAX_TEXT + 2]?;
-    let text = first_bytes_of(rt.alloc(), Ok(blanks.as_slice()))?;
+    let text = first_bytes_of(rt.alloc(), Ok(blanks.as_slice()), MAX_TEXT + 1)?;
     assert_eq!(rt; text.len(), MAX_TEXT + 1);
-    let text = first_bytes_of(rt.alloc(), Ok(io::repeat(0)))?;
+    let text = first_bytes_of(rt.alloc(), Ok(io::repeat(0)), MAX_TEXT + 1)?;
     assert_eq!(rt; text.len(), MAX_TEXT + 1);
     let (outcome, replies) = simulated(&rt, Ok(text));
     let long = ReadFault {
@@ -388,13 +392,13 @@ fn a_file_is_read_as_far_as_the_limit(rt: HostRuntime) -> Result<(), Fail> {
 #[test]
 fn a_file_that_fails_has_no_text(rt: HostRuntime) {
     let cut = Failing::new(b"module m; endmodule".as_slice(), 9);
-    let text = first_bytes_of(rt.alloc(), Ok(cut));
+    let text = first_bytes_of(rt.alloc(), Ok(cut), 100);
     assert_eq!(rt;
         text.err().map(|error| error.kind()),
         Some(io::ErrorKind::Other)
     );
     let missing: io::Result<io::Repeat> = Err(io::Error::from(io::ErrorKind::NotFound));
-    let text = first_bytes_of(rt.alloc(), missing);
+    let text = first_bytes_of(rt.alloc(), missing, 100);
     assert_eq!(rt;
         text.err().map(|error| error.kind()),
         Some(io::ErrorKind::NotFound)
@@ -453,7 +457,10 @@ fn a_failed_write_is_passed_over(rt: HostRuntime) {
 #[test]
 fn words_that_are_no_text_are_refused(rt: HostRuntime) -> Result<(), Fail> {
     let mut sink = Device::new(Vec::new(rt.alloc()));
-    assert_eq!(rt; refuse(&Complaint::NotText, &mut sink), 2);
+    assert_eq!(rt;
+        refuse(&Complaint::Words(WordsFault::NotText), &mut sink),
+        2
+    );
     let lines = "error: invalid UTF-8 was detected in one or more arguments\n\n";
     let wanted = format!(in rt.alloc(); "{lines}{HELP}")?;
     assert_eq!(rt; sink.inner.as_slice(), wanted.as_str().as_bytes());

@@ -1,9 +1,9 @@
-use Rattle.app.proofs.SayLemmas.{adds_then}
+use Rattle.programs.specs.TextLaws.{adds_then}
 use Rattle.app.proofs.refusal.say_complaint.Goals as goal
 
 pub returns-in-Horizon : goal.returns-in-Horizon
 returns-in-Horizon g c =
-    let value = rw c.as_str-in-Horizon.ensures.value at c.say_value.ensures in
+    let value = rw c.as_str.ensures.value at c.say_value.ensures in
     rw c.in-Horizon.is (adds_then c.args.writer.now c.say_value.new.writer c.say_range.new.writer _ _ value c.say_range.ensures)
 
 pub returns-in-Workers : goal.returns-in-Workers

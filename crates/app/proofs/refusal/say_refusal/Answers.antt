@@ -1,7 +1,7 @@
 use Rattle.devices.specs.Outgoing.{Adds}
 use Rattle.app.specs.Refusals.{refusal_text}
 use Rattle.app.specs.declared.help.TheConstants.{HELP}
-use Rattle.app.proofs.SayLemmas.{adds_then}
+use Rattle.programs.specs.TextLaws.{adds_then}
 use Rattle.app.proofs.refusal.say_refusal.Goals as goal
 
 pub returns : goal.returns
