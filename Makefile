@@ -13,7 +13,7 @@ test:
 try:
 	@tools/try
 
-# Builds the proved program into bin/ and runs each example with it.
+# Builds the proved programs into bin/ and runs each example with them.
 demo:
 	@tools/demo
 

@@ -1,0 +1,9 @@
+pub mod Arguments
+pub mod CommandLine
+pub mod Complaints
+pub mod Endings
+pub mod Numbers
+pub mod Races
+pub mod Refusals
+pub mod Scripts
+pub mod Turns
