@@ -14,9 +14,9 @@ mod refusal;
 mod script;
 mod start;
 mod take_turns;
-mod threads;
 #[cfg(test)]
 mod tests;
+mod threads;
 
 use arguments::Args;
 use complaint::StartFault;

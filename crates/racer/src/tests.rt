@@ -25,13 +25,25 @@ fn end_of<R: RandomSource + Threads + Wait + Sync>(rt: &R, alloc: Global, script
 #[test]
 fn three_viewers_look_fifty_times(rt: HostRuntime) {
     let end = race(&rt, rt.alloc(), BUFFER, ROW.as_bytes(), 3, 50);
-    assert_eq!(rt; end, RaceEnd::Looks { looks: 150, wrong: 0 });
+    assert_eq!(rt;
+        end,
+        RaceEnd::Looks {
+            looks: 150,
+            wrong: 0
+        }
+    );
 }
 
 #[test]
 fn sixty_four_viewers_look(rt: HostRuntime) {
     let end = race(&rt, rt.alloc(), BUFFER, ROW.as_bytes(), 64, 2);
-    assert_eq!(rt; end, RaceEnd::Looks { looks: 128, wrong: 0 });
+    assert_eq!(rt;
+        end,
+        RaceEnd::Looks {
+            looks: 128,
+            wrong: 0
+        }
+    );
 }
 
 #[test]
@@ -54,7 +66,10 @@ fn scripts_without_a_fault(rt: HostRuntime) {
 #[test]
 fn the_first_bad_line_is_told(rt: HostRuntime) {
     let scripts = [
-        ("stim a 0 0\nstim a 10 1\nbegin\nstim a 20 0\ndelay g 3 4\ncommit\nwave y\nfrob\n", 8),
+        (
+            "stim a 0 0\nstim a 10 1\nbegin\nstim a 20 0\ndelay g 3 4\ncommit\nwave y\nfrob\n",
+            8,
+        ),
         ("frob", 1),
         ("\n# no\nstim a 0\nfrob\n", 3),
         ("quit\nstim a 0 0\nstim a 0 7\n", 3),
@@ -63,7 +78,11 @@ fn the_first_bad_line_is_told(rt: HostRuntime) {
         ("abort\n", 1),
     ];
     for (script, line) in scripts {
-        assert_eq!(rt; end_of(&rt, rt.alloc(), script), RaceEnd::Script(line), "{script}");
+        assert_eq!(rt;
+            end_of(&rt, rt.alloc(), script),
+            RaceEnd::Script(line),
+            "{script}"
+        );
     }
 }
 
@@ -83,7 +102,10 @@ fn a_batch_of_4097_edits_is_told(rt: HostRuntime) -> Result<(), Fail> {
     let end = end_of(&rt, rt.alloc(), most.as_str());
     assert_eq!(rt; end, RaceEnd::Looks { looks: 6, wrong: 0 });
     let over = batch_of(rt.alloc(), 4097)?;
-    assert_eq!(rt; end_of(&rt, rt.alloc(), over.as_str()), RaceEnd::Script(4098));
+    assert_eq!(rt;
+        end_of(&rt, rt.alloc(), over.as_str()),
+        RaceEnd::Script(4098)
+    );
     Ok(())
 }
 
@@ -119,8 +141,24 @@ fn each_end_has_its_text_and_its_status(rt: HostRuntime) {
         kind: ReadFaultKind::Syntax,
     };
     let table = [
-        (RaceEnd::Looks { looks: 150, wrong: 0 }, "looks 150 wrong 0\n", "", 0),
-        (RaceEnd::Looks { looks: 64000000, wrong: 2 }, "looks 64000000 wrong 2\n", "", 1),
+        (
+            RaceEnd::Looks {
+                looks: 150,
+                wrong: 0,
+            },
+            "looks 150 wrong 0\n",
+            "",
+            0,
+        ),
+        (
+            RaceEnd::Looks {
+                looks: 64000000,
+                wrong: 2,
+            },
+            "looks 64000000 wrong 2\n",
+            "",
+            1,
+        ),
         (RaceEnd::Script(8), "", "script line 8\n", 1),
         (RaceEnd::Design(fault), "", "line 120: 2 Syntax\n", 1),
         (RaceEnd::Memory, "", "out of memory\n", 3),

@@ -8,13 +8,12 @@ returns-then-ne c = λ answer run.
     let other : ¬ (c.changes.result.now ≡ c.changes-in-nets.result.now) =
     other_lists c.changes.result.now c.changes-in-nets.result.now c.ne.result (λ a b. search rules) c.ne.ensures c.if-ne.true in
     let waves : ¬ (c.wave_at.result.now ≡ c.wave_at-in-nets.result.now) = λ w. other (c.changes.ensures ∙ (w ∙ sym c.changes-in-nets.ensures)) in
-    let within : c.nets.place < length (netlist c.args.design.now).nets = search rules in
-    (
+    let within : c.nets.place < length (netlist c.args.design.now).nets = search rules in (
       λ no. cc,
       λ same. absurd (
-        other_wave (netlist c.args.design.now) c.args.snapshot.now.design answer c.nets.place _ _ c.requires.design c.wave_at.ensures
-        (c.wave_at-in-nets.ensures answer run) waves (same c.nets.place within)
-      ),
+          other_wave (netlist c.args.design.now) c.args.snapshot.now.design answer c.nets.place _ _ c.requires.design c.wave_at.ensures
+          (c.wave_at-in-nets.ensures answer run) waves (same c.nets.place within)
+          ),
     )
 
 pub nets-preserved : goal.nets-preserved

@@ -4,7 +4,7 @@ use Rattle.racer.proofs.threads.fn.run_in.scope.Goals as goal
 
 pub viewers-preserved : goal.viewers-preserved
 viewers-preserved g c = (
-      more_handles (λ handle. handle.promise ≡ record { 0 = c.captures.looks }) c.viewers.watching.items c.in_ok-child.child c.push.new.self.items
+  more_handles (λ handle. handle.promise ≡ record { 0 = c.captures.looks }) c.viewers.watching.items c.in_ok-child.child c.push.new.self.items
       c.in_ok-push.ensures.items c.viewers.invariant.0 c.in_ok-child.ensures.ok,
-      more_viewers (vec_len c.viewers.watching) (vec_len c.push.new.self) c.viewers.yielded c.in-Some.viewer c.in_ok-push.ensures.len c.viewers.invariant.1,
-    )
+  more_viewers (vec_len c.viewers.watching) (vec_len c.push.new.self) c.viewers.yielded c.in-Some.viewer c.in_ok-push.ensures.len c.viewers.invariant.1,
+)
