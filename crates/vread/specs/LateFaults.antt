@@ -1,56 +1,109 @@
--- The faults that only a whole text shows, in the order in which they are looked for (own).
-use Rattle.std.specs.Prelude.{Bool, false, ℕ, nat_lt, if◌then◌else◌, List, length, Option, None, Some, option_map}
+-- The faults that only a whole text shows, in the order in which they are looked for (own): those of instances, those of the modules
+-- together, those of the module that is the design.
+use Rattle.std.specs.Prelude.{Bool, true, false, ℕ, ◌+◌, ◌&&◌, ◌||◌, not, nat_lt, if◌then◌else◌, List, length, Option, None, Some, option_map}
 use Rattle.std.specs.List.{list_any}
-use Rattle.std.specs.Option.{option_map_or}
+use Rattle.std.specs.Option.{option_map_or, option_or}
+use Rattle.fourstate.specs.declared.net.NetKind.{NetKind}
+use Rattle.fourstate.specs.declared.net.NetKind.TheVariants.{Wire, Tri, Wand, Triand, Wor, Trior}
 use Rattle.design.specs.declared.limits.TheConstants.{MAX_GATES, MAX_NAME, MAX_NETS}
 use Rattle.edits.specs.declared.fault.EditFault.TheVariants.{BadName, DrivenInput, TooMany}
-use Rattle.lexing.specs.Lines.{line_of}
 use Rattle.vtext.specs.declared.fault.ReadFault.{ReadFault}
 use Rattle.vtext.specs.declared.fault.ReadFaultKind.{ReadFaultKind}
-use Rattle.vtext.specs.declared.fault.ReadFaultKind.TheVariants.{NoTop, Edit}
-use Rattle.vtext.specs.declared.net.Net.{Net}
+use Rattle.vtext.specs.declared.fault.ReadFaultKind.TheVariants.{PortKind, Edit}
+use Rattle.vtext.specs.declared.gate.Terminal.TheVariants as terminals
+use Rattle.vtext.specs.declared.net.Net as nets
 use Rattle.vtext.specs.GateNames.{gate_bytes}
 use Rattle.vtext.specs.Modules.{GateEntry, ModuleEntry, ModuleList}
-use Rattle.vtext.specs.Nets.{is_input, net_of}
-use Rattle.vread.specs.Tops.{top_of}
+use Rattle.vtext.specs.Names.{name_at}
+use Rattle.vtext.specs.Nets.{net_kind}
+use Rattle.vread.specs.declared.joints.Rule.{Rule}
+use Rattle.vread.specs.declared.joints.Rule.TheVariants as rules
+use Rattle.elaboration.specs.Elaborations.{elaboration_fault}
+use Rattle.elaboration.specs.Ports.{fault_at}
+use Rattle.elaboration.specs.Scopes.{Node, Scope, gates_of, is_own, nets_of, node_at, node_of, scopes_of, tied, wired}
+use Rattle.elaboration.specs.Tops.{top_of}
 
--- Of the modules together.
+-- Rules by which nets resolve several drivers (IEEE 1364-2005, 4.6).
 
--- a text without modules is refused on its first line
-abbrev pub no_top : ReadFault
-no_top = record { line = 1; kind = NoTop }
+abbrev pub rule_of : NetKind → Rule
+rule_of Wire = rules.Wire
+rule_of Tri = rules.Wire
+rule_of Wand = rules.Wand
+rule_of Triand = rules.Wand
+rule_of Wor = rules.Wor
+rule_of Trior = rules.Wor
 
--- Of the module that is the design.
+-- a port of the first rule may not be a net of the second one: a port of a kind `wire` or `tri` takes any net's kind
+abbrev pub is_clash : Rule → Rule → Bool
+is_clash rules.Wire net = false
+is_clash rules.Wand rules.Wand = false
+is_clash rules.Wor rules.Wor = false
+is_clash port net = true
 
--- the name of a gate is over its limit
-abbrev pub is_long_named : List (List ℕ) → GateEntry → Bool
-is_long_named names gate = nat_lt MAX_NAME (length (gate_bytes names gate))
+abbrev pub clashes : NetKind → Node → Bool
+clashes kind (wired net) = is_clash (rule_of kind) (rule_of net.kind)
+clashes kind (tied value) = false
 
--- there are more nets, or more gates, than a design may have
-abbrev pub has_many_nets : ModuleEntry → Bool
-has_many_nets top = nat_lt MAX_NETS (length top.nets)
+abbrev pub is_constant_node : Node → Bool
+is_constant_node (wired net) = false
+is_constant_node (tied value) = true
 
-abbrev pub has_many_gates : ModuleEntry → Bool
-has_many_gates top = nat_lt MAX_GATES (length top.gates)
+abbrev pub is_input_node : Node → Bool
+is_input_node (wired net) = net.is_input
+is_input_node (tied value) = false
 
--- a gate drives an input
-abbrev pub drives_input : List (ℕ × Net) → GateEntry → Bool
-drives_input nets gate = option_map_or is_input (net_of nets gate.output) false
+-- `names` is the table of names, and `modules` are those of the text.
+module _ (names : List (List ℕ)) (modules : List (ℕ × ModuleEntry)) where
+  -- a net of the scope is a connected port that is joined to a net of another rule
+  abbrev pub is_misjoined : Scope → ℕ × nets.Net → Bool
+  is_misjoined scope net = not (is_own names modules scope net) && clashes (net_kind net.1) (node_of names modules scope net)
 
--- why the module may not be a design, if it may not
-abbrev pub top_fault : List (List ℕ) → ModuleEntry → Option ReadFaultKind
-top_fault names top =
-    if list_any (is_long_named names) top.gates then Some (Edit BadName)
-    else if has_many_nets top then Some (Edit TooMany)
-    else if has_many_gates top then Some (Edit TooMany)
-    else if list_any (drives_input top.nets) top.gates then Some (Edit DrivenInput)
-    else None
+  -- what a gate of the scope drives
+  abbrev pub driven : Scope → GateEntry → Node
+  driven scope gate = node_at names modules scope (terminals.Net gate.output)
 
--- the fault is at the word `module` of the module
-abbrev pub fault_at : List ℕ → ModuleEntry → ReadFaultKind → ReadFault
-fault_at text top kind = record { line = line_of text top.start; kind = kind }
+  -- a gate drives a port that is tied to a constant
+  abbrev pub drives_constant : Scope → GateEntry → Bool
+  drives_constant scope gate = is_constant_node (driven scope gate)
+
+  abbrev pub is_port_wrong : Scope → Bool
+  is_port_wrong scope = list_any (is_misjoined scope) scope.entry.nets || list_any (drives_constant scope) scope.entry.gates
+
+  -- a name in the scope is over its limit
+  abbrev pub is_long : Scope → List ℕ → Bool
+  is_long scope name = nat_lt MAX_NAME (length scope.path + length name)
+
+  abbrev pub is_long_net : Scope → ℕ × nets.Net → Bool
+  is_long_net scope net = is_own names modules scope net && is_long scope (name_at names net.0)
+
+  abbrev pub is_long_gate : Scope → GateEntry → Bool
+  is_long_gate scope gate = is_long scope (gate_bytes names gate)
+
+  abbrev pub is_long_named : Scope → Bool
+  is_long_named scope = list_any (is_long_net scope) scope.entry.nets || list_any (is_long_gate scope) scope.entry.gates
+
+  -- a gate drives an input of the design
+  abbrev pub drives_input : Scope → GateEntry → Bool
+  drives_input scope gate = is_input_node (driven scope gate)
+
+  abbrev pub is_input_driven : Scope → Bool
+  is_input_driven scope = list_any (drives_input scope) scope.entry.gates
+
+  -- why a module of not too many levels and instances may not be a design, if it may not
+  abbrev pub scopes_fault : ModuleEntry → Option ReadFaultKind
+  scopes_fault top =
+      if list_any is_port_wrong (scopes_of names modules top) then Some PortKind
+      else if list_any is_long_named (scopes_of names modules top) then Some (Edit BadName)
+      else if nat_lt MAX_NETS (length (nets_of names modules top)) then Some (Edit TooMany)
+      else if nat_lt MAX_GATES (length (gates_of names modules top)) then Some (Edit TooMany)
+      else if list_any is_input_driven (scopes_of names modules top) then Some (Edit DrivenInput)
+      else None
+
+-- the fault is at the word `module` of the top
+abbrev pub design_fault : List ℕ → ModuleList → ℕ × ModuleEntry → Option ReadFault
+design_fault text list top = option_map (fault_at text top.1.start) (scopes_fault list.names list.modules top.1)
 
 -- the fault of the modules of a text, if there is one
 abbrev pub late_fault : List ℕ → ModuleList → Option ReadFault
 late_fault text list =
-    option_map_or (λ top. option_map (fault_at text top) (top_fault list.names top)) (top_of list.modules) (Some no_top)
+    option_or (elaboration_fault text list.modules) (option_map_or (design_fault text list) (top_of list.modules) None)

@@ -1,30 +1,168 @@
--- What may be made of a module: its nets and gates, one after another.
-use Rattle.std.specs.Prelude.{◌≡◌, ◌≤◌, ℕ, false, IsTrue, List, length}
+-- What is made of the scopes of a design as they are kept: its nets and gates, one after another.
+use Rattle.std.specs.Prelude.{◌≡◌, ◌≢◌, ◌≤◌, ◌+◌, ◌-◌, ◌^◌, ⊥, Bool, true, false, ℕ, IsTrue, ◌&&◌, ◌||◌, not, nat_lt, min, if◌then◌else◌, List, [], ◌∷◌, ◌++◌, length, map, fold, flat_map, slice_get, All, AllPairs, IsSome, IsSomeAnd, Option, None, Some}
 use Rattle.std.specs.List.{list_any}
+use Rattle.std.specs.Option.{option_map_or}
 use Rattle.fourstate.specs.Delays.{AreDelays}
 use Rattle.fourstate.specs.Gates.{takes_inputs}
-use Rattle.design.specs.declared.limits.TheConstants.{MAX_GATES, MAX_NETS}
+use Rattle.fourstate.specs.declared.net.NetKind.{NetKind}
+use Rattle.design.specs.declared.limits.TheConstants.{MAX_GATES, MAX_NAME, MAX_NETS}
+use Rattle.design.specs.Connections.{Connection, to_net, to_constant}
 use Rattle.design.specs.Names.{is_name}
+use Rattle.design.specs.Netlist as netlist
+use Rattle.edits.specs.declared.fault.EditFault.TheVariants.{BadName, DrivenInput, TooMany}
+use Rattle.vtext.specs.declared.fault.ReadFaultKind.{ReadFaultKind}
+use Rattle.vtext.specs.declared.fault.ReadFaultKind.TheVariants.{PortKind, Edit}
+use Rattle.vtext.specs.declared.gate.Terminal.TheVariants as terminals
+use Rattle.vtext.specs.declared.net.Net as nets
 use Rattle.vtext.specs.GateNames.{gate_bytes}
-use Rattle.vtext.specs.Modules.{GateEntry, ModuleEntry}
+use Rattle.vtext.specs.Modules.{GateEntry}
 use Rattle.vtext.specs.Names.{name_at}
-use Rattle.vtext.specs.Sound.{IsSoundModule}
-use Rattle.vread.specs.LateFaults.{drives_input, is_long_named}
+use Rattle.vtext.specs.Nets.{net_kind}
+use Rattle.elaboration.specs.declared.node.NodeRef.{NodeRef}
+use Rattle.elaboration.specs.declared.node.NodeRef.TheVariants.{Net, Tied}
+use Rattle.elaboration.specs.declared.node.Slot.{Slot}
+use Rattle.elaboration.specs.Elaborations.{Elaborated}
+use Rattle.elaboration.specs.Numbered.{PlacedScope, ref_at}
+use Rattle.vread.specs.LateFaults.{is_clash, rule_of}
 
--- the name of this number is one that a design may have
-abbrev pub IsNamed : List (List ℕ) → ℕ → Type 0
-IsNamed names n = IsTrue (is_name (name_at names n))
+-- one of the nets of a scope, with what it is, passes
+abbrev pub any_slot : (Slot → ℕ × nets.Net → Bool) → List Slot → List (ℕ × nets.Net) → Bool
+any_slot passes [] nets = false
+any_slot passes (slot ∷ slots) [] = false
+any_slot passes (slot ∷ slots) (net ∷ nets) = passes slot net || any_slot passes slots nets
 
--- a gate that may be made
-pub record IsFitGate (names : List (List ℕ)) (gate : GateEntry) : Type 0 where
-  pub named : IsTrue (is_name (gate_bytes names gate))
-  pub fits : IsTrue (takes_inputs gate.kind (length gate.inputs))
-  pub delays : AreDelays gate.delays
+-- What may be wrong with a scope.
 
--- a module that may be a design
-pub record IsFitModule (names : List (List ℕ)) (top : ModuleEntry) : Type 0 where
-  pub sound : IsSoundModule names top
-  pub short : list_any (is_long_named names) top.gates ≡ false
-  pub nets : length top.nets ≤ MAX_NETS
-  pub gates : length top.gates ≤ MAX_GATES
-  pub undriven : list_any (drives_input top.nets) top.gates ≡ false
+abbrev pub clashes : NetKind → NodeRef → Bool
+clashes kind (Net kept) = is_clash (rule_of kind) (rule_of kept.kind)
+clashes kind (Tied value) = false
+
+abbrev pub is_tied : NodeRef → Bool
+is_tied (Net kept) = false
+is_tied (Tied value) = true
+
+abbrev pub is_input_ref : NodeRef → Bool
+is_input_ref (Net kept) = kept.is_input
+is_input_ref (Tied value) = false
+
+abbrev pub is_misjoined : Slot → ℕ × nets.Net → Bool
+is_misjoined slot net = not slot.is_own && clashes (net_kind net.1) slot.node
+
+-- what a gate of the scope drives
+abbrev pub driven : PlacedScope → GateEntry → NodeRef
+driven scope gate = ref_at scope (terminals.Net gate.output)
+
+abbrev pub drives_constant : PlacedScope → GateEntry → Bool
+drives_constant scope gate = is_tied (driven scope gate)
+
+abbrev pub is_port_wrong : PlacedScope → Bool
+is_port_wrong scope = any_slot is_misjoined scope.slots scope.entry.nets || list_any (drives_constant scope) scope.entry.gates
+
+abbrev pub drives_input : PlacedScope → GateEntry → Bool
+drives_input scope gate = is_input_ref (driven scope gate)
+
+abbrev pub is_input_driven : PlacedScope → Bool
+is_input_driven scope = list_any (drives_input scope) scope.entry.gates
+
+-- a name after this path is over its limit
+abbrev pub is_long : List ℕ → List ℕ → Bool
+is_long path name = nat_lt MAX_NAME (length path + length name)
+
+module _ (names : List (List ℕ)) where
+  abbrev pub is_long_net : List ℕ → Slot → ℕ × nets.Net → Bool
+  is_long_net path slot net = slot.is_own && is_long path (name_at names net.0)
+
+  abbrev pub is_long_gate : List ℕ → GateEntry → Bool
+  is_long_gate path gate = is_long path (gate_bytes names gate)
+
+  abbrev pub is_long_named : PlacedScope → Bool
+  is_long_named scope = any_slot (is_long_net scope.path) scope.slots scope.entry.nets || list_any (is_long_gate scope.path) scope.entry.gates
+
+  -- how many gates there are, as far as numbers go
+  abbrev pub gate_count : List PlacedScope → ℕ
+  gate_count scopes = fold (λ count scope. min (count + length scope.entry.gates) (2 ^ 64 - 1)) 0 scopes
+
+  -- why the scopes are no design, if they are none
+  abbrev pub kept_fault : Elaborated → Option ReadFaultKind
+  kept_fault design =
+      if list_any is_port_wrong design.scopes then Some PortKind
+      else if list_any is_long_named design.scopes then Some (Edit BadName)
+      else if nat_lt MAX_NETS design.net_count then Some (Edit TooMany)
+      else if nat_lt MAX_GATES (gate_count design.scopes) then Some (Edit TooMany)
+      else if list_any is_input_driven design.scopes then Some (Edit DrivenInput)
+      else None
+
+  -- The nets that come with a scope.
+
+  abbrev pub node_nets : List ℕ → NodeRef → ℕ → List netlist.NetEntry
+  node_nets path (Net kept) n = netlist.new_net (path ++ name_at names n) kept.kind kept.is_input ∷ []
+  node_nets path (Tied value) n = []
+
+  abbrev pub slot_nets : List ℕ → Slot → ℕ → List netlist.NetEntry
+  slot_nets path slot n = if slot.is_own then node_nets path slot.node n else []
+
+  abbrev pub slots_nets : List ℕ → List Slot → List (ℕ × nets.Net) → List netlist.NetEntry
+  slots_nets path [] nets = []
+  slots_nets path (slot ∷ slots) [] = []
+  slots_nets path (slot ∷ slots) (net ∷ nets) = slot_nets path slot net.0 ++ slots_nets path slots nets
+
+  abbrev pub kept_nets : PlacedScope → List netlist.NetEntry
+  kept_nets scope = slots_nets scope.path scope.slots scope.entry.nets
+
+  -- nets that a design may have
+  pub record AreFitNets (nets : List netlist.NetEntry) : Type 0 where
+    pub named : All (λ net. IsTrue (is_name net.name)) nets
+    pub distinct : AllPairs (λ a b. a.name ≢ b.name) nets
+    pub room : length nets ≤ MAX_NETS
+
+  -- Its gates, among the nets of the design.
+
+  module _ (flat : List netlist.NetEntry) where
+    abbrev pub net_at : ℕ → List ℕ
+    net_at place = option_map_or (λ net. net.name) (slice_get flat place) []
+
+    abbrev pub output_of : NodeRef → List ℕ
+    output_of (Net kept) = net_at kept.place
+    output_of (Tied value) = []
+
+    abbrev pub connection_of : NodeRef → Connection
+    connection_of (Net kept) = to_net (net_at kept.place)
+    connection_of (Tied value) = to_constant value
+
+    abbrev pub kept_gate : PlacedScope → GateEntry → netlist.GateEntry
+    kept_gate scope gate = record {
+      name = scope.path ++ gate_bytes names gate;
+      kind = gate.kind;
+      delays = gate.delays;
+      output = output_of (driven scope gate);
+      inputs = map (λ input. connection_of (ref_at scope input)) gate.inputs;
+    }
+
+    abbrev pub kept_gates : PlacedScope → List netlist.GateEntry
+    kept_gates scope = map (kept_gate scope) scope.entry.gates
+
+    -- what a gate reads is a constant, or one of the nets
+    abbrev pub IsReadable : NodeRef → Type 0
+    IsReadable (Net kept) = IsSome (slice_get flat kept.place)
+    IsReadable (Tied value) = Unit {0}
+
+    -- what it drives is one of the nets, and no input
+    abbrev pub IsDrivable : NodeRef → Type 0
+    IsDrivable (Net kept) = IsSomeAnd (slice_get flat kept.place) (λ net. net.is_input ≡ false)
+    IsDrivable (Tied value) = ⊥
+
+    -- a gate that may be made
+    pub record IsFitGate (scope : PlacedScope) (gate : GateEntry) : Type 0 where
+      pub named : IsTrue (is_name (scope.path ++ gate_bytes names gate))
+      pub fits : IsTrue (takes_inputs gate.kind (length gate.inputs))
+      pub delays : AreDelays gate.delays
+      pub output : IsDrivable (driven scope gate)
+      pub inputs : All (λ input. IsReadable (ref_at scope input)) gate.inputs
+
+    abbrev pub AreFitGates : PlacedScope → Type 0
+    AreFitGates scope = All (IsFitGate scope) scope.entry.gates
+
+-- gates that a design may have together
+pub record AreDistinctGates (gates : List netlist.GateEntry) : Type 0 where
+  pub distinct : AllPairs (λ a b. a.name ≢ b.name) gates
+  pub room : length gates ≤ MAX_GATES

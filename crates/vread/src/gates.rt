@@ -1,95 +1,109 @@
-//! The gates of a design, from those of the module at its top.
+//! The gates of a design, from those of its scopes.
 
-ghost use Rattle.std.specs.Prelude.{◌≡◌, ◌+◌, ◌<◌, [], false, All, IfOk, IsSomeAnd, IsTrue, length, map, take};
+ghost use Rattle.std.specs.Prelude.{◌≡◌, ◌++◌, ◌∷◌, [], false, All, AllPairs, IfOk, IsSomeAnd, IsTrue, flat_map, length, map};
 ghost use Rattle.fourstate.specs.Delays.{AreDelays};
 ghost use Rattle.design.specs.Keys as Keys;
-ghost use Rattle.design.specs.Keys.{IsThere, connection_in, entry_in, netlist};
+ghost use Rattle.design.specs.Keys.{IsThere, connection_in, entry_in, name_of, net_by_key, netlist};
 ghost use Rattle.design.specs.Names.{is_name};
-ghost use Rattle.vread.specs.Netlists.{connection_of, gate_entry, net_entry};
-ghost use Rattle.vread.specs.Parts.{IsFitGate, IsFitModule};
+ghost use Rattle.elaboration.specs.Numbered.{ref_at};
 ghost use Rattle.vtext.specs.GateNames.{gate_bytes};
-ghost use Rattle.vtext.specs.Nets.{is_input, net_of};
-ghost use Rattle.vtext.specs.Sound.{IsConnected};
+ghost use Rattle.vread.specs.Parts.{AreDistinctGates, AreFitGates, IsDrivable, IsFitGate, IsReadable, connection_of, driven, kept_gate, kept_gates, output_of};
 
-use crate::names::{name_from, name_of};
+use crate::names::name_in;
 use crate::nets::key_of;
-use design::laws::parts_are_names;
-use design::{Design, Gate, Name, Terminal};
+use design::{Design, Gate, Name, NetKey, Terminal};
+use elaboration::{NodeRef, Scope};
 use fourstate::Delays;
 use std::alloc::{AllocError, Global};
-use vtext::{InstanceName, Module, Names, gate_name};
+use vtext::{InstanceName, Names, gate_name};
 
-/// The design with the gates of a module, in their order, after all its nets.
+/// The design with the gates of some scopes, in their order, after all its nets.
 pub fn with_gates(
     alloc: Global,
     design: Design,
     names: &Names,
-    top: &Module,
+    scopes: &[Scope],
 ) -> Result<Design, AllocError>
-    requires fit { IsFitModule names.now top.now }
-    requires nets { (netlist design).nets ≡ map (net_entry names.now) top.now.nets }
-    requires bare { (netlist design).gates ≡ [] }
-    ensures { IfOk result (λ made. netlist made ≡ record (netlist design) { gates = map (gate_entry names.now) top.now.gates }) }
+    requires fit { All (AreFitGates names.now (netlist design).nets) scopes.now }
+    requires distinct { AreDistinctGates ((netlist design).gates ++ flat_map (kept_gates names.now (netlist design).nets) scopes.now) }
+    ensures { IfOk result (λ made. netlist made ≡ record (netlist design) { gates = (netlist design).gates ++ flat_map (kept_gates names.now (netlist design).nets) scopes.now }) }
 {
     let mut made = design;
-    for place in 0..top.gates().len() {
-        made = with_gate_at(alloc, made, names, top, place)?;
+    for scope in scopes {
+        made = with_scope_gates(alloc, made, names, scope)?;
     }
     Ok(made)
 }
 
-/// The design with the gate at a place of a module, after those before it.
-fn with_gate_at(
+/// The design with the gates of a scope.
+fn with_scope_gates(
     alloc: Global,
     design: Design,
     names: &Names,
-    top: &Module,
-    place: usize,
+    scope: &Scope,
 ) -> Result<Design, AllocError>
-    requires fit { IsFitModule names.now top.now }
-    requires within { place < length top.now.gates }
-    requires nets { (netlist design).nets ≡ map (net_entry names.now) top.now.nets }
-    requires before { (netlist design).gates ≡ map (gate_entry names.now) (take place top.now.gates) }
-    ensures { IfOk result (λ made. netlist made ≡ record (netlist design) { gates = map (gate_entry names.now) (take (place + 1) top.now.gates) }) }
+    requires fit { AreFitGates names.now (netlist design).nets scope.now }
+    requires distinct { AreDistinctGates ((netlist design).gates ++ kept_gates names.now (netlist design).nets scope.now) }
+    ensures { IfOk result (λ made. netlist made ≡ record (netlist design) { gates = (netlist design).gates ++ kept_gates names.now (netlist design).nets scope.now }) }
 {
-    parts_are_names();
-    let gate = gate_of(alloc, &design, names, top, &top.gates()[place])?;
-    let (design, _key) = design.add_gate(gate)?;
+    let mut made = design;
+    for gate in scope.module().gates() {
+        made = with_gate(alloc, made, names, scope, gate)?;
+    }
+    Ok(made)
+}
+
+/// The design with a gate more.
+fn with_gate(
+    alloc: Global,
+    design: Design,
+    names: &Names,
+    scope: &Scope,
+    gate: &vtext::Gate,
+) -> Result<Design, AllocError>
+    requires fit { IsFitGate names.now (netlist design).nets scope.now gate.now }
+    requires distinct { AreDistinctGates ((netlist design).gates ++ kept_gate names.now (netlist design).nets scope.now gate.now ∷ []) }
+    ensures { IfOk result (λ made. netlist made ≡ record (netlist design) { gates = (netlist design).gates ++ kept_gate names.now (netlist design).nets scope.now gate.now ∷ [] }) }
+{
+    let made = gate_of(alloc, &design, names, scope, gate)?;
+    let (design, _key) = design.add_gate(made)?;
     Ok(design)
 }
 
-/// A gate of a module as one of a design that has its nets.
+/// A gate of a scope as one of a design that has its nets.
 fn gate_of(
     alloc: Global,
     design: &Design,
     names: &Names,
-    top: &Module,
+    scope: &Scope,
     gate: &vtext::Gate,
 ) -> Result<Gate, AllocError>
-    requires fit { IsFitGate names.now gate.now }
-    requires nets { (netlist design.now).nets ≡ map (net_entry names.now) top.now.nets }
-    requires output { IsSomeAnd (net_of top.now.nets gate.now.output) (λ net. is_input net ≡ false) }
-    requires inputs { All (IsConnected top.now.nets) gate.now.inputs }
-    ensures entry { IfOk result (λ made. entry_in design.now.nets made ≡ gate_entry names.now gate.now) }
+    requires fit { IsFitGate names.now (netlist design.now).nets scope.now gate.now }
+    ensures entry { IfOk result (λ made. entry_in design.now.nets made ≡ kept_gate names.now (netlist design.now).nets scope.now gate.now) }
     ensures connected { IfOk result (Keys.IsConnected design.now.nets) }
 {
-    let name = name_of_gate(alloc, names, gate)?;
-    let inputs = connections(alloc, design, names, top, gate.inputs())?;
-    let output = key_of(design, names, top, gate.output());
+    let name = name_of_gate(alloc, names, scope, gate)?;
+    let inputs = connections(alloc, design, scope, gate.inputs())?;
+    let output = output_of(design, scope.node(vtext::Terminal::Net(gate.output())));
     let delays = delays_of(gate);
     Ok(Gate::new(name, gate.kind(), delays, output, inputs))
 }
 
 /// The name of a gate.
-fn name_of_gate(alloc: Global, names: &Names, gate: &vtext::Gate) -> Result<Name, AllocError>
-    requires { IsTrue (is_name (gate_bytes names.now gate.now)) }
-    ensures { IfOk result (λ name. name ≡ gate_bytes names.now gate.now) }
+fn name_of_gate(
+    alloc: Global,
+    names: &Names,
+    scope: &Scope,
+    gate: &vtext::Gate,
+) -> Result<Name, AllocError>
+    requires { IsTrue (is_name (scope.now.path ++ gate_bytes names.now gate.now)) }
+    ensures { IfOk result (λ name. name ≡ scope.now.path ++ gate_bytes names.now gate.now) }
 {
     if let (InstanceName::Written(name), None) = (gate.instance(), gate.part()) {
-        return name_of(alloc, names, name);
+        return name_in(alloc, scope.path(), names.text(name));
     }
     let bytes = gate_name(alloc, names, gate)?;
-    name_from(alloc, bytes.as_slice())
+    name_in(alloc, scope.path(), bytes.as_slice())
 }
 
 fn delays_of(gate: &vtext::Gate) -> Delays
@@ -102,36 +116,45 @@ fn delays_of(gate: &vtext::Gate) -> Delays
     }
 }
 
+/// The key of the net that a gate drives.
+fn output_of(design: &Design, node: NodeRef) -> NetKey
+    requires { IsDrivable (netlist design.now).nets node }
+    ensures net { IsSomeAnd (net_by_key design.now result) (λ net. net.is_input ≡ false) }
+    ensures name { name_of design.now.nets result ≡ output_of (netlist design.now).nets node }
+{
+    match node {
+        NodeRef::Net(net) => key_of(design, net),
+        NodeRef::Tied(_) => unreachable!(),
+    }
+}
+
 /// What the inputs of a gate are connected to.
 fn connections(
     alloc: Global,
     design: &Design,
-    names: &Names,
-    top: &Module,
+    scope: &Scope,
     inputs: &[vtext::Terminal],
 ) -> Result<Vec<Terminal>, AllocError>
-    requires nets { (netlist design.now).nets ≡ map (net_entry names.now) top.now.nets }
-    requires inputs { All (IsConnected top.now.nets) inputs.now }
-    ensures named { IfOk result (λ made. map (connection_in design.now.nets) made.items ≡ map (connection_of names.now) inputs.now) }
+    requires { All (λ input. IsReadable (netlist design.now).nets (ref_at scope.now input)) inputs.now }
+    ensures named { IfOk result (λ made. map (connection_in design.now.nets) made.items ≡ map (λ input. connection_of (netlist design.now).nets (ref_at scope.now input)) inputs.now) }
     ensures there { IfOk result (λ made. All (IsThere design.now.nets) made.items) }
     ensures count { IfOk result (λ made. length made.items ≡ length inputs.now) }
 {
     let mut made = Vec::with_capacity(alloc, inputs.len())?;
     for input in inputs {
-        let connection = connection(design, names, top, *input);
+        let connection = connection(design, scope.node(*input));
         made.push(connection)?;
     }
     Ok(made)
 }
 
-fn connection(design: &Design, names: &Names, top: &Module, input: vtext::Terminal) -> Terminal
-    requires nets { (netlist design.now).nets ≡ map (net_entry names.now) top.now.nets }
-    requires there { IsConnected top.now.nets input }
-    ensures named { connection_in design.now.nets result ≡ connection_of names.now input }
+fn connection(design: &Design, node: NodeRef) -> Terminal
+    requires { IsReadable (netlist design.now).nets node }
+    ensures named { connection_in design.now.nets result ≡ connection_of (netlist design.now).nets node }
     ensures there { IsThere design.now.nets result }
 {
-    match input {
-        vtext::Terminal::Net(number) => Terminal::Net(key_of(design, names, top, number)),
-        vtext::Terminal::Constant(value) => Terminal::Constant(value),
+    match node {
+        NodeRef::Net(net) => Terminal::Net(key_of(design, net)),
+        NodeRef::Tied(value) => Terminal::Constant(value),
     }
 }

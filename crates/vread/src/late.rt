@@ -1,85 +1,83 @@
-//! The faults that only a whole text shows.
+//! The fourth pass: why the scopes of the module at the top may not be a design.
 
-ghost use Rattle.std.specs.Prelude.{◌≡◌};
+ghost use Rattle.std.specs.Prelude.{◌≡◌, ◌&&◌, nat_lt};
 ghost use Rattle.std.specs.List.{list_any};
-ghost use Rattle.lexing.specs.Lines.{line_of};
-ghost use Rattle.vread.specs.LateFaults.{drives_input, fault_at, is_long_named, no_top, top_fault};
+ghost use Rattle.vread.specs.Parts.{drives_constant, drives_input, gate_count, is_input_driven, is_long_named, is_port_wrong, kept_fault};
 
-use crate::lengths::gate_name_length;
-use design::{MAX_GATES, MAX_NAME, MAX_NETS};
+use crate::joints::{is_input, is_misjoined, is_tied};
+use crate::lengths::is_long_named;
+use design::{MAX_GATES, MAX_NETS};
 use edits::EditFault;
-use lexing::line;
-use vtext::{Gate, Module, Names, ReadFault, ReadFaultKind};
+use elaboration::{Elaboration, Scope};
+use vtext::{Gate, Names, ReadFaultKind, Terminal};
 
-/// There is no module.
-pub fn no_top() -> ReadFault
-    ensures { result ≡ no_top }
+/// Why a design's scopes are no design; none where they are one.
+pub fn scopes_fault(names: &Names, design: &Elaboration) -> Option<ReadFaultKind>
+    ensures { result ≡ kept_fault names.now design.now }
 {
-    ReadFault {
-        line: 1,
-        kind: ReadFaultKind::NoTop,
+    let scopes = design.scopes();
+    if scopes.iter().any(|scope| is_port_wrong(scope)) {
+        return Some(ReadFaultKind::PortKind);
     }
-}
-
-/// The fault at the word `module` of a module.
-pub fn fault_at(text: &[u8], top: &Module, kind: ReadFaultKind) -> ReadFault
-    ensures { result ≡ fault_at text.now top.now kind }
-{
-    ReadFault {
-        line: line_at(text, top.start() as usize) as u64,
-        kind,
-    }
-}
-
-/// The line of a place; past the text's end, that of the end.
-#[tactic(auto, using(crate::proofs::LineLemmas::same_line))]
-fn line_at(text: &[u8], at: usize) -> usize
-    ensures { result ≡ line_of text.now at }
-{
-    line(text, at.min(text.len()))
-}
-
-/// Why a module may not be a design; none where it may.
-pub fn top_fault(names: &Names, top: &Module) -> Option<ReadFaultKind>
-    ensures { result ≡ top_fault names.now top.now }
-{
-    if are_long_named(names, top.gates()) {
+    if scopes.iter().any(|scope| is_long_named(names, scope)) {
         return Some(ReadFaultKind::Edit(EditFault::BadName));
     }
-    if top.net_count() > MAX_NETS || top.gates().len() > MAX_GATES {
+    if design.net_count() > MAX_NETS || gate_count(scopes) > MAX_GATES {
         return Some(ReadFaultKind::Edit(EditFault::TooMany));
     }
-    if drive_inputs(top) {
+    if scopes.iter().any(|scope| is_input_driven(scope)) {
         return Some(ReadFaultKind::Edit(EditFault::DrivenInput));
     }
     None
 }
 
-/// Whether one of the gates has a name over the limit.
-fn are_long_named(names: &Names, gates: &[Gate]) -> bool
-    ensures { result ≡ list_any (is_long_named names.now) gates.now }
+/// How many gates there are, as far as numbers go.
+fn gate_count(scopes: &[Scope]) -> usize
+    ensures { result ≡ gate_count scopes.now }
 {
-    gates.iter().any(|gate| is_long_named(names, gate))
-}
-
-fn is_long_named(names: &Names, gate: &Gate) -> bool
-    ensures { result ≡ is_long_named names.now gate.now }
-{
-    gate_name_length(names, gate) > MAX_NAME
-}
-
-/// Whether a gate drives an input.
-fn drive_inputs(top: &Module) -> bool
-    ensures { result ≡ list_any (drives_input top.now.nets) top.now.gates }
-{
-    top.gates().iter().any(|gate| drives_input(top, gate))
-}
-
-fn drives_input(top: &Module, gate: &Gate) -> bool
-    ensures { result ≡ drives_input top.now.nets gate.now }
-{
-    match top.net(gate.output()) {
-        Some(net) => net.is_input(),
-        None => false,
+    let mut count = 0usize;
+    for scope in scopes {
+        count = count.saturating_add(scope.module().gates().len());
     }
+    count
+}
+
+/// Whether a port is joined to a net of another rule, or a gate drives a port that is tied to a constant.
+fn is_port_wrong(scope: &Scope) -> bool
+    ensures { result ≡ is_port_wrong scope.now }
+{
+    is_misjoined(scope) || drive_constants(scope)
+}
+
+fn drive_constants(scope: &Scope) -> bool
+    ensures { result ≡ list_any (drives_constant scope.now) scope.now.entry.gates }
+{
+    scope
+        .module()
+        .gates()
+        .iter()
+        .any(|gate| drives_constant(scope, gate))
+}
+
+fn drives_constant(scope: &Scope, gate: &Gate) -> bool
+    ensures { result ≡ drives_constant scope.now gate.now }
+{
+    is_tied(scope.node(Terminal::Net(gate.output())))
+}
+
+/// Whether a gate drives an input of the design.
+fn is_input_driven(scope: &Scope) -> bool
+    ensures { result ≡ is_input_driven scope.now }
+{
+    scope
+        .module()
+        .gates()
+        .iter()
+        .any(|gate| drives_input(scope, gate))
+}
+
+fn drives_input(scope: &Scope, gate: &Gate) -> bool
+    ensures { result ≡ drives_input scope.now gate.now }
+{
+    is_input(scope.node(Terminal::Net(gate.output())))
 }

@@ -1,13 +1,61 @@
-//! How long the names of gates are, found without making them.
+//! How long names are, found without making them.
 
-ghost use Rattle.std.specs.Prelude.{◌≡◌, ◌<◌, ◌≤◌, ◌^◌, length};
+ghost use Rattle.std.specs.Prelude.{◌≡◌, ◌+◌, ◌<◌, ◌≤◌, ◌^◌, length, nat_lt};
 ghost use Rattle.std.specs.Fmt.{decimal};
+ghost use Rattle.std.specs.List.{list_any};
 ghost use Rattle.vtext.specs.GateNames.{gate_bytes, instance_bytes, numbered};
+ghost use Rattle.vread.specs.Parts.{any_slot, is_long, is_long_gate, is_long_named, is_long_net};
 
+use design::MAX_NAME;
+use elaboration::Scope;
 use vtext::{Gate, InstanceName, Names};
 
+/// Whether a net that comes with a scope, or a gate of it, has a name over the limit.
+pub fn is_long_named(names: &Names, scope: &Scope) -> bool
+    ensures { result ≡ is_long_named names.now scope.now }
+{
+    are_long_nets(names, scope) || are_long_gates(names, scope)
+}
+
+fn are_long_nets(names: &Names, scope: &Scope) -> bool
+    ensures { result ≡ any_slot (is_long_net names.now scope.now.path) scope.now.slots scope.now.entry.nets }
+{
+    for (place, slot) in scope.slots().iter().enumerate() {
+        let Some((name, _)) = scope.module().net_at(place) else {
+            return false;
+        };
+        if slot.is_own && is_long(scope, names.text(name).len()) {
+            return true;
+        }
+    }
+    false
+}
+
+fn are_long_gates(names: &Names, scope: &Scope) -> bool
+    ensures { result ≡ list_any (is_long_gate names.now scope.now.path) scope.now.entry.gates }
+{
+    scope
+        .module()
+        .gates()
+        .iter()
+        .any(|gate| is_long_gate(names, scope, gate))
+}
+
+fn is_long_gate(names: &Names, scope: &Scope, gate: &Gate) -> bool
+    ensures { result ≡ is_long_gate names.now scope.now.path gate.now }
+{
+    is_long(scope, gate_name_length(names, gate))
+}
+
+/// Whether a name of so many bytes, after the path of a scope, is over its limit.
+fn is_long(scope: &Scope, bytes: usize) -> bool
+    ensures { result ≡ nat_lt MAX_NAME (length scope.now.path + bytes) }
+{
+    scope.path().len().saturating_add(bytes) > MAX_NAME
+}
+
 /// How many bytes the name of a gate has.
-pub fn gate_name_length(names: &Names, gate: &Gate) -> usize
+fn gate_name_length(names: &Names, gate: &Gate) -> usize
     ensures { result ≡ length (gate_bytes names.now gate.now) }
 {
     let base = instance_length(names, gate.instance());

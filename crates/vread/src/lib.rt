@@ -3,6 +3,7 @@
 
 mod build;
 mod gates;
+mod joints;
 mod late;
 pub mod laws;
 mod lengths;

@@ -1,14 +1,11 @@
 //! Names of a text as names of a design.
 
-ghost use Rattle.std.specs.Prelude.{◌≡◌, IfOk, IsTrue};
+ghost use Rattle.std.specs.Prelude.{◌≡◌, ◌++◌, IfOk, IsTrue};
 ghost use Rattle.design.specs.Names.{is_name};
-ghost use Rattle.vread.specs.Parts.{IsNamed};
-ghost use Rattle.vtext.specs.Names.{name_at};
 
 use design::Name;
 use design::laws::names_print;
 use std::alloc::{AllocError, Global};
-use vtext::Names;
 
 /// The name that these bytes are.
 pub fn name_from(alloc: Global, bytes: &[u8]) -> Result<Name, AllocError>
@@ -31,10 +28,16 @@ fn text_of(bytes: &[u8]) -> &str
     text
 }
 
-/// The name of a number.
-pub fn name_of(alloc: Global, names: &Names, number: u32) -> Result<Name, AllocError>
-    requires { IsNamed names.now number }
-    ensures { IfOk result (λ name. name ≡ name_at names.now number) }
+/// The name that a name in a scope has in the design.
+pub fn name_in(alloc: Global, path: &[u8], name: &[u8]) -> Result<Name, AllocError>
+    requires { IsTrue (is_name (path.now ++ name.now)) }
+    ensures { IfOk result (λ made. made ≡ path.now ++ name.now) }
 {
-    name_from(alloc, names.text(number))
+    if path.is_empty() {
+        return name_from(alloc, name);
+    }
+    let mut bytes = Vec::with_capacity(alloc, path.len() + name.len())?;
+    bytes.extend_from_slice(path)?;
+    bytes.extend_from_slice(name)?;
+    name_from(alloc, bytes.as_slice())
 }

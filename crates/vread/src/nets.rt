@@ -1,70 +1,88 @@
-//! The nets of a design, from those of the module at its top, and their keys.
+//! The nets of a design, from those of its scopes, and their keys.
 
-ghost use Rattle.std.specs.Prelude.{◌≡◌, ◌+◌, ◌<◌, [], false, true, IfOk, IsSome, length, map, option_map, slice_get, take, Some};
+ghost use Rattle.std.specs.Prelude.{◌≡◌, ◌<◌, ◌++◌, ◌∷◌, [], true, false, IfOk, IsSome, IsTrue, Some, flat_map, length, slice_get};
 ghost use Rattle.design.specs.Keys.{name_of as net_name, net_by_key, netlist};
 ghost use Rattle.design.specs.declared.limits.TheConstants.{MAX_NETS};
+ghost use Rattle.design.specs.Names.{is_name};
 ghost use Rattle.design.specs.Netlist.{has_net, new_net, with_net};
-ghost use Rattle.vread.specs.Netlists.{net_entry};
-ghost use Rattle.vread.specs.Parts.{IsFitModule};
 ghost use Rattle.vtext.specs.Names.{name_at};
-ghost use Rattle.vtext.specs.Nets.{is_input, net_kind, net_of};
+ghost use Rattle.vread.specs.Parts.{AreFitNets, kept_nets, net_at, node_nets, slot_nets};
 
-use crate::names::name_of;
-use design::laws::parts_are_names;
+use crate::names::name_in;
 use design::{Design, Name, NetKey};
+use elaboration::{NetRef, NodeRef, Scope, Slot};
 use fourstate::NetKind;
 use std::alloc::{AllocError, Global};
-use vtext::{Module, Names, Net};
+use vtext::Names;
 
-/// The design with the nets of a module, in their order.
+/// The design with the nets of some scopes, in their order.
 pub fn with_nets(
     alloc: Global,
     design: Design,
     names: &Names,
-    top: &Module,
+    scopes: &[Scope],
 ) -> Result<Design, AllocError>
-    requires fit { IsFitModule names.now top.now }
-    requires bare { (netlist design).nets ≡ [] }
-    ensures { IfOk result (λ made. netlist made ≡ record (netlist design) { nets = map (net_entry names.now) top.now.nets }) }
+    requires { AreFitNets ((netlist design).nets ++ flat_map (kept_nets names.now) scopes.now) }
+    ensures { IfOk result (λ made. netlist made ≡ record (netlist design) { nets = (netlist design).nets ++ flat_map (kept_nets names.now) scopes.now }) }
 {
     let mut made = design;
-    for place in 0..top.net_count() {
-        made = with_net_at(alloc, made, names, top, place)?;
+    for scope in scopes {
+        made = with_scope_nets(alloc, made, names, scope)?;
     }
     Ok(made)
 }
 
-/// The design with the net at a place of a module, after those before it.
-fn with_net_at(
+/// The design with the nets that come with a scope.
+fn with_scope_nets(
     alloc: Global,
     design: Design,
     names: &Names,
-    top: &Module,
-    place: usize,
+    scope: &Scope,
 ) -> Result<Design, AllocError>
-    requires fit { IsFitModule names.now top.now }
-    requires within { place < length top.now.nets }
-    requires before { (netlist design).nets ≡ map (net_entry names.now) (take place top.now.nets) }
-    ensures { IfOk result (λ made. netlist made ≡ record (netlist design) { nets = map (net_entry names.now) (take (place + 1) top.now.nets) }) }
+    requires { AreFitNets ((netlist design).nets ++ kept_nets names.now scope.now) }
+    ensures { IfOk result (λ made. netlist made ≡ record (netlist design) { nets = (netlist design).nets ++ kept_nets names.now scope.now }) }
 {
-    let Some((number, net)) = top.net_at(place) else {
-        unreachable!()
-    };
-    parts_are_names();
-    let name = name_of(alloc, names, number)?;
-    with_net(design, name, net)
+    let mut made = design;
+    for (place, slot) in scope.slots().iter().enumerate() {
+        let Some((name, _)) = scope.module().net_at(place) else {
+            return Ok(made);
+        };
+        made = with_slot(alloc, made, names, scope, *slot, name)?;
+    }
+    Ok(made)
+}
+
+/// The design with a net of a scope, where it comes with the scope.
+fn with_slot(
+    alloc: Global,
+    design: Design,
+    names: &Names,
+    scope: &Scope,
+    slot: Slot,
+    name: u32,
+) -> Result<Design, AllocError>
+    requires { AreFitNets ((netlist design).nets ++ slot_nets names.now scope.now.path slot name) }
+    ensures { IfOk result (λ made. netlist made ≡ record (netlist design) { nets = (netlist design).nets ++ slot_nets names.now scope.now.path slot name }) }
+{
+    match (slot.is_own, slot.node) {
+        (true, NodeRef::Net(net)) => {
+            let name = name_in(alloc, scope.path(), names.text(name))?;
+            with_net(design, name, net)
+        }
+        _ => Ok(design),
+    }
 }
 
 /// The design with a net more.
-fn with_net(design: Design, name: Name, net: Net) -> Result<Design, AllocError>
+fn with_net(design: Design, name: Name, net: NetRef) -> Result<Design, AllocError>
     requires absent { has_net (netlist design) name ≡ false }
     requires room { length (netlist design).nets < MAX_NETS }
-    ensures { IfOk result (λ made. netlist made ≡ with_net (netlist design) (new_net name (net_kind net) (is_input net))) }
+    ensures { IfOk result (λ made. netlist made ≡ with_net (netlist design) (new_net name net.kind net.is_input)) }
 {
-    if net.is_input() {
-        with_input(design, name, net.net_kind())
+    if net.is_input {
+        with_input(design, name, net.kind)
     } else {
-        let (design, _key) = design.add_net(name, net.net_kind())?;
+        let (design, _key) = design.add_net(name, net.kind)?;
         Ok(design)
     }
 }
@@ -79,16 +97,12 @@ fn with_input(design: Design, name: Name, kind: NetKind) -> Result<Design, Alloc
     design.set_net_kind(key, kind)
 }
 
-/// The key of the net of this name, by its number, in a design that has the nets of a module.
-pub fn key_of(design: &Design, names: &Names, top: &Module, number: u32) -> NetKey
-    requires nets { (netlist design.now).nets ≡ map (net_entry names.now) top.now.nets }
-    requires there { IsSome (net_of top.now.nets number) }
-    ensures net { net_by_key design.now result ≡ option_map (λ net. net_entry names.now (number, net)) (net_of top.now.nets number) }
-    ensures name { net_name design.now.nets result ≡ name_at names.now number }
+/// The key of a net of the design.
+pub fn key_of(design: &Design, net: NetRef) -> NetKey
+    requires there { IsSome (slice_get (netlist design.now).nets net.place) }
+    ensures net { net_by_key design.now result ≡ slice_get (netlist design.now).nets net.place }
+    ensures name { net_name design.now.nets result ≡ net_at (netlist design.now).nets net.place }
     ensures there { IsSome (net_by_key design.now result) }
 {
-    match top.net_place(number) {
-        Some(place) => design.net_key_at(place),
-        None => unreachable!(),
-    }
+    design.net_key_at(net.place)
 }

@@ -89,6 +89,14 @@ outputs_short r =
     let taken : length (take n r.terminals) ≡ min n (length r.terminals) = length-take n r.terminals in
     omega (arith, taken)
 
+-- all that was taken before still is
+pub completed_keeps : (names : List (List ℕ)) (r : Reading) → Keeps r.taken (completed names r).taken
+completed_keeps names r m t =
+    let instance : InstanceName = instance_name r in
+    let own : List ℕ = with_own_taken names r.taken instance in
+    let parts : ℕ = part_count (length (outputs_of r.gate r.terminals)) in
+    parts_kept names own (instance_bytes names instance) parts m (own_kept names r.instance r.taken r.unnamed m t)
+
 pub completed_holds : (names : List (List ℕ)) (r : Reading) (room : ℕ) → Holds names (suc room) r → IsStarted names r.instance r.gates r.taken
     → completed_cause names r ≡ None → Holds names room (completed names r)
 completed_holds names r room h started none =
@@ -102,7 +110,7 @@ completed_holds names r room h started none =
     let small : length outputs < 2 ^ 64 = omega (arith, outputs_short r, h.short) in
     let counted = count_of r.instance r.unnamed in
     let free = or_parts (is_own_taken names r.taken instance) (is_part_taken names r.taken base (part_count (length outputs))) (made_free names r none) in
-    let keeps : Keeps r.taken later = λ m t. parts_kept names own base (part_count (length outputs)) m (own_kept names r.instance r.taken r.unnamed m t) in
+    let keeps : Keeps r.taken later = completed_keeps names r in
     let known : IsKnown names count instance = known_of names r.instance r.gates r.taken r.unnamed started in
     record {
       apart = gates_apart names r instance inputs r.taken r.unnamed r.gates outputs (omega (arith, h.few)) small (base_some names count instance known) free.1 h.settled

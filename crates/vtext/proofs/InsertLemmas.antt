@@ -1,7 +1,8 @@
 -- A list of nets keeps what it has where one is added or said more of.
-use Rattle.std.proofs.Common.{◌≡◌, ◌≢◌, ℕ, zero, suc, Bool, true, false, cond, ◌||◌, List, [], ◌∷◌, Option, None, Some, unwrap_or, IsSome, All, AllPairs, nat_eq, refl, sym, ap, ◌∙◌, arith, true≢false}
+use Rattle.std.proofs.Common.{◌≡◌, ◌≢◌, ℕ, zero, suc, Bool, true, false, cond, ◌||◌, List, [], ◌∷◌, Option, None, Some, unwrap_or, IsSome, All, AllPairs, nat_eq, refl, sym, subst, ap, ◌∙◌, arith, true≢false}
 use Rattle.std.proofs.lemmas.Bool.Decides.{nat_tests}
 use Rattle.std.proofs.lemmas.List.Elements.{All-nil, All-cons, All-head, All-tail}
+use Rattle.indexmap.specs.IndexMap.{insert_entry}
 use Rattle.vtext.specs.declared.net.Net.{Net}
 use Rattle.vtext.specs.Nets.{blank, is_declared, is_used, net_of, used, with_net, with_use}
 
@@ -10,6 +11,18 @@ same_number n = grind (arith, nat_tests)
 
 apart_numbers : (a b : ℕ) → nat_eq a b ≡ false → b ≢ a
 apart_numbers a b h e = true≢false (sym (ap (λ (n : ℕ). nat_eq n b) (sym e) ∙ same_number b) ∙ h)
+
+same_numbers : (a b : ℕ) → nat_eq a b ≡ true → a ≡ b
+same_numbers a b h = grind (arith, nat_tests)
+
+-- what holds of each entry, and of the one that is put in
+pub entries_kept : {V : Type 0} (P : ℕ × V → Type 0) (es : List (ℕ × V)) (n : ℕ) (v : V) → P (n, v) → All P es → All P (insert_entry nat_eq es n v)
+entries_kept P [] n v good all = All-cons P (n, v) [] good all
+entries_kept {V} P (e ∷ es) n v good all = step (nat_eq n e.0) refl (All-head P e es all) (All-tail P e es all) (entries_kept P es n v good (All-tail P e es all))
+  where
+    step : (b : Bool) → nat_eq n e.0 ≡ b → P e → All P es → All P (insert_entry nat_eq es n v) → All P (cond b ((e.0, v) ∷ es) (e ∷ insert_entry nat_eq es n v))
+    step true same first rest more = All-cons P (e.0, v) es (subst (λ (k : ℕ). P (k, v)) (same_numbers n e.0 same) good) rest
+    step false same first rest more = All-cons P e (insert_entry nat_eq es n v) first more
 
 -- the nets that are there stay there
 pub net_kept : (nets : List (ℕ × Net)) (n : ℕ) (net : Net) (q : ℕ) → IsSome (net_of nets q) → IsSome (net_of (with_net nets n net) q)

@@ -4,8 +4,10 @@ pub mod WalkLemmas
 pub mod FindLemmas
 pub mod ReadLemmas
 pub mod WalkLaws
+pub mod MarkLemmas
 pub mod TreeLemmas
 pub mod ReadLaws
+pub mod Rests
 pub mod SpelledLemmas
 pub mod WalkEnds
 pub mod NetPlaces
@@ -18,6 +20,7 @@ pub mod SpellingLemmas
 pub mod InsertLemmas
 pub mod SoundGateLemmas
 pub mod SoundReadings
+pub mod SoundInstances
 pub mod SoundSteps
 pub mod SoundWalks
 pub mod MadeNames

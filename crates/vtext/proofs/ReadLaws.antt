@@ -20,7 +20,7 @@ use Rattle.vtext.proofs.WalkLaws.{no_fault, one_fault, one_walk}
 same_list : (a b : ModuleList) → a.names ≡ b.names → a.unit ≡ b.unit → a.modules ≡ b.modules → a ≡ b
 same_list a b n u m =
     ap (λ (names : List (List ℕ)). record a { names = names }) n ∙ ap (λ (unit : Option TimeUnit). record a { names = b.names; unit = unit }) u
-    ∙ ap (λ (modules : List ModuleEntry). record b { modules = modules }) m
+    ∙ ap (λ (modules : List (ℕ × ModuleEntry)). record b { modules = modules }) m
 
 same_fault : (a b : ReadFault) → a.line ≡ b.line → a.kind ≡ b.kind → a ≡ b
 same_fault a b l k = ap (λ (line : ℕ). record a { line = line }) l ∙ ap (λ (kind : ReadFaultKind). record b { kind = kind }) k

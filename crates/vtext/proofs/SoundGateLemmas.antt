@@ -1,5 +1,5 @@
 -- The gates that an instance gives are sound, and stay so when nets are added.
-use Rattle.std.proofs.Common.{◌≡◌, ℕ, suc, ◌==◌, Bool, true, false, cond, not, ◌||◌, IsSome, IsTrue, List, [], ◌∷◌, Option, Some, None, All, length, refl}
+use Rattle.std.proofs.Common.{◌≡◌, ℕ, suc, ◌==◌, Bool, true, false, cond, not, ◌||◌, IsSome, IsTrue, MatchOption, List, [], ◌∷◌, Option, Some, None, All, length, refl}
 use Rattle.std.proofs.lemmas.List.Elements.{All-cons, All-drop, All-head, All-nil, All-tail, All-take, All-weaker}
 use Rattle.std.specs.List.{list_any}
 use Rattle.fourstate.specs.Delays.{AreDelays}
@@ -9,13 +9,14 @@ use Rattle.vtext.specs.declared.cause.Cause.TheVariants.{WrongArity, PortKind}
 use Rattle.vtext.specs.declared.gate.InstanceName.{InstanceName}
 use Rattle.vtext.specs.declared.gate.Terminal.{Terminal}
 use Rattle.vtext.specs.declared.gate.Terminal.TheVariants as terminal
+use Rattle.vtext.specs.declared.module_instance.PortConnection.{PortConnection}
 use Rattle.vtext.specs.declared.net.Net.{Net}
 use Rattle.vtext.specs.Causes.{completed_cause}
 use Rattle.vtext.specs.Instances.{called, gate_of, gates_of, inputs_of, instance_name, is_arity_wrong, is_constant, is_constant_driven, net_number, output_count, outputs_of, part_gates}
-use Rattle.vtext.specs.Modules.{GateEntry}
+use Rattle.vtext.specs.Modules.{GateEntry, InstanceEntry}
 use Rattle.vtext.specs.Nets.{net_of}
 use Rattle.vtext.specs.Readings.{Reading}
-use Rattle.vtext.specs.Sound.{IsConnected, IsGoodNumber, IsSoundGate}
+use Rattle.vtext.specs.Sound.{IsConnected, IsGoodNumber, IsPortConnected, IsSoundGate, IsSoundInstance}
 use Rattle.vtext.proofs.SpellingLemmas.{IsGoodInstance, gate_spelled}
 
 -- Nets are added.
@@ -42,6 +43,28 @@ gate_still names nets more kept g h = record {
 pub gates_still : (names : List (List ℕ)) (nets more : List (ℕ × Net)) → AreKept nets more → (gs : List GateEntry)
     → All (IsSoundGate names nets) gs → All (IsSoundGate names more) gs
 gates_still names nets more kept gs all = All-weaker (IsSoundGate names nets) (IsSoundGate names more) (gate_still names nets more kept) gs all
+
+connection_still : (nets more : List (ℕ × Net)) → AreKept nets more → (c : PortConnection) → IsPortConnected nets c → IsPortConnected more c
+connection_still nets more kept c h = step c.terminal h
+  where
+    step : (t : Option Terminal) → MatchOption t (Unit {0}) (IsConnected nets) → MatchOption t (Unit {0}) (IsConnected more)
+    step None h = tt
+    step (Some t) h = connected_still nets more kept t h
+
+pub connections_still : (nets more : List (ℕ × Net)) → AreKept nets more → (cs : List PortConnection) → All (IsPortConnected nets) cs → All (IsPortConnected more) cs
+connections_still nets more kept cs all = All-weaker (IsPortConnected nets) (IsPortConnected more) (connection_still nets more kept) cs all
+
+instance_still : (names : List (List ℕ)) (nets more : List (ℕ × Net)) → AreKept nets more → (i : InstanceEntry)
+    → IsSoundInstance names nets i → IsSoundInstance names more i
+instance_still names nets more kept i h = record {
+  name = h.name;
+  connections = connections_still nets more kept i.connections h.connections;
+}
+
+pub instances_still : (names : List (List ℕ)) (nets more : List (ℕ × Net)) → AreKept nets more → (is : List InstanceEntry)
+    → All (IsSoundInstance names nets) is → All (IsSoundInstance names more) is
+instances_still names nets more kept is all =
+    All-weaker (IsSoundInstance names nets) (IsSoundInstance names more) (instance_still names nets more kept) is all
 
 -- Outputs.
 

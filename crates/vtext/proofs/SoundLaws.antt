@@ -36,7 +36,7 @@ pub modules_are_sound : (default : Option ℕ) (text : List ℕ) (list : ModuleL
 modules_are_sound default text list s =
     let names : List (List ℕ) = names_of text s.tokens in
     let good = good_words text s.tokens s.spelled in
-    let P : List (List ℕ) → List ModuleEntry → Type 0 = λ table ms. All (IsSoundModule table) ms in
+    let P : List (List ℕ) → List (ℕ × ModuleEntry) → Type 0 = λ table ms. All (IsSoundModule table) ms in
     let last : Reading = last_of default text list s in
     let there : P names last.modules = all_sound default names (words_of text s.tokens) last (few_words text s.tokens s.short s.spelled) good (leads_by default text list s) in
     subst (λ (table : List (List ℕ)). P table list.modules) (sym s.names) (subst (P names) (sym s.modules) there)

@@ -9,17 +9,18 @@ use Rattle.vtext.specs.declared.net.Net as nets
 use Rattle.vtext.specs.declared.parser_state.ParserState.{ParserState}
 use Rattle.vtext.specs.declared.parser_state.ParserState.TheVariants as state
 use Rattle.vtext.specs.declared.word.Word.{Word}
-use Rattle.vtext.specs.declared.word.Word.TheVariants.{Module, Endmodule, PortWord, NetWord, GateWord, Name, Misnamed, Number, Literal, Open, Close, Comma, Semicolon, Hash, Timescale}
+use Rattle.vtext.specs.declared.word.Word.TheVariants.{Module, Endmodule, PortWord, NetWord, GateWord, Name, Misnamed, Number, Literal, Open, Close, Comma, Semicolon, Hash, Dot, Timescale}
 use Rattle.vtext.specs.declared.word.Placed.{Placed}
 use Rattle.vtext.specs.Causes.{completed_cause, delay_cause, direction_cause, end_cause, gate_cause, header_cause, instance_cause, module_cause, net_cause, port_cause}
 use Rattle.vtext.specs.Instances.{completed}
 use Rattle.vtext.specs.Nets.{blank, directed, listed, net_of, ported, used}
-use Rattle.vtext.specs.Notes.{declare_net, declare_port, direct_port, finished, list_port, name_instance}
+use Rattle.vtext.specs.Notes.{connect, declare_net, declare_port, direct_port, finished, list_port, name_instance, name_module_instance}
 use Rattle.vtext.specs.Readings.{Reading}
 use Rattle.vtext.specs.Sound.{IsConnected, IsGoodWord}
 use Rattle.vtext.specs.Turns as turns
 use Rattle.vtext.specs.Turns.{goes}
-use Rattle.vtext.proofs.SoundReadings.{IsAmong, IsAt, IsSoFar, IsWithin, StandsAfter, default_timed, good_delay, instance_more, less, module_more, name_more, name_ready, net_used, nets_more, opened, terminal_more, unless_stands}
+use Rattle.vtext.proofs.SoundInstances.{begun, constant_joined, instance_sound, net_joined, net_sound, nothing_joined}
+use Rattle.vtext.proofs.SoundReadings.{IsAmong, IsAt, IsJoined, IsSoFar, IsWithin, StandsAfter, default_timed, good_delay, instance_more, less, module_more, name_more, name_ready, net_used, nets_more, opened, terminal_more, unless_stands}
 
 -- Below one word less is left, and the next one is `next`.
 module _ (names : List (List ℕ)) (room : ℕ) (next : Option Word) (r : Reading) where
@@ -27,11 +28,12 @@ module _ (names : List (List ℕ)) (room : ℕ) (next : Option Word) (r : Readin
 
   outside : (start : ℕ) (w : Word) → IsSoFar names room r → r.terminals ≡ [] → StandsAfter names room (turns.outside r start w) next
   outside start (Timescale unit) s h = (s, h)
-  outside start Module s h = unless_stands names room next (module_cause r) (goes state.ModuleName (record r { start = start })) (λ none. (s, h))
+  outside start Module s h = (s, h)
   outside start w s h = tt
 
   module_name : (w : Word) → IsGoodWord names w → IsSoFar names room r → r.terminals ≡ [] → StandsAfter names room (turns.module_name r w) next
-  module_name (Name n) good s h = (s, (good, h))
+  module_name (Name n) good s h =
+      unless_stands names room next (module_cause r n) (goes state.ModuleHead (record r { name = n })) (λ none. (s, (good, h)))
   module_name Misnamed good s h = tt
   module_name w good s h = tt
 
@@ -88,6 +90,8 @@ module _ (names : List (List ℕ)) (room : ℕ) (next : Option Word) (r : Readin
   items default (NetWord kind) s h = (s, h)
   items default (GateWord kind) s h = unless_stands names room next (gate_cause default next) _ (λ none. (s, (h, default_timed default next none)))
   items default Endmodule s h = unless_stands names room next (end_cause r) (goes state.Outside (finished r)) (λ none. (module_more names room r s h, h.1))
+  items default (Name n) s h = (s, h)
+  items default Misnamed s h = tt
   items default w s h = tt
 
   port_name : (w : Word) → IsGoodWord names w → IsSoFar names room r → IsWithin names r → StandsAfter names room (turns.port_name r w) next
@@ -172,6 +176,71 @@ module _ (names : List (List ℕ)) (room : ℕ) (next : Option Word) (r : Readin
       (λ none. (instance_more names room r none s h, ((h.0, refl), h.2)))
   terminal_end w s h = tt
 
+  -- Instances of modules.
+
+  module_instance_name : (start : ℕ) (w : Word) → IsGoodWord names w → IsSoFar names room r → IsWithin names r
+      → StandsAfter names room (turns.module_instance_name r start w) next
+  module_instance_name start (Name n) good s h =
+      unless_stands names room next (instance_cause r n) (goes state.ModuleInstanceOpen (name_module_instance r start n))
+      (λ none. (name_more names room r n s, (h, begun names room r n DuplicateName s good none)))
+  module_instance_name start Misnamed good s h = tt
+  module_instance_name start w good s h = tt
+
+  module_instance_open : (w : Word) → IsSoFar names room r → IsJoined names r → StandsAfter names room (turns.module_instance_open r w) next
+  module_instance_open Open s h = (s, h)
+  module_instance_open w s h = tt
+
+  ordered : (w : Word) → IsGoodWord names w → IsSoFar names room r → IsJoined names r → StandsAfter names room (turns.connected state.OrderedEnd r w) next
+  ordered (Name n) good s h = (net_sound names room r n good s, net_joined names room r n h)
+  ordered Misnamed good s h = tt
+  ordered (Literal value) good s h = (s, constant_joined names room r value h)
+  ordered w good s h = tt
+
+  connections : (w : Word) → IsGoodWord names w → IsSoFar names room r → IsJoined names r → StandsAfter names room (turns.connections r w) next
+  connections Close good s h = (instance_sound names room r s h, h.0)
+  connections Dot good s h = (s, h)
+  connections Comma good s h = (s, nothing_joined names room r h)
+  connections w good s h = ordered w good s h
+
+  ordered_start : (w : Word) → IsGoodWord names w → IsSoFar names room r → IsJoined names r → StandsAfter names room (turns.ordered_start r w) next
+  ordered_start Comma good s h = (s, nothing_joined names room r h)
+  ordered_start Close good s h = (instance_sound names room (connect r None) s (nothing_joined names room r h), h.0)
+  ordered_start w good s h = ordered w good s h
+
+  ordered_end : (w : Word) → IsSoFar names room r → IsJoined names r → StandsAfter names room (turns.ordered_end r w) next
+  ordered_end Comma s h = (s, h)
+  ordered_end Close s h = (instance_sound names room r s h, h.0)
+  ordered_end w s h = tt
+
+  named_start : (w : Word) → IsSoFar names room r → IsJoined names r → StandsAfter names room (turns.named_start r w) next
+  named_start Dot s h = (s, h)
+  named_start w s h = tt
+
+  named_port : (w : Word) → IsSoFar names room r → IsJoined names r → StandsAfter names room (turns.named_port r w) next
+  named_port (Name n) s h = (s, h)
+  named_port Misnamed s h = tt
+  named_port w s h = tt
+
+  named_open : (w : Word) → IsSoFar names room r → IsJoined names r → StandsAfter names room (turns.named_open r w) next
+  named_open Open s h = (s, h)
+  named_open w s h = tt
+
+  named_terminal : (w : Word) → IsGoodWord names w → IsSoFar names room r → IsJoined names r → StandsAfter names room (turns.named_terminal r w) next
+  named_terminal Close good s h = (s, nothing_joined names room r h)
+  named_terminal (Name n) good s h = (net_sound names room r n good s, net_joined names room r n h)
+  named_terminal Misnamed good s h = tt
+  named_terminal (Literal value) good s h = (s, constant_joined names room r value h)
+  named_terminal w good s h = tt
+
+  named_close : (w : Word) → IsSoFar names room r → IsJoined names r → StandsAfter names room (turns.named_close r w) next
+  named_close Close s h = (s, h)
+  named_close w s h = tt
+
+  named_end : (w : Word) → IsSoFar names room r → IsJoined names r → StandsAfter names room (turns.named_end r w) next
+  named_end Comma s h = (s, h)
+  named_end Close s h = (instance_sound names room r s h, h.0)
+  named_end w s h = tt
+
   -- A word in any state.
   pub turn_stands : (default : Option ℕ) (at : ParserState) (p : Placed) → IsGoodWord names p.word → IsSoFar names (suc room) r → IsAt names at (Some p.word) r
       → StandsAfter names room (turns.turn default names r at p next) next
@@ -203,3 +272,15 @@ module _ (names : List (List ℕ)) (room : ℕ) (next : Option Word) (r : Readin
   turn_stands default state.TerminalStart p good s h = terminal_start p.word good s h
   turn_stands default state.TerminalEnd p good s h = terminal_end p.word s h
   turn_stands default state.InstanceEnd p good s h = list_next state.InstanceStart p.word (less names room r s) h h.0
+  turn_stands default state.ModuleInstanceName p good s h = module_instance_name p.start p.word good (less names room r s) h
+  turn_stands default state.ModuleInstanceOpen p good s h = module_instance_open p.word (less names room r s) h
+  turn_stands default state.Connections p good s h = connections p.word good (less names room r s) h
+  turn_stands default state.OrderedStart p good s h = ordered_start p.word good (less names room r s) h
+  turn_stands default state.OrderedEnd p good s h = ordered_end p.word (less names room r s) h
+  turn_stands default state.NamedStart p good s h = named_start p.word (less names room r s) h
+  turn_stands default state.NamedPort p good s h = named_port p.word (less names room r s) h
+  turn_stands default state.NamedOpen p good s h = named_open p.word (less names room r s) h
+  turn_stands default state.NamedTerminal p good s h = named_terminal p.word good (less names room r s) h
+  turn_stands default state.NamedClose p good s h = named_close p.word (less names room r s) h
+  turn_stands default state.NamedEnd p good s h = named_end p.word (less names room r s) h
+  turn_stands default state.ModuleInstanceEnd p good s h = list_next state.ModuleInstanceName p.word (less names room r s) h h

@@ -1,13 +1,15 @@
 -- A walk over good words reads sound modules.
-use Rattle.std.proofs.Common.{◌≡◌, ℕ, suc, ◌+◌, ◌-◌, ◌^◌, ◌<◌, List, [], ◌∷◌, Option, Some, None, Result, All, length, length-take, min, take, refl, subst, arith}
+use Rattle.std.proofs.Common.{◌≡◌, ℕ, suc, ◌+◌, ◌-◌, ◌^◌, ◌<◌, true, List, [], ◌∷◌, Option, Some, None, Result, All, length, length-take, min, take, refl, subst, arith}
 use Rattle.std.proofs.lemmas.List.Elements.{All-head, All-nil, All-tail, All-take}
 use Rattle.vtext.specs.declared.cause.Cause.{Cause}
 use Rattle.vtext.specs.declared.net.Net.{Net}
 use Rattle.vtext.specs.declared.parser_state.ParserState.TheVariants.{Outside}
 use Rattle.vtext.specs.declared.word.Word.{Word}
 use Rattle.vtext.specs.declared.word.Placed.{Placed}
+use Rattle.vtext.specs.GateNames.{is_taken}
+use Rattle.vtext.specs.Modules.{InstanceEntry}
 use Rattle.vtext.specs.Readings.{Reading}
-use Rattle.vtext.specs.Sound.{AreGoodWords, IsGoodNumber, IsGoodWord, IsSoundGate, IsSoundModule}
+use Rattle.vtext.specs.Sound.{AreGoodWords, IsGoodNumber, IsGoodWord, IsSoundGate, IsSoundInstance, IsSoundModule}
 use Rattle.vtext.specs.Turns.{Walk}
 use Rattle.vtext.specs.Walks.{Leads, first_word, start, word_at}
 use Rattle.vtext.proofs.FreshLemmas.{IsSettled}
@@ -37,6 +39,9 @@ module _ (default : Option ℕ) (names : List (List ℕ)) where
       named = All-nil (λ (net : ℕ × Net). IsGoodNumber names net.0);
       apart = tt;
       fitting = All-nil (IsSoundGate names []);
+      instantiated = All-nil (IsSoundInstance names []);
+      instances_apart = λ i j d low high. absurd (omega arith);
+      instances_taken = All-nil (λ (i : InstanceEntry). is_taken [] i.name ≡ true);
       names_apart = record {
         apart = λ i j d low high. absurd (omega arith);
         settled = All-nil (IsSettled names [] 0);

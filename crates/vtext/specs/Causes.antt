@@ -1,7 +1,8 @@
 -- Why what has been read refuses a word that the grammar admits. Of several causes at one word the first one here counts: Syntax,
 -- BadName, ZeroDelay, DelayTooLarge, DuplicateName, and at the end of a gate instance WrongArity, PortKind, DuplicateName (own).
-use Rattle.std.specs.Prelude.{Bool, true, false, ℕ, ◌==◌, ◌&&◌, ◌||◌, not, nat_lt, if◌then◌else◌, List, Option, Some, None, is_some, length}
+use Rattle.std.specs.Prelude.{Bool, true, false, ℕ, ◌==◌, ◌&&◌, ◌||◌, not, nat_eq, nat_lt, if◌then◌else◌, List, Option, Some, None, is_some, length}
 use Rattle.std.specs.List.{list_any}
+use Rattle.std.specs.Map.{lookup}
 use Rattle.std.specs.Option.{option_map_or}
 use Rattle.fourstate.specs.declared.limits.TheConstants.{MAX_DELAY}
 use Rattle.fourstate.specs.declared.net.NetKind.{NetKind}
@@ -9,7 +10,7 @@ use Rattle.vtext.specs.declared.cause.Cause.{Cause}
 use Rattle.vtext.specs.declared.cause.Cause.TheVariants.{Byte, Unsupported, Syntax, ZeroDelay, DelayTooLarge, DuplicateName, WrongArity, PortKind}
 use Rattle.vtext.specs.declared.net.Net.{Net}
 use Rattle.vtext.specs.declared.word.Word.{Word}
-use Rattle.vtext.specs.declared.word.Word.TheVariants.{Module, Name, Misnamed, Hash, OpenBracket, Refused, Stray}
+use Rattle.vtext.specs.declared.word.Word.TheVariants.{Hash, OpenBracket, Refused, Stray}
 use Rattle.vtext.specs.GateNames.{is_taken}
 use Rattle.vtext.specs.Instances.{instance_name, is_arity_wrong, is_constant_driven, is_made_taken, outputs_of}
 use Rattle.vtext.specs.Nets.{is_undirected, net_of}
@@ -17,20 +18,12 @@ use Rattle.vtext.specs.Readings.{Reading}
 
 -- Words that can't stand.
 
--- a byte that no text may hold, a form that is left out, or anything else. A second module, ranges and indexes are left out
--- wherever they stand.
+-- a byte that no text may hold, a form that is left out, or anything else. Ranges and indexes are left out wherever they stand.
 abbrev pub misfit : Word → Cause
 misfit Stray = Byte
-misfit Module = Unsupported
 misfit OpenBracket = Unsupported
 misfit Refused = Unsupported
 misfit word = Syntax
-
--- where an item may begin, a name begins an instance of a module, which is left out
-abbrev pub item_misfit : Word → Cause
-item_misfit (Name n) = Unsupported
-item_misfit Misnamed = Unsupported
-item_misfit word = misfit word
 
 -- Words that the grammar admits.
 
@@ -39,9 +32,9 @@ abbrev pub when : Bool → Cause → Option Cause
 when true cause = Some cause
 when false cause = None
 
--- there is room for one module
-abbrev pub module_cause : Reading → Option Cause
-module_cause r = when (nat_lt 0 (length r.modules)) Unsupported
+-- modules have different names
+abbrev pub module_cause : Reading → ℕ → Option Cause
+module_cause r n = when (is_some (lookup (nat_eq n) r.modules)) DuplicateName
 
 -- a header names no port twice
 abbrev pub header_cause : Reading → ℕ → Option Cause

@@ -11,20 +11,22 @@ use Rattle.vtext.specs.declared.word.Direction.{Direction}
 use Rattle.vtext.specs.declared.word.Direction.TheVariants.{Input}
 use Rattle.vtext.specs.declared.draft.Draft.{Draft}
 use Rattle.vtext.specs.declared.gate.Terminal.{Terminal}
+use Rattle.vtext.specs.declared.module_instance.PortConnection.{PortConnection}
 use Rattle.vtext.specs.declared.net.Net.{Net}
-use Rattle.vtext.specs.Modules.{GateEntry, ModuleEntry}
+use Rattle.vtext.specs.Modules.{GateEntry, InstanceEntry, ModuleEntry}
 
 pub record Reading : Type 0 where
-  -- the unit of the directives, and the modules that are finished
+  -- the unit of the directives, and the modules that are finished, each with its name
   pub unit : Option TimeUnit
-  pub modules : List ModuleEntry
-  -- of the module that is being read: where it begins, its name, whether its header is of the inline form, its nets and gates,
-  -- the names that its gates and instances have, and how many gate instances are unnamed
+  pub modules : List (ℕ × ModuleEntry)
+  -- of the module that is being read: where it begins, its name, whether its header is of the inline form, its nets, gates and
+  -- instances of modules, the names that gates and instances have, and how many gate instances are unnamed
   pub start : ℕ
   pub name : ℕ
   pub inline : Bool
   pub nets : List (ℕ × Net)
   pub gates : List GateEntry
+  pub instances : List InstanceEntry
   pub taken : List ℕ
   pub unnamed : ℕ
   -- of a declaration: the direction, and the net kind that is written
@@ -36,6 +38,14 @@ pub record Reading : Type 0 where
   -- of a gate instance: its name, if it has one, and the terminals so far
   pub instance : Option ℕ
   pub terminals : List Terminal
+  -- of an item that instantiates a module: the module's name
+  pub of : ℕ
+  -- of such an instance: where its name begins, its name, and the port connections so far
+  pub instance_start : ℕ
+  pub instance_name : ℕ
+  pub connections : List PortConnection
+  -- of a port connection: the port, if it names one
+  pub port : Option ℕ
 
 -- nothing was read
 abbrev pub unread : Reading
@@ -47,6 +57,7 @@ unread = record {
   inline = false;
   nets = [];
   gates = [];
+  instances = [];
   taken = [];
   unnamed = 0;
   direction = Input;
@@ -55,18 +66,24 @@ unread = record {
   delays = uniform_delays 0;
   instance = None;
   terminals = [];
+  of = 0;
+  instance_start = 0;
+  instance_name = 0;
+  connections = [];
+  port = None;
 }
 
 -- a draft as a reading
 abbrev pub view : Draft → Reading
 view d = record {
   unit = d.unit;
-  modules = d.modules.items;
+  modules = d.modules.entries;
   start = d.module.start;
   name = d.module.name;
   inline = d.module.inline;
   nets = d.module.nets.entries;
   gates = d.module.gates.items;
+  instances = d.module.instances.items;
   taken = d.module.taken.keys;
   unnamed = d.module.unnamed;
   direction = d.declaration.direction;
@@ -75,4 +92,9 @@ view d = record {
   delays = d.item.delays;
   instance = d.instance.name;
   terminals = d.instance.terminals.items;
+  of = d.module_instance.of;
+  instance_start = d.module_instance.start;
+  instance_name = d.module_instance.name;
+  connections = d.module_instance.connections.items;
+  port = d.module_instance.port;
 }

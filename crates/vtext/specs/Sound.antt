@@ -1,18 +1,19 @@
--- What holds of the modules of every text: their names are parts of names of a design, nets and gates have different ones, and each gate
--- fits its nets.
-use Rattle.std.specs.Prelude.{◌≡◌, ◌≢◌, ◌≤◌, ℕ, IsTrue, IsSome, List, Some, length, All, AllPairs}
+-- What holds of the modules of every text: their names are parts of names of a design; nets, gates and instances have different ones
+-- each; gates and instances fit the nets.
+use Rattle.std.specs.Prelude.{◌≡◌, ◌≢◌, ◌≤◌, ℕ, IsTrue, IsSome, MatchOption, List, Some, length, All, AllPairs}
 use Rattle.fourstate.specs.Delays.{AreDelays}
 use Rattle.fourstate.specs.Gates.{takes_inputs}
 use Rattle.design.specs.declared.limits.TheConstants.{MAX_NAME}
 use Rattle.design.specs.Names.{is_part}
 use Rattle.vtext.specs.declared.gate.Terminal.{Terminal}
 use Rattle.vtext.specs.declared.gate.Terminal.TheVariants.{Net, Constant}
+use Rattle.vtext.specs.declared.module_instance.PortConnection.{PortConnection}
 use Rattle.vtext.specs.declared.net.Net as nets
 use Rattle.vtext.specs.declared.word.Word.{Word}
 use Rattle.vtext.specs.declared.word.Word.TheVariants.{Name}
 use Rattle.vtext.specs.declared.word.Placed.{Placed}
 use Rattle.vtext.specs.GateNames.{gate_bytes}
-use Rattle.vtext.specs.Modules.{GateEntry, ModuleEntry}
+use Rattle.vtext.specs.Modules.{GateEntry, InstanceEntry, ModuleEntry}
 use Rattle.vtext.specs.Names.{name_at, number_of}
 use Rattle.vtext.specs.Nets.{net_of}
 
@@ -43,9 +44,21 @@ pub record IsSoundGate (names : List (List ℕ)) (nets : List (ℕ × nets.Net))
   pub output : IsSome (net_of nets g.output)
   pub inputs : All (IsConnected nets) g.inputs
 
-pub record IsSoundModule (names : List (List ℕ)) (m : ModuleEntry) : Type 0 where
-  pub name : IsGoodNumber names m.name
-  pub nets : All (λ net. IsGoodNumber names net.0) m.nets
-  pub distinct_nets : AllPairs (λ a b. a.0 ≢ b.0) m.nets
-  pub gates : All (IsSoundGate names m.nets) m.gates
-  pub distinct_gates : AllPairs (λ g h. gate_bytes names g ≢ gate_bytes names h) m.gates
+-- what a port is connected to, if anything, is a constant or one of the nets
+abbrev pub IsPortConnected : List (ℕ × nets.Net) → PortConnection → Type 0
+IsPortConnected nets connection = MatchOption connection.terminal (Unit {0}) (IsConnected nets)
+
+-- an instance of a module among the nets of the module that it is in
+pub record IsSoundInstance (names : List (List ℕ)) (nets : List (ℕ × nets.Net)) (i : InstanceEntry) : Type 0 where
+  pub name : IsGoodNumber names i.name
+  pub connections : All (IsPortConnected nets) i.connections
+
+-- a module with its name
+pub record IsSoundModule (names : List (List ℕ)) (m : ℕ × ModuleEntry) : Type 0 where
+  pub name : IsGoodNumber names m.0
+  pub nets : All (λ net. IsGoodNumber names net.0) m.1.nets
+  pub distinct_nets : AllPairs (λ a b. a.0 ≢ b.0) m.1.nets
+  pub gates : All (IsSoundGate names m.1.nets) m.1.gates
+  pub distinct_gates : AllPairs (λ g h. gate_bytes names g ≢ gate_bytes names h) m.1.gates
+  pub instances : All (IsSoundInstance names m.1.nets) m.1.instances
+  pub distinct_instances : AllPairs (λ i j. i.name ≢ j.name) m.1.instances

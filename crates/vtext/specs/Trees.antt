@@ -10,10 +10,17 @@
 --   item     : direction optional(net kind) NAME { "," NAME } ";"
 --            | net kind NAME { "," NAME } ";"
 --            | gate kind optional(delay) instance { "," instance } ";"
+--            | NAME minst { "," minst } ";"
 --   delay    : "#" NUMBER | "#" "(" NUMBER optional("," NUMBER) ")"
 --   instance : optional(NAME) "(" terminal { "," terminal } ")"
+--   minst    : NAME "(" optional(conns) ")"                        an instance of a module
+--   conns    : optional(terminal) { "," optional(terminal) }       by order
+--            | conn { "," conn }                                   by name
+--   conn     : "." NAME "(" optional(terminal) ")"
 --   terminal : NAME | CONSTANT
-use Rattle.std.specs.Prelude.{◌≡◌, true, false, ℕ, List, [], ◌∷◌, ◌++◌, Option, Some, None, fold, map, unwrap_or}
+--
+-- No connections at all are none, and not one that is empty (own).
+use Rattle.std.specs.Prelude.{◌≡◌, true, ℕ, List, [], ◌∷◌, ◌++◌, MatchOption, Option, Some, None, fold, unwrap_or}
 use Rattle.fourstate.specs.Delays.{delay_times, uniform_delays}
 use Rattle.fourstate.specs.declared.delay_times.DelayTimes.{DelayTimes}
 use Rattle.fourstate.specs.declared.gate.GateKind.{GateKind}
@@ -23,11 +30,11 @@ use Rattle.vtext.specs.declared.gate.Terminal.{Terminal}
 use Rattle.vtext.specs.declared.gate.Terminal.TheVariants.{Net, Constant}
 use Rattle.vtext.specs.declared.word.Direction.{Direction}
 use Rattle.vtext.specs.declared.word.Word.{Word}
-use Rattle.vtext.specs.declared.word.Word.TheVariants.{Module, Endmodule, PortWord, NetWord, GateWord, Name, Number, Literal, Open, Close, Comma, Semicolon, Hash, Timescale}
+use Rattle.vtext.specs.declared.word.Word.TheVariants.{Module, Endmodule, PortWord, NetWord, GateWord, Name, Number, Literal, Open, Close, Comma, Semicolon, Hash, Dot, Timescale}
 use Rattle.vtext.specs.declared.word.Placed.{Placed}
 use Rattle.vtext.specs.Causes.{completed_cause, default_cause, delay_cause, direction_cause, end_cause, header_cause, instance_cause, module_cause, net_cause, port_cause}
 use Rattle.vtext.specs.Instances.{completed}
-use Rattle.vtext.specs.Notes.{declare_net, declare_port, direct_port, finished, list_port, name_instance, use_net}
+use Rattle.vtext.specs.Notes.{connect, declare_net, declare_port, direct_port, finished, instantiated, list_port, name_instance, name_module_instance, use_net}
 use Rattle.vtext.specs.Readings.{Reading}
 
 -- Trees.
@@ -62,72 +69,134 @@ pub record Instance : Type 0 where
   pub first : Terminal
   pub more : List Terminal
 
+-- a connection that names its port
+pub record NamedPort : Type 0 where
+  pub port : ℕ
+  pub terminal : Option Terminal
+
+-- port connections: none; by order, the first of them a terminal, or left empty before another one; by name
+pub data Connections : Type 0 where
+  no_connections : Connections
+  by_order : Terminal → List (Option Terminal) → Connections
+  by_order_late : Option Terminal → List (Option Terminal) → Connections
+  by_name : NamedPort → List NamedPort → Connections
+
+-- an instance of a module: where its name begins, its name, and its port connections
+pub record ModuleInstance : Type 0 where
+  pub start : ℕ
+  pub name : ℕ
+  pub connections : Connections
+
 pub data Item : Type 0 where
   port_item : Direction → Option NetKind → ℕ → List ℕ → Item
   net_item : NetKind → ℕ → List ℕ → Item
   gate_item : GateKind → Delay → Instance → List Instance → Item
+  instance_item : ℕ → ModuleInstance → List ModuleInstance → Item
 
--- Words: those of a part, and then the rest.
+-- Marks: what a part writes for each of its words, and, where it records where a word begins, that place.
 
-abbrev pub names_then : List ℕ → List Word → List Word
+pub record Mark : Type 0 where
+  pub word : Word
+  pub start : Option ℕ
+
+abbrev pub plain : Word → Mark
+plain word = record { word = word; start = None }
+
+abbrev pub at_place : ℕ → Word → Mark
+at_place start word = record { word = word; start = Some start }
+
+-- Below, the marks of a part, and then the rest.
+
+abbrev pub names_then : List ℕ → List Mark → List Mark
 names_then [] rest = rest
-names_then (n ∷ names) rest = Comma ∷ Name n ∷ names_then names rest
+names_then (n ∷ names) rest = plain Comma ∷ plain (Name n) ∷ names_then names rest
 
-abbrev pub kind_then : Option NetKind → List Word → List Word
+abbrev pub kind_then : Option NetKind → List Mark → List Mark
 kind_then None rest = rest
-kind_then (Some kind) rest = NetWord kind ∷ rest
+kind_then (Some kind) rest = plain (NetWord kind) ∷ rest
 
-abbrev pub decl_then : Decl → List Word → List Word
-decl_then decl rest = PortWord decl.direction ∷ kind_then decl.kind (Name decl.name ∷ rest)
+abbrev pub decl_then : Decl → List Mark → List Mark
+decl_then decl rest = plain (PortWord decl.direction) ∷ kind_then decl.kind (plain (Name decl.name) ∷ rest)
 
-abbrev pub ports_then : List Port → List Word → List Word
+abbrev pub ports_then : List Port → List Mark → List Mark
 ports_then [] rest = rest
-ports_then (declared decl ∷ ports) rest = Comma ∷ decl_then decl (ports_then ports rest)
-ports_then (bare n ∷ ports) rest = Comma ∷ Name n ∷ ports_then ports rest
+ports_then (declared decl ∷ ports) rest = plain Comma ∷ decl_then decl (ports_then ports rest)
+ports_then (bare n ∷ ports) rest = plain Comma ∷ plain (Name n) ∷ ports_then ports rest
 
-abbrev pub header_then : Header → List Word → List Word
-header_then no_ports rest = Semicolon ∷ rest
-header_then empty_ports rest = Open ∷ Close ∷ Semicolon ∷ rest
-header_then (older_ports n names) rest = Open ∷ Name n ∷ names_then names (Close ∷ Semicolon ∷ rest)
-header_then (inline_ports decl ports) rest = Open ∷ decl_then decl (ports_then ports (Close ∷ Semicolon ∷ rest))
+abbrev pub header_then : Header → List Mark → List Mark
+header_then no_ports rest = plain Semicolon ∷ rest
+header_then empty_ports rest = plain Open ∷ plain Close ∷ plain Semicolon ∷ rest
+header_then (older_ports n names) rest = plain Open ∷ plain (Name n) ∷ names_then names (plain Close ∷ plain Semicolon ∷ rest)
+header_then (inline_ports decl ports) rest = plain Open ∷ decl_then decl (ports_then ports (plain Close ∷ plain Semicolon ∷ rest))
 
-abbrev pub delay_then : Delay → List Word → List Word
+abbrev pub delay_then : Delay → List Mark → List Mark
 delay_then no_delay rest = rest
-delay_then (one_delay d) rest = Hash ∷ Number d ∷ rest
-delay_then (enclosed_delay d) rest = Hash ∷ Open ∷ Number d ∷ Close ∷ rest
-delay_then (two_delays r f) rest = Hash ∷ Open ∷ Number r ∷ Comma ∷ Number f ∷ Close ∷ rest
+delay_then (one_delay d) rest = plain Hash ∷ plain (Number d) ∷ rest
+delay_then (enclosed_delay d) rest = plain Hash ∷ plain Open ∷ plain (Number d) ∷ plain Close ∷ rest
+delay_then (two_delays r f) rest = plain Hash ∷ plain Open ∷ plain (Number r) ∷ plain Comma ∷ plain (Number f) ∷ plain Close ∷ rest
 
 abbrev pub terminal_word : Terminal → Word
 terminal_word (Net n) = Name n
 terminal_word (Constant value) = Literal value
 
-abbrev pub terminals_then : List Terminal → List Word → List Word
-terminals_then [] rest = Close ∷ rest
-terminals_then (terminal ∷ terminals) rest = Comma ∷ terminal_word terminal ∷ terminals_then terminals rest
+abbrev pub terminals_then : List Terminal → List Mark → List Mark
+terminals_then [] rest = plain Close ∷ rest
+terminals_then (terminal ∷ terminals) rest = plain Comma ∷ plain (terminal_word terminal) ∷ terminals_then terminals rest
 
-abbrev pub name_then : Option ℕ → List Word → List Word
+abbrev pub name_then : Option ℕ → List Mark → List Mark
 name_then None rest = rest
-name_then (Some n) rest = Name n ∷ rest
+name_then (Some n) rest = plain (Name n) ∷ rest
 
-abbrev pub instance_then : Instance → List Word → List Word
-instance_then instance rest = name_then instance.name (Open ∷ terminal_word instance.first ∷ terminals_then instance.more rest)
+abbrev pub instance_then : Instance → List Mark → List Mark
+instance_then instance rest = name_then instance.name (plain Open ∷ plain (terminal_word instance.first) ∷ terminals_then instance.more rest)
 
-abbrev pub instances_then : List Instance → List Word → List Word
+abbrev pub instances_then : List Instance → List Mark → List Mark
 instances_then [] rest = rest
-instances_then (instance ∷ instances) rest = Comma ∷ instance_then instance (instances_then instances rest)
+instances_then (instance ∷ instances) rest = plain Comma ∷ instance_then instance (instances_then instances rest)
 
-abbrev pub item_then : Item → List Word → List Word
-item_then (port_item direction kind n names) rest = PortWord direction ∷ kind_then kind (Name n ∷ names_then names (Semicolon ∷ rest))
-item_then (net_item kind n names) rest = NetWord kind ∷ Name n ∷ names_then names (Semicolon ∷ rest)
+-- what may be left empty
+abbrev pub place_then : Option Terminal → List Mark → List Mark
+place_then None rest = rest
+place_then (Some terminal) rest = plain (terminal_word terminal) ∷ rest
+
+abbrev pub places_then : List (Option Terminal) → List Mark → List Mark
+places_then [] rest = plain Close ∷ rest
+places_then (place ∷ places) rest = plain Comma ∷ place_then place (places_then places rest)
+
+abbrev pub named_then : NamedPort → List Mark → List Mark
+named_then connection rest = plain Dot ∷ plain (Name connection.port) ∷ plain Open ∷ place_then connection.terminal (plain Close ∷ rest)
+
+abbrev pub more_named_then : List NamedPort → List Mark → List Mark
+more_named_then [] rest = plain Close ∷ rest
+more_named_then (connection ∷ more) rest = plain Comma ∷ named_then connection (more_named_then more rest)
+
+abbrev pub connections_then : Connections → List Mark → List Mark
+connections_then no_connections rest = plain Close ∷ rest
+connections_then (by_order terminal places) rest = plain (terminal_word terminal) ∷ places_then places rest
+connections_then (by_order_late place places) rest = plain Comma ∷ place_then place (places_then places rest)
+connections_then (by_name first more) rest = named_then first (more_named_then more rest)
+
+abbrev pub module_instance_then : ModuleInstance → List Mark → List Mark
+module_instance_then instance rest = at_place instance.start (Name instance.name) ∷ plain Open ∷ connections_then instance.connections rest
+
+abbrev pub module_instances_then : List ModuleInstance → List Mark → List Mark
+module_instances_then [] rest = rest
+module_instances_then (instance ∷ instances) rest = plain Comma ∷ module_instance_then instance (module_instances_then instances rest)
+
+abbrev pub item_then : Item → List Mark → List Mark
+item_then (port_item direction kind n names) rest = plain (PortWord direction) ∷ kind_then kind (plain (Name n) ∷ names_then names (plain Semicolon ∷ rest))
+item_then (net_item kind n names) rest = plain (NetWord kind) ∷ plain (Name n) ∷ names_then names (plain Semicolon ∷ rest)
 item_then (gate_item kind delay instance instances) rest =
-    GateWord kind ∷ delay_then delay (instance_then instance (instances_then instances (Semicolon ∷ rest)))
+    plain (GateWord kind) ∷ delay_then delay (instance_then instance (instances_then instances (plain Semicolon ∷ rest)))
+item_then (instance_item of instance instances) rest =
+    plain (Name of) ∷ module_instance_then instance (module_instances_then instances (plain Semicolon ∷ rest))
 
-abbrev pub items_then : List Item → List Word → List Word
+abbrev pub items_then : List Item → List Mark → List Mark
 items_then [] rest = rest
 items_then (item ∷ items) rest = item_then item (items_then items rest)
 
-abbrev pub module_then : ℕ → Header → List Item → List Word → List Word
-module_then name header items rest = Module ∷ Name name ∷ header_then header (items_then items (Endmodule ∷ rest))
+abbrev pub module_then : ℕ → ℕ → Header → List Item → List Mark → List Mark
+module_then start name header items rest = at_place start Module ∷ plain (Name name) ∷ header_then header (items_then items (plain Endmodule ∷ rest))
 
 -- What they say.
 
@@ -168,10 +237,23 @@ after_instance table r instance = completed table (after_terminals r instance)
 abbrev pub after_gate : Option ℕ → Reading → GateKind → Delay → Reading
 after_gate default r kind delay = record r { gate = kind; delays = times_of default delay }
 
+abbrev pub after_named : Reading → NamedPort → Reading
+after_named r connection = connect (record r { port = Some connection.port }) connection.terminal
+
+abbrev pub after_connections : Reading → Connections → Reading
+after_connections r no_connections = r
+after_connections r (by_order terminal places) = fold connect r (Some terminal ∷ places)
+after_connections r (by_order_late place places) = fold connect r (None ∷ place ∷ places)
+after_connections r (by_name first more) = fold after_named r (first ∷ more)
+
+abbrev pub after_module_instance : Reading → ModuleInstance → Reading
+after_module_instance r instance = instantiated (after_connections (name_module_instance r instance.start instance.name) instance.connections)
+
 abbrev pub after_item : Option ℕ → List (List ℕ) → Reading → Item → Reading
 after_item default table r (port_item direction kind n names) = fold direct_port (record r { direction = direction; kind = kind }) (n ∷ names)
 after_item default table r (net_item kind n names) = fold declare_net (record r { kind = Some kind }) (n ∷ names)
 after_item default table r (gate_item kind delay instance instances) = fold (after_instance table) (after_gate default r kind delay) (instance ∷ instances)
+after_item default table r (instance_item of instance instances) = fold after_module_instance (record r { of = of }) (instance ∷ instances)
 
 abbrev pub after_items : Option ℕ → List (List ℕ) → Reading → List Item → Reading
 after_items default table r items = fold (after_item default table) r items
@@ -200,6 +282,11 @@ abbrev pub AreInstancesAdmitted : List (List ℕ) → Reading → List Instance 
 AreInstancesAdmitted table r [] = Unit {0}
 AreInstancesAdmitted table r (instance ∷ instances) = IsInstanceAdmitted table r instance × AreInstancesAdmitted table (after_instance table r instance) instances
 
+abbrev pub AreModuleInstancesAdmitted : Reading → List ModuleInstance → Type 0
+AreModuleInstancesAdmitted r [] = Unit {0}
+AreModuleInstancesAdmitted r (instance ∷ instances) =
+    (instance_cause r instance.name ≡ None) × AreModuleInstancesAdmitted (after_module_instance r instance) instances
+
 abbrev pub IsItemAdmitted : Option ℕ → List (List ℕ) → Reading → Item → Type 0
 IsItemAdmitted default table r (port_item direction kind n names) =
     (direction_cause r ≡ None) × AreAdmitted direct_port (λ now name. port_cause now name ≡ None) (record r { direction = direction; kind = kind }) (n ∷ names)
@@ -207,6 +294,7 @@ IsItemAdmitted default table r (net_item kind n names) =
     AreAdmitted declare_net (λ now name. net_cause now name ≡ None) (record r { kind = Some kind }) (n ∷ names)
 IsItemAdmitted default table r (gate_item kind delay instance instances) =
     IsDelayAdmitted default delay × AreInstancesAdmitted table (after_gate default r kind delay) (instance ∷ instances)
+IsItemAdmitted default table r (instance_item of instance instances) = AreModuleInstancesAdmitted (record r { of = of }) (instance ∷ instances)
 
 abbrev pub AreItemsAdmitted : Option ℕ → List (List ℕ) → Reading → List Item → Type 0
 AreItemsAdmitted default table r [] = Unit {0}
@@ -234,9 +322,9 @@ IsHeaderAdmitted r (inline_ports decl ports) = IsDeclAdmitted r decl × ArePorts
 abbrev pub after_body : Option ℕ → List (List ℕ) → Reading → ℕ → ℕ → Header → List Item → Reading
 after_body default table r start name header items = after_items default table (after_header (record r { start = start; name = name }) header) items
 
--- header and items are admitted, and each name of the header has a direction in the end
+-- the name is free, header and items are admitted, and each name of the header has a direction in the end
 pub record IsModuleAdmitted (default : Option ℕ) (table : List (List ℕ)) (r : Reading) (start name : ℕ) (header : Header) (items : List Item) : Type 0 where
-  pub alone : module_cause r ≡ None
+  pub free : module_cause r name ≡ None
   pub header_admitted : IsHeaderAdmitted (record r { start = start; name = name }) header
   pub items_admitted : AreItemsAdmitted default table (after_header (record r { start = start; name = name }) header) items
   pub directed : end_cause (after_body default table r start name header items) ≡ None
@@ -247,30 +335,24 @@ pub data Part : Type 0 where
   directive : TimeUnit → Part
   module_part : ℕ → ℕ → Header → List Item → Part
 
-abbrev pub parts_then : List Part → List Word → List Word
+abbrev pub parts_then : List Part → List Mark → List Mark
 parts_then [] rest = rest
-parts_then (directive unit ∷ parts) rest = Timescale unit ∷ parts_then parts rest
-parts_then (module_part start name header items ∷ parts) rest = module_then name header items (parts_then parts rest)
+parts_then (directive unit ∷ parts) rest = plain (Timescale unit) ∷ parts_then parts rest
+parts_then (module_part start name header items ∷ parts) rest = module_then start name header items (parts_then parts rest)
 
--- where the modules begin
-abbrev pub part_starts : List Part → List ℕ
-part_starts [] = []
-part_starts (directive unit ∷ parts) = part_starts parts
-part_starts (module_part start name header items ∷ parts) = start ∷ part_starts parts
+-- a word is that of a mark, and begins where the mark says, if it says where
+abbrev pub IsMarked : Mark → Placed → Type 0
+IsMarked mark p = (p.word ≡ mark.word) × MatchOption mark.start (Unit {0}) (λ start. p.start ≡ start)
 
-abbrev pub with_start : Word → ℕ → List ℕ → List ℕ
-with_start Module start starts = start ∷ starts
-with_start word start starts = starts
-
--- where the words `module` stand
-abbrev pub module_starts : List Placed → List ℕ
-module_starts [] = []
-module_starts (p ∷ words) = with_start p.word p.start (module_starts words)
+-- the words are those of the marks, one by one
+abbrev pub AreMarked : List Mark → List Placed → Type 0
+AreMarked [] [] = Unit {0}
+AreMarked (mark ∷ marks) (p ∷ words) = IsMarked mark p × AreMarked marks words
+AreMarked marks words = ⊥
 
 -- the parts are written by these words
-pub record AreWritten (parts : List Part) (words : List Placed) : Type 0 where
-  pub words_same : map (λ (p : Placed). p.word) words ≡ parts_then parts []
-  pub starts_same : module_starts words ≡ part_starts parts
+abbrev pub AreWritten : List Part → List Placed → Type 0
+AreWritten parts words = AreMarked (parts_then parts []) words
 
 abbrev pub after_part : Option ℕ → List (List ℕ) → Reading → Part → Reading
 after_part default table r (directive unit) = record r { unit = Some unit }

@@ -4,17 +4,17 @@ use Rattle.std.specs.Prelude.{◌≡◌, true, ℕ, List, [], ◌∷◌, ◌++�
 use Rattle.fourstate.specs.Delays.{uniform_delays, with_fall}
 use Rattle.vtext.specs.declared.cause.Cause.{Cause}
 use Rattle.vtext.specs.declared.cause.Cause.TheVariants.{BadName}
-use Rattle.vtext.specs.declared.gate.Terminal.TheVariants.{Constant}
+use Rattle.vtext.specs.declared.gate.Terminal.TheVariants.{Constant, Net}
 use Rattle.vtext.specs.declared.parser_state.ParserState.{ParserState}
 use Rattle.vtext.specs.declared.parser_state.ParserState.TheVariants as state
 use Rattle.vtext.specs.declared.turn.Turn.{Turn}
 use Rattle.vtext.specs.declared.turn.Turn.TheVariants.{To, Refused}
 use Rattle.vtext.specs.declared.word.Word.{Word}
-use Rattle.vtext.specs.declared.word.Word.TheVariants.{Module, Endmodule, PortWord, NetWord, GateWord, Name, Misnamed, Number, Literal, Open, Close, Comma, Semicolon, Hash, Timescale}
+use Rattle.vtext.specs.declared.word.Word.TheVariants.{Module, Endmodule, PortWord, NetWord, GateWord, Name, Misnamed, Number, Literal, Open, Close, Comma, Semicolon, Hash, Dot, Timescale}
 use Rattle.vtext.specs.declared.word.Placed.{Placed}
-use Rattle.vtext.specs.Causes.{completed_cause, delay_cause, direction_cause, end_cause, gate_cause, header_cause, instance_cause, item_misfit, misfit, module_cause, net_cause, port_cause}
+use Rattle.vtext.specs.Causes.{completed_cause, delay_cause, direction_cause, end_cause, gate_cause, header_cause, instance_cause, misfit, module_cause, net_cause, port_cause}
 use Rattle.vtext.specs.Instances.{completed}
-use Rattle.vtext.specs.Notes.{declare_net, declare_port, direct_port, finished, list_port, name_instance, use_net}
+use Rattle.vtext.specs.Notes.{connect, declare_net, declare_port, direct_port, finished, instantiated, list_port, name_instance, name_module_instance, use_net}
 use Rattle.vtext.specs.Readings.{Reading}
 
 -- where a walk stands, and what has been read
@@ -39,11 +39,11 @@ IsTurn (Refused why) r turn = turn ≡ Err why
 
 abbrev pub outside : Reading → ℕ → Word → Result Walk Cause
 outside r start (Timescale unit) = goes state.Outside (record r { unit = Some unit })
-outside r start Module = unless (module_cause r) (goes state.ModuleName (record r { start = start }))
+outside r start Module = goes state.ModuleName (record r { start = start })
 outside r start word = Err (misfit word)
 
 abbrev pub module_name : Reading → Word → Result Walk Cause
-module_name r (Name n) = goes state.ModuleHead (record r { name = n })
+module_name r (Name n) = unless (module_cause r n) (goes state.ModuleHead (record r { name = n }))
 module_name r Misnamed = Err BadName
 module_name r word = Err (misfit word)
 
@@ -100,7 +100,9 @@ items default r (NetWord kind) after = goes state.NetName (record r { kind = Som
 items default r (GateWord kind) after =
     unless (gate_cause default after) (goes state.GateStart (record r { gate = kind; delays = uniform_delays (unwrap_or default 0) }))
 items default r Endmodule after = unless (end_cause r) (goes state.Outside (finished r))
-items default r word after = Err (item_misfit word)
+items default r (Name n) after = goes state.ModuleInstanceName (record r { of = n })
+items default r Misnamed after = Err BadName
+items default r word after = Err (misfit word)
 
 -- another one of a list, or its end
 abbrev pub list_next : ParserState → Reading → Word → Result Walk Cause
@@ -170,6 +172,66 @@ terminal_end names r Comma = goes state.TerminalStart r
 terminal_end names r Close = unless (completed_cause names r) (goes state.InstanceEnd (completed names r))
 terminal_end names r word = Err (misfit word)
 
+-- Instances of modules.
+
+abbrev pub module_instance_name : Reading → ℕ → Word → Result Walk Cause
+module_instance_name r start (Name n) = unless (instance_cause r n) (goes state.ModuleInstanceOpen (name_module_instance r start n))
+module_instance_name r start Misnamed = Err BadName
+module_instance_name r start word = Err (misfit word)
+
+abbrev pub module_instance_open : Reading → Word → Result Walk Cause
+module_instance_open r Open = goes state.Connections r
+module_instance_open r word = Err (misfit word)
+
+-- what a port is connected to
+abbrev pub connected : ParserState → Reading → Word → Result Walk Cause
+connected to r (Name n) = goes to (connect r (Some (Net n)))
+connected to r Misnamed = Err BadName
+connected to r (Literal value) = goes to (connect r (Some (Constant value)))
+connected to r word = Err (misfit word)
+
+abbrev pub connections : Reading → Word → Result Walk Cause
+connections r Close = goes state.ModuleInstanceEnd (instantiated r)
+connections r Dot = goes state.NamedPort r
+connections r Comma = goes state.OrderedStart (connect r None)
+connections r word = connected state.OrderedEnd r word
+
+abbrev pub ordered_start : Reading → Word → Result Walk Cause
+ordered_start r Comma = goes state.OrderedStart (connect r None)
+ordered_start r Close = goes state.ModuleInstanceEnd (instantiated (connect r None))
+ordered_start r word = connected state.OrderedEnd r word
+
+abbrev pub ordered_end : Reading → Word → Result Walk Cause
+ordered_end r Comma = goes state.OrderedStart r
+ordered_end r Close = goes state.ModuleInstanceEnd (instantiated r)
+ordered_end r word = Err (misfit word)
+
+abbrev pub named_start : Reading → Word → Result Walk Cause
+named_start r Dot = goes state.NamedPort r
+named_start r word = Err (misfit word)
+
+abbrev pub named_port : Reading → Word → Result Walk Cause
+named_port r (Name n) = goes state.NamedOpen (record r { port = Some n })
+named_port r Misnamed = Err BadName
+named_port r word = Err (misfit word)
+
+abbrev pub named_open : Reading → Word → Result Walk Cause
+named_open r Open = goes state.NamedTerminal r
+named_open r word = Err (misfit word)
+
+abbrev pub named_terminal : Reading → Word → Result Walk Cause
+named_terminal r Close = goes state.NamedEnd (connect r None)
+named_terminal r word = connected state.NamedClose r word
+
+abbrev pub named_close : Reading → Word → Result Walk Cause
+named_close r Close = goes state.NamedEnd r
+named_close r word = Err (misfit word)
+
+abbrev pub named_end : Reading → Word → Result Walk Cause
+named_end r Comma = goes state.NamedStart r
+named_end r Close = goes state.ModuleInstanceEnd (instantiated r)
+named_end r word = Err (misfit word)
+
 -- A word in any state. `default` is the delay of a gate item without one, `names` the table of names, and `after` the word after it,
 -- which is looked at where a delay may follow.
 abbrev pub turn : Option ℕ → List (List ℕ) → Reading → ParserState → Placed → Option Word → Result Walk Cause
@@ -201,3 +263,15 @@ turn default names r state.InstanceOpen next after = instance_open r next.word
 turn default names r state.TerminalStart next after = terminal_start r next.word
 turn default names r state.TerminalEnd next after = terminal_end names r next.word
 turn default names r state.InstanceEnd next after = list_next state.InstanceStart r next.word
+turn default names r state.ModuleInstanceName next after = module_instance_name r next.start next.word
+turn default names r state.ModuleInstanceOpen next after = module_instance_open r next.word
+turn default names r state.Connections next after = connections r next.word
+turn default names r state.OrderedStart next after = ordered_start r next.word
+turn default names r state.OrderedEnd next after = ordered_end r next.word
+turn default names r state.NamedStart next after = named_start r next.word
+turn default names r state.NamedPort next after = named_port r next.word
+turn default names r state.NamedOpen next after = named_open r next.word
+turn default names r state.NamedTerminal next after = named_terminal r next.word
+turn default names r state.NamedClose next after = named_close r next.word
+turn default names r state.NamedEnd next after = named_end r next.word
+turn default names r state.ModuleInstanceEnd next after = list_next state.ModuleInstanceName r next.word

@@ -3,7 +3,7 @@
 ghost use Rattle.std.specs.Prelude.{◌≡◌, ◌<◌, ◌-◌, ◌^◌, IfOk};
 ghost use Rattle.std.specs.List.{list_any};
 ghost use Rattle.vtext.specs.Nets.{is_undirected};
-ghost use Rattle.vtext.specs.Causes.{completed_cause, declared_again, default_cause, delay_cause, directed_again, direction_cause, end_cause, gate_cause, header_cause, instance_cause, is_hash, item_misfit, misfit, module_cause, net_cause, port_cause, when};
+ghost use Rattle.vtext.specs.Causes.{completed_cause, declared_again, default_cause, delay_cause, directed_again, direction_cause, end_cause, gate_cause, header_cause, instance_cause, is_hash, misfit, module_cause, net_cause, port_cause, when};
 ghost use Rattle.vtext.specs.Readings.{view};
 
 use crate::cause::Cause;
@@ -21,21 +21,9 @@ pub fn misfit(word: Word) -> Cause
 {
     match word {
         Word::Stray => Cause::Byte,
-        Word::Module => Cause::Unsupported,
         Word::OpenBracket => Cause::Unsupported,
         Word::Refused => Cause::Unsupported,
         _ => Cause::Syntax,
-    }
-}
-
-/// Why a word is refused that can't begin an item.
-pub fn item_misfit(word: Word) -> Cause
-    ensures { result ≡ item_misfit word }
-{
-    match word {
-        Word::Name(_) => Cause::Unsupported,
-        Word::Misnamed => Cause::Unsupported,
-        other => misfit(other),
     }
 }
 
@@ -108,11 +96,11 @@ fn any_undirected(nets: &[Net]) -> bool
 }
 
 impl Draft {
-    /// Why a further module is refused.
-    pub fn module_cause(&self) -> Option<Cause>
-        ensures { result ≡ module_cause (view self.now) }
+    /// Why a module may not have a name.
+    pub fn module_cause(&self, name: u32) -> Option<Cause>
+        ensures { result ≡ module_cause (view self.now) name }
     {
-        when(0 < self.modules.len(), Cause::Unsupported)
+        when(self.modules.contains_key(&name), Cause::DuplicateName)
     }
 
     /// Why a header refuses the name of a port.
@@ -160,7 +148,7 @@ impl Draft {
         declared_again(self.net(name)?)
     }
 
-    /// Why a gate instance may not have a name.
+    /// Why a gate instance, or one of a module, may not have a name.
     pub fn instance_cause(&self, name: u32) -> Option<Cause>
         ensures { result ≡ instance_cause (view self.now) name }
     {

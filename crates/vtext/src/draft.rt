@@ -8,6 +8,7 @@ ghost use Rattle.vtext.specs.Readings.{unread, view};
 
 use crate::gate::{Gate, Terminal};
 use crate::module::Module;
+use crate::module_instance::{ModuleInstance, PortConnection};
 use crate::net::Net;
 use crate::word::Direction;
 use fourstate::{DelayTimes, GateKind, NetKind, TimeUnit};
@@ -20,11 +21,13 @@ use std::mem;
 pub struct Draft {
     /// The unit of the directives.
     pub unit: Option<TimeUnit>,
-    pub modules: Vec<Module>,
+    /// The finished modules by name.
+    pub modules: IndexMap<u32, Module>,
     pub module: ModuleDraft,
     pub declaration: Declaration,
     pub item: GateItem,
     pub instance: InstanceDraft,
+    pub module_instance: ModuleInstanceDraft,
 }
 
 /// The module that is being read.
@@ -37,6 +40,7 @@ pub struct ModuleDraft {
     pub inline: bool,
     pub nets: IndexMap<u32, Net>,
     pub gates: Vec<Gate>,
+    pub instances: Vec<ModuleInstance>,
     /// The names of its gates and instances, by number.
     pub taken: IndexSet<u32>,
     /// How many of its gate instances are unnamed.
@@ -64,6 +68,20 @@ pub struct InstanceDraft {
     pub terminals: Vec<Terminal>,
 }
 
+/// The instance of a module that is being read.
+#[derive(Drop)]
+pub struct ModuleInstanceDraft {
+    /// The module, which the item names.
+    pub of: u32,
+    /// Where the instance's name begins.
+    pub start: u32,
+    pub name: u32,
+    /// The port of the connection that is being read, if it names one.
+    pub port: Option<u32>,
+    /// The port connections so far.
+    pub connections: Vec<PortConnection>,
+}
+
 impl ModuleDraft {
     /// Nothing was read of a module.
     pub fn new(alloc: Global) -> ModuleDraft
@@ -72,6 +90,7 @@ impl ModuleDraft {
         ensures inline { result.inline ≡ false }
         ensures nets { result.nets.entries ≡ [] }
         ensures gates { result.gates.items ≡ [] }
+        ensures instances { result.instances.items ≡ [] }
         ensures taken { result.taken.keys ≡ [] }
         ensures unnamed { result.unnamed ≡ 0 }
     {
@@ -81,6 +100,7 @@ impl ModuleDraft {
             inline: false,
             nets: IndexMap::new(alloc),
             gates: Vec::new(alloc),
+            instances: Vec::new(alloc),
             taken: IndexSet::new(alloc),
             unnamed: 0,
         }
@@ -94,7 +114,7 @@ impl Draft {
     {
         Draft {
             unit: None,
-            modules: Vec::new(alloc),
+            modules: IndexMap::new(alloc),
             module: ModuleDraft::new(alloc),
             declaration: Declaration {
                 direction: Direction::Input,
@@ -107,6 +127,13 @@ impl Draft {
             instance: InstanceDraft {
                 name: None,
                 terminals: Vec::new(alloc),
+            },
+            module_instance: ModuleInstanceDraft {
+                of: 0,
+                start: 0,
+                name: 0,
+                port: None,
+                connections: Vec::new(alloc),
             },
         }
     }
@@ -150,9 +177,11 @@ impl Draft {
             name,
             nets,
             gates,
+            instances,
             ..
         } = mem::replace(&mut self.module, ModuleDraft::new(alloc));
-        self.modules.push(Module::new(start, name, nets, gates))?;
+        self.modules
+            .insert(name, Module::new(start, nets, gates, instances))?;
         Ok(())
     }
 }

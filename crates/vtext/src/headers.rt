@@ -23,9 +23,6 @@ impl Draft {
                 Turn::To(ParserState::Outside)
             }
             Word::Module => {
-                if let Some(cause) = self.module_cause() {
-                    return Turn::Refused(cause);
-                }
                 self.module.start = start;
                 Turn::To(ParserState::ModuleName)
             }
@@ -39,6 +36,9 @@ impl Draft {
     {
         match word {
             Word::Name(name) => {
+                if let Some(cause) = self.module_cause(name) {
+                    return Turn::Refused(cause);
+                }
                 self.module.name = name;
                 Turn::To(ParserState::ModuleHead)
             }

@@ -5,7 +5,7 @@ ghost use Rattle.vtext.specs.Readings.{view};
 ghost use Rattle.vtext.specs.Turns.{IsTurn, items, list_next, net_name, port_name, port_start};
 
 use crate::cause::Cause;
-use crate::causes::{gate_cause, item_misfit, misfit};
+use crate::causes::{gate_cause, misfit};
 use crate::draft::{Declaration, Draft, GateItem};
 use crate::parser_state::ParserState;
 use crate::turn::Turn;
@@ -57,7 +57,12 @@ impl Draft {
                 self.finish(alloc)?;
                 Ok(Turn::To(ParserState::Outside))
             }
-            other => Ok(Turn::Refused(item_misfit(other))),
+            Word::Name(name) => {
+                self.module_instance.of = name;
+                Ok(Turn::To(ParserState::ModuleInstanceName))
+            }
+            Word::Misnamed => Ok(Turn::Refused(Cause::BadName)),
+            other => Ok(Turn::Refused(misfit(other))),
         }
     }
 

@@ -85,8 +85,8 @@ pub fn names_are_numbers()
         IsSome (number_of (names_of text (before ++ token ∷ after)) (name_bytes text token)) }
 {}
 
-/// The modules of every text are sound: a design may have their names, nets and gates have different ones, and gates fit their
-/// nets.
+/// The modules of every text are sound: a design may have their names; nets, gates and instances have different ones each; gates
+/// and instances fit their nets.
 pub fn modules_are_sound()
     ensures { (default : Option ℕ) (text : List ℕ) (list : ModuleList) → Says default text list → All (IsSoundModule list.names) list.modules }
 {}

@@ -2,21 +2,22 @@
 
 ghost use Rattle.std.specs.Prelude.{◌≡◌, ◌<◌, IfSome, is_some, length, option_map, slice_get};
 ghost use Rattle.vtext.specs.Modules.{ModuleEntry};
-ghost use Rattle.vtext.specs.Nets.{net_of};
+ghost use Rattle.vtext.specs.Nets.{net_of, place_of};
 
 use crate::gate::Gate;
+use crate::module_instance::ModuleInstance;
 use crate::net::Net;
 use indexmap::IndexMap;
 use std::marker::Model;
 
 /// A module: its nets by the numbers of their names, first the ports in the header's order, then the others by first
-/// appearance, and its gates in the text's order.
+/// appearance, its gates and its instances of modules in the text's order.
 #[derive(Drop)]
 pub struct Module {
     start: u32,
-    name: u32,
     nets: IndexMap<u32, Net>,
     gates: Vec<Gate>,
+    instances: Vec<ModuleInstance>,
 }
 
 impl Model for Module {
@@ -24,19 +25,24 @@ impl Model for Module {
 
     ghost Value = { ModuleEntry };
 
-    ghost view = { λ a. record { start = a.start; name = a.name; nets = a.nets.entries; gates = a.gates.items } };
+    ghost view = { λ a. record { start = a.start; nets = a.nets.entries; gates = a.gates.items; instances = a.instances.items } };
 }
 
 impl Module {
-    /// A module of these nets and gates.
-    pub fn new(start: u32, name: u32, nets: IndexMap<u32, Net>, gates: Vec<Gate>) -> Module
-        ensures { result ≡ record { start = start; name = name; nets = nets.entries; gates = gates.items } }
+    /// A module of these nets, gates and instances.
+    pub fn new(
+        start: u32,
+        nets: IndexMap<u32, Net>,
+        gates: Vec<Gate>,
+        instances: Vec<ModuleInstance>,
+    ) -> Module
+        ensures { result ≡ record { start = start; nets = nets.entries; gates = gates.items; instances = instances.items } }
     {
         Module {
             start,
-            name,
             nets,
             gates,
+            instances,
         }
     }
 
@@ -45,13 +51,6 @@ impl Module {
         ensures { result ≡ self.now.start }
     {
         self.start
-    }
-
-    /// The module's name, by its number.
-    pub fn name(&self) -> u32
-        ensures { result ≡ self.now.name }
-    {
-        self.name
     }
 
     /// How many nets there are.
@@ -78,6 +77,7 @@ impl Module {
 
     /// The place of the net of this name, by its number, in the module's order; none where there is no such net.
     pub fn net_place(&self, name: u32) -> Option<usize>
+        ensures place { result ≡ place_of self.now.nets name }
         ensures there { is_some result ≡ is_some (net_of self.now.nets name) }
         ensures net { IfSome result (λ place. slice_get self.now.nets place ≡ option_map (λ net. (name, net)) (net_of self.now.nets name)) }
     {
@@ -89,5 +89,12 @@ impl Module {
         ensures { result.now ≡ self.now.gates }
     {
         self.gates.as_slice()
+    }
+
+    /// The instances of modules in order.
+    pub fn instances(&self) -> &[ModuleInstance]
+        ensures { result.now ≡ self.now.instances }
+    {
+        self.instances.as_slice()
     }
 }

@@ -44,7 +44,8 @@ impl Draft {
         self.set_net(name, net)
     }
 
-    fn note_use(&mut self, name: u32) -> Result<(), AllocError>
+    /// A net is used, by a terminal or a port connection.
+    pub fn note_use(&mut self, name: u32) -> Result<(), AllocError>
         ensures { OnOk result (view self.new ≡ record (view self.old) { nets = with_use (view self.old).nets name }) }
     {
         let net = self.net(name).unwrap_or(Net::BLANK);

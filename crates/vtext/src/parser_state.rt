@@ -60,4 +60,28 @@ pub enum ParserState {
     TerminalEnd,
     /// Behind the `)` of a gate instance.
     InstanceEnd,
+    /// Where the name of an instance of a module is wanted.
+    ModuleInstanceName,
+    /// Behind the name of an instance of a module.
+    ModuleInstanceOpen,
+    /// Behind the `(` of port connections.
+    Connections,
+    /// Behind a comma of connections by order.
+    OrderedStart,
+    /// Behind a connection by order.
+    OrderedEnd,
+    /// Behind a comma of connections by name.
+    NamedStart,
+    /// Behind the `.` of a connection by name.
+    NamedPort,
+    /// Behind the port of a connection by name.
+    NamedOpen,
+    /// Behind the `(` of a connection by name.
+    NamedTerminal,
+    /// Behind the terminal of a connection by name.
+    NamedClose,
+    /// Behind a connection by name.
+    NamedEnd,
+    /// Behind the `)` of an instance of a module.
+    ModuleInstanceEnd,
 }

@@ -55,6 +55,20 @@ impl Draft {
             ParserState::TerminalStart => self.terminal_start(word),
             ParserState::TerminalEnd => self.terminal_end(alloc, names, word),
             ParserState::InstanceEnd => Ok(self.list_next(ParserState::InstanceStart, word)),
+            ParserState::ModuleInstanceName => self.module_instance_name(next.start, word),
+            ParserState::ModuleInstanceOpen => Ok(self.module_instance_open(word)),
+            ParserState::Connections => self.connections(alloc, word),
+            ParserState::OrderedStart => self.ordered_start(alloc, word),
+            ParserState::OrderedEnd => self.ordered_end(alloc, word),
+            ParserState::NamedStart => Ok(self.named_start(word)),
+            ParserState::NamedPort => Ok(self.named_port(word)),
+            ParserState::NamedOpen => Ok(self.named_open(word)),
+            ParserState::NamedTerminal => self.named_terminal(word),
+            ParserState::NamedClose => Ok(self.named_close(word)),
+            ParserState::NamedEnd => self.named_end(alloc, word),
+            ParserState::ModuleInstanceEnd => {
+                Ok(self.list_next(ParserState::ModuleInstanceName, word))
+            }
         }
     }
 }

@@ -1,0 +1,27 @@
+use Rattle.std.proofs.Common.{◌+◌, sym, ap, ◌∙◌, drop, arith}
+use Rattle.std.specs.Option.{option_or}
+use Rattle.elaboration.specs.Ports.{second_pass_from}
+use Rattle.elaboration.proofs.PortLemmas.{blank, second_next}
+use Rattle.elaboration.proofs.ports.second_pass.Goals as goal
+
+pub returns-in-Some : goal.returns-in-Some
+returns-in-Some c =
+    let text = c.args.text.now in
+    let modules = c.args.modules.now.modules in
+    let place = c.loop-place.place in
+    sym (
+      sym c.loop-place.invariant
+      ∙ second_next text modules place c.instances_at-instances.result.now (omega (arith, c.loop-place-test.true, c.count-place-end.ensures)) (c.instances_at-instances.ensures blank)
+      ∙ ap (λ found. option_or found (second_pass_from text modules (drop (place + 1) modules))) (sym c.in_ok-fault.ensures ∙ c.in-Some.is)
+    )
+
+pub loop-place-preserved : goal.loop-place-preserved
+loop-place-preserved c =
+    let text = c.args.text.now in
+    let modules = c.args.modules.now.modules in
+    let place = c.loop-place.place in
+    sym (
+      second_next text modules place c.instances_at-instances.result.now (omega (arith, c.loop-place-test.true, c.count-place-end.ensures)) (c.instances_at-instances.ensures blank)
+      ∙ ap (λ found. option_or found (second_pass_from text modules (drop (place + 1) modules))) (sym c.in_ok-fault.ensures ∙ c.in_default.is)
+    )
+    ∙ c.loop-place.invariant

@@ -1,0 +1,65 @@
+-- The design that the modules of a text make: its top and its scopes, or the fault of the modules.
+use Rattle.std.specs.Prelude.{◌≡◌, ◌<◌, ◌^◌, ⊥, ℕ, List, length, Option, None, Some, if◌then◌else◌, slice_get, min, ◌-◌}
+use Rattle.std.specs.List.{AllZip}
+use Rattle.std.specs.Option.{option_map_or, option_or}
+use Rattle.design.specs.Netlist.{NetEntry}
+use Rattle.edits.specs.declared.fault.EditFault.TheVariants.{TooMany}
+use Rattle.vtext.specs.declared.fault.ReadFault.{ReadFault}
+use Rattle.vtext.specs.declared.fault.ReadFaultKind.TheVariants.{Edit}
+use Rattle.vtext.specs.declared.net.Net as nets
+use Rattle.vtext.specs.Modules.{ModuleEntry, ModuleList}
+use Rattle.elaboration.specs.declared.node.NetRef.{NetRef}
+use Rattle.elaboration.specs.declared.node.NodeRef.{NodeRef}
+use Rattle.elaboration.specs.declared.node.NodeRef.TheVariants.{Net, Tied}
+use Rattle.elaboration.specs.declared.node.Slot.{Slot}
+use Rattle.elaboration.specs.Levels.{has_many_instances}
+use Rattle.elaboration.specs.Numbered.{PlacedScope}
+use Rattle.elaboration.specs.Ports.{fault_at, second_pass}
+use Rattle.elaboration.specs.Scopes.{Node, Scope, is_own, nets_of, node_of, scopes_of, tied, wired}
+use Rattle.elaboration.specs.Tops.{third_pass, top_of}
+
+-- The design of this top has too many levels or instances: the fault is at its word `module`.
+abbrev pub levels_fault : List ℕ → List (ℕ × ModuleEntry) → ℕ × ModuleEntry → Option ReadFault
+levels_fault text modules top =
+    if has_many_instances modules top.1 then Some (fault_at text top.1.start (Edit TooMany)) else None
+
+-- The first fault of instances, of the modules together, and of levels and numbers of instances.
+abbrev pub elaboration_fault : List ℕ → List (ℕ × ModuleEntry) → Option ReadFault
+elaboration_fault text modules =
+    option_or (second_pass text modules)
+    (option_or (third_pass text modules) (option_map_or (levels_fault text modules) (top_of modules) None))
+
+-- What is kept of a net, among the nets of the design: its place in their order counts where there are not too many.
+pub record IsNet (nets : List NetEntry) (kept : NetRef) (net : NetEntry) : Type 0 where
+  pub kind : kept.kind ≡ net.kind
+  pub input : kept.is_input ≡ net.is_input
+  pub place : length nets < 2 ^ 64 → slice_get nets kept.place ≡ Some net
+
+abbrev pub IsNode : List NetEntry → NodeRef → Node → Type 0
+IsNode nets (Net kept) (wired net) = IsNet nets kept net
+IsNode nets (Tied kept) (tied value) = kept ≡ value
+IsNode nets kept node = ⊥
+
+module _ (names : List (List ℕ)) (modules : List (ℕ × ModuleEntry)) (flat : List NetEntry) where
+  pub record IsSlot (scope : Scope) (slot : Slot) (net : ℕ × nets.Net) : Type 0 where
+    pub node : IsNode flat slot.node (node_of names modules scope net)
+    pub own : slot.is_own ≡ is_own names modules scope net
+
+  pub record IsScope (kept : PlacedScope) (scope : Scope) : Type 0 where
+    pub entry : kept.entry ≡ scope.entry
+    pub path : kept.path ≡ scope.path
+    pub slots : AllZip (IsSlot scope) kept.slots scope.entry.nets
+
+-- A design: the module at its top, with its name, its scopes, and how many nets come with them.
+pub record Elaborated : Type 0 where
+  pub top : ℕ × ModuleEntry
+  pub scopes : List PlacedScope
+  pub net_count : ℕ
+
+-- The design that the modules of a text make.
+pub record IsElaboration (text : List ℕ) (list : ModuleList) (design : Elaborated) : Type 0 where
+  pub faultless : elaboration_fault text list.modules ≡ None
+  pub top : top_of list.modules ≡ Some design.top
+  pub scopes : AllZip (IsScope list.names list.modules (nets_of list.names list.modules design.top.1)) design.scopes
+      (scopes_of list.names list.modules design.top.1)
+  pub net_count : design.net_count ≡ min (length (nets_of list.names list.modules design.top.1)) (2 ^ 64 - 1)

@@ -1,0 +1,6 @@
+pub mod Elaborations
+pub mod Levels
+pub mod Numbered
+pub mod Ports
+pub mod Scopes
+pub mod Tops

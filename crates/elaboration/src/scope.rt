@@ -1,0 +1,84 @@
+//! A scope of a design.
+
+ghost use Rattle.std.specs.Prelude.{◌≡◌};
+ghost use Rattle.vtext.specs.declared.gate.Terminal.TheVariants.{Net};
+ghost use Rattle.elaboration.specs.Numbered.{ref_at, slot_for};
+
+use crate::node::{NodeRef, Slot};
+use fourstate::Value;
+use std::marker::Model;
+use vtext::{Module, Terminal};
+
+/// The module at the top, or an instance of a module somewhere below it (IEEE 1364-2005, 12.4).
+#[derive(Drop)]
+pub struct Scope<'a> {
+    entry: &'a Module,
+    path: Vec<u8>,
+    slots: Vec<Slot>,
+}
+
+impl<'a> Model for Scope<'a> {
+    ghost use Rattle.elaboration.specs.Numbered.{PlacedScope};
+
+    ghost Value = { PlacedScope };
+
+    ghost view = { λ a. record { entry = a.entry.now; path = a.path.items; slots = a.slots.items } };
+}
+
+impl<'a> Scope<'a> {
+    /// A scope of this module, whose names begin so, and whose nets are these.
+    pub fn new(entry: &'a Module, path: Vec<u8>, slots: Vec<Slot>) -> Scope<'a>
+        ensures { result ≡ record { entry = entry.now; path = path.items; slots = slots.items } }
+    {
+        Scope { entry, path, slots }
+    }
+
+    /// The module.
+    pub fn module(&self) -> &'a Module
+        ensures { result.now ≡ self.now.entry }
+    {
+        self.entry
+    }
+
+    /// What stands before the names of its nets and gates: nothing at the top, else the instance's name with those of the
+    /// instances around it, each with a dot after it.
+    pub fn path(&self) -> &[u8]
+        ensures { result.now ≡ self.now.path }
+    {
+        self.path.as_slice()
+    }
+
+    /// What the nets of the module are, in the module's order.
+    pub fn slots(&self) -> &[Slot]
+        ensures { result.now ≡ self.now.slots }
+    {
+        self.slots.as_slice()
+    }
+
+    /// What a terminal in the module is.
+    pub fn node(&self, terminal: Terminal) -> NodeRef
+        ensures { result ≡ ref_at self.now terminal }
+    {
+        match terminal {
+            Terminal::Constant(value) => NodeRef::Tied(value),
+            Terminal::Net(name) => self.node_of(name),
+        }
+    }
+
+    /// What the net of this name is.
+    fn node_of(&self, name: u32) -> NodeRef
+        ensures { result ≡ ref_at self.now (Net name) }
+    {
+        match self.slot_of(name) {
+            Some(slot) => slot.node,
+            None => NodeRef::Tied(Value::Unknown),
+        }
+    }
+
+    fn slot_of(&self, name: u32) -> Option<Slot>
+        ensures { result ≡ slot_for name self.now.entry.nets self.now.slots }
+    {
+        let place = self.entry.net_place(name)?;
+        self.slots.get(place).copied()
+    }
+}

@@ -1,0 +1,88 @@
+//! Ports and what they are joined to.
+
+ghost use Rattle.std.specs.Prelude.{◌≡◌, ◌&&◌, not};
+ghost use Rattle.vtext.specs.Nets.{net_kind};
+ghost use Rattle.vread.specs.LateFaults.{is_clash, rule_of};
+ghost use Rattle.vread.specs.Parts.{any_slot, clashes, is_input_ref, is_misjoined, is_tied};
+
+use elaboration::{NodeRef, Scope, Slot};
+use fourstate::NetKind;
+use vtext::Net;
+
+/// By what rule nets resolve several drivers (IEEE 1364-2005, 4.6).
+#[derive(Clone, Copy, Debug, PartialEq, Eq)]
+enum Rule {
+    Wire,
+    Wand,
+    Wor,
+}
+
+fn rule_of(kind: NetKind) -> Rule
+    ensures { result ≡ rule_of kind }
+{
+    match kind {
+        NetKind::Wire | NetKind::Tri => Rule::Wire,
+        NetKind::Wand | NetKind::Triand => Rule::Wand,
+        NetKind::Wor | NetKind::Trior => Rule::Wor,
+    }
+}
+
+/// Whether a port of this kind may not be this: of a kind `wire` or `tri` it takes any net's kind.
+fn clashes(kind: NetKind, node: NodeRef) -> bool
+    ensures { result ≡ clashes kind node }
+{
+    match node {
+        NodeRef::Net(net) => is_clash(rule_of(kind), rule_of(net.kind)),
+        NodeRef::Tied(_) => false,
+    }
+}
+
+fn is_clash(port: Rule, net: Rule) -> bool
+    ensures { result ≡ is_clash port net }
+{
+    match (port, net) {
+        (Rule::Wire, _) | (Rule::Wand, Rule::Wand) | (Rule::Wor, Rule::Wor) => false,
+        _ => true,
+    }
+}
+
+/// Whether it is a constant.
+pub fn is_tied(node: NodeRef) -> bool
+    ensures { result ≡ is_tied node }
+{
+    match node {
+        NodeRef::Net(_) => false,
+        NodeRef::Tied(_) => true,
+    }
+}
+
+/// Whether it is an input of the design.
+pub fn is_input(node: NodeRef) -> bool
+    ensures { result ≡ is_input_ref node }
+{
+    match node {
+        NodeRef::Net(net) => net.is_input,
+        NodeRef::Tied(_) => false,
+    }
+}
+
+/// Whether a port is joined to a net of another rule.
+pub fn is_misjoined(scope: &Scope) -> bool
+    ensures { result ≡ any_slot is_misjoined scope.now.slots scope.now.entry.nets }
+{
+    for (place, slot) in scope.slots().iter().enumerate() {
+        let Some((_, net)) = scope.module().net_at(place) else {
+            return false;
+        };
+        if is_port_misjoined(*slot, net) {
+            return true;
+        }
+    }
+    false
+}
+
+fn is_port_misjoined(slot: Slot, net: Net) -> bool
+    ensures { result ≡ (not slot.is_own && clashes (net_kind net) slot.node) }
+{
+    !slot.is_own && clashes(net.net_kind(), slot.node)
+}

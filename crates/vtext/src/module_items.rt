@@ -1,0 +1,182 @@
+//! What items that instantiate modules do with a word, in each state of the parser.
+
+ghost use Rattle.std.specs.Prelude.{IfOk};
+ghost use Rattle.vtext.specs.Readings.{view};
+ghost use Rattle.vtext.specs.Turns.{IsTurn, connected, connections, module_instance_name, module_instance_open, named_close, named_end, named_open, named_port, named_start, named_terminal, ordered_end, ordered_start};
+
+use crate::cause::Cause;
+use crate::causes::misfit;
+use crate::draft::Draft;
+use crate::gate::Terminal;
+use crate::parser_state::ParserState;
+use crate::turn::Turn;
+use crate::word::Word;
+use std::alloc::{AllocError, Global};
+
+impl Draft {
+    /// Where the name of an instance of a module is wanted.
+    pub fn module_instance_name(&mut self, start: u32, word: Word) -> Result<Turn, AllocError>
+        ensures { IfOk result (λ turn. IsTurn turn (view self.new) (module_instance_name (view self.old) start word)) }
+    {
+        match word {
+            Word::Name(name) => {
+                if let Some(cause) = self.instance_cause(name) {
+                    return Ok(Turn::Refused(cause));
+                }
+                self.name_module_instance(start, name)?;
+                Ok(Turn::To(ParserState::ModuleInstanceOpen))
+            }
+            Word::Misnamed => Ok(Turn::Refused(Cause::BadName)),
+            other => Ok(Turn::Refused(misfit(other))),
+        }
+    }
+
+    /// Behind the name of an instance of a module.
+    pub fn module_instance_open(&self, word: Word) -> Turn
+        ensures { IsTurn result (view self.now) (module_instance_open (view self.now) word) }
+    {
+        match word {
+            Word::Open => Turn::To(ParserState::Connections),
+            other => Turn::Refused(misfit(other)),
+        }
+    }
+
+    /// Where a port may be connected.
+    fn connected(&mut self, to: ParserState, word: Word) -> Result<Turn, AllocError>
+        ensures { IfOk result (λ turn. IsTurn turn (view self.new) (connected to (view self.old) word)) }
+    {
+        match word {
+            Word::Name(name) => {
+                self.connect(Some(Terminal::Net(name)))?;
+                Ok(Turn::To(to))
+            }
+            Word::Misnamed => Ok(Turn::Refused(Cause::BadName)),
+            Word::Literal(value) => {
+                self.connect(Some(Terminal::Constant(value)))?;
+                Ok(Turn::To(to))
+            }
+            other => Ok(Turn::Refused(misfit(other))),
+        }
+    }
+
+    /// Behind the `(` of port connections.
+    pub fn connections(&mut self, alloc: Global, word: Word) -> Result<Turn, AllocError>
+        ensures { IfOk result (λ turn. IsTurn turn (view self.new) (connections (view self.old) word)) }
+    {
+        match word {
+            Word::Close => {
+                self.instantiate(alloc)?;
+                Ok(Turn::To(ParserState::ModuleInstanceEnd))
+            }
+            Word::Dot => Ok(Turn::To(ParserState::NamedPort)),
+            Word::Comma => {
+                self.connect(None)?;
+                Ok(Turn::To(ParserState::OrderedStart))
+            }
+            other => self.connected(ParserState::OrderedEnd, other),
+        }
+    }
+
+    /// Behind a comma of connections by order.
+    pub fn ordered_start(&mut self, alloc: Global, word: Word) -> Result<Turn, AllocError>
+        ensures { IfOk result (λ turn. IsTurn turn (view self.new) (ordered_start (view self.old) word)) }
+    {
+        match word {
+            Word::Comma => {
+                self.connect(None)?;
+                Ok(Turn::To(ParserState::OrderedStart))
+            }
+            Word::Close => {
+                self.connect(None)?;
+                self.instantiate(alloc)?;
+                Ok(Turn::To(ParserState::ModuleInstanceEnd))
+            }
+            other => self.connected(ParserState::OrderedEnd, other),
+        }
+    }
+
+    /// Behind a connection by order.
+    pub fn ordered_end(&mut self, alloc: Global, word: Word) -> Result<Turn, AllocError>
+        ensures { IfOk result (λ turn. IsTurn turn (view self.new) (ordered_end (view self.old) word)) }
+    {
+        match word {
+            Word::Comma => Ok(Turn::To(ParserState::OrderedStart)),
+            Word::Close => {
+                self.instantiate(alloc)?;
+                Ok(Turn::To(ParserState::ModuleInstanceEnd))
+            }
+            other => Ok(Turn::Refused(misfit(other))),
+        }
+    }
+
+    /// Behind a comma of connections by name.
+    pub fn named_start(&self, word: Word) -> Turn
+        ensures { IsTurn result (view self.now) (named_start (view self.now) word) }
+    {
+        match word {
+            Word::Dot => Turn::To(ParserState::NamedPort),
+            other => Turn::Refused(misfit(other)),
+        }
+    }
+
+    /// Behind the `.` of a connection by name.
+    pub fn named_port(&mut self, word: Word) -> Turn
+        ensures { IsTurn result (view self.new) (named_port (view self.old) word) }
+    {
+        match word {
+            Word::Name(name) => {
+                self.module_instance.port = Some(name);
+                Turn::To(ParserState::NamedOpen)
+            }
+            Word::Misnamed => Turn::Refused(Cause::BadName),
+            other => Turn::Refused(misfit(other)),
+        }
+    }
+
+    /// Behind the port of a connection by name.
+    pub fn named_open(&self, word: Word) -> Turn
+        ensures { IsTurn result (view self.now) (named_open (view self.now) word) }
+    {
+        match word {
+            Word::Open => Turn::To(ParserState::NamedTerminal),
+            other => Turn::Refused(misfit(other)),
+        }
+    }
+
+    /// Behind the `(` of a connection by name.
+    pub fn named_terminal(&mut self, word: Word) -> Result<Turn, AllocError>
+        ensures { IfOk result (λ turn. IsTurn turn (view self.new) (named_terminal (view self.old) word)) }
+    {
+        match word {
+            Word::Close => {
+                self.connect(None)?;
+                Ok(Turn::To(ParserState::NamedEnd))
+            }
+            other => self.connected(ParserState::NamedClose, other),
+        }
+    }
+
+    /// Behind the terminal of a connection by name.
+    pub fn named_close(&self, word: Word) -> Turn
+        ensures { IsTurn result (view self.now) (named_close (view self.now) word) }
+    {
+        match word {
+            Word::Close => Turn::To(ParserState::NamedEnd),
+            other => Turn::Refused(misfit(other)),
+        }
+    }
+
+    /// Behind a connection by name.
+    pub fn named_end(&mut self, alloc: Global, word: Word) -> Result<Turn, AllocError>
+        ensures { IfOk result (λ turn. IsTurn turn (view self.new) (named_end (view self.old) word)) }
+    {
+        match word {
+            Word::Comma => Ok(Turn::To(ParserState::NamedStart)),
+            Word::Close => {
+                self.instantiate(alloc)?;
+                Ok(Turn::To(ParserState::ModuleInstanceEnd))
+            }
+            other => Ok(Turn::Refused(misfit(other))),
+        }
+    }
+}
