@@ -27,7 +27,7 @@ any_seen names connections = list_any (is_seen names) connections
 abbrev pub is_again : List ℕ → List PortConnection → Bool
 is_again names connections = any_seen names connections || is_named_twice connections
 
-same_swapped : (a b : ℕ) → nat_eq a b ≡ nat_eq b a
+pub same_swapped : (a b : ℕ) → nat_eq a b ≡ nat_eq b a
 same_swapped a b = grind (arith, nat_tests)
 
 four : (a b c d : Bool) → ((a || b) || (c || d)) ≡ ((a || c) || (b || d))

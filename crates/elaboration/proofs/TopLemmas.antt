@@ -21,3 +21,13 @@ not_of b e = ap not e
 
 pub not_none : (b : Bool) → b ≡ false → not b ≡ true
 not_none b e = ap not e
+
+-- what is found first is the first of all that pass
+module _ {X : Type 0} (p : X → Bool) where
+  first_of_two : (b : Bool) (y x : X) (ys more : List X) → cond b (y ∷ filter p ys) (filter p ys) ≡ x ∷ more → (filter p ys ≡ x ∷ more → find p ys ≡ Some x) → cond b (Some y) (find p ys) ≡ Some x
+  first_of_two true y x ys more e others = let same : y ≡ x = cc in ap Some same
+  first_of_two false y x ys more e others = others e
+
+  pub find_of_filter : (xs : List X) (x : X) (more : List X) → filter p xs ≡ x ∷ more → find p xs ≡ Some x
+  find_of_filter [] x more e = absurd (cc)
+  find_of_filter (y ∷ ys) x more e = first_of_two (p y) y x ys more e (find_of_filter ys x more)

@@ -1,5 +1,5 @@
 -- The design that the modules of a text make: its top and its scopes, or the fault of the modules.
-use Rattle.std.specs.Prelude.{◌≡◌, ◌<◌, ◌^◌, ⊥, ℕ, List, length, Option, None, Some, if◌then◌else◌, slice_get, min, ◌-◌}
+use Rattle.std.specs.Prelude.{◌≡◌, ◌<◌, ◌^◌, ℕ, List, length, Option, None, Some, if◌then◌else◌, slice_get, min, ◌-◌}
 use Rattle.std.specs.List.{AllZip}
 use Rattle.std.specs.Option.{option_map_or, option_or}
 use Rattle.design.specs.Netlist.{NetEntry}

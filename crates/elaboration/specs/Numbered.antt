@@ -1,10 +1,8 @@
 -- Scopes as they are kept: a net of the design is known by its place in the design's order.
-use Rattle.std.specs.Prelude.{◌≡◌, Bool, true, false, ⊥, ℕ, zero, suc, nat_eq, ◌+◌, ◌-◌, ◌^◌, ◌<◌, ◌&&◌, ◌++◌, if◌then◌else◌, min, List, [], ◌∷◌, length, map, take, drop, replicate, fold, Option, None, Some, option_map, codes}
-use Rattle.std.specs.List.{AllZip}
+use Rattle.std.specs.Prelude.{Bool, true, false, ℕ, zero, suc, nat_eq, ◌+◌, ◌-◌, ◌^◌, ◌≢◌, ◌&&◌, ◌++◌, if◌then◌else◌, min, List, [], ◌∷◌, length, map, replicate, set, fold, AllPairs, Option, None, Some, option_map, codes}
 use Rattle.std.specs.Map.{lookup}
 use Rattle.std.specs.Option.{option_map_or}
 use Rattle.fourstate.specs.declared.value.Value.TheVariants.{Unknown}
-use Rattle.design.specs.Netlist.{NetEntry}
 use Rattle.vtext.specs.declared.gate.Terminal.{Terminal}
 use Rattle.vtext.specs.declared.gate.Terminal.TheVariants as terminals
 use Rattle.vtext.specs.declared.module_instance.PortConnection.{PortConnection}
@@ -13,12 +11,10 @@ use Rattle.vtext.specs.Modules.{InstanceEntry, ModuleEntry}
 use Rattle.vtext.specs.Names.{name_at}
 use Rattle.vtext.specs.Nets.{is_input, net_kind, place_of}
 use Rattle.elaboration.specs.declared.limits.TheConstants.{MAX_DEPTH}
-use Rattle.elaboration.specs.declared.node.NetRef.{NetRef}
 use Rattle.elaboration.specs.declared.node.NodeRef.{NodeRef}
 use Rattle.elaboration.specs.declared.node.NodeRef.TheVariants.{Net, Tied}
 use Rattle.elaboration.specs.declared.node.Slot.{Slot}
 use Rattle.elaboration.specs.Ports.{joined_from}
-use Rattle.elaboration.specs.Scopes.{Node, Scope, is_own, node_of, nets_of, scopes_of, tied, wired}
 
 -- A scope before its nets have places.
 pub record Start : Type 0 where
@@ -41,31 +37,27 @@ pub record SoFar : Type 0 where
 
 -- The nets of a scope.
 
--- the place after this one
-abbrev pub after : ℕ → ℕ
-after place = min (place + 1) (2 ^ 64 - 1)
-
--- a net that comes with the scope
-abbrev pub own_slot : Bool → ℕ → nets.Net → Slot
-own_slot top place net =
+-- what a net is: a connected port, or a net that comes with the scope and has this place
+abbrev pub slot_of : Bool → ℕ → nets.Net → Option NodeRef → Slot
+slot_of top place net (Some node) = record { node = node; is_own = false }
+slot_of top place net None =
     record { node = Net (record { place = place; kind = net_kind net; is_input = top && is_input net }); is_own = true }
 
--- a connected port
-abbrev pub given_slot : NodeRef → Slot
-given_slot node = record { node = node; is_own = false }
+-- the place of the next net, as far as numbers go
+abbrev pub next_place : ℕ → Option NodeRef → ℕ
+next_place place (Some node) = place
+next_place place None = min (place + 1) (2 ^ 64 - 1)
 
 -- what nets are, of which those that come with the scope have places from here on
 abbrev pub slots_from : Bool → ℕ → List (ℕ × nets.Net) → List (Option NodeRef) → List Slot
 slots_from top place [] given = []
 slots_from top place (net ∷ more) [] = []
-slots_from top place (net ∷ more) (Some node ∷ given) = given_slot node ∷ slots_from top place more given
-slots_from top place (net ∷ more) (None ∷ given) = own_slot top place net.1 ∷ slots_from top (after place) more given
+slots_from top place (net ∷ more) (node ∷ given) = slot_of top place net.1 node ∷ slots_from top (next_place place node) more given
 
 -- the place after those that they take
 abbrev pub place_after : ℕ → List (Option NodeRef) → ℕ
 place_after place [] = place
-place_after place (Some node ∷ given) = place_after place given
-place_after place (None ∷ given) = place_after (after place) given
+place_after place (node ∷ given) = place_after (next_place place node) given
 
 abbrev pub placed : ℕ → Start → PlacedScope
 placed place start =
@@ -89,28 +81,59 @@ abbrev pub ref_at : PlacedScope → Terminal → NodeRef
 ref_at scope (terminals.Constant value) = Tied value
 ref_at scope (terminals.Net n) = option_map_or (λ slot. slot.node) (slot_for n scope.entry.nets scope.slots) (Tied Unknown)
 
--- what each net of a module is connected to by these connections
-abbrev pub joints_from : List PortConnection → ℕ → List (ℕ × nets.Net) → List (Option Terminal)
-joints_from connections place [] = []
-joints_from connections place (net ∷ more) = joined_from connections 0 place net.0 ∷ joints_from connections (suc place) more
+-- nets have different names
+abbrev pub AreDistinct : List (ℕ × nets.Net) → Type 0
+AreDistinct nets = AllPairs (λ a b. a.0 ≢ b.0) nets
+
+-- the place of the net that a connection at a place is for
+abbrev pub place_for : List (ℕ × nets.Net) → ℕ → PortConnection → Option ℕ
+place_for nets at connection = option_map_or (place_of nets) connection.port (Some at)
+
+-- the net at a place is connected so
+abbrev pub with_joint : List (Option Terminal) → Option ℕ → Option Terminal → List (Option Terminal)
+with_joint joints place terminal = option_map_or (λ p. set joints p terminal) place joints
+
+-- what the nets of a module, from a place on, are connected to by connections that begin at a place
+abbrev pub joints_from : List PortConnection → ℕ → ℕ → List (ℕ × nets.Net) → List (Option Terminal)
+joints_from connections at place [] = []
+joints_from connections at place (net ∷ more) = joined_from connections at place net.0 ∷ joints_from connections at (suc place) more
+
+-- no scopes
+abbrev pub none : SoFar
+none = record { list = []; count = 0 }
+
+-- the scope at the top
+abbrev pub top_start : ModuleEntry → Start
+top_start m = record { entry = m; path = []; top = true; given = replicate (length m.nets) None }
+
+-- Below, `names` is the table of names.
+
+-- the scope of an instance of a module
+abbrev pub inner_start : List (List ℕ) → PlacedScope → InstanceEntry → ModuleEntry → Start
+inner_start names scope i m = record {
+  entry = m;
+  path = scope.path ++ name_at names i.name ++ codes ".";
+  top = false;
+  given = map (option_map (ref_at scope)) (joints_from i.connections 0 0 m.nets);
+}
 
 module _ (names : List (List ℕ)) (modules : List (ℕ × ModuleEntry)) where
-  -- the scope of an instance of a module
-  abbrev pub inner_start : PlacedScope → InstanceEntry → ModuleEntry → Start
-  inner_start scope i m = record {
-    entry = m;
-    path = scope.path ++ name_at names i.name ++ codes ".";
-    top = false;
-    given = map (option_map (ref_at scope)) (joints_from i.connections 0 m.nets);
-  }
-
   -- with the scopes below this one, to so many levels
   abbrev pub with_below : ℕ → PlacedScope → SoFar → SoFar
   with_below zero scope so_far = so_far
   with_below (suc levels) scope so_far =
-      fold (λ s i. option_map_or (λ m. with_below levels (placed s.count (inner_start scope i m)) (with_scope s (inner_start scope i m)))
+      fold (λ s i. option_map_or (λ m. with_below levels (placed s.count (inner_start names scope i m)) (with_scope s (inner_start names scope i m)))
         (lookup (nat_eq i.«module») modules) s) so_far scope.entry.instances
 
   -- with a scope and those below it
   abbrev pub with_scopes : ℕ → SoFar → Start → SoFar
   with_scopes levels so_far start = with_below levels (placed so_far.count start) (with_scope so_far start)
+
+  -- with the scope of an instance and those below it, where the text has its module
+  abbrev pub with_instance : ℕ → PlacedScope → SoFar → InstanceEntry → SoFar
+  with_instance levels scope so_far i =
+      option_map_or (λ m. with_scopes levels so_far (inner_start names scope i m)) (lookup (nat_eq i.«module») modules) so_far
+
+  -- the scopes of a design with this module at its top
+  unfoldable pub kept_scopes : ModuleEntry → SoFar
+  kept_scopes m = with_scopes MAX_DEPTH none (top_start m)

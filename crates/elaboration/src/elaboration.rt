@@ -2,6 +2,8 @@
 
 ghost use Rattle.std.specs.Prelude.{◌≡◌, ◌⊎◌, ◌<◌, None, Some, All, IfErr, IfOk, length, slice_get};
 ghost use Rattle.elaboration.specs.Elaborations.{elaboration_fault, IsElaboration};
+ghost use Rattle.elaboration.specs.Tops.{top_of};
+ghost use Rattle.elaboration.specs.Numbered.{AreDistinct, kept_scopes};
 ghost use Rattle.vtext.specs.ReadFaults.{out_of_memory};
 ghost use Rattle.vtext.specs.Sound.{IsSoundModule};
 
@@ -90,10 +92,12 @@ fn scopes_of<'a>(
     modules: &'a Modules,
     entry: &'a Module,
 ) -> Result<Scopes<'a>, AllocError>
+    requires { All (λ m. AreDistinct m.1.nets) modules.now.modules }
+    ensures { IfOk result (λ scopes. scopes ≡ kept_scopes modules.now.names modules.now.modules entry.now) }
 {
     let start = Start::top(alloc, entry)?;
     let mut scopes = Scopes::new(alloc);
-    scopes.add_all(alloc, modules.names(), modules, start, MAX_DEPTH)?;
+    scopes.add_all(alloc, modules, start, MAX_DEPTH)?;
     Ok(scopes)
 }
 

@@ -21,7 +21,8 @@ fn is_deep(modules: &Modules, deep: &[bool], instance: &ModuleInstance) -> bool
     }
 }
 
-fn is_set(flags: &[bool], place: usize) -> bool
+/// Whether a flag is set, by its place.
+pub fn is_set(flags: &[bool], place: usize) -> bool
     ensures { result ≡ slice_index_or flags.now place false }
 {
     match flags.get(place) {

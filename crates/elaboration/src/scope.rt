@@ -1,6 +1,6 @@
 //! A scope of a design.
 
-ghost use Rattle.std.specs.Prelude.{◌≡◌};
+ghost use Rattle.std.specs.Prelude.{◌≡◌, slice_get};
 ghost use Rattle.vtext.specs.declared.gate.Terminal.TheVariants.{Net};
 ghost use Rattle.elaboration.specs.Numbered.{ref_at, slot_for};
 
@@ -78,7 +78,13 @@ impl<'a> Scope<'a> {
     fn slot_of(&self, name: u32) -> Option<Slot>
         ensures { result ≡ slot_for name self.now.entry.nets self.now.slots }
     {
-        let place = self.entry.net_place(name)?;
+        let place = self.module().net_place(name)?;
+        self.slot_at(place)
+    }
+
+    fn slot_at(&self, place: usize) -> Option<Slot>
+        ensures { result ≡ slice_get self.now.slots place }
+    {
         self.slots.get(place).copied()
     }
 }

@@ -1,15 +1,15 @@
 //! The scopes of a design, one after another.
 
-ghost use Rattle.std.specs.Prelude.{◌≡◌, ◌≢◌, [], IfOk, OnOk, All, AllPairs, length, nat_eq, option_map, slice_get, Some};
+ghost use Rattle.std.specs.Prelude.{◌≡◌, ◌<◌, [], IfOk, OnOk, All, length, nat_eq, option_map, slice_index_or};
 ghost use Rattle.std.specs.Map.{lookup};
-ghost use Rattle.elaboration.specs.Numbered.{inner_start, with_scope, with_scopes};
+ghost use Rattle.elaboration.specs.Numbered.{AreDistinct, PlacedScope, inner_start, with_scope, with_scopes};
 
 use crate::scope::Scope;
 use crate::slots::slots_of;
 use crate::start::Start;
 use std::alloc::{AllocError, Global};
 use std::marker::Model;
-use vtext::{ModuleInstance, Modules, Names};
+use vtext::{ModuleInstance, Modules};
 
 /// The scopes so far, and how many nets come with them.
 #[derive(Drop)]
@@ -56,7 +56,12 @@ impl<'a> Scopes<'a> {
         requires { length start.given ≡ length start.entry.nets }
         ensures { OnOk result (self.new ≡ with_scope self.old start.entry) }
     {
-        let Start { entry, path, is_top, given } = start;
+        let Start {
+            entry,
+            path,
+            is_top,
+            given,
+        } = start;
         let slots = slots_of(alloc, entry, is_top, given.as_slice(), self.count)?;
         self.list.push(Scope::new(entry, path, slots.items))?;
         self.count = slots.next;
@@ -67,11 +72,13 @@ impl<'a> Scopes<'a> {
     pub fn add_all(
         &mut self,
         alloc: Global,
-        names: &Names,
         modules: &'a Modules,
         start: Start<'a>,
         levels: usize,
     ) -> Result<(), AllocError>
+        requires given { length start.given ≡ length start.entry.nets }
+        requires distinct { All (λ m. AreDistinct m.1.nets) modules.now.modules }
+        ensures { OnOk result (self.new ≡ with_scopes modules.now.names modules.now.modules levels self.old start.entry) }
     {
         let place = self.list.len();
         let entry = start.entry;
@@ -80,8 +87,8 @@ impl<'a> Scopes<'a> {
             return Ok(());
         }
         for instance in entry.instances() {
-            if let Some(start) = self.start_of(alloc, names, modules, place, instance)? {
-                self.add_all(alloc, names, modules, start, levels - 1)?;
+            if let Some(start) = self.start_of(alloc, modules, place, instance)? {
+                self.add_all(alloc, modules, start, levels - 1)?;
             }
         }
         Ok(())
@@ -91,17 +98,19 @@ impl<'a> Scopes<'a> {
     fn start_of(
         &self,
         alloc: Global,
-        names: &Names,
         modules: &'a Modules,
         place: usize,
         instance: &ModuleInstance,
     ) -> Result<Option<Start<'a>>, AllocError>
+        requires place { place < length self.now.list }
+        requires distinct { All (λ m. AreDistinct m.1.nets) modules.now.modules }
+        ensures { IfOk result (λ start. (d : PlacedScope) → start ≡ option_map (inner_start modules.now.names (slice_index_or self.now.list place d) instance.now) (lookup (nat_eq instance.now.«module») modules.now.modules)) }
     {
         let Some(entry) = modules.find(instance.module()) else {
             return Ok(None);
         };
         let scope = &self.list[place];
-        let start = Start::inner(alloc, names, scope, instance, entry)?;
+        let start = Start::inner(alloc, modules.names(), scope, instance, entry)?;
         Ok(Some(start))
     }
 }

@@ -1,7 +1,7 @@
 //! What the nets of a module are in a scope.
 
 ghost use Rattle.std.specs.Prelude.{◌≡◌, IfOk, length};
-ghost use Rattle.elaboration.specs.Numbered.{after, given_slot, own_slot, place_after, slots_from};
+ghost use Rattle.elaboration.specs.Numbered.{next_place, place_after, slot_of, slots_from};
 
 use crate::node::{NetRef, NodeRef, Slot};
 use std::alloc::{AllocError, Global};
@@ -29,42 +29,43 @@ pub fn slots_of(
 {
     let mut items = Vec::with_capacity(alloc, entry.net_count())?;
     let mut next = first;
-    for (place, node) in given.iter().enumerate() {
+    for place in 0..given.len() {
         let Some((_, net)) = entry.net_at(place) else {
             unreachable!()
         };
-        match node {
-            Some(node) => items.push(given_slot(*node))?,
-            None => {
-                items.push(own_slot(is_top, next, net))?;
-                next = next.saturating_add(1);
-            }
-        }
+        let node = given[place];
+        items.push(slot_of(is_top, next, net, node))?;
+        next = next_place(next, node);
     }
     Ok(PlacedSlots { items, next })
 }
 
-/// A connected port.
-fn given_slot(node: NodeRef) -> Slot
-    ensures { result ≡ given_slot node }
+/// What a net is: a connected port, or a net that comes with the scope and has this place.
+fn slot_of(is_top: bool, place: usize, net: Net, given: Option<NodeRef>) -> Slot
+    ensures { result ≡ slot_of is_top place net given }
 {
-    Slot {
-        node,
-        is_own: false,
+    match given {
+        Some(node) => Slot {
+            node,
+            is_own: false,
+        },
+        None => Slot {
+            node: NodeRef::Net(NetRef {
+                place,
+                kind: net.net_kind(),
+                is_input: is_top && net.is_input(),
+            }),
+            is_own: true,
+        },
     }
 }
 
-/// A net that comes with the scope.
-fn own_slot(is_top: bool, place: usize, net: Net) -> Slot
-    ensures { result ≡ own_slot is_top place net }
+/// The place of the next net of the design, as far as numbers go.
+fn next_place(place: usize, given: Option<NodeRef>) -> usize
+    ensures { result ≡ next_place place given }
 {
-    let net = NetRef {
-        place,
-        kind: net.net_kind(),
-        is_input: is_top && net.is_input(),
-    };
-    Slot {
-        node: NodeRef::Net(net),
-        is_own: true,
+    match given {
+        Some(_) => place,
+        None => place.saturating_add(1),
     }
 }

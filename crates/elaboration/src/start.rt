@@ -1,11 +1,10 @@
 //! Scopes before their nets have places.
 
-ghost use Rattle.std.specs.Prelude.{◌≡◌, ◌≢◌, ◌++◌, [], false, true, IfOk, AllPairs, codes, length, map, nat_eq, option_map, replicate};
-ghost use Rattle.std.specs.Map.{lookup};
-ghost use Rattle.elaboration.specs.Numbered.{inner_start, joints_from, ref_at};
+ghost use Rattle.std.specs.Prelude.{◌≡◌, ◌++◌, IfOk, codes, map, option_map};
+ghost use Rattle.elaboration.specs.Numbered.{AreDistinct, inner_start, ref_at, top_start};
 ghost use Rattle.vtext.specs.Names.{name_at};
 
-use crate::joints::joints;
+use crate::joints::{joints, nothing};
 use crate::node::NodeRef;
 use crate::scope::Scope;
 use std::alloc::{AllocError, Global};
@@ -33,10 +32,9 @@ impl<'a> Model for Start<'a> {
 impl<'a> Start<'a> {
     /// The scope at the top.
     pub fn top(alloc: Global, entry: &'a Module) -> Result<Start<'a>, AllocError>
-        ensures { IfOk result (λ start. start ≡ record { entry = entry.now; path = []; top = true; given = replicate (length entry.now.nets) None }) }
+        ensures { IfOk result (λ start. start ≡ top_start entry.now) }
     {
-        let mut given = Vec::with_capacity(alloc, entry.net_count())?;
-        given.resize(entry.net_count(), None)?;
+        let given = nothing(alloc, entry.net_count())?;
         Ok(Start {
             entry,
             path: Vec::new(alloc),
@@ -53,7 +51,7 @@ impl<'a> Start<'a> {
         instance: &ModuleInstance,
         entry: &'a Module,
     ) -> Result<Start<'a>, AllocError>
-        requires { AllPairs (λ a b. a.0 ≢ b.0) entry.now.nets }
+        requires { AreDistinct entry.now.nets }
         ensures { IfOk result (λ start. start ≡ inner_start names.now scope.now instance.now entry.now) }
     {
         let joints = joints(alloc, entry, instance.connections())?;

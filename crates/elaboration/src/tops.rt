@@ -1,13 +1,14 @@
 //! The third pass: the modules of a text together (IEEE 1364-2005, 12.1.1).
 
-ghost use Rattle.std.specs.Prelude.{◌≡◌, ◌+◌, ◌-◌, ◌^◌, ◌<◌, ℕ, [], ◌∷◌, IfOk, IfSome, MatchOption, drop, length, nat_eq, option_map, slice_index_or};
+ghost use Rattle.std.specs.Prelude.{◌≡◌, ◌+◌, ◌-◌, ◌^◌, ◌<◌, ◌⊎◌, ℕ, [], ◌∷◌, IfErr, IfOk, IfSome, MatchOption, None, Some, drop, length, nat_eq, option_map, slice_get, slice_index_or};
 ghost use Rattle.std.specs.List.{filter, find, list_any};
 ghost use Rattle.indexmap.specs.IndexSet.{contains};
 ghost use Rattle.vtext.specs.Modules.{ModuleEntry};
 ghost use Rattle.vtext.specs.declared.fault.ReadFaultKind.TheVariants.{Recursive};
 ghost use Rattle.elaboration.specs.Tops.{no_top, third_pass, tops_fault};
 ghost use Rattle.elaboration.specs.Ports.{fault_at};
-ghost use Rattle.elaboration.specs.Tops.{instantiates, is_recursive, is_top, tops_of};
+ghost use Rattle.elaboration.specs.Tops.{instantiates, is_recursive, is_top, top_of, tops_of};
+ghost use Rattle.vtext.specs.ReadFaults.{out_of_memory};
 
 use crate::lines::fault_at;
 use crate::ports::instances_at;

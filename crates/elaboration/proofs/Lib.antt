@@ -1,0 +1,9 @@
+pub mod JointLemmas
+pub mod LineLemmas
+pub mod LoopLemmas
+pub mod PairLemmas
+pub mod PortLemmas
+pub mod RingLemmas
+pub mod TopLemmas
+pub mod CountLemmas
+pub mod SlotLemmas

@@ -1,0 +1,33 @@
+-- Lists whose items differ in pairs; places in lists.
+use Rattle.std.proofs.Common.{◌≡◌, ℕ, zero, suc, ◌+◌, ◌<◌, Bool, true, false, cond, List, [], ◌∷◌, length, get_or, Option, Some, None, refl, sym, ap, ◌∙◌, arith, All, AllPairs, add-one}
+use Rattle.std.specs.Prelude.{option_map, position}
+use Rattle.std.specs.List.{list_any, position_from, slice_get}
+use Rattle.std.proofs.lemmas.Iterator.Adapters.{position_from-zero}
+
+module _ {X : Type 0} (R : X → X → Type 0) where
+  pub pairs_head : (x : X) (xs : List X) → AllPairs R (x ∷ xs) → All (R x) xs
+  pairs_head x xs pairs = λ k d within. pairs 0 (suc k) d (omega arith) (omega arith)
+
+  pub pairs_tail : (x : X) (xs : List X) → AllPairs R (x ∷ xs) → AllPairs R xs
+  pairs_tail x xs pairs = λ i j d before within. pairs (suc i) (suc j) d (omega arith) (omega arith)
+
+module _ {X : Type 0} (p : X → Bool) where
+  cond_suc : (b : Bool) (i : ℕ) (o : Option ℕ) → cond b (Some (suc i)) (option_map suc o) ≡ option_map suc (cond b (Some i) o)
+  cond_suc true i o = refl
+  cond_suc false i o = refl
+
+  -- one place on
+  pub position_on : (i : ℕ) (xs : List X) → position_from p (suc i) xs ≡ option_map suc (position_from p i xs)
+  position_on i [] = refl
+  position_on i (x ∷ xs) =
+      let next : suc i + 1 ≡ suc (i + 1) = omega arith in
+      ap (λ n. cond (p x) (Some (suc i)) (position_from p n xs)) next
+      ∙ ap (λ o. cond (p x) (Some (suc i)) o) (position_on (i + 1) xs)
+      ∙ cond_suc (p x) i (position_from p (i + 1) xs)
+
+  pub position_first : (x : X) (xs : List X) → position p (x ∷ xs) ≡ cond (p x) (Some 0) (option_map suc (position p xs))
+  position_first x xs =
+      let one : 0 + 1 ≡ 1 = omega arith in
+      position_from-zero p (x ∷ xs)
+      ∙ ap (λ n. cond (p x) (Some 0) (position_from p n xs)) one
+      ∙ ap (λ o. cond (p x) (Some 0) o) (position_on 0 xs ∙ ap (option_map suc) (sym (position_from-zero p xs)))
