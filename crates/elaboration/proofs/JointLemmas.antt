@@ -99,3 +99,7 @@ joined_more connections now at c nets joints distinct next within is before =
     ∙ sym (joined_by c.terminal (drop (now + 1) connections) now c.port nets distinct)
     ∙ ap (λ (d : PortConnection). joints_from (d ∷ drop (now + 1) connections) now 0 nets) is
     ∙ sym (at_drop_more (λ cs. joints_from cs now 0 nets) connections now c within)
+
+pub joints_count : (connections : List PortConnection) (at place : ℕ) (nets : List (ℕ × nets.Net)) → length (joints_from connections at place nets) ≡ length nets
+joints_count connections at place [] = refl
+joints_count connections at place (net ∷ more) = ap suc (joints_count connections at (suc place) more)

@@ -1,9 +1,12 @@
+pub mod CountLemmas
+pub mod ElaborationLemmas
 pub mod JointLemmas
+pub mod KeptLemmas
 pub mod LineLemmas
 pub mod LoopLemmas
 pub mod PairLemmas
 pub mod PortLemmas
 pub mod RingLemmas
-pub mod TopLemmas
-pub mod CountLemmas
+pub mod ScopeLemmas
 pub mod SlotLemmas
+pub mod TopLemmas

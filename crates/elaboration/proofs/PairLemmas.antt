@@ -1,7 +1,9 @@
 -- Lists whose items differ in pairs; places in lists.
-use Rattle.std.proofs.Common.{◌≡◌, ℕ, zero, suc, ◌+◌, ◌<◌, Bool, true, false, cond, List, [], ◌∷◌, length, get_or, Option, Some, None, refl, sym, ap, ◌∙◌, arith, All, AllPairs, add-one}
+use Rattle.std.proofs.Common.{◌≡◌, ℕ, zero, suc, ◌+◌, ◌<◌, Bool, true, false, cond, List, [], ◌∷◌, length, get_or, Option, Some, None, refl, sym, ap, ◌∙◌, arith, All, AllPairs, subst}
 use Rattle.std.specs.Prelude.{option_map, position}
-use Rattle.std.specs.List.{list_any, position_from, slice_get}
+use Rattle.std.specs.List.{position_from}
+use Rattle.std.specs.Map.{lookup}
+use Rattle.std.proofs.lemmas.List.Elements.{All-head, All-tail}
 use Rattle.std.proofs.lemmas.Iterator.Adapters.{position_from-zero}
 
 module _ {X : Type 0} (R : X → X → Type 0) where
@@ -31,3 +33,15 @@ module _ {X : Type 0} (p : X → Bool) where
       position_from-zero p (x ∷ xs)
       ∙ ap (λ n. cond (p x) (Some 0) (position_from p n xs)) one
       ∙ ap (λ o. cond (p x) (Some 0) o) (position_on 0 xs ∙ ap (option_map suc) (sym (position_from-zero p xs)))
+
+-- what holds of all holds of what is found
+module _ {M : Type 0} (P : M → Type 0) (test : ℕ → Bool) where
+  found_first : (b : Bool) (x : M) (rest : Option M) (m : M) → P x → (Some m ≡ rest → P m) → Some m ≡ cond b (Some x) rest → P m
+  found_first true x rest m holds others e = let same : x ≡ m = cc in subst P same holds
+  found_first false x rest m holds others e = others e
+
+  pub found_holds : (modules : List (ℕ × M)) (m : M) → All (λ (o : ℕ × M). P o.1) modules → Some m ≡ lookup test modules → P m
+  found_holds [] m all e = absurd (cc)
+  found_holds (x ∷ modules) m all e =
+      found_first (test x.0) x.1 (lookup test modules) m (All-head (λ (o : ℕ × M). P o.1) x modules all)
+      (λ f. found_holds modules m (All-tail (λ (o : ℕ × M). P o.1) x modules all) f) e

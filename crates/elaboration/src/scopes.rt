@@ -1,6 +1,6 @@
 //! The scopes of a design, one after another.
 
-ghost use Rattle.std.specs.Prelude.{◌≡◌, ◌<◌, [], IfOk, OnOk, All, length, nat_eq, option_map, slice_index_or};
+ghost use Rattle.std.specs.Prelude.{◌≡◌, ◌<◌, [], IfOk, IfSome, OnOk, All, length, nat_eq, option_map, slice_index_or};
 ghost use Rattle.std.specs.Map.{lookup};
 ghost use Rattle.elaboration.specs.Numbered.{AreDistinct, PlacedScope, inner_start, with_scope, with_scopes};
 
@@ -104,7 +104,8 @@ impl<'a> Scopes<'a> {
     ) -> Result<Option<Start<'a>>, AllocError>
         requires place { place < length self.now.list }
         requires distinct { All (λ m. AreDistinct m.1.nets) modules.now.modules }
-        ensures { IfOk result (λ start. (d : PlacedScope) → start ≡ option_map (inner_start modules.now.names (slice_index_or self.now.list place d) instance.now) (lookup (nat_eq instance.now.«module») modules.now.modules)) }
+        ensures given { IfOk result (λ start. IfSome start (λ s. length s.given ≡ length s.entry.nets)) }
+        ensures start { IfOk result (λ start. (d : PlacedScope) → start ≡ option_map (inner_start modules.now.names (slice_index_or self.now.list place d) instance.now) (lookup (nat_eq instance.now.«module») modules.now.modules)) }
     {
         let Some(entry) = modules.find(instance.module()) else {
             return Ok(None);

@@ -1,6 +1,6 @@
 //! Scopes before their nets have places.
 
-ghost use Rattle.std.specs.Prelude.{◌≡◌, ◌++◌, IfOk, codes, map, option_map};
+ghost use Rattle.std.specs.Prelude.{◌≡◌, ◌++◌, IfOk, codes, length, map, option_map};
 ghost use Rattle.elaboration.specs.Numbered.{AreDistinct, inner_start, ref_at, top_start};
 ghost use Rattle.vtext.specs.Names.{name_at};
 
@@ -52,7 +52,8 @@ impl<'a> Start<'a> {
         entry: &'a Module,
     ) -> Result<Start<'a>, AllocError>
         requires { AreDistinct entry.now.nets }
-        ensures { IfOk result (λ start. start ≡ inner_start names.now scope.now instance.now entry.now) }
+        ensures start { IfOk result (λ start. start ≡ inner_start names.now scope.now instance.now entry.now) }
+        ensures given { IfOk result (λ start. length start.given ≡ length start.entry.nets) }
     {
         let joints = joints(alloc, entry, instance.connections())?;
         let given = nodes(alloc, scope, joints.as_slice())?;
