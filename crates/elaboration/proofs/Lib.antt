@@ -1,5 +1,6 @@
 pub mod CountLemmas
 pub mod ElaborationLemmas
+pub mod FlatLemmas
 pub mod JointLemmas
 pub mod KeptLemmas
 pub mod LineLemmas

@@ -3,4 +3,5 @@ pub mod Levels
 pub mod Numbered
 pub mod Ports
 pub mod Scopes
+pub mod SoundScopes
 pub mod Tops

@@ -1,0 +1,222 @@
+-- The names of a design differ, since what stands between their dots does.
+use Rattle.std.proofs.Common.{◌≡◌, ◌≢◌, ℕ, zero, suc, ◌+◌, IsTrue, Bool, true, false, List, [], ◌∷◌, ◌++◌, length, map, nat_eq, Option, Some, None, All, AllPairs, refl, sym, ap, subst, ◌∙◌, append_assoc, get_or}
+use Rattle.std.specs.Prelude.{codes, flat_map, filter}
+use Rattle.std.specs.Map.{lookup}
+use Rattle.std.specs.Option.{option_map_or}
+use Rattle.std.proofs.lemmas.List.{append_cancel_left, map-append}
+use Rattle.std.proofs.lemmas.List.Elements.{All-append, All-cons, All-filter, All-head, All-map, All-nil, All-tail, All-weaker}
+use Rattle.std.proofs.lemmas.List.Kept.{AllPairs-cons, AllPairs-filter}
+use Rattle.design.specs.Names.{is_part, parts}
+use Rattle.design.specs.Netlist as netlist
+use Rattle.vtext.specs.declared.net.Net as nets
+use Rattle.vtext.specs.GateNames.{gate_bytes}
+use Rattle.vtext.specs.Modules.{GateEntry, InstanceEntry, ModuleEntry}
+use Rattle.vtext.specs.Names.{name_at, number_of}
+use Rattle.vtext.specs.Sound.{IsGoodNumber, IsSoundGate, IsSoundInstance, IsSoundModule}
+use Rattle.elaboration.specs.declared.limits.TheConstants.{MAX_DEPTH}
+use Rattle.elaboration.specs.Scopes.{Scope, gates_of, inner, is_own, nets_of, own_gate, own_gates, own_net, own_nets, scopes_below, scopes_of, top_scope}
+use Rattle.elaboration.specs.SoundScopes.{IsPath, IsSoundScope}
+use Rattle.elaboration.proofs.PairLemmas.{found_holds, pairs_head, pairs_tail}
+
+-- Pairs of two lists.
+
+module _ {X : Type 0} (R : X → X → Type 0) where
+  no_pairs : AllPairs R []
+  no_pairs = λ i j d before within. absurd (within)
+
+  pairs_append : (xs ys : List X) → AllPairs R xs → AllPairs R ys → All (λ x. All (R x) ys) xs → AllPairs R (xs ++ ys)
+  pairs_append [] ys first second across = second
+  pairs_append (x ∷ xs) ys first second across =
+      AllPairs-cons R x (xs ++ ys)
+        (All-append (R x) xs ys (pairs_head R x xs first) (All-head (λ (a : X). All (R a) ys) x xs across))
+        (pairs_append xs ys (pairs_tail R x xs first) second (All-tail (λ (a : X). All (R a) ys) x xs across))
+
+-- each of some items differs from each of others, where they have what does
+all_across : {X : Type 0} (P Q : X → Type 0) (R : X → X → Type 0) → ((x y : X) → P x → Q y → R x y) → (xs ys : List X) → All P xs → All Q ys → All (λ x. All (R x) ys) xs
+all_across {X} P Q R apart xs ys first second = All-weaker P (λ (x : X). All (R x) ys) (λ x p. All-weaker Q (R x) (λ y q. apart x y p q) ys second) xs first
+
+pairs_map : {X Y : Type 0} (f : X → Y) (P : X → Type 0) (R : X → X → Type 0) (S : Y → Y → Type 0) → ((x y : X) → P x → P y → R x y → S (f x) (f y)) → (xs : List X) → All P xs → AllPairs R xs → AllPairs S (map f xs)
+pairs_map f P R S keeps [] all pairs = no_pairs S
+pairs_map {X} {Y} f P R S keeps (x ∷ xs) all pairs =
+    AllPairs-cons S (f x) (map f xs)
+      (All-map (S (f x)) f xs (λ k d within. keeps x (get_or xs k d) (All-head P x xs all) (All-tail P x xs all k d within) (pairs_head R x xs pairs k d within)))
+      (pairs_map f P R S keeps xs (All-tail P x xs all) (pairs_tail R x xs pairs))
+
+pairs_of_map : {X Y : Type 0} (f : X → Y) (xs : List X) → AllPairs (λ a b. a ≢ b) (map f xs) → AllPairs (λ a b. f a ≢ f b) xs
+pairs_of_map f [] pairs = no_pairs (λ a b. f a ≢ f b)
+pairs_of_map {X} {Y} f (x ∷ xs) pairs =
+    AllPairs-cons (λ a b. f a ≢ f b) x xs (unmap (λ y. f x ≢ y) xs (pairs_head (λ (a b : Y). a ≢ b) (f x) (map f xs) pairs))
+    (pairs_of_map f xs (pairs_tail (λ (a b : Y). a ≢ b) (f x) (map f xs) pairs))
+  where
+    unmap : (P : Y → Type 0) (zs : List X) → All P (map f zs) → All (λ z. P (f z)) zs
+    unmap P [] all = All-nil (λ z. P (f z))
+    unmap P (z ∷ zs) all = All-cons (λ z. P (f z)) z zs (All-head P (f z) (map f zs) all) (unmap P zs (All-tail P (f z) (map f zs) all))
+
+flat_append : {A B : Type 0} (f : A → List B) (xs ys : List A) → flat_map f (xs ++ ys) ≡ flat_map f xs ++ flat_map f ys
+flat_append f [] ys = refl
+flat_append f (x ∷ xs) ys = ap (λ bs. f x ++ bs) (flat_append f xs ys) ∙ sym (append_assoc (f x) (flat_map f xs) (flat_map f ys))
+
+-- `joined` and `whole` are laws of parts.
+module _ (joined : (a b : List ℕ) → parts (a ++ 46 ∷ b) ≡ parts a ++ parts b) (whole : (part : List ℕ) → IsTrue (is_part part) → parts part ≡ part ∷ []) where
+  module _ (names : List (List ℕ)) (modules : List (ℕ × ModuleEntry)) (all_sound : All (IsSoundModule names) modules) where
+    abbrev Sound : Scope → List (List ℕ) → Type 0
+    Sound scope qs = (name : ℕ) × IsSoundModule names (name, scope.entry) × IsPath scope.path qs
+
+    path_on : (path name : List ℕ) (qs : List (List ℕ)) → IsPath path qs → IsTrue (is_part name) → IsPath (path ++ name ++ codes ".") (qs ++ name ∷ [])
+    path_on path name qs is part = record {
+      parts_after = λ after.
+        ap parts (append_assoc (path ++ name) (46 ∷ []) after ∙ append_assoc path name (46 ∷ after))
+        ∙ is.parts_after (name ++ 46 ∷ after)
+        ∙ ap (λ ps. qs ++ ps) (joined name after ∙ ap (λ ps. ps ++ parts after) (whole name part))
+        ∙ sym (append_assoc qs (name ∷ []) (parts after));
+      good = All-append (λ p. IsTrue (is_part p)) qs (name ∷ []) is.good (All-cons (λ p. IsTrue (is_part p)) name [] part (All-nil (λ p. IsTrue (is_part p))));
+    }
+
+    inner_sound : (scope : Scope) (qs : List (List ℕ)) (i : InstanceEntry) (m : ModuleEntry) → Sound scope qs → IsGoodNumber names i.name → Some m ≡ lookup (nat_eq i.«module») modules
+        → Sound (inner names modules scope i m) (qs ++ name_at names i.name ∷ [])
+    inner_sound scope qs i m sound good found =
+        let entry : (k : ℕ) × IsSoundModule names (k, m) =
+        found_holds (λ (o : ModuleEntry). (k : ℕ) × IsSoundModule names (k, o)) (nat_eq i.«module») modules m (λ k d within. ((get_or modules k d).0, all_sound k d within)) found in
+        (entry.0, entry.1, path_on scope.path (name_at names i.name) qs sound.2 good.part)
+
+    -- Names in scopes: `own` are those of a scope, without its path.
+    module _ (own : Scope → List (List ℕ)) (own_parts : (scope : Scope) (name : ℕ) → IsSoundModule names (name, scope.entry) → All (λ n. IsTrue (is_part n)) (own scope))
+        (own_differ : (scope : Scope) (name : ℕ) → IsSoundModule names (name, scope.entry) → AllPairs (λ a b. a ≢ b) (own scope)) where
+      abbrev full : Scope → List (List ℕ)
+      full scope = map (λ n. scope.path ++ n) (own scope)
+
+      abbrev all_names : List Scope → List (List ℕ)
+      all_names scopes = flat_map full scopes
+
+      abbrev below_instance : ℕ → Scope → InstanceEntry → List Scope
+      below_instance levels scope i = option_map_or (λ m. scopes_below names modules levels (inner names modules scope i m)) (lookup (nat_eq i.«module») modules) []
+
+      -- the parts of a name: these, and one more at least
+      abbrev Begins : List (List ℕ) → List ℕ → Type 0
+      Begins qs name = (first : List ℕ) × (rest : List (List ℕ)) × (parts name ≡ qs ++ first ∷ rest)
+
+      -- these, one of which this holds, and one more at least
+      abbrev Below : List (List ℕ) → (List ℕ → Type 0) → List ℕ → Type 0
+      Below qs Q name = (key : List ℕ) × (first : List ℕ) × (rest : List (List ℕ)) × (parts name ≡ qs ++ key ∷ first ∷ rest) × Q key
+
+      -- these, and this one
+      abbrev Ends : List (List ℕ) → List ℕ → Type 0
+      Ends qs name = (last : List ℕ) × (parts name ≡ qs ++ last ∷ [])
+
+      own_ends : (scope : Scope) (qs : List (List ℕ)) → Sound scope qs → All (Ends qs) (full scope)
+      own_ends scope qs sound =
+          All-map (Ends qs) (λ n. scope.path ++ n) (own scope)
+          (All-weaker (λ n. IsTrue (is_part n)) (λ n. Ends qs (scope.path ++ n)) (λ n part. (n, sound.2.parts_after n ∙ ap (λ ps. qs ++ ps) (whole n part))) (own scope) (own_parts scope sound.0 sound.1))
+
+      own_apart : (scope : Scope) (qs : List (List ℕ)) → Sound scope qs → AllPairs (λ a b. a ≢ b) (full scope)
+      own_apart scope qs sound =
+          pairs_map (λ n. scope.path ++ n) (λ n. Unit {0}) (λ a b. a ≢ b) (λ a b. a ≢ b) (λ a b p q apart same. apart (append_cancel_left scope.path a b same)) (own scope) (λ k d within. tt) (own_differ scope sound.0 sound.1)
+
+      ends_begins : (qs : List (List ℕ)) (name : List ℕ) → Ends qs name → Begins qs name
+      ends_begins qs name ends = (ends.0, [], ends.1)
+
+      below_begins : (qs : List (List ℕ)) (Q : List ℕ → Type 0) (name : List ℕ) → Below qs Q name → Begins qs name
+      below_begins qs Q name below = (below.0, below.1 ∷ below.2, below.3)
+
+      begins_below : (qs : List (List ℕ)) (key : List ℕ) (Q : List ℕ → Type 0) → Q key → (name : List ℕ) → Begins (qs ++ key ∷ []) name → Below qs Q name
+      begins_below qs key Q holds name begins = (key, begins.0, begins.1, begins.2 ∙ append_assoc qs (key ∷ []) (begins.0 ∷ begins.1), holds)
+
+      ends_not_below : (qs : List (List ℕ)) (Q : List ℕ → Type 0) (a b : List ℕ) → Ends qs a → Below qs Q b → a ≢ b
+      ends_not_below qs Q a b ends below same =
+          let e : ends.0 ∷ [] ≡ below.0 ∷ below.1 ∷ below.2 = append_cancel_left qs (ends.0 ∷ []) (below.0 ∷ below.1 ∷ below.2) (sym ends.1 ∙ ap parts same ∙ below.3) in
+          absurd (cc)
+
+      keys_apart : (qs : List (List ℕ)) (key : List ℕ) (a b : List ℕ) → Begins (qs ++ key ∷ []) a → Below qs (λ other. key ≢ other) b → a ≢ b
+      keys_apart qs key a b begins below same =
+          let e : key ∷ begins.0 ∷ begins.1 ≡ below.0 ∷ below.1 ∷ below.2 =
+          append_cancel_left qs (key ∷ begins.0 ∷ begins.1) (below.0 ∷ below.1 ∷ below.2)
+          (sym (append_assoc qs (key ∷ []) (begins.0 ∷ begins.1)) ∙ sym begins.2 ∙ ap parts same ∙ below.3) in
+          let same_key : key ≡ below.0 = cc in
+          below.4 same_key
+
+      abbrev BeginsOk : ℕ → Type 0
+      BeginsOk levels = (scope : Scope) (qs : List (List ℕ)) → Sound scope qs → All (Begins qs) (all_names (scopes_below names modules levels scope))
+
+      abbrev ApartOk : ℕ → Type 0
+      ApartOk levels = (scope : Scope) (qs : List (List ℕ)) → Sound scope qs → AllPairs (λ a b. a ≢ b) (all_names (scopes_below names modules levels scope))
+
+      -- the names below an instance have its name
+      instance_begins : (levels : ℕ) → BeginsOk levels → (scope : Scope) (qs : List (List ℕ)) (i : InstanceEntry) → Sound scope qs → IsGoodNumber names i.name → (found : Option ModuleEntry) → found ≡ lookup (nat_eq i.«module») modules
+          → All (Begins (qs ++ name_at names i.name ∷ [])) (all_names (option_map_or (λ m. scopes_below names modules levels (inner names modules scope i m)) found []))
+      instance_begins levels others scope qs i sound good None e = All-nil (Begins (qs ++ name_at names i.name ∷ []))
+      instance_begins levels others scope qs i sound good (Some m) e = others (inner names modules scope i m) (qs ++ name_at names i.name ∷ []) (inner_sound scope qs i m sound good e)
+
+      instance_apart : (levels : ℕ) → ApartOk levels → (scope : Scope) (qs : List (List ℕ)) (i : InstanceEntry) → Sound scope qs → IsGoodNumber names i.name → (found : Option ModuleEntry) → found ≡ lookup (nat_eq i.«module») modules
+          → AllPairs (λ a b. a ≢ b) (all_names (option_map_or (λ m. scopes_below names modules levels (inner names modules scope i m)) found []))
+      instance_apart levels others scope qs i sound good None e = no_pairs (λ a b. a ≢ b)
+      instance_apart levels others scope qs i sound good (Some m) e = others (inner names modules scope i m) (qs ++ name_at names i.name ∷ []) (inner_sound scope qs i m sound good e)
+
+      -- those below all instances whose names have something
+      instances_below : (levels : ℕ) → BeginsOk levels → (scope : Scope) (qs : List (List ℕ)) (Q : List ℕ → Type 0) (instances : List InstanceEntry) → Sound scope qs → All (λ i. IsGoodNumber names i.name) instances
+          → All (λ i. Q (name_at names i.name)) instances → All (Below qs Q) (all_names (flat_map (below_instance levels scope) instances))
+      instances_below levels others scope qs Q [] sound good holds = All-nil (Below qs Q)
+      instances_below levels others scope qs Q (i ∷ instances) sound good holds =
+          let mine = below_instance levels scope i in
+          let more = flat_map (below_instance levels scope) instances in
+          subst (λ (ns : List (List ℕ)). All (Below qs Q) ns) (sym (flat_append full mine more))
+          (All-append (Below qs Q) (all_names mine) (all_names more)
+            (All-weaker (Begins (qs ++ name_at names i.name ∷ [])) (Below qs Q) (begins_below qs (name_at names i.name) Q (All-head (λ (j : InstanceEntry). Q (name_at names j.name)) i instances holds)) (all_names mine)
+              (instance_begins levels others scope qs i sound (All-head (λ (j : InstanceEntry). IsGoodNumber names j.name) i instances good) (lookup (nat_eq i.«module») modules) refl))
+            (instances_below levels others scope qs Q instances sound (All-tail (λ (j : InstanceEntry). IsGoodNumber names j.name) i instances good) (All-tail (λ (j : InstanceEntry). Q (name_at names j.name)) i instances holds)))
+
+      -- names of numbers that differ
+      names_apart : (i j : InstanceEntry) → IsGoodNumber names i.name → IsGoodNumber names j.name → i.name ≢ j.name → name_at names i.name ≢ name_at names j.name
+      names_apart i j good other apart same =
+          let e : Some i.name ≡ Some j.name = sym good.known ∙ ap (number_of names) same ∙ other.known in
+          let equal : i.name ≡ j.name = cc in
+          apart equal
+
+      instances_apart : (levels : ℕ) → BeginsOk levels → ApartOk levels → (scope : Scope) (qs : List (List ℕ)) (instances : List InstanceEntry) → Sound scope qs → All (λ i. IsGoodNumber names i.name) instances
+          → AllPairs (λ i j. i.name ≢ j.name) instances → AllPairs (λ a b. a ≢ b) (all_names (flat_map (below_instance levels scope) instances))
+      instances_apart levels begins others scope qs [] sound good apart = no_pairs (λ a b. a ≢ b)
+      instances_apart levels begins others scope qs (i ∷ instances) sound good apart =
+          let mine = below_instance levels scope i in
+          let more = flat_map (below_instance levels scope) instances in
+          let key = name_at names i.name in
+          let good_i = All-head (λ (j : InstanceEntry). IsGoodNumber names j.name) i instances good in
+          let good_rest = All-tail (λ (j : InstanceEntry). IsGoodNumber names j.name) i instances good in
+          let keys : All (λ (j : InstanceEntry). key ≢ name_at names j.name) instances =
+          λ k d within. names_apart i (get_or instances k d) good_i (good_rest k d within) (pairs_head (λ (a b : InstanceEntry). a.name ≢ b.name) i instances apart k d within) in
+          subst (λ (ns : List (List ℕ)). AllPairs (λ a b. a ≢ b) ns) (sym (flat_append full mine more))
+          (pairs_append (λ a b. a ≢ b) (all_names mine) (all_names more)
+            (instance_apart levels others scope qs i sound good_i (lookup (nat_eq i.«module») modules) refl)
+            (instances_apart levels begins others scope qs instances sound good_rest (pairs_tail (λ (a b : InstanceEntry). a.name ≢ b.name) i instances apart))
+            (all_across (Begins (qs ++ key ∷ [])) (Below qs (λ other. key ≢ other)) (λ a b. a ≢ b) (keys_apart qs key) (all_names mine) (all_names more)
+              (instance_begins levels begins scope qs i sound good_i (lookup (nat_eq i.«module») modules) refl)
+              (instances_below levels begins scope qs (λ other. key ≢ other) instances sound good_rest keys)))
+
+      good_instances : (scope : Scope) (name : ℕ) → IsSoundModule names (name, scope.entry) → All (λ i. IsGoodNumber names i.name) scope.entry.instances
+      good_instances scope name sound = λ k d within. (sound.instances k d within).name
+
+      begins_ok : (levels : ℕ) → BeginsOk levels
+      begins_ok zero scope qs sound =
+          All-append (Begins qs) (full scope) [] (All-weaker (Ends qs) (Begins qs) (ends_begins qs) (full scope) (own_ends scope qs sound)) (All-nil (Begins qs))
+      begins_ok (suc levels) scope qs sound =
+          All-append (Begins qs) (full scope) (all_names (flat_map (below_instance levels scope) scope.entry.instances))
+            (All-weaker (Ends qs) (Begins qs) (ends_begins qs) (full scope) (own_ends scope qs sound))
+            (All-weaker (Below qs (λ key. Unit {0})) (Begins qs) (below_begins qs (λ key. Unit {0})) (all_names (flat_map (below_instance levels scope) scope.entry.instances))
+              (instances_below levels (begins_ok levels) scope qs (λ key. Unit {0}) scope.entry.instances sound (good_instances scope sound.0 sound.1) (λ k d within. tt)))
+
+      apart_ok : (levels : ℕ) → ApartOk levels
+      apart_ok zero scope qs sound =
+          pairs_append (λ a b. a ≢ b) (full scope) [] (own_apart scope qs sound) (no_pairs (λ a b. a ≢ b)) (λ k d within. All-nil (λ b. get_or (full scope) k d ≢ b))
+      apart_ok (suc levels) scope qs sound =
+          let more = flat_map (below_instance levels scope) scope.entry.instances in
+          pairs_append (λ a b. a ≢ b) (full scope) (all_names more) (own_apart scope qs sound)
+            (instances_apart levels (begins_ok levels) (apart_ok levels) scope qs scope.entry.instances sound (good_instances scope sound.0 sound.1) sound.1.distinct_instances)
+            (all_across (Ends qs) (Below qs (λ key. Unit {0})) (λ a b. a ≢ b) (ends_not_below qs (λ key. Unit {0})) (full scope) (all_names more) (own_ends scope qs sound)
+              (instances_below levels (begins_ok levels) scope qs (λ key. Unit {0}) scope.entry.instances sound (good_instances scope sound.0 sound.1) (λ k d within. tt)))
+
+    top_sound : (top : ℕ × ModuleEntry) → IsSoundModule names top → Sound (top_scope names modules top.1) []
+    top_sound top sound = (top.0, sound, record { parts_after = λ name. refl; good = All-nil (λ part. IsTrue (is_part part)) })
+
+    -- The nets of a design.
+
+    net_names : Scope → List (List ℕ)
+    unfolding net_names
+    net_names scope = map (λ net. name_at names net.0) (filter (is_own names modules scope) scope.entry.nets)
