@@ -1,5 +1,5 @@
 -- The names of a design differ, since what stands between their dots does.
-use Rattle.std.proofs.Common.{◌≡◌, ◌≢◌, ℕ, zero, suc, ◌+◌, IsTrue, Bool, true, false, List, [], ◌∷◌, ◌++◌, length, map, nat_eq, Option, Some, None, All, AllPairs, refl, sym, ap, subst, ◌∙◌, append_assoc, get_or}
+use Rattle.std.proofs.Common.{◌≡◌, ◌≢◌, ℕ, zero, suc, ◌<◌, ◌+◌, arith, IsTrue, Bool, true, false, List, [], ◌∷◌, ◌++◌, length, map, nat_eq, Option, Some, None, All, AllPairs, refl, sym, ap, subst, ◌∙◌, append_assoc, get_or}
 use Rattle.std.specs.Prelude.{codes, flat_map, filter}
 use Rattle.std.specs.Map.{lookup}
 use Rattle.std.specs.Option.{option_map_or}
@@ -22,7 +22,7 @@ use Rattle.elaboration.proofs.PairLemmas.{found_holds, pairs_head, pairs_tail}
 
 module _ {X : Type 0} (R : X → X → Type 0) where
   no_pairs : AllPairs R []
-  no_pairs = λ i j d before within. absurd (within)
+  no_pairs = λ i j d before within. absurd (omega arith)
 
   pairs_append : (xs ys : List X) → AllPairs R xs → AllPairs R ys → All (λ x. All (R x) ys) xs → AllPairs R (xs ++ ys)
   pairs_append [] ys first second across = second
@@ -215,8 +215,107 @@ module _ (joined : (a b : List ℕ) → parts (a ++ 46 ∷ b) ≡ parts a ++ par
     top_sound : (top : ℕ × ModuleEntry) → IsSoundModule names top → Sound (top_scope names modules top.1) []
     top_sound top sound = (top.0, sound, record { parts_after = λ name. refl; good = All-nil (λ part. IsTrue (is_part part)) })
 
+    -- All scopes are sound.
+
+    abbrev each_below : ℕ → Scope → InstanceEntry → List Scope
+    each_below levels scope i = option_map_or (λ m. scopes_below names modules levels (inner names modules scope i m)) (lookup (nat_eq i.«module») modules) []
+
+    abbrev SoundOk : ℕ → Type 0
+    SoundOk levels = (scope : Scope) (qs : List (List ℕ)) → Sound scope qs → All (IsSoundScope names) (scopes_below names modules levels scope)
+
+    sound_instance : (levels : ℕ) → SoundOk levels → (scope : Scope) (qs : List (List ℕ)) (i : InstanceEntry) → Sound scope qs → IsGoodNumber names i.name → (found : Option ModuleEntry) → found ≡ lookup (nat_eq i.«module») modules
+        → All (IsSoundScope names) (option_map_or (λ m. scopes_below names modules levels (inner names modules scope i m)) found [])
+    sound_instance levels others scope qs i sound good None e = All-nil (IsSoundScope names)
+    sound_instance levels others scope qs i sound good (Some m) e = others (inner names modules scope i m) (qs ++ name_at names i.name ∷ []) (inner_sound scope qs i m sound good e)
+
+    sound_instances : (levels : ℕ) → SoundOk levels → (scope : Scope) (qs : List (List ℕ)) (instances : List InstanceEntry) → Sound scope qs → All (λ i. IsGoodNumber names i.name) instances
+        → All (IsSoundScope names) (flat_map (each_below levels scope) instances)
+    sound_instances levels others scope qs [] sound good = All-nil (IsSoundScope names)
+    sound_instances levels others scope qs (i ∷ instances) sound good =
+        All-append (IsSoundScope names) (each_below levels scope i) (flat_map (each_below levels scope) instances)
+          (sound_instance levels others scope qs i sound (All-head (λ (j : InstanceEntry). IsGoodNumber names j.name) i instances good) (lookup (nat_eq i.«module») modules) refl)
+          (sound_instances levels others scope qs instances sound (All-tail (λ (j : InstanceEntry). IsGoodNumber names j.name) i instances good))
+
+    sound_here : (scope : Scope) (qs : List (List ℕ)) → Sound scope qs → IsSoundScope names scope
+    sound_here scope qs sound = record { name = sound.0; sound = sound.1; instances = qs; path = sound.2 }
+
+    sound_ok : (levels : ℕ) → SoundOk levels
+    sound_ok zero scope qs sound = All-cons (IsSoundScope names) scope [] (sound_here scope qs sound) (All-nil (IsSoundScope names))
+    sound_ok (suc levels) scope qs sound =
+        All-cons (IsSoundScope names) scope (flat_map (each_below levels scope) scope.entry.instances) (sound_here scope qs sound)
+        (sound_instances levels (sound_ok levels) scope qs scope.entry.instances sound (λ k d within. (sound.1.instances k d within).name))
+
+    pub scopes_sound : (top : ℕ × ModuleEntry) → IsSoundModule names top → All (IsSoundScope names) (scopes_of names modules top.1)
+    unfolding scopes_of
+    scopes_sound top sound = sound_ok MAX_DEPTH (top_scope names modules top.1) [] (top_sound top sound)
+
     -- The nets of a design.
 
-    net_names : Scope → List (List ℕ)
-    unfolding net_names
-    net_names scope = map (λ net. name_at names net.0) (filter (is_own names modules scope) scope.entry.nets)
+    abbrev mine : Scope → List (ℕ × nets.Net)
+    mine scope = filter (is_own names modules scope) scope.entry.nets
+
+    abbrev net_names : Scope → List (List ℕ)
+    net_names scope = map (λ net. name_at names net.0) (mine scope)
+
+    net_parts : (scope : Scope) (name : ℕ) → IsSoundModule names (name, scope.entry) → All (λ n. IsTrue (is_part n)) (net_names scope)
+    net_parts scope name sound =
+        All-map (λ n. IsTrue (is_part n)) (λ (net : ℕ × nets.Net). name_at names net.0) (mine scope)
+        (All-filter (is_own names modules scope) (λ net. IsTrue (is_part (name_at names net.0))) scope.entry.nets (λ k d within. (sound.nets k d within).part))
+
+    net_names_differ : (scope : Scope) (name : ℕ) → IsSoundModule names (name, scope.entry) → AllPairs (λ a b. a ≢ b) (net_names scope)
+    net_names_differ scope name sound =
+        pairs_map (λ (net : ℕ × nets.Net). name_at names net.0) (λ net. IsGoodNumber names net.0) (λ a b. a.0 ≢ b.0) (λ a b. a ≢ b)
+        (λ a b good other apart same.
+          let e : Some a.0 ≡ Some b.0 = sym good.known ∙ ap (number_of names) same ∙ other.known in
+          let equal : a.0 ≡ b.0 = cc in
+          apart equal)
+        (mine scope) (All-filter (is_own names modules scope) (λ net. IsGoodNumber names net.0) scope.entry.nets sound.nets)
+        (AllPairs-filter (λ a b. a.0 ≢ b.0) (is_own names modules scope) scope.entry.nets sound.distinct_nets)
+
+    own_net_names : (scope : Scope) (listed : List (ℕ × nets.Net)) → map (λ net. net.name) (map (own_net names modules scope) listed) ≡ map (λ n. scope.path ++ n) (map (λ net. name_at names net.0) listed)
+    own_net_names scope [] = refl
+    own_net_names scope (net ∷ more) = ap (λ (ns : List (List ℕ)). (scope.path ++ name_at names net.0) ∷ ns) (own_net_names scope more)
+
+    all_net_names : (scopes : List Scope) → map (λ net. net.name) (flat_map (own_nets names modules) scopes) ≡ flat_map (λ scope. map (λ n. scope.path ++ n) (net_names scope)) scopes
+    all_net_names [] = refl
+    all_net_names (scope ∷ scopes) =
+        map-append (λ (net : netlist.NetEntry). net.name) (own_nets names modules scope) (flat_map (own_nets names modules) scopes)
+        ∙ ap (λ (ns : List (List ℕ)). ns ++ map (λ (net : netlist.NetEntry). net.name) (flat_map (own_nets names modules) scopes)) (own_net_names scope (mine scope))
+        ∙ ap (λ (ns : List (List ℕ)). map (λ n. scope.path ++ n) (net_names scope) ++ ns) (all_net_names scopes)
+
+    pub nets_differ : (top : ℕ × ModuleEntry) → IsSoundModule names top → AllPairs (λ a b. a.name ≢ b.name) (nets_of names modules top.1)
+    unfolding scopes_of
+    nets_differ top sound =
+        pairs_of_map (λ (net : netlist.NetEntry). net.name) (nets_of names modules top.1)
+        (subst (λ (ns : List (List ℕ)). AllPairs (λ a b. a ≢ b) ns) (sym (all_net_names (scopes_below names modules MAX_DEPTH (top_scope names modules top.1))))
+          (apart_ok net_names net_parts net_names_differ MAX_DEPTH (top_scope names modules top.1) [] (top_sound top sound)))
+
+    -- The gates of a design.
+
+    abbrev gate_names : Scope → List (List ℕ)
+    gate_names scope = map (gate_bytes names) scope.entry.gates
+
+    gate_parts : (scope : Scope) (name : ℕ) → IsSoundModule names (name, scope.entry) → All (λ n. IsTrue (is_part n)) (gate_names scope)
+    gate_parts scope name sound = All-map (λ n. IsTrue (is_part n)) (gate_bytes names) scope.entry.gates (λ k d within. (sound.gates k d within).spelled)
+
+    gate_names_differ : (scope : Scope) (name : ℕ) → IsSoundModule names (name, scope.entry) → AllPairs (λ a b. a ≢ b) (gate_names scope)
+    gate_names_differ scope name sound =
+        pairs_map (gate_bytes names) (λ gate. Unit {0}) (λ a b. gate_bytes names a ≢ gate_bytes names b) (λ a b. a ≢ b) (λ a b p q apart. apart) scope.entry.gates (λ k d within. tt) sound.distinct_gates
+
+    own_gate_names : (scope : Scope) (gates : List GateEntry) → map (λ gate. gate.name) (map (own_gate names modules scope) gates) ≡ map (λ n. scope.path ++ n) (map (gate_bytes names) gates)
+    own_gate_names scope [] = refl
+    own_gate_names scope (gate ∷ more) = ap (λ (ns : List (List ℕ)). (scope.path ++ gate_bytes names gate) ∷ ns) (own_gate_names scope more)
+
+    all_gate_names : (scopes : List Scope) → map (λ gate. gate.name) (flat_map (own_gates names modules) scopes) ≡ flat_map (λ scope. map (λ n. scope.path ++ n) (gate_names scope)) scopes
+    all_gate_names [] = refl
+    all_gate_names (scope ∷ scopes) =
+        map-append (λ (gate : netlist.GateEntry). gate.name) (own_gates names modules scope) (flat_map (own_gates names modules) scopes)
+        ∙ ap (λ (ns : List (List ℕ)). ns ++ map (λ (gate : netlist.GateEntry). gate.name) (flat_map (own_gates names modules) scopes)) (own_gate_names scope scope.entry.gates)
+        ∙ ap (λ (ns : List (List ℕ)). map (λ n. scope.path ++ n) (gate_names scope) ++ ns) (all_gate_names scopes)
+
+    pub gates_differ : (top : ℕ × ModuleEntry) → IsSoundModule names top → AllPairs (λ a b. a.name ≢ b.name) (gates_of names modules top.1)
+    unfolding scopes_of
+    gates_differ top sound =
+        pairs_of_map (λ (gate : netlist.GateEntry). gate.name) (gates_of names modules top.1)
+        (subst (λ (ns : List (List ℕ)). AllPairs (λ a b. a ≢ b) ns) (sym (all_gate_names (scopes_below names modules MAX_DEPTH (top_scope names modules top.1))))
+          (apart_ok gate_names gate_parts gate_names_differ MAX_DEPTH (top_scope names modules top.1) [] (top_sound top sound)))

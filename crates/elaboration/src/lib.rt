@@ -4,6 +4,7 @@
 mod counts;
 mod elaboration;
 mod joints;
+pub mod laws;
 mod levels;
 mod limits;
 mod lines;

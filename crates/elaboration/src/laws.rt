@@ -1,0 +1,47 @@
+//! Laws of elaboration: each contract is the law, and no function gives anything.
+
+ghost use Rattle.std.specs.Prelude.{◌≡◌, ◌≢◌, ℕ, List, All, AllPairs, IsSome, None};
+ghost use Rattle.design.specs.Netlist.{NetEntry};
+ghost use Rattle.vtext.specs.Modules.{ModuleEntry};
+ghost use Rattle.vtext.specs.Sound.{IsSoundModule};
+ghost use Rattle.vtext.specs.declared.gate.Terminal as terminals;
+ghost use Rattle.elaboration.specs.Elaborations.{IsNode, IsScope, elaboration_fault};
+ghost use Rattle.elaboration.specs.Numbered.{PlacedScope, ref_at};
+ghost use Rattle.elaboration.specs.Scopes.{Scope, gates_of, nets_of, node_at, scopes_of};
+ghost use Rattle.elaboration.specs.Tops.{top_of};
+ghost use Rattle.elaboration.specs.SoundScopes.{IsSoundScope};
+
+use design::laws::{parts_are_names, parts_of_joined};
+
+/// What a terminal is in a scope as it is kept is what it is in the design's.
+#[tactic(auto, using(crate::proofs::KeptLemmas::ref_ok))]
+pub fn terminals_are_nodes()
+    ensures { (names : List (List ℕ)) (modules : List (ℕ × ModuleEntry)) (flat : List NetEntry) (kept : PlacedScope) (scope : Scope) → IsScope names modules flat kept scope →
+        (terminal : terminals.Terminal) → IsNode flat (ref_at kept terminal) (node_at names modules scope terminal) }
+{}
+
+/// The nets of a design have different names, and so have its gates.
+pub fn flat_names()
+    ensures nets { (names : List (List ℕ)) (modules : List (ℕ × ModuleEntry)) (top : ℕ × ModuleEntry) → All (IsSoundModule names) modules → IsSoundModule names top →
+        AllPairs (λ a b. a.name ≢ b.name) (nets_of names modules top.1) }
+    ensures gates { (names : List (List ℕ)) (modules : List (ℕ × ModuleEntry)) (top : ℕ × ModuleEntry) → All (IsSoundModule names) modules → IsSoundModule names top →
+        AllPairs (λ a b. a.name ≢ b.name) (gates_of names modules top.1) }
+{
+    parts_of_joined();
+    parts_are_names();
+}
+
+/// The scopes of sound modules are sound.
+pub fn scopes_are_sound()
+    ensures { (names : List (List ℕ)) (modules : List (ℕ × ModuleEntry)) (top : ℕ × ModuleEntry) → All (IsSoundModule names) modules → IsSoundModule names top →
+        All (IsSoundScope names) (scopes_of names modules top.1) }
+{
+    parts_of_joined();
+    parts_are_names();
+}
+
+/// Modules that have no fault have a top.
+#[tactic(auto, using(crate::proofs::TopLemmas::top_there))]
+pub fn faultless_has_top()
+    ensures { (text : List ℕ) (modules : List (ℕ × ModuleEntry)) → elaboration_fault text modules ≡ None → IsSome (top_of modules) }
+{}
