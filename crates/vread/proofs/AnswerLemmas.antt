@@ -1,15 +1,16 @@
 -- A text has one answer: its design or its fault.
-use Rattle.std.proofs.Common.{◌≡◌, ◌⊎◌, inl, inr, ℕ, List, Option, Some, None, refl, sym, ap, ◌∙◌}
+use Rattle.std.proofs.Common.{◌≡◌, ◌⊎◌, inl, inr, ℕ, List, Option, Some, None, IsSome, refl, sym, ap, ◌∙◌}
 use Rattle.std.specs.Prelude.{option_map}
-use Rattle.std.specs.Option.{option_map_or}
+use Rattle.std.specs.Option.{option_map_or, option_or}
 use Rattle.design.specs.Netlist.{Netlist}
 use Rattle.vtext.specs.declared.fault.ReadFault.{ReadFault}
 use Rattle.vtext.specs.Modules.{ModuleEntry, ModuleList}
 use Rattle.vtext.specs.Reads.{IsFirstFault, Says}
-use Rattle.vread.specs.LateFaults.{late_fault, no_top}
+use Rattle.elaboration.specs.Elaborations.{elaboration_fault}
+use Rattle.elaboration.specs.Tops.{top_of}
+use Rattle.vread.specs.LateFaults.{design_fault, late_fault}
 use Rattle.vread.specs.Netlists.{design_of, netlist_of}
 use Rattle.vread.specs.Reads.{IsLateFault, IsReadFault, Spells}
-use Rattle.vread.specs.Tops.{top_of}
 
 some_is : {X : Type 0} (x y : X) → Some x ≡ Some y → x ≡ y
 some_is x y e = cc
@@ -43,19 +44,25 @@ module _ (default : Option ℕ) (text : List ℕ) where
   never_both one apart a f s (inl t) = apart s.list f s.says t
   never_both one apart a f s (inr t) = none_is f (sym s.faultless ∙ ap (late_fault text) (one s.list t.list s.says t.says) ∙ t.late)
 
-  top_there : (list : ModuleList) (top : Option ModuleEntry) (fault : ModuleEntry → Option ReadFault) → option_map_or fault top (Some no_top) ≡ None
-      → (netlist : Netlist) × (option_map (netlist_of list) top ≡ Some netlist)
-  top_there list (Some top) fault e = (netlist_of list top, refl)
-  top_there list None fault e = absurd (none_is no_top (sym e))
+  -- `with_top` says that modules without a fault have a top
+  module _ (with_top : (modules : List (ℕ × ModuleEntry)) → elaboration_fault text modules ≡ None → IsSome (top_of modules)) where
+    early_none : (early late : Option ReadFault) → option_or early late ≡ None → early ≡ None
+    early_none None late e = refl
+    early_none (Some fault) late e = absurd (none_is fault (sym e))
 
-  answer_by : (list : ModuleList) → Says default text list → (late : Option ReadFault) → late_fault text list ≡ late
-      → ((netlist : Netlist) × Spells default text netlist) ⊎ ((fault : ReadFault) × IsReadFault default text fault)
-  answer_by list says (Some fault) e = inr (fault, inr (record { list = list; says = says; late = e }))
-  answer_by list says None e =
-      let there : (netlist : Netlist) × (design_of list ≡ Some netlist) = top_there list (top_of list.modules) _ e in
-      inl (there.0, record { list = list; says = says; faultless = e; whole = there.1 })
+    made_of : (list : ModuleList) (top : Option (ℕ × ModuleEntry)) → IsSome top → (netlist : Netlist) × (option_map (netlist_of list) top ≡ Some netlist)
+    made_of list (Some top) there = (netlist_of list top, refl)
+    made_of list None there = absurd (cc)
 
-  pub some_answer : ((list : ModuleList) × Says default text list) ⊎ ((fault : ReadFault) × IsFirstFault default text fault)
-      → ((netlist : Netlist) × Spells default text netlist) ⊎ ((fault : ReadFault) × IsReadFault default text fault)
-  some_answer (inl said) = answer_by said.0 said.1 (late_fault text said.0) refl
-  some_answer (inr first) = inr (first.0, inl first.1)
+    answer_by : (list : ModuleList) → Says default text list → (late : Option ReadFault) → late_fault text list ≡ late
+        → ((netlist : Netlist) × Spells default text netlist) ⊎ ((fault : ReadFault) × IsReadFault default text fault)
+    answer_by list says (Some fault) e = inr (fault, inr (record { list = list; says = says; late = e }))
+    answer_by list says None e =
+        let early = early_none (elaboration_fault text list.modules) (option_map_or (design_fault text list) (top_of list.modules) None) e in
+        let there : (netlist : Netlist) × (design_of list ≡ Some netlist) = made_of list (top_of list.modules) (with_top list.modules early) in
+        inl (there.0, record { list = list; says = says; faultless = e; whole = there.1 })
+
+    pub some_answer : ((list : ModuleList) × Says default text list) ⊎ ((fault : ReadFault) × IsFirstFault default text fault)
+        → ((netlist : Netlist) × Spells default text netlist) ⊎ ((fault : ReadFault) × IsReadFault default text fault)
+    some_answer (inl said) = answer_by said.0 said.1 (late_fault text said.0) refl
+    some_answer (inr first) = inr (first.0, inl first.1)

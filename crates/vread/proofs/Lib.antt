@@ -1,7 +1,7 @@
 pub mod Lists
 pub mod NameLemmas
 pub mod NetLemmas
-pub mod GateLemmas
-pub mod LineLemmas
-pub mod BuildLemmas
 pub mod AnswerLemmas
+pub mod PairLemmas
+pub mod FitLemmas
+pub mod GrowLemmas

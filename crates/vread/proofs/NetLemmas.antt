@@ -1,56 +1,13 @@
--- The nets of a design that is made of a module.
-use Rattle.std.proofs.Common.{◌≡◌, ◌≢◌, ℕ, ◌+◌, ◌<◌, true, false, List, [], ◌∷◌, ◌++◌, length, map, take, get_or, Option, Some, None, refl, sym, ap, subst, ◌∙◌}
+-- The nets of a design, one after another.
+use Rattle.std.proofs.Common.{◌≡◌, true, false, List, [], ◌∷◌, ◌++◌, map, Option, Some, None, refl, ap, subst, ◌∙◌, ℕ}
 use Rattle.std.specs.Prelude.{IfOk, IfSome, Result, Ok, Err}
-use Rattle.std.specs.List.{list_any, slice_get}
-use Rattle.std.proofs.lemmas.Option.{get_or_from_slice_get, slice_get_within}
 use Rattle.std.proofs.lemmas.Slice.Eq.{bytes_eq-Decides}
 use Rattle.fourstate.specs.declared.net.NetKind.{NetKind}
 use Rattle.fourstate.specs.declared.net.NetKind.TheVariants.{Wire}
 use Rattle.design.specs.Keys.{Keyed, netlist}
 use Rattle.design.specs.Names.{same_name}
 use Rattle.design.specs.Netlist.{NetEntry, Netlist, has_net, new_net, with_net, with_net_kind}
-use Rattle.vtext.specs.declared.net.Net as nets
-use Rattle.vtext.specs.Modules.{ModuleEntry}
-use Rattle.vtext.specs.Names.{name_at, number_of}
-use Rattle.vtext.specs.Nets.{is_input, net_kind}
-use Rattle.vtext.specs.Sound.{IsGoodNumber}
-use Rattle.vread.specs.Netlists.{net_entry}
-use Rattle.vread.specs.Parts.{IsFitModule}
-use Rattle.vread.proofs.Lists.{change_last, names_apart, none_earlier, one_more}
-
-module _ (names : List (List ℕ)) (top : ModuleEntry) (fit : IsFitModule names top) (place : ℕ) (net : ℕ × nets.Net) (is : slice_get top.nets place ≡ Some net) where
-  -- the name of a net may be one of a design
-  pub number_at : IsGoodNumber names net.0
-  number_at =
-      let P : ℕ × nets.Net → Type 0 = λ n. IsGoodNumber names n.0 in
-      subst P (get_or_from_slice_get top.nets place net net is) (fit.sound.nets place net (slice_get_within top.nets place net is))
-
-  -- no net before it has its name
-  pub absent_at : (d : Netlist) (name : List ℕ) → d.nets ≡ map (net_entry names) (take place top.nets) → name ≡ name_at names net.0 → has_net d name ≡ false
-  absent_at d name before same =
-      let inside : place < length top.nets = slice_get_within top.nets place net is in
-      let none : list_any (λ n. same_name n.name (name_at names net.0)) (map (net_entry names) (take place top.nets)) ≡ false =
-      none_earlier (net_entry names) (λ n. same_name n.name (name_at names net.0)) top.nets place
-      (λ i d early within.
-      let other : (get_or top.nets i d).0 ≢ net.0 =
-      let P : ℕ × nets.Net → Type 0 = λ n. (get_or top.nets i d).0 ≢ n.0 in
-      subst P (get_or_from_slice_get top.nets place net d is) (fit.sound.distinct_nets i place d early inside) in
-      names_apart (number_of names) (name_at names) (get_or top.nets i d).0 net.0 (fit.sound.nets i d within).known number_at.known other)
-      in
-      ap (λ m. has_net d m) same ∙ ap (λ ns. list_any (λ n. same_name n.name (name_at names net.0)) ns) before ∙ none
-
-  -- the design with it
-  added_at : (d made : Netlist) (name : List ℕ) → d.nets ≡ map (net_entry names) (take place top.nets) → name ≡ name_at names net.0
-      → made ≡ with_net d (new_net name (net_kind net.1) (is_input net.1)) → made ≡ record d { nets = map (net_entry names) (take (place + 1) top.nets) }
-  added_at d made name before same is_made =
-      is_made ∙ ap (λ m. with_net d (new_net m (net_kind net.1) (is_input net.1))) same
-      ∙ ap (λ ns. record d { nets = ns }) (ap (λ ns. ns ++ net_entry names net ∷ []) before ∙ sym (one_more (net_entry names) top.nets place net is))
-
-  pub added_ok : {E : Type 0} (d : Netlist) (name : List ℕ) (r : Result Keyed E) → d.nets ≡ map (net_entry names) (take place top.nets) → name ≡ name_at names net.0
-      → IfOk r (λ made. netlist made ≡ with_net d (new_net name (net_kind net.1) (is_input net.1)))
-      → IfOk r (λ made. netlist made ≡ record d { nets = map (net_entry names) (take (place + 1) top.nets) })
-  added_ok d name (Ok made) before same holds = added_at d (netlist made) name before same holds
-  added_ok d name (Err e) before same holds = tt
+use Rattle.vread.proofs.Lists.{change_last}
 
 -- An input of another kind than `wire`.
 

@@ -2,4 +2,3 @@ pub mod LateFaults
 pub mod Netlists
 pub mod Parts
 pub mod Reads
-pub mod Tops

@@ -68,6 +68,10 @@ is_input_driven scope = list_any (drives_input scope) scope.entry.gates
 abbrev pub is_long : List ℕ → List ℕ → Bool
 is_long path name = nat_lt MAX_NAME (length path + length name)
 
+-- how many gates there are, as far as numbers go
+abbrev pub gate_count : List PlacedScope → ℕ
+gate_count scopes = fold (λ count scope. min (count + length scope.entry.gates) (2 ^ 64 - 1)) 0 scopes
+
 module _ (names : List (List ℕ)) where
   abbrev pub is_long_net : List ℕ → Slot → ℕ × nets.Net → Bool
   is_long_net path slot net = slot.is_own && is_long path (name_at names net.0)
@@ -77,10 +81,6 @@ module _ (names : List (List ℕ)) where
 
   abbrev pub is_long_named : PlacedScope → Bool
   is_long_named scope = any_slot (is_long_net scope.path) scope.slots scope.entry.nets || list_any (is_long_gate scope.path) scope.entry.gates
-
-  -- how many gates there are, as far as numbers go
-  abbrev pub gate_count : List PlacedScope → ℕ
-  gate_count scopes = fold (λ count scope. min (count + length scope.entry.gates) (2 ^ 64 - 1)) 0 scopes
 
   -- why the scopes are no design, if they are none
   abbrev pub kept_fault : Elaborated → Option ReadFaultKind
@@ -109,58 +109,59 @@ module _ (names : List (List ℕ)) where
   abbrev pub kept_nets : PlacedScope → List netlist.NetEntry
   kept_nets scope = slots_nets scope.path scope.slots scope.entry.nets
 
-  -- nets that a design may have
-  pub record AreFitNets (nets : List netlist.NetEntry) : Type 0 where
-    pub named : All (λ net. IsTrue (is_name net.name)) nets
-    pub distinct : AllPairs (λ a b. a.name ≢ b.name) nets
-    pub room : length nets ≤ MAX_NETS
+-- nets that a design may have
+pub record AreFitNets (nets : List netlist.NetEntry) : Type 0 where
+  pub named : All (λ net. IsTrue (is_name net.name)) nets
+  pub distinct : AllPairs (λ a b. a.name ≢ b.name) nets
+  pub room : length nets ≤ MAX_NETS
 
-  -- Its gates, among the nets of the design.
+-- Its gates, among the nets of the design: these are `flat`.
 
-  module _ (flat : List netlist.NetEntry) where
-    abbrev pub net_at : ℕ → List ℕ
-    net_at place = option_map_or (λ net. net.name) (slice_get flat place) []
+module _ (flat : List netlist.NetEntry) where
+  abbrev pub net_at : ℕ → List ℕ
+  net_at place = option_map_or (λ net. net.name) (slice_get flat place) []
 
-    abbrev pub output_of : NodeRef → List ℕ
-    output_of (Net kept) = net_at kept.place
-    output_of (Tied value) = []
+  abbrev pub output_of : NodeRef → List ℕ
+  output_of (Net kept) = net_at kept.place
+  output_of (Tied value) = []
 
-    abbrev pub connection_of : NodeRef → Connection
-    connection_of (Net kept) = to_net (net_at kept.place)
-    connection_of (Tied value) = to_constant value
+  abbrev pub connection_of : NodeRef → Connection
+  connection_of (Net kept) = to_net (net_at kept.place)
+  connection_of (Tied value) = to_constant value
 
-    abbrev pub kept_gate : PlacedScope → GateEntry → netlist.GateEntry
-    kept_gate scope gate = record {
-      name = scope.path ++ gate_bytes names gate;
-      kind = gate.kind;
-      delays = gate.delays;
-      output = output_of (driven scope gate);
-      inputs = map (λ input. connection_of (ref_at scope input)) gate.inputs;
-    }
+  -- what a gate reads is a constant, or one of the nets
+  abbrev pub IsReadable : NodeRef → Type 0
+  IsReadable (Net kept) = IsSome (slice_get flat kept.place)
+  IsReadable (Tied value) = Unit {0}
 
-    abbrev pub kept_gates : PlacedScope → List netlist.GateEntry
-    kept_gates scope = map (kept_gate scope) scope.entry.gates
+  -- what it drives is one of the nets, and no input
+  abbrev pub IsDrivable : NodeRef → Type 0
+  IsDrivable (Net kept) = IsSomeAnd (slice_get flat kept.place) (λ net. net.is_input ≡ false)
+  IsDrivable (Tied value) = ⊥
 
-    -- what a gate reads is a constant, or one of the nets
-    abbrev pub IsReadable : NodeRef → Type 0
-    IsReadable (Net kept) = IsSome (slice_get flat kept.place)
-    IsReadable (Tied value) = Unit {0}
+module _ (names : List (List ℕ)) (flat : List netlist.NetEntry) (scope : PlacedScope) where
+  abbrev pub kept_gate : GateEntry → netlist.GateEntry
+  kept_gate gate = record {
+    name = scope.path ++ gate_bytes names gate;
+    kind = gate.kind;
+    delays = gate.delays;
+    output = output_of flat (driven scope gate);
+    inputs = map (λ input. connection_of flat (ref_at scope input)) gate.inputs;
+  }
 
-    -- what it drives is one of the nets, and no input
-    abbrev pub IsDrivable : NodeRef → Type 0
-    IsDrivable (Net kept) = IsSomeAnd (slice_get flat kept.place) (λ net. net.is_input ≡ false)
-    IsDrivable (Tied value) = ⊥
+  abbrev pub kept_gates : List netlist.GateEntry
+  kept_gates = map kept_gate scope.entry.gates
 
-    -- a gate that may be made
-    pub record IsFitGate (scope : PlacedScope) (gate : GateEntry) : Type 0 where
-      pub named : IsTrue (is_name (scope.path ++ gate_bytes names gate))
-      pub fits : IsTrue (takes_inputs gate.kind (length gate.inputs))
-      pub delays : AreDelays gate.delays
-      pub output : IsDrivable (driven scope gate)
-      pub inputs : All (λ input. IsReadable (ref_at scope input)) gate.inputs
+  -- a gate that may be made
+  pub record IsFitGate (gate : GateEntry) : Type 0 where
+    pub named : IsTrue (is_name (scope.path ++ gate_bytes names gate))
+    pub fits : IsTrue (takes_inputs gate.kind (length gate.inputs))
+    pub delays : AreDelays gate.delays
+    pub output : IsDrivable flat (driven scope gate)
+    pub inputs : All (λ input. IsReadable flat (ref_at scope input)) gate.inputs
 
-    abbrev pub AreFitGates : PlacedScope → Type 0
-    AreFitGates scope = All (IsFitGate scope) scope.entry.gates
+  abbrev pub AreFitGates : Type 0
+  AreFitGates = All IsFitGate scope.entry.gates
 
 -- gates that a design may have together
 pub record AreDistinctGates (gates : List netlist.GateEntry) : Type 0 where

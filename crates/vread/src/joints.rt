@@ -70,11 +70,13 @@ pub fn is_input(node: NodeRef) -> bool
 pub fn is_misjoined(scope: &Scope) -> bool
     ensures { result ≡ any_slot is_misjoined scope.now.slots scope.now.entry.nets }
 {
-    for (place, slot) in scope.slots().iter().enumerate() {
-        let Some((_, net)) = scope.module().net_at(place) else {
+    let slots = scope.slots();
+    let entry = scope.module();
+    for place in 0..slots.len() {
+        let Some((_, net)) = entry.net_at(place) else {
             return false;
         };
-        if is_port_misjoined(*slot, net) {
+        if is_port_misjoined(slots[place], net) {
             return true;
         }
     }

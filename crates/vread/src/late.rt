@@ -16,19 +16,43 @@ pub fn scopes_fault(names: &Names, design: &Elaboration) -> Option<ReadFaultKind
     ensures { result ≡ kept_fault names.now design.now }
 {
     let scopes = design.scopes();
-    if scopes.iter().any(|scope| is_port_wrong(scope)) {
+    if are_ports_wrong(scopes) {
         return Some(ReadFaultKind::PortKind);
     }
-    if scopes.iter().any(|scope| is_long_named(names, scope)) {
+    if are_long_named(names, scopes) {
         return Some(ReadFaultKind::Edit(EditFault::BadName));
     }
-    if design.net_count() > MAX_NETS || gate_count(scopes) > MAX_GATES {
+    if design.net_count() > MAX_NETS {
         return Some(ReadFaultKind::Edit(EditFault::TooMany));
     }
-    if scopes.iter().any(|scope| is_input_driven(scope)) {
+    if gate_count(scopes) > MAX_GATES {
+        return Some(ReadFaultKind::Edit(EditFault::TooMany));
+    }
+    if are_inputs_driven(scopes) {
         return Some(ReadFaultKind::Edit(EditFault::DrivenInput));
     }
     None
+}
+
+/// Whether a port of one of the scopes is joined to a net of another rule, or is a constant that a gate drives.
+fn are_ports_wrong(scopes: &[Scope]) -> bool
+    ensures { result ≡ list_any is_port_wrong scopes.now }
+{
+    scopes.iter().any(|scope| is_port_wrong(scope))
+}
+
+/// Whether one of the scopes has a name over the limit.
+fn are_long_named(names: &Names, scopes: &[Scope]) -> bool
+    ensures { result ≡ list_any (is_long_named names.now) scopes.now }
+{
+    scopes.iter().any(|scope| is_long_named(names, scope))
+}
+
+/// Whether a gate of one of the scopes drives an input of the design.
+fn are_inputs_driven(scopes: &[Scope]) -> bool
+    ensures { result ≡ list_any is_input_driven scopes.now }
+{
+    scopes.iter().any(|scope| is_input_driven(scope))
 }
 
 /// How many gates there are, as far as numbers go.

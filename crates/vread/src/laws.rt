@@ -5,6 +5,7 @@ ghost use Rattle.design.specs.Netlist.{Netlist};
 ghost use Rattle.vread.specs.Reads.{IsReadFault, Spells};
 ghost use Rattle.vtext.specs.declared.fault.ReadFault as faults;
 
+use elaboration::laws::faultless_has_top;
 use vtext::laws::{one_reading, some_reading};
 
 /// A text spells one design, or has one fault, and not both.
@@ -21,4 +22,5 @@ pub fn some_answer(text: &[u8])
     ensures { (default : Option ℕ) → ((netlist : Netlist) × Spells default text.now netlist) ⊎ ((fault : faults.ReadFault) × IsReadFault default text.now fault) }
 {
     some_reading(text);
+    faultless_has_top();
 }

@@ -1,13 +1,14 @@
 //! How long names are, found without making them.
 
-ghost use Rattle.std.specs.Prelude.{◌≡◌, ◌+◌, ◌<◌, ◌≤◌, ◌^◌, length, nat_lt};
+ghost use Rattle.std.specs.Prelude.{◌≡◌, ◌&&◌, ◌+◌, ◌<◌, ◌≤◌, ◌^◌, length, nat_lt};
 ghost use Rattle.std.specs.Fmt.{decimal};
 ghost use Rattle.std.specs.List.{list_any};
+ghost use Rattle.vtext.specs.Names.{name_at};
 ghost use Rattle.vtext.specs.GateNames.{gate_bytes, instance_bytes, numbered};
 ghost use Rattle.vread.specs.Parts.{any_slot, is_long, is_long_gate, is_long_named, is_long_net};
 
 use design::MAX_NAME;
-use elaboration::Scope;
+use elaboration::{Scope, Slot};
 use vtext::{Gate, InstanceName, Names};
 
 /// Whether a net that comes with a scope, or a gate of it, has a name over the limit.
@@ -20,15 +21,23 @@ pub fn is_long_named(names: &Names, scope: &Scope) -> bool
 fn are_long_nets(names: &Names, scope: &Scope) -> bool
     ensures { result ≡ any_slot (is_long_net names.now scope.now.path) scope.now.slots scope.now.entry.nets }
 {
-    for (place, slot) in scope.slots().iter().enumerate() {
-        let Some((name, _)) = scope.module().net_at(place) else {
+    let slots = scope.slots();
+    let entry = scope.module();
+    for place in 0..slots.len() {
+        let Some((name, _)) = entry.net_at(place) else {
             return false;
         };
-        if slot.is_own && is_long(scope, names.text(name).len()) {
+        if is_long_net(names, scope, slots[place], name) {
             return true;
         }
     }
     false
+}
+
+fn is_long_net(names: &Names, scope: &Scope, slot: Slot, name: u32) -> bool
+    ensures { result ≡ (slot.is_own && is_long scope.now.path (name_at names.now name)) }
+{
+    slot.is_own && is_long(scope, names.text(name).len())
 }
 
 fn are_long_gates(names: &Names, scope: &Scope) -> bool

@@ -42,12 +42,14 @@ fn with_scope_nets(
     requires { AreFitNets ((netlist design).nets ++ kept_nets names.now scope.now) }
     ensures { IfOk result (λ made. netlist made ≡ record (netlist design) { nets = (netlist design).nets ++ kept_nets names.now scope.now }) }
 {
+    let slots = scope.slots();
+    let entry = scope.module();
     let mut made = design;
-    for (place, slot) in scope.slots().iter().enumerate() {
-        let Some((name, _)) = scope.module().net_at(place) else {
+    for place in 0..slots.len() {
+        let Some((name, _)) = entry.net_at(place) else {
             return Ok(made);
         };
-        made = with_slot(alloc, made, names, scope, *slot, name)?;
+        made = with_slot(alloc, made, names, scope, slots[place], name)?;
     }
     Ok(made)
 }
@@ -64,13 +66,29 @@ fn with_slot(
     requires { AreFitNets ((netlist design).nets ++ slot_nets names.now scope.now.path slot name) }
     ensures { IfOk result (λ made. netlist made ≡ record (netlist design) { nets = (netlist design).nets ++ slot_nets names.now scope.now.path slot name }) }
 {
-    match (slot.is_own, slot.node) {
-        (true, NodeRef::Net(net)) => {
-            let name = name_in(alloc, scope.path(), names.text(name))?;
-            with_net(design, name, net)
-        }
-        _ => Ok(design),
+    if !slot.is_own {
+        return Ok(design);
     }
+    match slot.node {
+        NodeRef::Net(net) => with_own_net(alloc, design, names, scope, net, name),
+        NodeRef::Tied(_) => Ok(design),
+    }
+}
+
+/// The design with a net of this name in a scope.
+fn with_own_net(
+    alloc: Global,
+    design: Design,
+    names: &Names,
+    scope: &Scope,
+    net: NetRef,
+    name: u32,
+) -> Result<Design, AllocError>
+    requires { AreFitNets ((netlist design).nets ++ new_net (scope.now.path ++ name_at names.now name) net.kind net.is_input ∷ []) }
+    ensures { IfOk result (λ made. netlist made ≡ with_net (netlist design) (new_net (scope.now.path ++ name_at names.now name) net.kind net.is_input)) }
+{
+    let name = name_in(alloc, scope.path(), names.text(name))?;
+    with_net(design, name, net)
 }
 
 /// The design with a net more.

@@ -1,7 +1,12 @@
-use Rattle.std.proofs.Common.{◌≡◌, map, take}
+use Rattle.std.proofs.Common.{◌≡◌, ◌++◌, drop}
+use Rattle.std.specs.Prelude.{flat_map}
 use Rattle.design.specs.Keys.{netlist}
-use Rattle.vread.specs.Netlists.{gate_entry}
+use Rattle.vread.specs.Parts.{kept_gates}
 use Rattle.vread.proofs.gates.with_gates.Given as goal
 
-abbrev pub invariant-loop-place : goal.invariant-loop-place
-invariant-loop-place l = netlist l.made ≡ record (netlist l.fn.design) { gates = map (gate_entry l.names) (take l.place l.top.gates) }
+abbrev pub invariant-loop-scope : goal.invariant-loop-scope
+invariant-loop-scope l = record {
+  all : (netlist l.made).gates ++ flat_map (kept_gates l.names (netlist l.fn.design).nets) (drop l.scope-index l.scopes)
+      ≡ (netlist l.fn.design).gates ++ flat_map (kept_gates l.names (netlist l.fn.design).nets) l.scopes;
+  others : netlist l.made ≡ record (netlist l.fn.design) { gates = (netlist l.made).gates };
+}

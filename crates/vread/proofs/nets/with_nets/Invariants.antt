@@ -1,7 +1,11 @@
-use Rattle.std.proofs.Common.{◌≡◌, map, take}
+use Rattle.std.proofs.Common.{◌≡◌, ◌++◌, drop}
+use Rattle.std.specs.Prelude.{flat_map}
 use Rattle.design.specs.Keys.{netlist}
-use Rattle.vread.specs.Netlists.{net_entry}
+use Rattle.vread.specs.Parts.{kept_nets}
 use Rattle.vread.proofs.nets.with_nets.Given as goal
 
-abbrev pub invariant-loop-place : goal.invariant-loop-place
-invariant-loop-place l = netlist l.made ≡ record (netlist l.fn.design) { nets = map (net_entry l.names) (take l.place l.top.nets) }
+abbrev pub invariant-loop-scope : goal.invariant-loop-scope
+invariant-loop-scope l = record {
+  all : (netlist l.made).nets ++ flat_map (kept_nets l.names) (drop l.scope-index l.scopes) ≡ (netlist l.fn.design).nets ++ flat_map (kept_nets l.names) l.scopes;
+  others : netlist l.made ≡ record (netlist l.fn.design) { nets = (netlist l.made).nets };
+}
