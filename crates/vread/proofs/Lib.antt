@@ -1,7 +1,9 @@
+pub mod AnswerLemmas
+pub mod DesignLemmas
+pub mod FitLemmas
+pub mod GrowLemmas
 pub mod Lists
 pub mod NameLemmas
 pub mod NetLemmas
-pub mod AnswerLemmas
 pub mod PairLemmas
-pub mod FitLemmas
-pub mod GrowLemmas
+pub mod ZipLemmas

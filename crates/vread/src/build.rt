@@ -1,6 +1,6 @@
 //! The design of the modules of a text, or their fault.
 
-ghost use Rattle.std.specs.Prelude.{◌≡◌, ◌⊎◌, None, Some, All, IfErr, IfOk};
+ghost use Rattle.std.specs.Prelude.{◌≡◌, ◌⊎◌, ℕ, List, None, Some, All, IfErr, IfOk};
 ghost use Rattle.design.specs.Keys.{netlist};
 ghost use Rattle.elaboration.specs.Elaborations.{IsElaboration};
 ghost use Rattle.vread.specs.LateFaults.{late_fault, scopes_fault};
@@ -12,7 +12,9 @@ use crate::gates::with_gates;
 use crate::late::scopes_fault;
 use crate::names::name_from;
 use crate::nets::with_nets;
+use design::laws::parts_are_names;
 use design::{Design, NameHasher};
+use elaboration::laws::{flat_names, scopes_are_sound, terminals_are_nodes};
 use elaboration::{Elaboration, elaborate, fault_at};
 use fourstate::TimeUnit;
 use std::alloc::{AllocError, Global};
@@ -30,6 +32,7 @@ pub fn design_of(
     ensures whole { IfOk result (λ design. design_of modules.now ≡ Some (netlist design)) }
     ensures err { IfErr result (λ fault. (fault ≡ out_of_memory) ⊎ (late_fault text.now modules.now ≡ Some fault)) }
 {
+    terminals_are_nodes();
     let elaboration = elaborate(alloc, text, modules)?;
     if let Some(kind) = scopes_fault(modules.names(), &elaboration) {
         return Err(fault_at(text, elaboration.start(), kind));
@@ -45,12 +48,21 @@ fn design_from(
     modules: &Modules,
     elaboration: &Elaboration,
 ) -> Result<Design, AllocError>
+    requires sound { All (IsSoundModule modules.now.names) modules.now.modules }
+    requires elaborated { (text : List ℕ) × IsElaboration text modules.now elaboration.now }
+    requires faultless { scopes_fault modules.now.names modules.now.modules elaboration.now.top.1 ≡ None }
+    ensures { IfOk result (λ design. netlist design ≡ netlist_of modules.now elaboration.now.top) }
 {
+    flat_names();
+    scopes_are_sound();
+    terminals_are_nodes();
+    parts_are_names();
     let names = modules.names();
+    let scopes = elaboration.scopes();
     let name = name_from(alloc, names.text(elaboration.top()))?;
     let design = Design::empty(alloc, hasher, name, unit_of(modules.unit()));
-    let design = with_nets(alloc, design, names, elaboration.scopes())?;
-    with_gates(alloc, design, names, elaboration.scopes())
+    let design = with_nets(alloc, design, names, scopes)?;
+    with_gates(alloc, design, names, scopes)
 }
 
 /// The unit of a design: that of its text's directives, 1 ns without one (own).
