@@ -9,8 +9,8 @@ use lexing::MAX_TEXT;
 use std::alloc::Global;
 use std::process::Abort;
 use vtext::{
-    Direction, Gate, Module, Modules, Names, Net, ReadFault, ReadFaultKind, Terminal, gate_name,
-    modules,
+    Direction, Gate, Module, ModuleInstance, Modules, Names, Net, PortConnection, ReadFault,
+    ReadFaultKind, Terminal, gate_name, modules,
 };
 
 const BUFFER: &[u8] = b"module m(a,y); input a; output y; buf #(3,3) g(y,a); endmodule";
@@ -47,7 +47,6 @@ fn add_net(rt: &impl Abort, shown: &mut String, names: &Names, name: u32, net: N
 }
 
 fn add_terminal(rt: &impl Abort, shown: &mut String, names: &Names, terminal: Terminal) {
-    add(rt, shown, " ");
     match terminal {
         Terminal::Net(name) => add_name(rt, shown, names.text(name)),
         Terminal::Constant(value) => add_name(rt, shown, &[value.symbol()]),
@@ -69,26 +68,69 @@ fn add_gate(rt: &impl Abort, alloc: Global, shown: &mut String, names: &Names, g
     write!(shown, "={kind} #({rise},{fall}) ").expect(rt, "room");
     add_name(rt, shown, names.text(gate.output()));
     for input in gate.inputs() {
+        add(rt, shown, " ");
         add_terminal(rt, shown, names, *input);
     }
 }
 
-fn add_module(rt: &impl Abort, alloc: Global, shown: &mut String, names: &Names, module: &Module) {
-    add_name(rt, shown, names.text(module.name()));
-    add(rt, shown, ":");
+// What a port is connected to, `-` for nothing; with `.PORT=` before it where the connection names the port.
+fn add_connection(rt: &impl Abort, shown: &mut String, names: &Names, connection: PortConnection) {
+    add(rt, shown, " ");
+    if let Some(port) = connection.port {
+        add(rt, shown, ".");
+        add_name(rt, shown, names.text(port));
+        add(rt, shown, "=");
+    }
+    match connection.terminal {
+        Some(terminal) => add_terminal(rt, shown, names, terminal),
+        None => add(rt, shown, "-"),
+    }
+}
+
+// An instance as `NAME=MODULE CONNECTIONS`.
+fn add_instance(rt: &impl Abort, shown: &mut String, names: &Names, instance: &ModuleInstance) {
+    add(rt, shown, " + ");
+    add_name(rt, shown, names.text(instance.name()));
+    add(rt, shown, "=");
+    add_name(rt, shown, names.text(instance.module()));
+    for connection in instance.connections() {
+        add_connection(rt, shown, names, *connection);
+    }
+}
+
+fn add_nets(rt: &impl Abort, shown: &mut String, names: &Names, module: &Module) {
     for place in 0..module.net_count() {
         if let Some((name, net)) = module.net_at(place) {
             add_net(rt, shown, names, name, net);
         }
     }
+}
+
+fn add_module(rt: &impl Abort, alloc: Global, shown: &mut String, names: &Names, module: &Module) {
+    add_nets(rt, shown, names, module);
     for gate in module.gates() {
         add_gate(rt, alloc, shown, names, gate);
     }
+    for instance in module.instances() {
+        add_instance(rt, shown, names, instance);
+    }
 }
 
-fn add_modules(rt: &impl Abort, alloc: Global, shown: &mut String, read: &Modules) {
-    for module in read.list() {
+fn add_module_at(rt: &impl Abort, alloc: Global, shown: &mut String, read: &Modules, place: usize) {
+    if let Some((name, module)) = read.at(place) {
+        add_name(rt, shown, read.names().text(name));
+        add(rt, shown, ":");
         add_module(rt, alloc, shown, read.names(), module);
+    }
+}
+
+// Modules in order, with ` | ` between them.
+fn add_modules(rt: &impl Abort, alloc: Global, shown: &mut String, read: &Modules) {
+    for place in 0..read.count() {
+        if place > 0 {
+            add(rt, shown, " | ");
+        }
+        add_module_at(rt, alloc, shown, read, place);
     }
 }
 
@@ -117,9 +159,10 @@ fn check(rt: &impl Abort, alloc: Global, text: &[u8], default: Option<u32>, want
 }
 
 /// A text, and what it says or its fault.
-type Case<'a> = (&'a str, &'a str);
+pub type Case<'a> = (&'a str, &'a str);
 
-fn check_all(rt: &impl Abort, alloc: Global, cases: &[Case<'_>]) {
+/// Each text says this.
+pub fn check_all(rt: &impl Abort, alloc: Global, cases: &[Case<'_>]) {
     for (text, want) in cases {
         check(rt, alloc, text.as_bytes(), None, want);
     }
@@ -196,7 +239,7 @@ fn netlist_with_a_default_delay(rt: HostRuntime) {
     }
 }
 
-const FAULTS: [Case<'static>; 45] = [
+const FAULTS: [Case<'static>; 46] = [
     ("module m(a);\ninput a;\n/* cut", "line 3: 2 Syntax"),
     (
         "module m(y);\noutput y;\nnot #0 g(y,1'b1);\nendmodule",
@@ -274,12 +317,10 @@ const FAULTS: [Case<'static>; 45] = [
     // Words that can't stand.
     ("module\nwire;", "line 2: 2 Syntax"),
     ("module\nalways;", "line 2: 3 Unsupported"),
-    ("module\nmodule", "line 2: 3 Unsupported"),
-    (
-        "module m; endmodule\nmodule n; endmodule",
-        "line 2: 3 Unsupported",
-    ),
-    ("module m;\nu x();", "line 2: 3 Unsupported"),
+    ("module\nmodule", "line 2: 2 Syntax"),
+    ("module m; endmodule\nu", "line 2: 2 Syntax"),
+    ("module m; endmodule\nendmodule", "line 2: 2 Syntax"),
+    ("module m;\nmodule n;", "line 2: 2 Syntax"),
     ("module m; wire\n[3:0] a;", "line 2: 3 Unsupported"),
     ("module m; buf #1.5", "line 1: 2 Syntax"),
     ("module m; buf #1 g(y,\n2'b0);", "line 2: 2 Syntax"),
@@ -318,14 +359,20 @@ fn unit_of_a_directive(rt: HostRuntime) {
     drop(read);
 }
 
+// Where the module at a place begins.
+fn start_at(read: &Modules, place: usize) -> Option<u32> {
+    let (_, module) = read.at(place)?;
+    Some(module.start())
+}
+
 fn check_unit(rt: &impl Abort, read: &Modules) {
     let unit = TimeUnit {
         magnitude: Magnitude::Ten,
         unit: Unit::Picosecond,
     };
     equal(rt, "unit", read.unit(), Some(unit));
-    assert!(rt; read.list().len() == 1);
-    equal(rt, "start", read.list()[0].start(), 21);
+    equal(rt, "count", read.count(), 1);
+    equal(rt, "start", start_at(read, 0), Some(21));
 }
 
 // The fault of a text, as its line and kind.
@@ -388,15 +435,27 @@ fn nothing_in_a_text_without_bytes(rt: HostRuntime) {
     check(&rt, rt.alloc(), b"", Some(2), "");
 }
 
-// A beginning of the netlist has a fault in one of its lines.
+// The line of a text's end.
+fn last_line(text: &[u8]) -> u64 {
+    let mut line = 1u64;
+    for byte in text {
+        if *byte == b'\n' {
+            line = line.saturating_add(1);
+        }
+    }
+    line
+}
+
+// A beginning of the netlist has a fault in its last line: of its last token it may be that it is a word that is refused.
 fn check_cut(rt: &impl Abort, alloc: Global, text: &[u8]) {
     let fault = fault_of(alloc, text, Some(2)).expect(rt, "a fault");
-    assert!(rt; 1 <= fault.line && fault.line <= 6, "{text:?}");
-    let wanted = fault.kind == ReadFaultKind::Syntax;
-    assert!(rt;
-        wanted || fault.kind == ReadFaultKind::Unsupported,
-        "{text:?}"
-    );
+    let kind = if text.ends_with(b"\nend") {
+        ReadFaultKind::Unsupported
+    } else {
+        ReadFaultKind::Syntax
+    };
+    equal(rt, text, fault.line, last_line(text));
+    equal(rt, text, fault.kind, kind);
 }
 
 #[test]

@@ -99,7 +99,7 @@ fn check_refused(
 // Texts that open no session: the line and the kind of the fault.
 const FAULTS: [(&[u8], u64, ReadFaultKind); 17] = [
     (b"", 1, ReadFaultKind::NoTop),
-    (b"module m; endmodul", 1, ReadFaultKind::Unsupported),
+    (b"module m; endmodul", 1, ReadFaultKind::Syntax),
     (b"modulem; endmodule", 1, ReadFaultKind::Syntax),
     (b"module 1; endmodule", 1, ReadFaultKind::Syntax),
     (b"module wire; endmodule", 1, ReadFaultKind::Syntax),
