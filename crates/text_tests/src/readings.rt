@@ -101,9 +101,10 @@ fn check(rt: &impl Abort, alloc: Global, text: &str, default: Option<u32>, want:
 }
 
 /// A text, and the design that it spells or its fault.
-type Case<'a> = (&'a str, &'a str);
+pub type Case<'a> = (&'a str, &'a str);
 
-fn check_all(rt: &impl Abort, alloc: Global, cases: &[Case<'_>]) {
+/// Each text spells this design or has this fault.
+pub fn check_all(rt: &impl Abort, alloc: Global, cases: &[Case<'_>]) {
     for (text, want) in cases {
         check(rt, alloc, text, None, want);
     }
@@ -208,8 +209,8 @@ fn units(rt: HostRuntime) {
     }
 }
 
-// The fault of a text, none where it spells a design.
-fn fault_of(alloc: Global, text: &str) -> Option<ReadFault> {
+/// The fault of a text, none where it spells a design.
+pub fn fault_of(alloc: Global, text: &str) -> Option<ReadFault> {
     match read(alloc, NameHasher::fixed(), text.as_bytes(), None) {
         Ok(design) => {
             drop(design);

@@ -1,5 +1,6 @@
 //! Design texts, and the waves of the designs that they spell.
 
+use super::scopes::INVERTERS;
 use super::{EMPTY, check, check_opened, opened};
 use crate::compare::equal;
 use edits::EditFault;
@@ -11,7 +12,7 @@ use std::sync::Wait;
 use vtext::{ReadFault, ReadFaultKind};
 
 // A text, the delay of gates without one, lines, and the replies to them, up to the horizon 40.
-const TEXTS: [(&[u8], Option<u32>, &[u8], &[u8]); 8] = [
+const TEXTS: [(&[u8], Option<u32>, &[u8], &[u8]); 11] = [
     // a pulse that is shorter than the delay is swallowed, one that is as long passes
     (
         b"module m(a,y); input a; output y; buf #(3,3) g(y,a); endmodule",
@@ -52,6 +53,28 @@ const TEXTS: [(&[u8], Option<u32>, &[u8], &[u8]); 8] = [
         Some(3),
         b"stim a 0 1\nstim b 0 0\nwave y\nwave n1\nwave z\ndrop g$2\ndrop g\nwire $1 n1 b\nkind z wor\nwave z\n",
         b"ok 1\nok 2\n0 x\n1 1\nok 2\n0 x\n1 1\nok 2\n0 x\n2 0\nok 2\nok 3\nno 2 UnknownGate\nok 4\nok 5\n0 x\n2 1\nok 5\n",
+    ),
+    // two inverters in an instance: the net between them is the instance's, and its ports are nets of the design
+    (
+        INVERTERS,
+        None,
+        b"stim a 0 1\nwave u.t\nwave y\nwave u.p\nwave u.q\nstim u.t 0 1\ndrop u.g\ndrop u.g2\ndrop g\n",
+        b"ok 1\n0 x\n1 0\nok 1\n0 x\n2 1\nok 1\nno 1 UnknownNet\nno 1 UnknownNet\nno 9 NotInput\nok 2\nok 3\n\
+no 2 UnknownGate\n",
+    ),
+    // an input port that is not connected has no points, and is z
+    (
+        b"module m; h u(); endmodule module h(input p, output q); bufif1 #1 g(q,1'b1,p); endmodule",
+        None,
+        b"stim u.p 0 1\nwave u.p\nwave u.q\n",
+        b"no 9 NotInput\n0 z\nok 0\n0 x\nok 0\n",
+    ),
+    // a net of two gates in two instances resolves by its own kind
+    (
+        b"module m(input a, b); wor n; h u(n,a), v(n,b); endmodule module h(output q, input p); buf #1 g(q,p); endmodule",
+        None,
+        b"stim a 0 0\nstim b 0 0\nstim b 5 1\nwave n\n",
+        b"ok 1\nok 2\nok 3\n0 x\n1 0\n6 1\nok 3\n",
     ),
     // a latch of two gates: set, kept, and put back
     (
@@ -97,7 +120,7 @@ fn check_refused(
 }
 
 // Texts that open no session: the line and the kind of the fault.
-const FAULTS: [(&[u8], u64, ReadFaultKind); 17] = [
+const FAULTS: [(&[u8], u64, ReadFaultKind); 18] = [
     (b"", 1, ReadFaultKind::NoTop),
     (b"module m; endmodul", 1, ReadFaultKind::Syntax),
     (b"modulem; endmodule", 1, ReadFaultKind::Syntax),
@@ -111,6 +134,7 @@ const FAULTS: [(&[u8], u64, ReadFaultKind); 17] = [
     (b"module m;\n\n", 3, ReadFaultKind::Syntax),
     (b"module m(a);\n\x80", 2, ReadFaultKind::Text),
     (b"module m; always", 1, ReadFaultKind::Unsupported),
+    (b"module m;\nm u();\nendmodule", 1, ReadFaultKind::Recursive),
     (
         b"module m(y);\noutput y;\nnot #0 g(y,1'b1);\nendmodule",
         3,

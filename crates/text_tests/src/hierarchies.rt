@@ -1,0 +1,161 @@
+//! The designs that texts of many modules spell: which nets and gates they have, in which order, and under which names.
+
+use crate::readings::{Case, check_all};
+
+const ORDER: [Case<'static>; 6] = [
+    (
+        "module h(p,q); input p; output q; wire t; not #1 g(t,p); not #1 g2(q,t); endmodule module m(a,y); input a; output y; h u(a,y); endmodule",
+        "m: <a:wire y:wire u.t:wire / u.g=not #(1,1) u.t a / u.g2=not #(1,1) y u.t",
+    ),
+    // An instance comes with all that is in it before the next one; an item of its module may stand anywhere.
+    (
+        "module m; wire a; n u(), v(); wire b; endmodule module n; wire c; o w(); o x(); wire d; endmodule module o; wire e; endmodule",
+        "m: a:wire b:wire u.c:wire u.d:wire u.w.e:wire u.x.e:wire v.c:wire v.d:wire v.w.e:wire v.x.e:wire",
+    ),
+    (
+        "module o; not #3 (c,c); endmodule module n; o w(); not #2 g(b,b); endmodule module m; n u(); o v(); not #1 g(a,a); endmodule",
+        "m: a:wire u.b:wire u.w.c:wire v.c:wire / g=not #(1,1) a a / u.g=not #(2,2) u.b u.b / u.w.$1=not #(3,3) u.w.c u.w.c / v.$1=not #(3,3) v.c v.c",
+    ),
+    // Ports stand before other nets, those that are connected nowhere.
+    (
+        "module m(a); input a; h u(,a); endmodule module h(p,q,r); wire n; input r; input q; output p; endmodule",
+        "m: <a:wire u.p:wire u.r:wire u.n:wire",
+    ),
+    // The made names of gates are those of their module.
+    (
+        "module m; not #1 (x,x); h u(); endmodule module h; buf #1 g(y,z,a), (b,a), (c,d,a); endmodule",
+        "m: x:wire u.y:wire u.z:wire u.a:wire u.b:wire u.c:wire u.d:wire / $1=not #(1,1) x x / u.g$1=buf #(1,1) u.y u.a / u.g$2=buf #(1,1) u.z u.a / u.$1=buf #(1,1) u.b u.a / u.$2$1=buf #(1,1) u.c u.a / u.$2$2=buf #(1,1) u.d u.a",
+    ),
+    (
+        "module m; h \\u+ (); endmodule module h; wire \\a/b ; not #1 \\$x (\\n1 ,n1); endmodule",
+        "m: u+.a/b:wire u+.n1:wire / u+.$x=not #(1,1) u+.n1 u+.n1",
+    ),
+];
+
+#[test]
+fn nets_and_gates_in_order(rt: HostRuntime) {
+    check_all(&rt, rt.alloc(), &ORDER);
+}
+
+const CONNECTED: [Case<'static>; 8] = [
+    // A connected port is the net outside, with its name, its place and its kind.
+    (
+        "module h(input p, output q); not #1 g(q,p); endmodule module m(input a, output y); wire n; h u(a,n), v(n,y); endmodule",
+        "m: <a:wire y:wire n:wire / u.g=not #(1,1) n a / v.g=not #(1,1) y n",
+    ),
+    (
+        "module h(input p, output q); not #1 g(q,p); endmodule module m(input a, output y); h u(.q(n),.p(a)), v(.q(y),.p(n)); endmodule",
+        "m: <a:wire y:wire n:wire / u.g=not #(1,1) n a / v.g=not #(1,1) y n",
+    ),
+    // Two ports may be one net, and two gates may drive it.
+    (
+        "module m; h u(a,a), v(b,a); endmodule module h(p,q); input p; output q; not #1 g(q,p); endmodule",
+        "m: a:wire b:wire / u.g=not #(1,1) a a / v.g=not #(1,1) a b",
+    ),
+    // Through two levels.
+    (
+        "module m(input a, output y); n u(y,a); endmodule module n(output q, input p); o v(p,q); endmodule module o(input p, output q); not #1 g(q,p); endmodule",
+        "m: <a:wire y:wire / u.v.g=not #(1,1) y a",
+    ),
+    // A net in between is one of the instance around it.
+    (
+        "module m(input a, output y); n u(y,a); endmodule module n(output q, input p); o v(p,t), w(t,q); endmodule module o(input p, output q); not #1 g(q,p); endmodule",
+        "m: <a:wire y:wire u.t:wire / u.v.g=not #(1,1) u.t a / u.w.g=not #(1,1) y u.t",
+    ),
+    // A port of a kind `wire` or `tri` takes the kind of the net outside, through a level in between too.
+    (
+        "module m; wand a; trior b; n u(a,b); endmodule module n(output wire p, output tri q); o v(p,q); endmodule module o(output p, output wire q); endmodule",
+        "m: a:wand b:trior",
+    ),
+    (
+        "module m; wand a; n u(a); endmodule module n(p); output p; o v(p); endmodule module o(output wand q); buf #1 g(q,1'b1); endmodule",
+        "m: a:wand / u.v.g=buf #(1,1) a 1",
+    ),
+    // A gate may drive an input port of its module.
+    (
+        "module m; h u(a); endmodule module h(input p); not #1 g(p,1'b0); endmodule",
+        "m: a:wire / u.g=not #(1,1) a 0",
+    ),
+];
+
+#[test]
+fn connected_ports(rt: HostRuntime) {
+    check_all(&rt, rt.alloc(), &CONNECTED);
+}
+
+const UNCONNECTED: [Case<'static>; 7] = [
+    // It is a net of the instance, and no input of the design.
+    (
+        "module m; h u(); endmodule module h(input p, output q); not #1 g(q,p); endmodule",
+        "m: u.p:wire u.q:wire / u.g=not #(1,1) u.q u.p",
+    ),
+    (
+        "module m(a); input a; h u(,a); endmodule module h(p,q); input p,q; and #1 g(n,p,q); endmodule",
+        "m: <a:wire u.p:wire u.n:wire / u.g=and #(1,1) u.n u.p a",
+    ),
+    (
+        "module m(a); input a; h u(.q(a),.p()); endmodule module h(p,q); input p,q; and #1 g(n,p,q); endmodule",
+        "m: <a:wire u.p:wire u.n:wire / u.g=and #(1,1) u.n u.p a",
+    ),
+    // Fewer connections than ports leave the rest.
+    (
+        "module m(a); input a; h u(a); endmodule module h(p,q); input p,q; and #1 g(n,p,q); endmodule",
+        "m: <a:wire u.q:wire u.n:wire / u.g=and #(1,1) u.n a u.q",
+    ),
+    (
+        "module m(a); input a; h u(.q(a)); endmodule module h(p,q); input p,q; and #1 g(n,p,q); endmodule",
+        "m: <a:wire u.p:wire u.n:wire / u.g=and #(1,1) u.n u.p a",
+    ),
+    // It has its own kind, and gives it to what is below.
+    (
+        "module m; n u(); endmodule module n(input wand p, output trior q); o v(p,q); endmodule module o(input p, output wor q); not #1 g(q,p); endmodule",
+        "m: u.p:wand u.q:trior / u.v.g=not #(1,1) u.q u.p",
+    ),
+    // A port in between that is not connected, and one below.
+    (
+        "module m(input a); n u(a); endmodule module n(input p, r); o v(r,,p); endmodule module o(input p, q, r); nor #1 g(q,p,r); endmodule",
+        "m: <a:wire u.r:wire u.v.q:wire / u.v.g=nor #(1,1) u.v.q u.r a",
+    ),
+];
+
+#[test]
+fn unconnected_ports(rt: HostRuntime) {
+    check_all(&rt, rt.alloc(), &UNCONNECTED);
+}
+
+const TIED: [Case<'static>; 6] = [
+    // The constant stands at each terminal, and the port is no net.
+    (
+        "module m(output y); h u(y,1'b1); endmodule module h(output q, input p); and #1 g(q,p,p), (n,p,q); endmodule",
+        "m: y:wire u.n:wire / u.g=and #(1,1) y 1 1 / u.$1=and #(1,1) u.n 1 y",
+    ),
+    (
+        "module m; h u(.p(1'bz)); endmodule module h(output q, input p); not #1 g(q,p); endmodule",
+        "m: u.q:wire / u.g=not #(1,1) u.q z",
+    ),
+    // Through two levels.
+    (
+        "module m(output y); n u(y,1'bX); endmodule module n(output q, input p); o v(q,p); endmodule module o(output q, input p, r); or #1 g(q,p,r); endmodule",
+        "m: y:wire u.v.r:wire / u.v.g=or #(1,1) y x u.v.r",
+    ),
+    // Each instance has its own.
+    (
+        "module m; h u(a,1'b0), v(b,1'b1), w(c,a); endmodule module h(output q, input p); buf #1 g(q,p); endmodule",
+        "m: a:wire b:wire c:wire / u.g=buf #(1,1) a 0 / v.g=buf #(1,1) b 1 / w.g=buf #(1,1) c a",
+    ),
+    // The kind of a port that is tied counts for nothing.
+    (
+        "module m; n u(1'b0); endmodule module n(input wand p); o v(p); endmodule module o(input wor p); not #1 g(q,p); endmodule",
+        "m: u.v.q:wire / u.v.g=not #(1,1) u.v.q 0",
+    ),
+    // Without a gate that drives it, an output below may be joined to a port that is tied.
+    (
+        "module m; n u(1'b0); endmodule module n(input p); o v(p); endmodule module o(output q); not #1 g(r,q); endmodule",
+        "m: u.v.r:wire / u.v.g=not #(1,1) u.v.r 0",
+    ),
+];
+
+#[test]
+fn tied_ports(rt: HostRuntime) {
+    check_all(&rt, rt.alloc(), &TIED);
+}
