@@ -8,14 +8,22 @@ mod hierarchies;
 #[cfg(test)]
 mod instances;
 #[cfg(test)]
+mod joints;
+#[cfg(test)]
+mod levels;
+#[cfg(test)]
 mod lines;
 #[cfg(test)]
 mod lost_worker;
 #[cfg(test)]
 mod modules;
 #[cfg(test)]
+mod passes;
+#[cfg(test)]
 mod readings;
 #[cfg(test)]
 mod refused;
 #[cfg(test)]
 mod sessions;
+#[cfg(test)]
+mod tops;
