@@ -124,7 +124,7 @@ fn many_modules(rt: HostRuntime) {
     check_all(&rt, rt.alloc(), &MANY);
 }
 
-const TAKEN: [Case<'static>; 13] = [
+const TAKEN: [Case<'static>; 17] = [
     ("module m; endmodule module\nm;", "line 2: 11 DuplicateName"),
     (
         "module m; endmodule module n; endmodule module\n\\m ;",
@@ -157,6 +157,23 @@ const TAKEN: [Case<'static>; 13] = [
         "module m; h \\$1 (); not #1 (y,a\n);",
         "line 2: 11 DuplicateName",
     ),
+    // A gate instance of several outputs, an unnamed one too, takes its own name with those that are made of it.
+    (
+        "module m; buf #1 g(y,z,a);\nh g();",
+        "line 2: 11 DuplicateName",
+    ),
+    (
+        "module m; buf #1 (y,z,a);\nh \\$1 ();",
+        "line 2: 11 DuplicateName",
+    ),
+    (
+        "module m; buf #1 (y,z,a);\nh \\$1$2 ();",
+        "line 2: 11 DuplicateName",
+    ),
+    (
+        "module m; buf #1 (y,z,a); h \\$1$3 (); endmodule",
+        "m: y z a / $1$1=buf #(1,1) y a / $1$2=buf #(1,1) z a + $1$3=h",
+    ),
     // A use in a connection comes before the declaration.
     ("module m; h u(a);\nwire a;", "line 2: 11 DuplicateName"),
     (
@@ -174,7 +191,7 @@ fn names_that_are_taken(rt: HostRuntime) {
     check_all(&rt, rt.alloc(), &TAKEN);
 }
 
-const FAULTS: [Case<'static>; 34] = [
+const FAULTS: [Case<'static>; 37] = [
     // Between the words of an instance.
     ("module m; h\n();", "line 2: 2 Syntax"),
     ("module m; h\n#1 u();", "line 2: 2 Syntax"),
@@ -213,6 +230,10 @@ const FAULTS: [Case<'static>; 34] = [
     ("module m; h u(\n\\a'b );", "line 2: 11 BadName"),
     ("module m; h u(.\n\\p.q ());", "line 2: 11 BadName"),
     ("module m; h u(.p(\n\\$end ));", "line 2: 11 BadName"),
+    // Where no name can stand, it is not looked at.
+    ("module m; h u\n\\a.b ();", "line 2: 2 Syntax"),
+    ("module m; h u(a\n\\a.b );", "line 2: 2 Syntax"),
+    ("module m; endmodule module\n\\m.n ;", "line 2: 11 BadName"),
     // What a module before has does not help the next one.
     (
         "module m(a); input a; endmodule module n;\ninput\na;",
