@@ -1,11 +1,11 @@
 -- The design that the modules of a text make.
-use Rattle.std.proofs.Common.{◌≡◌, ℕ, ◌<◌, List, length, get_or, Option, Some, None, All, refl, sym, ap, subst, ◌∙◌, min}
+use Rattle.std.proofs.Common.{◌≡◌, ℕ, ◌<◌, List, length, get_or, Some, None, All, refl, sym, ap, subst, ◌∙◌}
 use Rattle.std.specs.List.{AllZip, slice_get}
 use Rattle.std.proofs.lemmas.Option.{slice_get-get_or}
 use Rattle.vtext.specs.Modules.{ModuleEntry, ModuleList}
 use Rattle.vtext.specs.Sound.{IsSoundModule}
-use Rattle.elaboration.specs.Elaborations.{Elaborated, IsElaboration, IsScope, elaboration_fault}
-use Rattle.elaboration.specs.Numbered.{AreDistinct, PlacedScope, SoFar, kept_scopes}
+use Rattle.elaboration.specs.Elaborations.{IsElaboration, IsScope, elaboration_fault}
+use Rattle.elaboration.specs.Numbered.{AreDistinct, SoFar, kept_scopes}
 use Rattle.elaboration.specs.Scopes.{nets_of, scopes_of}
 use Rattle.elaboration.specs.Tops.{top_of}
 use Rattle.elaboration.proofs.KeptLemmas.{count_ok, kept_ok}

@@ -1,5 +1,5 @@
 -- The names of a design differ, since what stands between their dots does.
-use Rattle.std.proofs.Common.{◌≡◌, ◌≢◌, ℕ, zero, suc, ◌<◌, ◌+◌, arith, IsTrue, Bool, true, false, List, [], ◌∷◌, ◌++◌, length, map, nat_eq, Option, Some, None, All, AllPairs, refl, sym, ap, subst, ◌∙◌, append_assoc, get_or}
+use Rattle.std.proofs.Common.{◌≡◌, ◌≢◌, ℕ, zero, suc, arith, IsTrue, List, [], ◌∷◌, ◌++◌, map, nat_eq, Option, Some, None, All, AllPairs, refl, sym, ap, subst, ◌∙◌, append_assoc, get_or}
 use Rattle.std.specs.Prelude.{codes, flat_map, filter}
 use Rattle.std.specs.Map.{lookup}
 use Rattle.std.specs.Option.{option_map_or}
@@ -12,7 +12,7 @@ use Rattle.vtext.specs.declared.net.Net as nets
 use Rattle.vtext.specs.GateNames.{gate_bytes}
 use Rattle.vtext.specs.Modules.{GateEntry, InstanceEntry, ModuleEntry}
 use Rattle.vtext.specs.Names.{name_at, number_of}
-use Rattle.vtext.specs.Sound.{IsGoodNumber, IsSoundGate, IsSoundInstance, IsSoundModule}
+use Rattle.vtext.specs.Sound.{IsGoodNumber, IsSoundModule}
 use Rattle.elaboration.specs.declared.limits.TheConstants.{MAX_DEPTH}
 use Rattle.elaboration.specs.Scopes.{Scope, gates_of, inner, is_own, nets_of, own_gate, own_gates, own_net, own_nets, scopes_below, scopes_of, top_scope}
 use Rattle.elaboration.specs.SoundScopes.{IsPath, IsSoundScope}
@@ -28,8 +28,8 @@ module _ {X : Type 0} (R : X → X → Type 0) where
   pairs_append [] ys first second across = second
   pairs_append (x ∷ xs) ys first second across =
       AllPairs-cons R x (xs ++ ys)
-        (All-append (R x) xs ys (pairs_head R x xs first) (All-head (λ (a : X). All (R a) ys) x xs across))
-        (pairs_append xs ys (pairs_tail R x xs first) second (All-tail (λ (a : X). All (R a) ys) x xs across))
+      (All-append (R x) xs ys (pairs_head R x xs first) (All-head (λ (a : X). All (R a) ys) x xs across))
+      (pairs_append xs ys (pairs_tail R x xs first) second (All-tail (λ (a : X). All (R a) ys) x xs across))
 
 -- each of some items differs from each of others, where they have what does
 all_across : {X : Type 0} (P Q : X → Type 0) (R : X → X → Type 0) → ((x y : X) → P x → Q y → R x y) → (xs ys : List X) → All P xs → All Q ys → All (λ x. All (R x) ys) xs
@@ -39,8 +39,8 @@ pairs_map : {X Y : Type 0} (f : X → Y) (P : X → Type 0) (R : X → X → Typ
 pairs_map f P R S keeps [] all pairs = no_pairs S
 pairs_map {X} {Y} f P R S keeps (x ∷ xs) all pairs =
     AllPairs-cons S (f x) (map f xs)
-      (All-map (S (f x)) f xs (λ k d within. keeps x (get_or xs k d) (All-head P x xs all) (All-tail P x xs all k d within) (pairs_head R x xs pairs k d within)))
-      (pairs_map f P R S keeps xs (All-tail P x xs all) (pairs_tail R x xs pairs))
+    (All-map (S (f x)) f xs (λ k d within. keeps x (get_or xs k d) (All-head P x xs all) (All-tail P x xs all k d within) (pairs_head R x xs pairs k d within)))
+    (pairs_map f P R S keeps xs (All-tail P x xs all) (pairs_tail R x xs pairs))
 
 pairs_of_map : {X Y : Type 0} (f : X → Y) (xs : List X) → AllPairs (λ a b. a ≢ b) (map f xs) → AllPairs (λ a b. f a ≢ f b) xs
 pairs_of_map f [] pairs = no_pairs (λ a b. f a ≢ f b)
@@ -65,10 +65,10 @@ module _ (joined : (a b : List ℕ) → parts (a ++ 46 ∷ b) ≡ parts a ++ par
     path_on : (path name : List ℕ) (qs : List (List ℕ)) → IsPath path qs → IsTrue (is_part name) → IsPath (path ++ name ++ codes ".") (qs ++ name ∷ [])
     path_on path name qs is part = record {
       parts_after = λ after.
-        ap parts (append_assoc (path ++ name) (46 ∷ []) after ∙ append_assoc path name (46 ∷ after))
-        ∙ is.parts_after (name ++ 46 ∷ after)
-        ∙ ap (λ ps. qs ++ ps) (joined name after ∙ ap (λ ps. ps ++ parts after) (whole name part))
-        ∙ sym (append_assoc qs (name ∷ []) (parts after));
+          ap parts (append_assoc (path ++ name) (46 ∷ []) after ∙ append_assoc path name (46 ∷ after))
+          ∙ is.parts_after (name ++ 46 ∷ after)
+          ∙ ap (λ ps. qs ++ ps) (joined name after ∙ ap (λ ps. ps ++ parts after) (whole name part))
+          ∙ sym (append_assoc qs (name ∷ []) (parts after));
       good = All-append (λ p. IsTrue (is_part p)) qs (name ∷ []) is.good (All-cons (λ p. IsTrue (is_part p)) name [] part (All-nil (λ p. IsTrue (is_part p))));
     }
 
@@ -160,9 +160,9 @@ module _ (joined : (a b : List ℕ) → parts (a ++ 46 ∷ b) ≡ parts a ++ par
           let more = flat_map (below_instance levels scope) instances in
           subst (λ (ns : List (List ℕ)). All (Below qs Q) ns) (sym (flat_append full mine more))
           (All-append (Below qs Q) (all_names mine) (all_names more)
-            (All-weaker (Begins (qs ++ name_at names i.name ∷ [])) (Below qs Q) (begins_below qs (name_at names i.name) Q (All-head (λ (j : InstanceEntry). Q (name_at names j.name)) i instances holds)) (all_names mine)
-              (instance_begins levels others scope qs i sound (All-head (λ (j : InstanceEntry). IsGoodNumber names j.name) i instances good) (lookup (nat_eq i.«module») modules) refl))
-            (instances_below levels others scope qs Q instances sound (All-tail (λ (j : InstanceEntry). IsGoodNumber names j.name) i instances good) (All-tail (λ (j : InstanceEntry). Q (name_at names j.name)) i instances holds)))
+          (All-weaker (Begins (qs ++ name_at names i.name ∷ [])) (Below qs Q) (begins_below qs (name_at names i.name) Q (All-head (λ (j : InstanceEntry). Q (name_at names j.name)) i instances holds)) (all_names mine)
+          (instance_begins levels others scope qs i sound (All-head (λ (j : InstanceEntry). IsGoodNumber names j.name) i instances good) (lookup (nat_eq i.«module») modules) refl))
+          (instances_below levels others scope qs Q instances sound (All-tail (λ (j : InstanceEntry). IsGoodNumber names j.name) i instances good) (All-tail (λ (j : InstanceEntry). Q (name_at names j.name)) i instances holds)))
 
       -- names of numbers that differ
       names_apart : (i j : InstanceEntry) → IsGoodNumber names i.name → IsGoodNumber names j.name → i.name ≢ j.name → name_at names i.name ≢ name_at names j.name
@@ -184,11 +184,11 @@ module _ (joined : (a b : List ℕ) → parts (a ++ 46 ∷ b) ≡ parts a ++ par
           λ k d within. names_apart i (get_or instances k d) good_i (good_rest k d within) (pairs_head (λ (a b : InstanceEntry). a.name ≢ b.name) i instances apart k d within) in
           subst (λ (ns : List (List ℕ)). AllPairs (λ a b. a ≢ b) ns) (sym (flat_append full mine more))
           (pairs_append (λ a b. a ≢ b) (all_names mine) (all_names more)
-            (instance_apart levels others scope qs i sound good_i (lookup (nat_eq i.«module») modules) refl)
-            (instances_apart levels begins others scope qs instances sound good_rest (pairs_tail (λ (a b : InstanceEntry). a.name ≢ b.name) i instances apart))
-            (all_across (Begins (qs ++ key ∷ [])) (Below qs (λ other. key ≢ other)) (λ a b. a ≢ b) (keys_apart qs key) (all_names mine) (all_names more)
-              (instance_begins levels begins scope qs i sound good_i (lookup (nat_eq i.«module») modules) refl)
-              (instances_below levels begins scope qs (λ other. key ≢ other) instances sound good_rest keys)))
+          (instance_apart levels others scope qs i sound good_i (lookup (nat_eq i.«module») modules) refl)
+          (instances_apart levels begins others scope qs instances sound good_rest (pairs_tail (λ (a b : InstanceEntry). a.name ≢ b.name) i instances apart))
+          (all_across (Begins (qs ++ key ∷ [])) (Below qs (λ other. key ≢ other)) (λ a b. a ≢ b) (keys_apart qs key) (all_names mine) (all_names more)
+          (instance_begins levels begins scope qs i sound good_i (lookup (nat_eq i.«module») modules) refl)
+          (instances_below levels begins scope qs (λ other. key ≢ other) instances sound good_rest keys)))
 
       good_instances : (scope : Scope) (name : ℕ) → IsSoundModule names (name, scope.entry) → All (λ i. IsGoodNumber names i.name) scope.entry.instances
       good_instances scope name sound = λ k d within. (sound.instances k d within).name
@@ -198,9 +198,9 @@ module _ (joined : (a b : List ℕ) → parts (a ++ 46 ∷ b) ≡ parts a ++ par
           All-append (Begins qs) (full scope) [] (All-weaker (Ends qs) (Begins qs) (ends_begins qs) (full scope) (own_ends scope qs sound)) (All-nil (Begins qs))
       begins_ok (suc levels) scope qs sound =
           All-append (Begins qs) (full scope) (all_names (flat_map (below_instance levels scope) scope.entry.instances))
-            (All-weaker (Ends qs) (Begins qs) (ends_begins qs) (full scope) (own_ends scope qs sound))
-            (All-weaker (Below qs (λ key. Unit {0})) (Begins qs) (below_begins qs (λ key. Unit {0})) (all_names (flat_map (below_instance levels scope) scope.entry.instances))
-              (instances_below levels (begins_ok levels) scope qs (λ key. Unit {0}) scope.entry.instances sound (good_instances scope sound.0 sound.1) (λ k d within. tt)))
+          (All-weaker (Ends qs) (Begins qs) (ends_begins qs) (full scope) (own_ends scope qs sound))
+          (All-weaker (Below qs (λ key. Unit {0})) (Begins qs) (below_begins qs (λ key. Unit {0})) (all_names (flat_map (below_instance levels scope) scope.entry.instances))
+          (instances_below levels (begins_ok levels) scope qs (λ key. Unit {0}) scope.entry.instances sound (good_instances scope sound.0 sound.1) (λ k d within. tt)))
 
       apart_ok : (levels : ℕ) → ApartOk levels
       apart_ok zero scope qs sound =
@@ -208,9 +208,9 @@ module _ (joined : (a b : List ℕ) → parts (a ++ 46 ∷ b) ≡ parts a ++ par
       apart_ok (suc levels) scope qs sound =
           let more = flat_map (below_instance levels scope) scope.entry.instances in
           pairs_append (λ a b. a ≢ b) (full scope) (all_names more) (own_apart scope qs sound)
-            (instances_apart levels (begins_ok levels) (apart_ok levels) scope qs scope.entry.instances sound (good_instances scope sound.0 sound.1) sound.1.distinct_instances)
-            (all_across (Ends qs) (Below qs (λ key. Unit {0})) (λ a b. a ≢ b) (ends_not_below qs (λ key. Unit {0})) (full scope) (all_names more) (own_ends scope qs sound)
-              (instances_below levels (begins_ok levels) scope qs (λ key. Unit {0}) scope.entry.instances sound (good_instances scope sound.0 sound.1) (λ k d within. tt)))
+          (instances_apart levels (begins_ok levels) (apart_ok levels) scope qs scope.entry.instances sound (good_instances scope sound.0 sound.1) sound.1.distinct_instances)
+          (all_across (Ends qs) (Below qs (λ key. Unit {0})) (λ a b. a ≢ b) (ends_not_below qs (λ key. Unit {0})) (full scope) (all_names more) (own_ends scope qs sound)
+          (instances_below levels (begins_ok levels) scope qs (λ key. Unit {0}) scope.entry.instances sound (good_instances scope sound.0 sound.1) (λ k d within. tt)))
 
     top_sound : (top : ℕ × ModuleEntry) → IsSoundModule names top → Sound (top_scope names modules top.1) []
     top_sound top sound = (top.0, sound, record { parts_after = λ name. refl; good = All-nil (λ part. IsTrue (is_part part)) })
@@ -233,8 +233,8 @@ module _ (joined : (a b : List ℕ) → parts (a ++ 46 ∷ b) ≡ parts a ++ par
     sound_instances levels others scope qs [] sound good = All-nil (IsSoundScope names)
     sound_instances levels others scope qs (i ∷ instances) sound good =
         All-append (IsSoundScope names) (each_below levels scope i) (flat_map (each_below levels scope) instances)
-          (sound_instance levels others scope qs i sound (All-head (λ (j : InstanceEntry). IsGoodNumber names j.name) i instances good) (lookup (nat_eq i.«module») modules) refl)
-          (sound_instances levels others scope qs instances sound (All-tail (λ (j : InstanceEntry). IsGoodNumber names j.name) i instances good))
+        (sound_instance levels others scope qs i sound (All-head (λ (j : InstanceEntry). IsGoodNumber names j.name) i instances good) (lookup (nat_eq i.«module») modules) refl)
+        (sound_instances levels others scope qs instances sound (All-tail (λ (j : InstanceEntry). IsGoodNumber names j.name) i instances good))
 
     sound_here : (scope : Scope) (qs : List (List ℕ)) → Sound scope qs → IsSoundScope names scope
     sound_here scope qs sound = record { name = sound.0; sound = sound.1; instances = qs; path = sound.2 }
@@ -266,9 +266,9 @@ module _ (joined : (a b : List ℕ) → parts (a ++ 46 ∷ b) ≡ parts a ++ par
     net_names_differ scope name sound =
         pairs_map (λ (net : ℕ × nets.Net). name_at names net.0) (λ net. IsGoodNumber names net.0) (λ a b. a.0 ≢ b.0) (λ a b. a ≢ b)
         (λ a b good other apart same.
-          let e : Some a.0 ≡ Some b.0 = sym good.known ∙ ap (number_of names) same ∙ other.known in
-          let equal : a.0 ≡ b.0 = cc in
-          apart equal)
+        let e : Some a.0 ≡ Some b.0 = sym good.known ∙ ap (number_of names) same ∙ other.known in
+        let equal : a.0 ≡ b.0 = cc in
+        apart equal)
         (mine scope) (All-filter (is_own names modules scope) (λ net. IsGoodNumber names net.0) scope.entry.nets sound.nets)
         (AllPairs-filter (λ a b. a.0 ≢ b.0) (is_own names modules scope) scope.entry.nets sound.distinct_nets)
 
@@ -288,7 +288,7 @@ module _ (joined : (a b : List ℕ) → parts (a ++ 46 ∷ b) ≡ parts a ++ par
     nets_differ top sound =
         pairs_of_map (λ (net : netlist.NetEntry). net.name) (nets_of names modules top.1)
         (subst (λ (ns : List (List ℕ)). AllPairs (λ a b. a ≢ b) ns) (sym (all_net_names (scopes_below names modules MAX_DEPTH (top_scope names modules top.1))))
-          (apart_ok net_names net_parts net_names_differ MAX_DEPTH (top_scope names modules top.1) [] (top_sound top sound)))
+        (apart_ok net_names net_parts net_names_differ MAX_DEPTH (top_scope names modules top.1) [] (top_sound top sound)))
 
     -- The gates of a design.
 
@@ -318,4 +318,4 @@ module _ (joined : (a b : List ℕ) → parts (a ++ 46 ∷ b) ≡ parts a ++ par
     gates_differ top sound =
         pairs_of_map (λ (gate : netlist.GateEntry). gate.name) (gates_of names modules top.1)
         (subst (λ (ns : List (List ℕ)). AllPairs (λ a b. a ≢ b) ns) (sym (all_gate_names (scopes_below names modules MAX_DEPTH (top_scope names modules top.1))))
-          (apart_ok gate_names gate_parts gate_names_differ MAX_DEPTH (top_scope names modules top.1) [] (top_sound top sound)))
+        (apart_ok gate_names gate_parts gate_names_differ MAX_DEPTH (top_scope names modules top.1) [] (top_sound top sound)))

@@ -1,7 +1,6 @@
 -- What nets are connected to, one connection after another.
-use Rattle.std.proofs.Common.{◌≡◌, ◌≢◌, ℕ, zero, suc, ◌+◌, ◌<◌, ◌≤◌, Bool, true, false, cond, nat_eq, List, [], ◌∷◌, length, map, set, replicate, drop, get_or, Option, Some, None, refl, sym, ap, ◌∙◌, arith, All, AllPairs}
-use Rattle.std.specs.Prelude.{option_map, position}
-use Rattle.std.specs.Option.{option_map_or}
+use Rattle.std.proofs.Common.{◌≡◌, ◌≢◌, ℕ, zero, suc, ◌+◌, ◌<◌, Bool, true, false, cond, nat_eq, List, [], ◌∷◌, length, map, set, replicate, drop, get_or, Option, Some, None, refl, sym, ap, ◌∙◌, arith, All}
+use Rattle.std.specs.Prelude.{option_map}
 use Rattle.std.proofs.lemmas.Bool.Decides.{nat_tests}
 use Rattle.std.proofs.lemmas.List.Elements.{All-head, All-tail}
 use Rattle.std.proofs.lemmas.List.{at_drop_more}
@@ -10,7 +9,7 @@ use Rattle.vtext.specs.declared.module_instance.PortConnection.{PortConnection}
 use Rattle.vtext.specs.declared.net.Net as nets
 use Rattle.vtext.specs.Nets.{place_of}
 use Rattle.elaboration.specs.Numbered.{AreDistinct, joints_from, place_for, with_joint}
-use Rattle.elaboration.specs.Ports.{is_for, joined_from}
+use Rattle.elaboration.specs.Ports.{joined_from}
 use Rattle.elaboration.proofs.PairLemmas.{pairs_head, pairs_tail, position_first}
 use Rattle.elaboration.proofs.PortLemmas.{same_swapped}
 
@@ -56,7 +55,7 @@ module _ (terminal : Option Terminal) (more : List PortConnection) (at : ℕ) wh
     named_past place [] none = refl
     named_past place (net ∷ rest) none =
         ap (λ (b : Bool). cond b terminal (joined_from more (suc at) place net.0) ∷ joints_from (named ∷ more) at (suc place) rest)
-          (same_swapped net.0 n ∙ differ n net.0 (All-head (λ (o : ℕ × nets.Net). n ≢ o.0) net rest none))
+        (same_swapped net.0 n ∙ differ n net.0 (All-head (λ (o : ℕ × nets.Net). n ≢ o.0) net rest none))
         ∙ ap (λ (js : List (Option Terminal)). joined_from more (suc at) place net.0 ∷ js) (named_past (suc place) rest (All-tail (λ (o : ℕ × nets.Net). n ≢ o.0) net rest none))
 
     joint_on : (joint : Option Terminal) (joints : List (Option Terminal)) (place : Option ℕ) → with_joint (joint ∷ joints) (option_map suc place) terminal ≡ joint ∷ with_joint joints place terminal
@@ -66,12 +65,12 @@ module _ (terminal : Option Terminal) (more : List PortConnection) (at : ℕ) wh
     named_first : (b : Bool) (place : ℕ) (net : ℕ × nets.Net) (rest : List (ℕ × nets.Net)) → AreDistinct (net ∷ rest) → nat_eq n net.0 ≡ b
         → joints_from (named ∷ more) at (suc place) rest ≡ with_joint (joints_from more (suc at) (suc place) rest) (place_of rest n) terminal
         → joints_from (named ∷ more) at place (net ∷ rest)
-            ≡ with_joint (joints_from more (suc at) place (net ∷ rest)) (cond b (Some 0) (option_map suc (place_of rest n))) terminal
+        ≡ with_joint (joints_from more (suc at) place (net ∷ rest)) (cond b (Some 0) (option_map suc (place_of rest n))) terminal
     named_first true place net rest distinct is others =
         let here : n ≡ net.0 = grind (arith, nat_tests) in
         ap (λ (b : Bool). cond b terminal (joined_from more (suc at) place net.0) ∷ joints_from (named ∷ more) at (suc place) rest) (same_swapped net.0 n ∙ is)
         ∙ ap (λ (js : List (Option Terminal)). terminal ∷ js)
-          (named_past (suc place) rest (λ k d within. λ e. pairs_head (λ (a b : ℕ × nets.Net). a.0 ≢ b.0) net rest distinct k d within (sym here ∙ e)))
+        (named_past (suc place) rest (λ k d within. λ e. pairs_head (λ (a b : ℕ × nets.Net). a.0 ≢ b.0) net rest distinct k d within (sym here ∙ e)))
     named_first false place net rest distinct is others =
         ap (λ (b : Bool). cond b terminal (joined_from more (suc at) place net.0) ∷ joints_from (named ∷ more) at (suc place) rest) (same_swapped net.0 n ∙ is)
         ∙ ap (λ (js : List (Option Terminal)). joined_from more (suc at) place net.0 ∷ js) others
@@ -95,7 +94,7 @@ pub joined_more : (connections : List PortConnection) (now at : ℕ) (c : PortCo
 joined_more connections now at c nets joints distinct next within is before =
     let one : suc now ≡ at = omega arith in
     ap (λ js. with_joint js (place_for nets now c) c.terminal)
-      (before ∙ ap (λ (n : ℕ). joints_from (drop n connections) at 0 nets) next ∙ ap (λ (n : ℕ). joints_from (drop (now + 1) connections) n 0 nets) (sym one))
+    (before ∙ ap (λ (n : ℕ). joints_from (drop n connections) at 0 nets) next ∙ ap (λ (n : ℕ). joints_from (drop (now + 1) connections) n 0 nets) (sym one))
     ∙ sym (joined_by c.terminal (drop (now + 1) connections) now c.port nets distinct)
     ∙ ap (λ (d : PortConnection). joints_from (d ∷ drop (now + 1) connections) now 0 nets) is
     ∙ sym (at_drop_more (λ cs. joints_from cs now 0 nets) connections now c within)

@@ -1,11 +1,10 @@
 -- Scopes as they are kept are those of the design.
-use Rattle.std.proofs.Common.{◌≡◌, ◌≢◌, ℕ, zero, suc, ◌+◌, ◌-◌, ◌^◌, ◌<◌, ◌≤◌, min, Bool, true, false, ◌&&◌, cond, nat_eq, List, [], ◌∷◌, ◌++◌, length, map, replicate, Option, Some, None, is_none, unwrap_or, All, AllPairs, refl, sym, ap, subst, ◌∙◌, arith, append_assoc, length-append}
+use Rattle.std.proofs.Common.{◌≡◌, ◌≢◌, ℕ, zero, suc, ◌+◌, ◌-◌, ◌^◌, ◌<◌, ◌≤◌, min, Bool, true, false, cond, nat_eq, List, [], ◌∷◌, ◌++◌, length, map, replicate, Option, Some, None, is_none, unwrap_or, All, refl, sym, ap, subst, ◌∙◌, arith, append_assoc, length-append}
 use Rattle.std.specs.Prelude.{codes, option_and_then, option_map, position, flat_map, filter, fold}
 use Rattle.std.specs.List.{AllZip, slice_get}
 use Rattle.std.specs.Map.{lookup}
 use Rattle.std.specs.Option.{option_map_or}
 use Rattle.std.proofs.lemmas.Bool.Decides.{nat_tests}
-use Rattle.std.proofs.lemmas.List.Elements.{All-head, All-tail}
 use Rattle.std.proofs.lemmas.Option.{get_or_from_slice_get, slice_get_within}
 use Rattle.fourstate.specs.declared.value.Value.TheVariants.{Unknown}
 use Rattle.design.specs.Netlist.{NetEntry}
@@ -17,10 +16,10 @@ use Rattle.vtext.specs.Modules.{InstanceEntry, ModuleEntry}
 use Rattle.vtext.specs.Names.{name_at}
 use Rattle.vtext.specs.Nets.{net_of}
 use Rattle.elaboration.specs.declared.node.NodeRef.{NodeRef}
-use Rattle.elaboration.specs.declared.node.NodeRef.TheVariants.{Net, Tied}
+use Rattle.elaboration.specs.declared.node.NodeRef.TheVariants.{Tied}
 use Rattle.elaboration.specs.declared.node.Slot.{Slot}
 use Rattle.elaboration.specs.declared.limits.TheConstants.{MAX_DEPTH}
-use Rattle.elaboration.specs.Elaborations.{IsNet, IsNode, IsScope, IsSlot}
+use Rattle.elaboration.specs.Elaborations.{IsNode, IsScope, IsSlot}
 use Rattle.elaboration.specs.Numbered.{AreDistinct, PlacedScope, SoFar, Start, inner_start, joints_from, kept_scopes, next_place, none, place_after, placed, ref_at, slot_for, slot_of, slots_from, top_start, with_below, with_instance, with_scope}
 use Rattle.elaboration.specs.Ports.{joined_from, joined_to}
 use Rattle.elaboration.specs.Scopes.{Node, Scope, inner, is_own, nets_of, node_at, node_of, own_net, own_nets, scopes_below, scopes_of, tied, top_scope, wired}
@@ -64,11 +63,11 @@ place_of_item (x ∷ xs) zero net distinct e =
     let same : x ≡ net = cc in
     position_first (λ (o : ℕ × nets.Net). nat_eq net.0 o.0) x xs
     ∙ ap (λ (b : Bool). cond b (Some 0) (option_map suc (position (λ (o : ℕ × nets.Net). nat_eq net.0 o.0) xs)))
-      (ap (λ (o : ℕ × nets.Net). nat_eq net.0 o.0) same ∙ same_number net.0)
+    (ap (λ (o : ℕ × nets.Net). nat_eq net.0 o.0) same ∙ same_number net.0)
 place_of_item (x ∷ xs) (suc k) net distinct e =
     let within : k < length xs = slice_get_within xs k net e in
     let apart : net.0 ≢ x.0 = λ same. pairs_head (λ (a b : ℕ × nets.Net). a.0 ≢ b.0) x xs distinct k net within
-      (sym same ∙ ap (λ (o : ℕ × nets.Net). o.0) (sym (get_or_from_slice_get xs k net net e))) in
+    (sym same ∙ ap (λ (o : ℕ × nets.Net). o.0) (sym (get_or_from_slice_get xs k net net e))) in
     position_first (λ (o : ℕ × nets.Net). nat_eq net.0 o.0) x xs
     ∙ ap (λ (b : Bool). cond b (Some 0) (option_map suc (position (λ (o : ℕ × nets.Net). nat_eq net.0 o.0) xs))) (differ net.0 x.0 apart)
     ∙ ap (option_map suc) (place_of_item xs k net (pairs_tail (λ (a b : ℕ × nets.Net). a.0 ≢ b.0) x xs distinct) e)
@@ -87,9 +86,9 @@ module _ (names : List (List ℕ)) (modules : List (ℕ × ModuleEntry)) (flat :
   at_tail : (place : ℕ) (net : NetEntry) (more : List NetEntry) → At place (net ∷ more) → At (min (place + 1) most) more
   at_tail place net more at = record {
     stand = λ few k other e.
-      let within : place < length flat = slice_get_within flat place net (at_head place net more at few) in
-      let next : min (place + 1) most + k ≡ place + suc k = omega arith in
-      ap (slice_get flat) next ∙ at.stand few (suc k) other e;
+        let within : place < length flat = slice_get_within flat place net (at_head place net more at few) in
+        let next : min (place + 1) most + k ≡ place + suc k = omega arith in
+        ap (slice_get flat) next ∙ at.stand few (suc k) other e;
   }
 
   -- What ports are connected to.
@@ -126,7 +125,7 @@ module _ (names : List (List ℕ)) (modules : List (ℕ × ModuleEntry)) (flat :
         record {
           slots = (
             record { node = subst (λ (o : Option Node). IsNode flat kept (unwrap_or o (wired (own_net names modules scope net)))) (sym e) is; own = ap (λ (o : Option Node). is_none o) (sym e) },
-            tail.slots
+            tail.slots,
           );
           next = tail.next;
           count = tail.count ∙ ap (λ (ns : List NetEntry). min (place + length ns) most) skip;
@@ -150,7 +149,7 @@ module _ (names : List (List ℕ)) (modules : List (ℕ × ModuleEntry)) (flat :
                   (record { kind = refl; input = refl; place = λ few. at_head place mine (owned more ++ rest) here few });
               own = ap (λ (o : Option Node). is_none o) (sym e);
             },
-            tail.slots
+            tail.slots,
           );
           next = tail.next;
           count = tail.count ∙ count_on place (length (owned more)) (length (owned (net ∷ more))) most many;
@@ -187,11 +186,10 @@ module _ (names : List (List ℕ)) (modules : List (ℕ × ModuleEntry)) (flat :
       let zip : AllZip (λ g net. IsGiven g (scope.given net.0)) start.given scope.entry.nets = is.given in
       let made = slots_ok scope so_far.count scope.entry.nets start.given rest small zip at in
       let same : slots_from start.top so_far.count start.entry.nets start.given ≡ slots_from scope.top so_far.count scope.entry.nets start.given =
-      ap (λ (t : Bool). slots_from t so_far.count start.entry.nets start.given) is.top ∙ ap (λ (m : ModuleEntry). slots_from scope.top so_far.count m.nets start.given) is.entry in
-      (
+      ap (λ (t : Bool). slots_from t so_far.count start.entry.nets start.given) is.top ∙ ap (λ (m : ModuleEntry). slots_from scope.top so_far.count m.nets start.given) is.entry in (
         record { entry = is.entry; path = is.path; slots = subst (λ (ss : List Slot). AllZip (IsSlot names modules flat scope) ss scope.entry.nets) (sym same) made.slots },
         made.next,
-        made.count
+        made.count,
       )
 
   -- Terminals.
@@ -232,12 +230,11 @@ module _ (names : List (List ℕ)) (modules : List (ℕ × ModuleEntry)) (flat :
       let zero_on : k + 0 ≡ k = omega arith in
       let there : slice_get m.nets k ≡ Some net = ap (slice_get m.nets) (sym zero_on) ∙ part 0 net refl in
       let joined : joined_from connections 0 k net.0 ≡ joined_to m connections net.0 =
-      ap (λ (o : Option ℕ). option_and_then (λ place. joined_from connections 0 place net.0) o) (sym (place_of_item m.nets k net distinct there)) in
-      (
+      ap (λ (o : Option ℕ). option_and_then (λ place. joined_from connections 0 place net.0) o) (sym (place_of_item m.nets k net distinct there)) in (
         subst (λ (t : Option Terminal). IsGiven (option_map (ref_at kept) (joined_from connections 0 k net.0)) (option_map (node_at names modules scope) t)) joined
-          (given_of kept scope is (joined_from connections 0 k net.0)),
+            (given_of kept scope is (joined_from connections 0 k net.0)),
         given_from kept scope is m distinct connections (suc k) listed
-          (λ j other e. let on : suc k + j ≡ k + suc j = omega arith in ap (slice_get m.nets) on ∙ part (suc j) other e)
+            (λ j other e. let on : suc k + j ≡ k + suc j = omega arith in ap (slice_get m.nets) on ∙ part (suc j) other e),
       )
 
   start_ok : (kept : PlacedScope) (scope : Scope) → IsScope names modules flat kept scope → (i : InstanceEntry) (m : ModuleEntry) → AreDistinct m.nets → IsStart (inner_start names kept i m) (inner names modules scope i m)
@@ -264,7 +261,7 @@ module _ (names : List (List ℕ)) (modules : List (ℕ × ModuleEntry)) (flat :
     next = second.next;
     count = second.count ∙ ap (λ n. min (n + length (flat_nets ys)) most) first.count
         ∙ count_two a.count (length (flat_nets xs)) (length (flat_nets ys)) (length (flat_nets (xs ++ ys))) most
-          (ap length (flat_append (own_nets names modules) xs ys) ∙ length-append (flat_nets xs) (flat_nets ys));
+        (ap length (flat_append (own_nets names modules) xs ys) ∙ length-append (flat_nets xs) (flat_nets ys));
   }
 
   abbrev below_instance : ℕ → Scope → InstanceEntry → List Scope
@@ -291,7 +288,7 @@ module _ (names : List (List ℕ)) (modules : List (ℕ × ModuleEntry)) (flat :
         let all = all_is levels scope in
         let at_all : At so_far.count (own_nets names modules scope ++ (flat_nets (below levels scope) ++ rest)) =
         subst (λ (ns : List NetEntry). At so_far.count ns)
-          (ap (λ (ss : List Scope). flat_nets ss ++ rest) all ∙ append_assoc (own_nets names modules scope) (flat_nets (below levels scope)) rest) at in
+        (ap (λ (ss : List Scope). flat_nets ss ++ rest) all ∙ append_assoc (own_nets names modules scope) (flat_nets (below levels scope)) rest) at in
         let first = scope_ok so_far start scope (flat_nets (below levels scope) ++ rest) small is at_all in
         let low : (with_scope so_far start).count ≤ most = omega (arith, first.2) in
         let one : Made so_far (with_scope so_far start) (scope ∷ []) (flat_nets (below levels scope) ++ rest) = record {
@@ -310,7 +307,7 @@ module _ (names : List (List ℕ)) (modules : List (ℕ × ModuleEntry)) (flat :
         → found ≡ lookup (nat_eq i.«module») modules → so_far.count ≤ most
         → At so_far.count (flat_nets (option_map_or (λ m. scopes_below names modules levels (inner names modules scope i m)) found []) ++ rest)
         → Made so_far (option_map_or (λ m. with_below names modules levels (placed so_far.count (inner_start names kept i m)) (with_scope so_far (inner_start names kept i m))) found so_far)
-            (option_map_or (λ m. scopes_below names modules levels (inner names modules scope i m)) found []) rest
+        (option_map_or (λ m. scopes_below names modules levels (inner names modules scope i m)) found []) rest
     instance_case levels others kept scope is i so_far rest None e small at = made_none so_far rest small at
     instance_case levels others kept scope is i so_far rest (Some m) e small at =
         scopes_made levels others so_far (inner_start names kept i m) (inner names modules scope i m) rest small
@@ -325,7 +322,7 @@ module _ (names : List (List ℕ)) (modules : List (ℕ × ModuleEntry)) (flat :
         let more = flat_map (below_instance levels scope) instances in
         let at_mine : At so_far.count (flat_nets mine ++ (flat_nets more ++ rest)) =
         subst (λ (ns : List NetEntry). At so_far.count ns)
-          (ap (λ (ns : List NetEntry). ns ++ rest) (flat_append (own_nets names modules) mine more) ∙ append_assoc (flat_nets mine) (flat_nets more) rest) at in
+        (ap (λ (ns : List NetEntry). ns ++ rest) (flat_append (own_nets names modules) mine more) ∙ append_assoc (flat_nets mine) (flat_nets more) rest) at in
         let first = instance_case levels others kept scope is i so_far (flat_nets more ++ rest) (lookup (nat_eq i.«module») modules) refl small at_mine in
         let low : (with_instance names modules levels kept so_far i).count ≤ most = omega (arith, first.count) in
         made_two so_far (with_instance names modules levels kept so_far i) (fold (with_instance names modules levels kept) (with_instance names modules levels kept so_far i) instances) mine more rest first
@@ -350,8 +347,8 @@ module _ (names : List (List ℕ)) (modules : List (ℕ × ModuleEntry)) (flat :
         scopes_made MAX_DEPTH (below_ok MAX_DEPTH) none (top_start top) (top_scope names modules top) [] (omega arith) start
         (record {
           stand = λ few k net there.
-            let on : 0 + k ≡ k = omega arith in
-            ap (slice_get flat) on ∙ ap (λ (ns : List NetEntry). slice_get ns k) (e ∙ sym (append_nil (flat_nets (scopes_below names modules MAX_DEPTH (top_scope names modules top))))) ∙ there;
+              let on : 0 + k ≡ k = omega arith in
+              ap (slice_get flat) on ∙ ap (λ (ns : List NetEntry). slice_get ns k) (e ∙ sym (append_nil (flat_nets (scopes_below names modules MAX_DEPTH (top_scope names modules top))))) ∙ there;
         })
 
     pub kept_ok : (top : ModuleEntry) → flat ≡ nets_of names modules top → AllZip (IsScope names modules flat) (kept_scopes names modules top).list (scopes_of names modules top)

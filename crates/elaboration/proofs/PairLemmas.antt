@@ -1,5 +1,5 @@
 -- Lists whose items differ in pairs; places in lists.
-use Rattle.std.proofs.Common.{◌≡◌, ℕ, zero, suc, ◌+◌, ◌<◌, Bool, true, false, cond, List, [], ◌∷◌, length, get_or, Option, Some, None, refl, sym, ap, ◌∙◌, arith, All, AllPairs, subst}
+use Rattle.std.proofs.Common.{◌≡◌, ℕ, suc, ◌+◌, Bool, true, false, cond, List, [], ◌∷◌, Option, Some, refl, sym, ap, ◌∙◌, arith, All, AllPairs, subst}
 use Rattle.std.specs.Prelude.{option_map, position}
 use Rattle.std.specs.List.{position_from}
 use Rattle.std.specs.Map.{lookup}

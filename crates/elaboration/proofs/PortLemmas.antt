@@ -77,16 +77,16 @@ new_first names name c cs some fresh =
     ap (λ b. b || is_named_twice cs) (all_more names name cs)
     ∙ or_assoc (any_seen names cs) (list_any (names_port name) cs) (is_named_twice cs)
     ∙ sym (
-      ap (λ (port : Option ℕ). (option_map_or (λ n. list_any (nat_eq n) names) port false || any_seen names cs)
-          || (option_map_or (λ n. list_any (names_port n) cs) port false || is_named_twice cs)) some
-      ∙ ap (λ b. (b || any_seen names cs) || (list_any (names_port name) cs || is_named_twice cs)) fresh
+    ap (λ (port : Option ℕ). (option_map_or (λ n. list_any (nat_eq n) names) port false || any_seen names cs)
+    || (option_map_or (λ n. list_any (names_port n) cs) port false || is_named_twice cs)) some
+    ∙ ap (λ b. (b || any_seen names cs) || (list_any (names_port name) cs || is_named_twice cs)) fresh
     )
 
 old_first : (names : List ℕ) (name : ℕ) (c : PortConnection) (cs : List PortConnection) → c.port ≡ Some name → list_any (nat_eq name) names ≡ true
     → is_again names (c ∷ cs) ≡ true
 old_first names name c cs some seen =
     ap (λ (port : Option ℕ). (option_map_or (λ n. list_any (nat_eq n) names) port false || any_seen names cs)
-        || (option_map_or (λ n. list_any (names_port n) cs) port false || is_named_twice cs)) some
+    || (option_map_or (λ n. list_any (names_port n) cs) port false || is_named_twice cs)) some
     ∙ ap (λ b. (b || any_seen names cs) || (list_any (names_port name) cs || is_named_twice cs)) seen
 
 module _ (connections : List PortConnection) (i : ℕ) (d : PortConnection) (within : i < length connections) where

@@ -35,8 +35,8 @@ module _ (modules : List (ℕ × ModuleEntry)) (from : ℕ) where
   reached_on is_reached between same name =
       ap (λ (b : Bool). b || list_any (λ (m : ℕ × ModuleEntry). is_reached m.0 && instantiates m.1 name) modules) (same name)
       ∙ ap (λ (b : Bool). reaches modules from between name || b)
-        (any_same (λ (m : ℕ × ModuleEntry). is_reached m.0 && instantiates m.1 name) (λ (m : ℕ × ModuleEntry). reaches modules from between m.0 && instantiates m.1 name)
-        (λ m. ap (λ (b : Bool). b && instantiates m.1 name) (same m.0)) modules)
+      (any_same (λ (m : ℕ × ModuleEntry). is_reached m.0 && instantiates m.1 name) (λ (m : ℕ × ModuleEntry). reaches modules from between m.0 && instantiates m.1 name)
+      (λ m. ap (λ (b : Bool). b && instantiates m.1 name) (same m.0)) modules)
 
   -- the same of sets as code keeps them
   pub reached_by : (before reached now : List ℕ) (between : ℕ) → before ≡ reached → ((name : ℕ) → list_any (nat_eq name) reached ≡ reaches modules from between name)

@@ -1,5 +1,5 @@
 -- Scopes that are added one after another.
-use Rattle.std.proofs.Common.{◌≡◌, ℕ, zero, suc, ◌+◌, ◌<◌, List, [], ◌∷◌, ◌++◌, length, take, get_or, Option, Some, None, nat_eq, refl, sym, ap, ◌∙◌, arith, append_assoc}
+use Rattle.std.proofs.Common.{◌≡◌, ℕ, zero, suc, ◌+◌, ◌<◌, List, [], ◌∷◌, ◌++◌, length, take, get_or, Option, Some, None, nat_eq, refl, sym, ap, ◌∙◌}
 use Rattle.std.specs.Prelude.{fold, option_map}
 use Rattle.std.specs.List.{slice_get}
 use Rattle.std.specs.Map.{lookup}
@@ -37,9 +37,9 @@ module _ (names : List (List ℕ)) (modules : List (ℕ × ModuleEntry)) (place 
   below_keeps zero scope so_far there = there
   below_keeps (suc levels) scope so_far there =
       fold_keeps (with_instance names modules levels scope)
-        (λ s i here. of_found (lookup (nat_eq i.«module») modules) s (λ m. with_scopes names modules levels s (inner_start names scope i m)) here
-          (λ m. below_keeps levels (placed s.count (inner_start names scope i m)) (with_scope s (inner_start names scope i m)) (scope_keeps s (inner_start names scope i m) here)))
-        so_far scope.entry.instances there
+      (λ s i here. of_found (lookup (nat_eq i.«module») modules) s (λ m. with_scopes names modules levels s (inner_start names scope i m)) here
+      (λ m. below_keeps levels (placed s.count (inner_start names scope i m)) (with_scope s (inner_start names scope i m)) (scope_keeps s (inner_start names scope i m) here)))
+      so_far scope.entry.instances there
 
   pub scopes_keep : (levels : ℕ) (so_far : SoFar) (start : Start) → Keeps so_far → Keeps (with_scopes names modules levels so_far start)
   scopes_keep levels so_far start there = below_keeps levels (placed so_far.count start) (with_scope so_far start) (scope_keeps so_far start there)

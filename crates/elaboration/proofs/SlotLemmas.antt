@@ -1,6 +1,6 @@
 -- What nets are, one after another.
 use Rattle.std.proofs.Common.{◌≡◌, ℕ, suc, ◌+◌, ◌<◌, Bool, true, false, cond, nat_eq, List, [], ◌∷◌, ◌++◌, length, map, drop, get_or, Option, Some, None, refl, sym, ap, ◌∙◌, append_assoc}
-use Rattle.std.specs.Prelude.{option_and_then, option_map, position}
+use Rattle.std.specs.Prelude.{option_and_then, option_map}
 use Rattle.std.specs.List.{slice_get}
 use Rattle.std.proofs.lemmas.List.{at_drop_more}
 use Rattle.vtext.specs.declared.net.Net as nets
@@ -41,11 +41,11 @@ pub next_slot : (top : Bool) (listed : List (ℕ × nets.Net)) (given : List (Op
 next_slot top listed given i net node place items in_nets in_given is_net is_node =
     append_assoc items (slot_of top place net.1 node ∷ []) (slots_from top (next_place place node) (drop (i + 1) listed) (drop (i + 1) given))
     ∙ ap (λ ss. items ++ ss) (sym (
-        at_drop_more (λ ns. slots_from top place ns (drop i given)) listed i net in_nets
-        ∙ ap (λ (n : ℕ × nets.Net). slots_from top place (n ∷ drop (i + 1) listed) (drop i given)) (sym is_net)
-        ∙ at_drop_more (λ gs. slots_from top place (net ∷ drop (i + 1) listed) gs) given i node in_given
-        ∙ ap (λ (g : Option NodeRef). slots_from top place (net ∷ drop (i + 1) listed) (g ∷ drop (i + 1) given)) (sym is_node)
-      ))
+    at_drop_more (λ ns. slots_from top place ns (drop i given)) listed i net in_nets
+    ∙ ap (λ (n : ℕ × nets.Net). slots_from top place (n ∷ drop (i + 1) listed) (drop i given)) (sym is_net)
+    ∙ at_drop_more (λ gs. slots_from top place (net ∷ drop (i + 1) listed) gs) given i node in_given
+    ∙ ap (λ (g : Option NodeRef). slots_from top place (net ∷ drop (i + 1) listed) (g ∷ drop (i + 1) given)) (sym is_node)
+    ))
 
 pub place_next : (given : List (Option NodeRef)) (i : ℕ) (node : Option NodeRef) (place : ℕ) → i < length given → node ≡ get_or given i node
     → place_after (next_place place node) (drop (i + 1) given) ≡ place_after place (drop i given)

@@ -3,7 +3,7 @@ use Rattle.std.specs.Prelude.{Bool, true, false, ℕ, zero, suc, nat_eq, ◌+◌
 use Rattle.std.specs.List.{list_any, sum_by}
 use Rattle.std.specs.Map.{lookup}
 use Rattle.std.specs.Option.{option_map_or}
-use Rattle.vtext.specs.Modules.{InstanceEntry, ModuleEntry}
+use Rattle.vtext.specs.Modules.{ModuleEntry}
 use Rattle.elaboration.specs.declared.limits.TheConstants.{MAX_DEPTH, MAX_INSTANCES}
 
 module _ (modules : List (ℕ × ModuleEntry)) where

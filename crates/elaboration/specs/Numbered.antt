@@ -123,7 +123,7 @@ module _ (names : List (List ℕ)) (modules : List (ℕ × ModuleEntry)) where
   with_below zero scope so_far = so_far
   with_below (suc levels) scope so_far =
       fold (λ s i. option_map_or (λ m. with_below levels (placed s.count (inner_start names scope i m)) (with_scope s (inner_start names scope i m)))
-        (lookup (nat_eq i.«module») modules) s) so_far scope.entry.instances
+      (lookup (nat_eq i.«module») modules) s) so_far scope.entry.instances
 
   -- with a scope and those below it
   abbrev pub with_scopes : ℕ → SoFar → Start → SoFar

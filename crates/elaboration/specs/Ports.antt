@@ -12,7 +12,7 @@ use Rattle.vtext.specs.declared.gate.Terminal.{Terminal}
 use Rattle.vtext.specs.declared.module_instance.PortConnection.{PortConnection}
 use Rattle.vtext.specs.declared.net.Net.{Net}
 use Rattle.vtext.specs.declared.word.Direction.{Direction}
-use Rattle.vtext.specs.declared.word.Direction.TheVariants.{Input, Output}
+use Rattle.vtext.specs.declared.word.Direction.TheVariants.{Output}
 use Rattle.vtext.specs.Instances.{is_constant}
 use Rattle.vtext.specs.Modules.{InstanceEntry, ModuleEntry}
 use Rattle.vtext.specs.Nets.{net_of}

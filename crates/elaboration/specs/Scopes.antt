@@ -1,6 +1,6 @@
 -- The scopes of a design (IEEE 1364-2005, 12.4): the module at its top and each instance below it, one after another. An instance comes
 -- before those in it, and these before the next instance (own).
-use Rattle.std.specs.Prelude.{Bool, true, false, ℕ, zero, suc, nat_eq, ◌&&◌, ◌++◌, List, [], ◌∷◌, map, Option, None, Some, is_none, option_map, unwrap_or, codes}
+use Rattle.std.specs.Prelude.{Bool, true, false, ℕ, zero, suc, nat_eq, ◌&&◌, ◌++◌, List, [], ◌∷◌, map, Option, None, is_none, option_map, unwrap_or, codes}
 use Rattle.std.specs.List.{filter, flat_map}
 use Rattle.std.specs.Map.{lookup}
 use Rattle.std.specs.Option.{option_map_or}

@@ -87,7 +87,11 @@ fn counts(alloc: Global, modules: &Modules, levels: usize) -> Result<Vec<usize>,
 }
 
 /// Whether the module at a place has too many levels, or too many instances below it.
-pub fn has_many_instances(alloc: Global, modules: &Modules, place: usize) -> Result<bool, AllocError>
+pub fn has_many_instances(
+    alloc: Global,
+    modules: &Modules,
+    place: usize,
+) -> Result<bool, AllocError>
     requires { place < length modules.now.modules }
     ensures { IfOk result (λ many. (d : ℕ × ModuleEntry) → many ≡ has_many_instances modules.now.modules (slice_index_or modules.now.modules place d).1) }
 {

@@ -46,12 +46,7 @@ pub fn joints(
 }
 
 /// The net that the connection at a place is for is connected so.
-fn join(
-    joints: &mut Vec<Option<Terminal>>,
-    entry: &Module,
-    at: usize,
-    connection: PortConnection,
-)
+fn join(joints: &mut Vec<Option<Terminal>>, entry: &Module, at: usize, connection: PortConnection)
     ensures { joints.new.items ≡ with_joint joints.old.items (place_for entry.now.nets at connection) connection.terminal }
 {
     if let Some(place) = place_for(entry, at, connection) {

@@ -7,7 +7,10 @@ ghost use Rattle.elaboration.specs.Ports.{connection_fault, connections_fault, f
 use crate::lines::fault_at;
 use indexmap::IndexSet;
 use std::alloc::{AllocError, Global};
-use vtext::{Direction, Module, ModuleInstance, Modules, Net, PortConnection, ReadFault, ReadFaultKind, Terminal};
+use vtext::{
+    Direction, Module, ModuleInstance, Modules, Net, PortConnection, ReadFault, ReadFaultKind,
+    Terminal,
+};
 
 /// The port of a module that the connection at a place is for, if there is one.
 fn port_at(inner: &Module, place: usize, connection: PortConnection) -> Option<Net>
@@ -80,7 +83,11 @@ fn connection_fault(connection: PortConnection, port: Net) -> Option<ReadFaultKi
 }
 
 /// Why the connection at a place is refused, if it is.
-fn fault_of_connection(inner: &Module, place: usize, connection: PortConnection) -> Option<ReadFaultKind>
+fn fault_of_connection(
+    inner: &Module,
+    place: usize,
+    connection: PortConnection,
+) -> Option<ReadFaultKind>
     ensures { result ≡ option_and_then (connection_fault connection) (port_at inner.now place connection) }
 {
     let port = port_at(inner, place, connection)?;

@@ -62,7 +62,7 @@ fn next_top(modules: &Modules, names: &IndexSet<u32>, from: usize) -> Option<usi
     ensures tops { ((name : ℕ) → contains nat_eq names.now name ≡ list_any (λ m. instantiates m.1 name) modules.now.modules) →
         MatchOption result (filter (is_top modules.now.modules) (drop from modules.now.modules) ≡ [])
         (λ place. (d : ℕ × ModuleEntry) → filter (is_top modules.now.modules) (drop from modules.now.modules)
-            ≡ slice_index_or modules.now.modules place d ∷ filter (is_top modules.now.modules) (drop (place + 1) modules.now.modules)) }
+        ≡ slice_index_or modules.now.modules place d ∷ filter (is_top modules.now.modules) (drop (place + 1) modules.now.modules)) }
 {
     for place in from..modules.count() {
         let (name, _) = at(modules, place);

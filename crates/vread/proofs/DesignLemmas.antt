@@ -1,5 +1,5 @@
 -- The design that scopes without a fault are.
-use Rattle.std.proofs.Common.{◌≡◌, ◌≢◌, ℕ, ◌+◌, ◌-◌, ◌^◌, ◌<◌, ◌≤◌, min, nat_lt, nat_le, arith, IsTrue, Bool, true, false, true≢false, ◌&&◌, ◌||◌, not, cond, List, [], ◌∷◌, ◌++◌, length, map, get_or, Option, Some, None, All, AllPairs, refl, sym, ap, subst, ◌∙◌, append_assoc, length-append}
+use Rattle.std.proofs.Common.{◌≡◌, ◌≢◌, ℕ, ◌+◌, ◌-◌, ◌^◌, ◌<◌, ◌≤◌, min, nat_lt, nat_le, arith, IsTrue, Bool, true, false, true≢false, ◌&&◌, cond, List, [], ◌∷◌, ◌++◌, length, map, get_or, Option, Some, None, All, AllPairs, refl, sym, ap, subst, ◌∙◌, length-append}
 use Rattle.std.specs.Prelude.{Err, IfOk, Ok, Result, filter, flat_map, fold, option_map}
 use Rattle.std.specs.Option.{option_map_or, option_or}
 use Rattle.fourstate.specs.declared.unit.TimeUnit.{TimeUnit}
@@ -7,7 +7,7 @@ use Rattle.design.specs.Keys.{Keyed, netlist}
 use Rattle.std.specs.List.{AllZip, find, list_all, list_any}
 use Rattle.std.proofs.lemmas.Bool.Decides.{nat_tests}
 use Rattle.std.proofs.lemmas.Bool.{or_parts}
-use Rattle.std.proofs.lemmas.List.Elements.{All-append, All-cons, All-head, All-map, All-nil, All-tail, All-weaker}
+use Rattle.std.proofs.lemmas.List.Elements.{All-append, All-cons, All-head, All-nil, All-tail}
 use Rattle.std.proofs.lemmas.List.Folds.{list_all-append}
 use Rattle.std.proofs.lemmas.List.{length-map}
 use Rattle.design.specs.declared.limits.TheConstants.{MAX_GATES, MAX_NAME, MAX_NETS}
@@ -24,8 +24,7 @@ use Rattle.vtext.specs.declared.net.Net as nets
 use Rattle.vtext.specs.GateNames.{gate_bytes}
 use Rattle.vtext.specs.Modules.{GateEntry, ModuleEntry, ModuleList}
 use Rattle.vtext.specs.Names.{name_at}
-use Rattle.vtext.specs.Sound.{IsGoodNumber, IsSoundGate, IsSoundModule}
-use Rattle.elaboration.specs.declared.node.NodeRef.{NodeRef}
+use Rattle.vtext.specs.Sound.{IsGoodNumber}
 use Rattle.elaboration.specs.Elaborations.{Elaborated, IsElaboration, IsNode, IsScope}
 use Rattle.elaboration.specs.Ports.{fault_at}
 use Rattle.elaboration.specs.Tops.{top_of}
@@ -129,7 +128,7 @@ over limit c n low e = grind (arith, nat_tests)
 -- A design that modules make. `refs`, `differ_nets`, `differ_gates`, `all_sound` and `whole` are laws.
 module _ (text : List ℕ) (list : ModuleList) (design : Elaborated) (is : IsElaboration text list design)
     (refs : (names : List (List ℕ)) (modules : List (ℕ × ModuleEntry)) (flat : List netlists.NetEntry) (kept : PlacedScope) (scope : Scope) → IsScope names modules flat kept scope →
-        (terminal : Terminal) → IsNode flat (ref_at kept terminal) (node_at names modules scope terminal)) where
+    (terminal : Terminal) → IsNode flat (ref_at kept terminal) (node_at names modules scope terminal)) where
   abbrev names : List (List ℕ)
   names = list.names
 
@@ -183,7 +182,7 @@ module _ (text : List ℕ) (list : ModuleList) (design : Elaborated) (is : IsEla
         (list_any (late.is_port_wrong names modules) scopes) (list_any (late.is_long_named names modules) scopes) (nat_lt MAX_NETS (length flat)) (nat_lt MAX_GATES (length (gates_of names modules top)))
         (list_any (late.is_input_driven names modules) scopes)
     fails = all_fail PortKind (Edit BadName) (Edit TooMany) (Edit TooMany) (Edit DrivenInput) (list_any (late.is_port_wrong names modules) scopes) (list_any (late.is_long_named names modules) scopes)
-      (nat_lt MAX_NETS (length flat)) (nat_lt MAX_GATES (length (gates_of names modules top))) (list_any (late.is_input_driven names modules) scopes) faultless
+        (nat_lt MAX_NETS (length flat)) (nat_lt MAX_GATES (length (gates_of names modules top))) (list_any (late.is_input_driven names modules) scopes) faultless
 
     at_most : (limit n : ℕ) → nat_lt limit n ≡ false → n ≤ limit
     at_most limit n e = grind (arith, nat_tests)
@@ -214,7 +213,7 @@ module _ (text : List ℕ) (list : ModuleList) (design : Elaborated) (is : IsEla
         named_first true e fits others =
             All-cons (λ n. IsTrue (is_name n.name)) (own_net names modules scope net) (map (own_net names modules scope) (filter (is_own names modules scope) listed))
             (path_name whole scope.path sound.instances (name_at names net.0) sound.path (All-head (λ (o : ℕ × nets.Net). IsGoodNumber names o.0) net listed good).part
-              (sym (ap (λ (b : Bool). b && kept_parts.is_long scope.path (name_at names net.0)) e) ∙ fits)) others
+            (sym (ap (λ (b : Bool). b && kept_parts.is_long scope.path (name_at names net.0)) e) ∙ fits)) others
         named_first false e fits others = others
 
     all_named : (ss : List Scope) → All (IsSoundScope names) ss → All (λ s. late.is_long_named names modules s ≡ false) ss → All (λ net. IsTrue (is_name net.name)) (flat_map (own_nets names modules) ss)
@@ -224,8 +223,8 @@ module _ (text : List ℕ) (list : ModuleList) (design : Elaborated) (is : IsEla
         let fits_s = All-head (λ (x : Scope). late.is_long_named names modules x ≡ false) s ss fits in
         let parts_of = or_parts (list_any (late.is_long_net names modules s) s.entry.nets) (list_any (late.is_long_gate names modules s) s.entry.gates) fits_s in
         All-append (λ net. IsTrue (is_name net.name)) (own_nets names modules s) (flat_map (own_nets names modules) ss)
-          (own_named s sound_s s.entry.nets sound_s.sound.nets parts_of.0)
-          (all_named ss (All-tail (IsSoundScope names) s ss sound) (All-tail (λ (x : Scope). late.is_long_named names modules x ≡ false) s ss fits))
+        (own_named s sound_s s.entry.nets sound_s.sound.nets parts_of.0)
+        (all_named ss (All-tail (IsSoundScope names) s ss sound) (All-tail (λ (x : Scope). late.is_long_named names modules x ≡ false) s ss fits))
 
     none_long : All (λ s. late.is_long_named names modules s ≡ false) scopes
     none_long = none_of (late.is_long_named names modules) scopes fails.second
@@ -255,8 +254,8 @@ module _ (text : List ℕ) (list : ModuleList) (design : Elaborated) (is : IsEla
           delays = sound_gate.delays;
           output = drivable names modules flat few (ref_at kept (terminals.Net gate.output)) (node_at names modules scope (terminals.Net gate.output)) (refs names modules flat kept scope same (terminals.Net gate.output)) no_constant no_input;
           inputs = λ j e inside.
-            let input = get_or gate.inputs j e in
-            readable names modules flat few (ref_at kept input) (node_at names modules scope input) (refs names modules flat kept scope same input);
+              let input = get_or gate.inputs j e in
+              readable names modules flat few (ref_at kept input) (node_at names modules scope input) (refs names modules flat kept scope same input);
         }
 
     fit_scopes : (kepts : List PlacedScope) (ss : List Scope) → AllZip Kept kepts ss → All (IsSoundScope names) ss → All (λ s. late.is_port_wrong names modules s ≡ false) ss → All (λ s. late.is_long_named names modules s ≡ false) ss
@@ -266,11 +265,11 @@ module _ (text : List ℕ) (list : ModuleList) (design : Elaborated) (is : IsEla
     fit_scopes (kept ∷ kepts) [] zip sound port long driven = absurd zip
     fit_scopes (kept ∷ kepts) (s ∷ ss) zip sound port long driven =
         All-cons (AreFitGates names flat) kept kepts
-          (subst (λ (m : ModuleEntry). All (IsFitGate names flat kept) m.gates) (sym zip.0.entry)
-            (fit_gate kept s zip.0 (All-head (IsSoundScope names) s ss sound) (All-head (λ (x : Scope). late.is_port_wrong names modules x ≡ false) s ss port) (All-head (λ (x : Scope). late.is_long_named names modules x ≡ false) s ss long)
-              (All-head (λ (x : Scope). late.is_input_driven names modules x ≡ false) s ss driven)))
-          (fit_scopes kepts ss zip.1 (All-tail (IsSoundScope names) s ss sound) (All-tail (λ (x : Scope). late.is_port_wrong names modules x ≡ false) s ss port) (All-tail (λ (x : Scope). late.is_long_named names modules x ≡ false) s ss long)
-            (All-tail (λ (x : Scope). late.is_input_driven names modules x ≡ false) s ss driven))
+        (subst (λ (m : ModuleEntry). All (IsFitGate names flat kept) m.gates) (sym zip.0.entry)
+        (fit_gate kept s zip.0 (All-head (IsSoundScope names) s ss sound) (All-head (λ (x : Scope). late.is_port_wrong names modules x ≡ false) s ss port) (All-head (λ (x : Scope). late.is_long_named names modules x ≡ false) s ss long)
+        (All-head (λ (x : Scope). late.is_input_driven names modules x ≡ false) s ss driven)))
+        (fit_scopes kepts ss zip.1 (All-tail (IsSoundScope names) s ss sound) (All-tail (λ (x : Scope). late.is_port_wrong names modules x ≡ false) s ss port) (All-tail (λ (x : Scope). late.is_long_named names modules x ≡ false) s ss long)
+        (All-tail (λ (x : Scope). late.is_input_driven names modules x ≡ false) s ss driven))
 
     pub fit_gates : All (AreFitGates names flat) design.scopes
     fit_gates = fit_scopes design.scopes scopes is.scopes scopes_sound (none_of (late.is_port_wrong names modules) scopes fails.first) none_long (none_of (late.is_input_driven names modules) scopes fails.fifth)
@@ -292,10 +291,10 @@ module _ (text : List ℕ) (list : ModuleList) (design : Elaborated) (is : IsEla
     nets_fit ns ss name unit first is_ns is_ss is_first =
         subst (λ (l : List netlists.NetEntry). AreFitNets l)
         (sym (
-          ap (λ (d : Netlist). d.nets ++ flat_map (kept_nets ns) ss) is_first
-          ∙ ap (λ (m : List (List ℕ)). flat_map (kept_nets m) ss) is_ns
-          ∙ ap (λ (k : List PlacedScope). flat_map (kept_nets names) k) is_ss
-          ∙ all_nets
+        ap (λ (d : Netlist). d.nets ++ flat_map (kept_nets ns) ss) is_first
+        ∙ ap (λ (m : List (List ℕ)). flat_map (kept_nets m) ss) is_ns
+        ∙ ap (λ (k : List PlacedScope). flat_map (kept_nets names) k) is_ss
+        ∙ all_nets
         )) fit_nets
 
     module _ (ns : List (List ℕ)) (ss : List PlacedScope) (name : List ℕ) (unit : TimeUnit) (first made : Netlist) (is_ns : ns ≡ names) (is_ss : ss ≡ design.scopes) (is_name : name ≡ name_at names design.top.0) (is_unit : unit ≡ unit_of list.unit)

@@ -1,7 +1,6 @@
 -- Nets and gates that a design may have, one after another.
-use Rattle.std.proofs.Common.{◌≡◌, ◌≢◌, ℕ, suc, ◌+◌, ◌<◌, ◌≤◌, arith, IsTrue, Bool, true, false, List, [], ◌∷◌, ◌++◌, length, get_or, All, AllPairs, refl, sym, ap, subst, ◌∙◌, append_assoc, length-append}
+use Rattle.std.proofs.Common.{◌≡◌, ◌≢◌, ℕ, suc, ◌<◌, arith, IsTrue, false, List, [], ◌∷◌, ◌++◌, length, get_or, All, AllPairs, sym, ap, subst, ◌∙◌, append_assoc, length-append}
 use Rattle.std.specs.List.{list_any}
-use Rattle.std.proofs.lemmas.List.{append-nil}
 use Rattle.std.proofs.lemmas.List.Elements.{All-cons, All-head, All-nil, All-tail}
 use Rattle.std.proofs.lemmas.List.Kept.{AllPairs-cons}
 use Rattle.std.proofs.lemmas.List.Folds.{list_any_none}
@@ -52,7 +51,7 @@ module _ (ns : List netlist.NetEntry) (n : netlist.NetEntry) (fit : AreFitNets (
   net_absent name same =
       ap (λ (x : List ℕ). list_any (λ m. same_name m.name x) ns) same
       ∙ list_any_none (λ m. same_name m.name n.name) ns
-        (λ k d within. names_differ (get_or ns k d).name n.name (pairs_last (λ a b. a.name ≢ b.name) ns n fit.distinct k d within))
+      (λ k d within. names_differ (get_or ns k d).name n.name (pairs_last (λ a b. a.name ≢ b.name) ns n fit.distinct k d within))
 
   pub net_room : length ns < MAX_NETS
   net_room = omega (arith, fit.room, length-append ns (n ∷ []))
@@ -74,7 +73,7 @@ module _ (gs : List netlist.GateEntry) (g : netlist.GateEntry) (fit : AreDistinc
   gate_absent name same =
       ap (λ (x : List ℕ). list_any (λ m. same_name m.name x) gs) same
       ∙ list_any_none (λ m. same_name m.name g.name) gs
-        (λ k d within. names_differ (get_or gs k d).name g.name (pairs_last (λ a b. a.name ≢ b.name) gs g fit.distinct k d within))
+      (λ k d within. names_differ (get_or gs k d).name g.name (pairs_last (λ a b. a.name ≢ b.name) gs g fit.distinct k d within))
 
   pub gate_room : length gs < MAX_GATES
   gate_room = omega (arith, fit.room, length-append gs (g ∷ []))

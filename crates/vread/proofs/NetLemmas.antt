@@ -1,5 +1,5 @@
 -- The nets of a design, one after another.
-use Rattle.std.proofs.Common.{◌≡◌, true, false, List, [], ◌∷◌, ◌++◌, map, Option, Some, None, refl, ap, subst, ◌∙◌, ℕ}
+use Rattle.std.proofs.Common.{◌≡◌, true, false, List, Option, Some, None, refl, ap, subst, ◌∙◌, ℕ}
 use Rattle.std.specs.Prelude.{IfOk, IfSome, Result, Ok, Err}
 use Rattle.std.proofs.lemmas.Slice.Eq.{bytes_eq-Decides}
 use Rattle.fourstate.specs.declared.net.NetKind.{NetKind}

@@ -1,5 +1,5 @@
 -- What is kept of scopes and nets says what they say.
-use Rattle.std.proofs.Common.{◌≡◌, ℕ, ◌<◌, ◌^◌, Bool, true, false, ◌&&◌, ◌||◌, not, List, [], ◌∷◌, ◌++◌, map, Option, Some, None, is_none, is_some, unwrap_or, IsSome, IsSomeAnd, true≢false, refl, sym, ap, subst, ◌∙◌, length}
+use Rattle.std.proofs.Common.{◌≡◌, ℕ, ◌<◌, ◌^◌, Bool, true, false, ◌&&◌, ◌||◌, not, List, [], ◌∷◌, ◌++◌, map, Option, Some, None, is_none, is_some, unwrap_or, IsSomeAnd, true≢false, refl, sym, ap, subst, ◌∙◌, length}
 use Rattle.std.specs.Prelude.{cond, filter, flat_map}
 use Rattle.std.specs.List.{AllZip, list_any, slice_get}
 use Rattle.std.specs.Option.{option_map_or}
@@ -138,7 +138,7 @@ module _ (names : List (List ℕ)) (modules : List (ℕ × ModuleEntry)) (flat :
       ap (λ (l : List netlists.NetEntry). parts.slot_nets names kept.path slot net.0 ++ l) (slots_bring kept scope path slots listed zip.1)
       ∙ ap (λ (b : Bool). cond b (parts.node_nets names kept.path slot.node net.0) [] ++ map (own_net names modules scope) (filter (is_own names modules scope) listed)) zip.0.own
       ∙ ap (λ (l : List netlists.NetEntry). l ++ map (own_net names modules scope) (filter (is_own names modules scope) listed))
-        (brought kept scope slot net (scope.given net.0) slot.node path refl zip.0.node)
+      (brought kept scope slot net (scope.given net.0) slot.node path refl zip.0.node)
       ∙ kept_first (is_own names modules scope net) net (own_net names modules scope) (filter (is_own names modules scope) listed)
 
   pub scope_nets_same : (kept : PlacedScope) (scope : Scope) → IsScope names modules flat kept scope → kept_nets names kept ≡ own_nets names modules scope
@@ -154,8 +154,8 @@ module _ (names : List (List ℕ)) (modules : List (ℕ × ModuleEntry)) (flat :
     port_wrong_same kept scope is =
         ap (λ (b : Bool). b || list_any (parts.drives_constant kept) kept.entry.gates) (any_of_scope kept scope is parts.is_misjoined (late.is_misjoined names modules scope) (misjoined_same scope))
         ∙ ap (λ (b : Bool). list_any (late.is_misjoined names modules scope) scope.entry.nets || b)
-          (any_gates kept scope is (parts.drives_constant kept) (late.drives_constant names modules scope)
-            (λ gate. tied_same (ref_at kept (terminals.Net gate.output)) (node_at names modules scope (terminals.Net gate.output)) (refs kept scope is (terminals.Net gate.output))))
+        (any_gates kept scope is (parts.drives_constant kept) (late.drives_constant names modules scope)
+        (λ gate. tied_same (ref_at kept (terminals.Net gate.output)) (node_at names modules scope (terminals.Net gate.output)) (refs kept scope is (terminals.Net gate.output))))
 
     pub input_driven_same : (kept : PlacedScope) (scope : Scope) → IsScope names modules flat kept scope → parts.is_input_driven kept ≡ late.is_input_driven names modules scope
     input_driven_same kept scope is =
@@ -165,22 +165,22 @@ module _ (names : List (List ℕ)) (modules : List (ℕ × ModuleEntry)) (flat :
     pub long_named_same : (kept : PlacedScope) (scope : Scope) → IsScope names modules flat kept scope → parts.is_long_named names kept ≡ late.is_long_named names modules scope
     long_named_same kept scope is =
         ap (λ (b : Bool). b || list_any (parts.is_long_gate names kept.path) kept.entry.gates)
-          (any_of_scope kept scope is (parts.is_long_net names kept.path) (late.is_long_net names modules scope)
-            (λ slot net slot_is.
-            ap (λ (b : Bool). b && parts.is_long kept.path (name_at names net.0)) slot_is.own
-            ∙ ap (λ (p : List ℕ). is_own names modules scope net && parts.is_long p (name_at names net.0)) is.path))
+        (any_of_scope kept scope is (parts.is_long_net names kept.path) (late.is_long_net names modules scope)
+        (λ slot net slot_is.
+        ap (λ (b : Bool). b && parts.is_long kept.path (name_at names net.0)) slot_is.own
+        ∙ ap (λ (p : List ℕ). is_own names modules scope net && parts.is_long p (name_at names net.0)) is.path))
         ∙ ap (λ (b : Bool). list_any (late.is_long_net names modules scope) scope.entry.nets || b)
-          (any_gates kept scope is (parts.is_long_gate names kept.path) (late.is_long_gate names modules scope) (λ gate. ap (λ (p : List ℕ). parts.is_long p (gate_bytes names gate)) is.path))
+        (any_gates kept scope is (parts.is_long_gate names kept.path) (late.is_long_gate names modules scope) (λ gate. ap (λ (p : List ℕ). parts.is_long p (gate_bytes names gate)) is.path))
 
     module _ (few : length flat < 2 ^ 64) where
       gate_same : (kept : PlacedScope) (scope : Scope) → IsScope names modules flat kept scope → (gate : GateEntry) → kept_gate names flat kept gate ≡ own_gate names modules scope gate
       gate_same kept scope is gate =
           ap (λ (p : List ℕ). record (kept_gate names flat kept gate) { name = p ++ gate_bytes names gate }) is.path
           ∙ ap (λ (n : List ℕ). record (kept_gate names flat kept gate) { name = scope.path ++ gate_bytes names gate; output = n })
-            (output_same few (ref_at kept (terminals.Net gate.output)) (node_at names modules scope (terminals.Net gate.output)) (refs kept scope is (terminals.Net gate.output)))
+          (output_same few (ref_at kept (terminals.Net gate.output)) (node_at names modules scope (terminals.Net gate.output)) (refs kept scope is (terminals.Net gate.output)))
           ∙ ap (λ cs. record (own_gate names modules scope gate) { inputs = cs })
-            (map_same (λ input. parts.connection_of flat (ref_at kept input)) (λ input. scopes.connection_of names modules (node_at names modules scope input))
-              (λ input. connection_same few (ref_at kept input) (node_at names modules scope input) (refs kept scope is input)) gate.inputs)
+          (map_same (λ input. parts.connection_of flat (ref_at kept input)) (λ input. scopes.connection_of names modules (node_at names modules scope input))
+          (λ input. connection_same few (ref_at kept input) (node_at names modules scope input) (refs kept scope is input)) gate.inputs)
 
       pub scope_gates_same : (kept : PlacedScope) (scope : Scope) → IsScope names modules flat kept scope → kept_gates names flat kept ≡ own_gates names modules scope
       scope_gates_same kept scope is =

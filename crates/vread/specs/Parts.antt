@@ -1,5 +1,5 @@
 -- What is made of the scopes of a design as they are kept: its nets and gates, one after another.
-use Rattle.std.specs.Prelude.{◌≡◌, ◌≢◌, ◌≤◌, ◌+◌, ◌-◌, ◌^◌, Bool, true, false, ℕ, IsTrue, ◌&&◌, ◌||◌, not, nat_lt, min, if◌then◌else◌, List, [], ◌∷◌, ◌++◌, length, map, fold, flat_map, slice_get, All, AllPairs, IsSome, IsSomeAnd, Option, None, Some}
+use Rattle.std.specs.Prelude.{◌≡◌, ◌≢◌, ◌≤◌, ◌+◌, ◌-◌, ◌^◌, Bool, true, false, ℕ, IsTrue, ◌&&◌, ◌||◌, not, nat_lt, min, if◌then◌else◌, List, [], ◌∷◌, ◌++◌, length, map, fold, slice_get, All, AllPairs, IsSome, IsSomeAnd, Option, None, Some}
 use Rattle.std.specs.List.{list_any}
 use Rattle.std.specs.Option.{option_map_or}
 use Rattle.fourstate.specs.Delays.{AreDelays}

@@ -1,4 +1,4 @@
-use Rattle.std.proofs.Common.{◌≡◌, ℕ, min, refl, ◌∙◌, arith}
+use Rattle.std.proofs.Common.{ℕ, min, ◌∙◌, arith}
 use Rattle.vtext.specs.Modules.{ModuleEntry}
 use Rattle.elaboration.specs.declared.counts.TheConstants.{MANY}
 use Rattle.elaboration.specs.Levels.{instance_count}
@@ -11,4 +11,4 @@ loop-place-preserved c =
     let modules = c.args.modules.now.modules in
     c.in_ok-push.ensures.items
     ∙ map_next (λ (m : ℕ × ModuleEntry). min MANY (instance_count modules 0 m.1)) modules c.loop-place._place blank c.loop-place.counts.items 0
-      (omega (arith, c.loop-place-test.true, c.count-place-end.ensures)) c.loop-place.invariant (omega arith)
+    (omega (arith, c.loop-place-test.true, c.count-place-end.ensures)) c.loop-place.invariant (omega arith)

@@ -1,4 +1,4 @@
-use Rattle.std.proofs.Common.{◌≡◌, ◌-◌, ◌<◌, List, None, replicate, get_or, length, drop, ap, ◌∙◌, arith, sym}
+use Rattle.std.proofs.Common.{◌-◌, ◌<◌, None, replicate, get_or, length, ap, ◌∙◌, arith, sym}
 use Rattle.std.proofs.lemmas.List.{at_drop_all, get_or_default}
 use Rattle.vtext.specs.declared.module_instance.PortConnection.{PortConnection}
 use Rattle.elaboration.specs.Numbered.{joints_from}
@@ -27,5 +27,5 @@ connections-preserved c =
       within = omega arith;
       joined = c.join.ensures
           ∙ joined_more connections now c.connections.at (get_or connections now nothing) c.args.entry.now.nets c.connections.joints.items c.requires (omega (arith, c.connections-test.true)) within
-            (get_or_default connections now nothing (get_or connections now nothing) within) c.connections.invariant.joined;
+          (get_or_default connections now nothing (get_or connections now nothing) within) c.connections.invariant.joined;
     }

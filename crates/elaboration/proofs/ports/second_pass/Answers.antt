@@ -10,9 +10,9 @@ returns-in-Some c =
     let modules = c.args.modules.now.modules in
     let place = c.loop-place.place in
     sym (
-      sym c.loop-place.invariant
-      ∙ second_next text modules place c.instances_at-instances.result.now (omega (arith, c.loop-place-test.true, c.count-place-end.ensures)) (c.instances_at-instances.ensures blank)
-      ∙ ap (λ found. option_or found (second_pass_from text modules (drop (place + 1) modules))) (sym c.in_ok-fault.ensures ∙ c.in-Some.is)
+    sym c.loop-place.invariant
+    ∙ second_next text modules place c.instances_at-instances.result.now (omega (arith, c.loop-place-test.true, c.count-place-end.ensures)) (c.instances_at-instances.ensures blank)
+    ∙ ap (λ found. option_or found (second_pass_from text modules (drop (place + 1) modules))) (sym c.in_ok-fault.ensures ∙ c.in-Some.is)
     )
 
 pub loop-place-preserved : goal.loop-place-preserved
@@ -21,7 +21,7 @@ loop-place-preserved c =
     let modules = c.args.modules.now.modules in
     let place = c.loop-place.place in
     sym (
-      second_next text modules place c.instances_at-instances.result.now (omega (arith, c.loop-place-test.true, c.count-place-end.ensures)) (c.instances_at-instances.ensures blank)
-      ∙ ap (λ found. option_or found (second_pass_from text modules (drop (place + 1) modules))) (sym c.in_ok-fault.ensures ∙ c.in_default.is)
+    second_next text modules place c.instances_at-instances.result.now (omega (arith, c.loop-place-test.true, c.count-place-end.ensures)) (c.instances_at-instances.ensures blank)
+    ∙ ap (λ found. option_or found (second_pass_from text modules (drop (place + 1) modules))) (sym c.in_ok-fault.ensures ∙ c.in_default.is)
     )
     ∙ c.loop-place.invariant

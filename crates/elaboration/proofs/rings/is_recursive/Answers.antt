@@ -9,15 +9,15 @@ returns-then-not-branch c =
     let between = c.loop-between._between in
     c.contains.ensures
     ∙ reached_in_all modules c.args.name c.loop-between.reached.keys c.reach_on.new.reached.keys between
-      (omega (arith, c.loop-between-test.true, c.count-between-end.ensures)) c.loop-between.invariant
-      (c.in_ok-reach_on.ensures.names c.args.name between c.loop-between.invariant) (c.in_ok-reach_on.ensures.same c.if-not-branch.true) c.args.name
+    (omega (arith, c.loop-between-test.true, c.count-between-end.ensures)) c.loop-between.invariant
+    (c.in_ok-reach_on.ensures.names c.args.name between c.loop-between.invariant) (c.in_ok-reach_on.ensures.same c.if-not-branch.true) c.args.name
 
 pub loop-between-preserved : goal.loop-between-preserved
 loop-between-preserved c = λ to.
-  let between = c.loop-between._between in
-  let next : suc between ≡ between + 1 = omega arith in
-  c.in_ok-reach_on.ensures.names c.args.name between c.loop-between.invariant to
-  ∙ ap (λ (n : ℕ). reaches c.args.modules.now.modules c.args.name n to) next
+    let between = c.loop-between._between in
+    let next : suc between ≡ between + 1 = omega arith in
+    c.in_ok-reach_on.ensures.names c.args.name between c.loop-between.invariant to
+    ∙ ap (λ (n : ℕ). reaches c.args.modules.now.modules c.args.name n to) next
 
 pub returns : goal.returns
 returns c =

@@ -1,4 +1,3 @@
-use Rattle.std.proofs.Common.{ℕ, List}
 use Rattle.std.specs.List.{each_same}
 use Rattle.elaboration.proofs.RingLemmas.{on_ok, reached_by}
 use Rattle.elaboration.proofs.rings.reach_on.Goals as goal

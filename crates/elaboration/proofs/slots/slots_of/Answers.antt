@@ -1,10 +1,9 @@
-use Rattle.std.proofs.Common.{◌≡◌, ◌<◌, ◌+◌, ◌++◌, ◌∷◌, [], ℕ, List, Option, None, length, drop, get_or, sym, ap, ◌∙◌, arith}
+use Rattle.std.proofs.Common.{◌≡◌, ◌<◌, ◌+◌, ◌++◌, ◌∷◌, [], ℕ, List, None, length, drop, get_or, sym, ap, ◌∙◌, arith}
 use Rattle.std.proofs.lemmas.List.{get_or_default}
 use Rattle.std.proofs.lemmas.Option.{get_or_from_slice_get, slice_get_within}
 use Rattle.vtext.specs.declared.net.Net as nets
-use Rattle.elaboration.specs.declared.node.NodeRef.{NodeRef}
 use Rattle.elaboration.specs.declared.node.Slot.{Slot}
-use Rattle.elaboration.specs.Numbered.{next_place, place_after, slot_of, slots_from}
+use Rattle.elaboration.specs.Numbered.{next_place, place_after, slots_from}
 use Rattle.elaboration.proofs.SlotLemmas.{next_slot, place_next}
 use Rattle.elaboration.proofs.slots.slots_of.Goals as goal
 
@@ -27,7 +26,7 @@ loop-place-preserved c =
       items =
           ap (λ (n : ℕ). c.push.new.self.items ++ slots_from top n rest_nets rest) c.next_place-next.ensures
           ∙ ap (λ (ss : List Slot). ss ++ slots_from top (next_place next node) rest_nets rest)
-            (c.in_ok-push.ensures.items ∙ ap (λ (s : Slot). c.loop-place.items.items ++ s ∷ []) c.slot_of.ensures)
+          (c.in_ok-push.ensures.items ∙ ap (λ (s : Slot). c.loop-place.items.items ++ s ∷ []) c.slot_of.ensures)
           ∙ next_slot top listed given place net node next c.loop-place.items.items in_nets in_given is_net is_node
           ∙ c.loop-place.invariant.items;
       next = ap (λ (n : ℕ). place_after n rest) c.next_place-next.ensures ∙ place_next given place node next in_given is_node ∙ c.loop-place.invariant.next;

@@ -17,7 +17,7 @@ returns-then-branch c =
     ap (λ (m : ℕ × ModuleEntry). is_recursive modules m) (sym (c.at-name.ensures blank)) ∙ sym c.in_ok-is_recursive.ensures ∙ c.if-branch.true in
     ap Some (c.fault_at.ensures ∙ ap (λ (start : ℕ). fault_at text start Recursive) c.start.ensures ∙ ap (λ (m : ℕ × ModuleEntry). fault_at text m.1.start Recursive) (c.at-name.ensures blank))
     ∙ ap (λ (o : Option (ℕ × ModuleEntry)). option_map (λ (m : ℕ × ModuleEntry). fault_at text m.1.start Recursive) o)
-      (sym (find_here (is_recursive modules) modules place blank within found) ∙ c.loop-place.invariant)
+    (sym (find_here (is_recursive modules) modules place blank within found) ∙ c.loop-place.invariant)
 
 pub loop-place-preserved : goal.loop-place-preserved
 loop-place-preserved c =

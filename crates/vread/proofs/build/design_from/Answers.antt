@@ -1,7 +1,6 @@
 use Rattle.std.proofs.Common.{◌≡◌, ℕ, List, IsTrue, sym, ap, subst, ◌∙◌}
 use Rattle.design.specs.Keys.{netlist}
 use Rattle.design.specs.Names.{is_name}
-use Rattle.vtext.specs.Modules.{ModuleEntry}
 use Rattle.vtext.specs.Names.{name_at}
 use Rattle.vtext.specs.Sound.{IsSoundModule}
 use Rattle.elaboration.specs.Tops.{is_top}

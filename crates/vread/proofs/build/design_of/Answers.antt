@@ -30,9 +30,9 @@ returns-in-Some-clause-err c =
     let found : kind ≡ Some c.in-Some.kind =
     sym (fault_same text list design is c.terminals_are_nodes.ensures) ∙ ap (λ (ns : List (List ℕ)). kept_fault ns design) (sym c.names.ensures) ∙ sym c.scopes_fault.ensures ∙ c.in-Some.is in
     inr (
-      late_is text list design is c.terminals_are_nodes.ensures
-      ∙ ap (λ (k : Option ReadFaultKind). option_map (fault_at text design.top.1.start) k) found
-      ∙ sym (ap Some (c.fault_at.ensures ∙ ap (λ (start : ℕ). fault_at text start c.in-Some.kind) c.start.ensures))
+    late_is text list design is c.terminals_are_nodes.ensures
+    ∙ ap (λ (k : Option ReadFaultKind). option_map (fault_at text design.top.1.start) k) found
+    ∙ sym (ap Some (c.fault_at.ensures ∙ ap (λ (start : ℕ). fault_at text start c.in-Some.kind) c.start.ensures))
     )
 
 pub returns : goal.returns

@@ -1,8 +1,8 @@
 use Rattle.std.proofs.Common.{ap}
-use Rattle.design.specs.Keys.{entry_in, netlist}
+use Rattle.design.specs.Keys.{netlist}
 use Rattle.design.specs.Netlist.{GateEntry}
 use Rattle.vread.specs.Parts.{kept_gate}
-use Rattle.vread.proofs.FitLemmas.{gate_absent, gate_room}
+use Rattle.vread.proofs.FitLemmas.{gate_absent}
 use Rattle.vread.proofs.gates.with_gate.Goals as goal
 
 pub add_gate-requires-clause-absent : goal.add_gate-requires-clause-absent

@@ -1,11 +1,10 @@
-use Rattle.std.proofs.Common.{◌≡◌, ◌+◌, ◌<◌, ◌++◌, ◌∷◌, [], ℕ, List, All, length, map, drop, get_or, sym, ap, subst, ◌∙◌, arith}
+use Rattle.std.proofs.Common.{◌≡◌, ◌+◌, ◌<◌, ◌++◌, ℕ, List, length, drop, get_or, sym, ap, subst, ◌∙◌, arith}
 use Rattle.std.specs.Prelude.{flat_map}
 use Rattle.std.proofs.lemmas.List.{at_drop_all, at_drop_more}
 use Rattle.design.specs.Keys.{netlist}
 use Rattle.design.specs.Netlist as netlists
-use Rattle.vtext.specs.Modules.{GateEntry, ModuleEntry}
 use Rattle.elaboration.specs.Numbered.{PlacedScope}
-use Rattle.vread.specs.Parts.{AreDistinctGates, AreFitGates, IsFitGate, kept_gate, kept_gates}
+use Rattle.vread.specs.Parts.{AreDistinctGates, AreFitGates, kept_gates}
 use Rattle.vread.proofs.FitLemmas.{gates_part}
 use Rattle.vread.proofs.GrowLemmas.{gates_end, gates_more, gates_others, same_nets}
 use Rattle.vread.proofs.gates.with_gates.Goals as goal
@@ -15,7 +14,7 @@ next : (f : PlacedScope → List netlists.GateEntry) (scopes : List PlacedScope)
     → gs ++ flat_map f (drop i scopes) ≡ all → gs ++ (f scope ++ flat_map f (drop (i + 1) scopes)) ≡ all
 next f scopes i scope gs all within is before =
     ap (λ (l : List netlists.GateEntry). gs ++ l)
-      (ap (λ (s : PlacedScope). f s ++ flat_map f (drop (i + 1) scopes)) is ∙ sym (at_drop_more (flat_map f) scopes i scope within))
+    (ap (λ (s : PlacedScope). f s ++ flat_map f (drop (i + 1) scopes)) is ∙ sym (at_drop_more (flat_map f) scopes i scope within))
     ∙ before
 
 pub with_scope_gates-requires : goal.with_scope_gates-requires

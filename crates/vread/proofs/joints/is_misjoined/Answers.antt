@@ -1,4 +1,4 @@
-use Rattle.std.proofs.Common.{get_or, sym, ◌∙◌, arith}
+use Rattle.std.proofs.Common.{sym, ◌∙◌, arith}
 use Rattle.vread.specs.Parts.{is_misjoined}
 use Rattle.vread.proofs.PairLemmas.{any_here, any_nets_end, any_past, blank_slot, of_scope}
 use Rattle.vread.proofs.joints.is_misjoined.Goals as goal
@@ -13,7 +13,7 @@ pub returns-then-is_port_misjoined : goal.returns-then-is_port_misjoined
 returns-then-is_port_misjoined c =
     let p = is_misjoined in
     any_here p c.slots-slots.result.now c.module-entry.result.now.nets c.loop-place.place c.loop-place.invariant blank_slot (c.in-Some.field-0-0, c.in-Some.net) (omega (arith, c.loop-place-test.true)) c.in-Some.ensures
-      (sym c.is_port_misjoined.ensures ∙ c.if-is_port_misjoined.true)
+    (sym c.is_port_misjoined.ensures ∙ c.if-is_port_misjoined.true)
     ∙ of_scope p c.args.scope.now c.slots-slots.result.now c.module-entry.result.now c.slots-slots.ensures c.module-entry.ensures
 
 pub loop-place-preserved : goal.loop-place-preserved

@@ -14,7 +14,7 @@ next : (names : List (List ℕ)) (scopes : List PlacedScope) (i : ℕ) (scope : 
     → ns ++ flat_map (kept_nets names) (drop i scopes) ≡ all → ns ++ (kept_nets names scope ++ flat_map (kept_nets names) (drop (i + 1) scopes)) ≡ all
 next names scopes i scope ns all within is before =
     ap (λ (l : List NetEntry). ns ++ l)
-      (ap (λ (s : PlacedScope). kept_nets names s ++ flat_map (kept_nets names) (drop (i + 1) scopes)) is ∙ sym (at_drop_more (flat_map (kept_nets names)) scopes i scope within))
+    (ap (λ (s : PlacedScope). kept_nets names s ++ flat_map (kept_nets names) (drop (i + 1) scopes)) is ∙ sym (at_drop_more (flat_map (kept_nets names)) scopes i scope within))
     ∙ before
 
 pub with_scope_nets-requires : goal.with_scope_nets-requires
@@ -51,5 +51,5 @@ returns c =
     let made = netlist c.loop-scope.made in
     nets_end first made c.loop-scope.invariant.others (first.nets ++ flat_map (kept_nets names) scopes)
     (ap (λ (l : List NetEntry). made.nets ++ l)
-      (sym (at_drop_all (flat_map (kept_nets names)) scopes c.loop-scope.scope-index (omega (arith, c.loop-scope-test.false, c.loop-scope.auto.scope-index-end))))
+    (sym (at_drop_all (flat_map (kept_nets names)) scopes c.loop-scope.scope-index (omega (arith, c.loop-scope-test.false, c.loop-scope.auto.scope-index-end))))
     ∙ c.loop-scope.invariant.all)

@@ -40,7 +40,7 @@ returns-in_default c =
     let made = netlist c.loop-place.made in
     nets_end first made c.loop-place.invariant.others (first.nets ++ kept_nets names scope)
     (ap (λ (l : List NetEntry). made.nets ++ l)
-      (sym (at_drop_all (λ ns. slots_nets names scope.path (drop place slots) ns) entry.nets place (past_end entry.nets place (sym c.in_default.is ∙ c.net_at.ensures)) ∙ none_left names scope.path (drop place slots)))
+    (sym (at_drop_all (λ ns. slots_nets names scope.path (drop place slots) ns) entry.nets place (past_end entry.nets place (sym c.in_default.is ∙ c.net_at.ensures)) ∙ none_left names scope.path (drop place slots)))
     ∙ c.loop-place.invariant.all
     ∙ ap (λ (l : List NetEntry). first.nets ++ l) (of_scope names scope slots entry c.slots-slots.ensures c.module-entry.ensures))
 

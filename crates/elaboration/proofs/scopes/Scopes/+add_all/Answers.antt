@@ -1,11 +1,11 @@
 use Rattle.std.proofs.Common.{◌≡◌, ◌-◌, ◌<◌, Some, get_or, length, nat_eq, refl, sym, ap, subst, ◌∙◌, arith}
-use Rattle.std.specs.Prelude.{Option, option_map}
+use Rattle.std.specs.Prelude.{option_map}
 use Rattle.std.specs.List.{slice_get}
 use Rattle.std.specs.Map.{lookup}
 use Rattle.std.proofs.lemmas.Option.{get_or_from_slice_get}
-use Rattle.vtext.specs.Modules.{InstanceEntry, ModuleEntry}
+use Rattle.vtext.specs.Modules.{InstanceEntry}
 use Rattle.elaboration.specs.Numbered.{PlacedScope, SoFar, Start, inner_start, placed, with_scope, with_scopes}
-use Rattle.elaboration.proofs.ScopeLemmas.{get_last, instance_none, instance_some, scopes_keep}
+use Rattle.elaboration.proofs.ScopeLemmas.{instance_none, instance_some, scopes_keep}
 use Rattle.elaboration.proofs.scopes.Scopes.+add_all.Goals as goal
 use Rattle.elaboration.proofs.scopes.Scopes.+add_all.Goals.{in-Some+in_ok-add_all, in_default}
 
@@ -38,9 +38,9 @@ loop-instance-preserved t c =
             there = subst (λ (s : SoFar). slice_get s.list place ≡ Some scope) (sym made) (scopes_keep names modules place scope levels so_far start c.loop-instance.invariant.there);
           }
       | in_default w ↦ record {
-          so_far = w.self-is
-              ∙ instance_none names modules levels scope instances k i c.instance-item.is within first so_far c.match-branch-3.self c.loop-instance.invariant.so_far
-                (lookup (nat_eq i.«module») modules) refl (sym w.in_default.is ∙ starts);
-          there = subst (λ (s : SoFar). slice_get s.list place ≡ Some scope) (sym w.self-is) c.loop-instance.invariant.there;
-        }
+        so_far = w.self-is
+            ∙ instance_none names modules levels scope instances k i c.instance-item.is within first so_far c.match-branch-3.self c.loop-instance.invariant.so_far
+            (lookup (nat_eq i.«module») modules) refl (sym w.in_default.is ∙ starts);
+        there = subst (λ (s : SoFar). slice_get s.list place ≡ Some scope) (sym w.self-is) c.loop-instance.invariant.there;
+      }
     ]
