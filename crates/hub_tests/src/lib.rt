@@ -2,9 +2,15 @@
 #![tactic(auto)]
 
 #[cfg(test)]
-mod buffer;
+mod buffers;
+#[cfg(test)]
+mod closing;
+#[cfg(test)]
+mod commits;
 #[cfg(test)]
 mod compare;
+#[cfg(test)]
+mod looks;
 #[cfg(test)]
 mod rows;
 #[cfg(test)]

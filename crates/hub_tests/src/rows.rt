@@ -3,7 +3,7 @@
 
 ghost use Rattle.std.specs.Prelude.{◌≡◌};
 
-use super::buffer::{bench, check, stim};
+use super::buffers::{bench, check, stim};
 use crate::compare::equal;
 use bench::Snapshot;
 use fourstate::Value;
@@ -24,7 +24,7 @@ fn submit<J: HubName, L: Ledger, M: Ledger, R: Wait + Abort>(
 ) -> Receipt<J>
     ensures { editor.new.number ≡ editor.old.number }
 {
-    let edits = [stim(rt, alloc, 0, Value::Zero)];
+    let edits = [stim(rt, alloc, "a", 0, Value::Zero)];
     let receipt = hub.submit(rt, editor, &edits);
     drop(edits);
     equal(rt, "reply", receipt.reply, Ok(1));
@@ -126,4 +126,35 @@ fn a_row(rt: HostRuntime) {
     let bench = bench(&rt, rt.alloc());
     let parts = Parts::new(&rt, rt.alloc(), bench, 2).expect(&rt, "parts");
     row::<Brand, Brand, Brand, _>(&rt, rt.alloc(), parts);
+}
+
+// A hub that is dropped and not closed: viewers see nothing more, whether they were told of its commit or not.
+fn dropped<J: HubName, L: Ledger, M: Ledger, R: Wait + Abort>(
+    rt: &R,
+    alloc: Global,
+    parts: Parts<Serial>,
+)
+    requires names { (parts.origin ≡ J.origin) × (parts.book ≡ J.book) }
+    requires first { (parts.first_name ≡ L.name) × (parts.first_parts ≡ L.parts) }
+    requires second { (parts.second_name ≡ M.name) × (parts.second_parts ≡ M.parts) }
+{
+    let opened = Hub::<J, L, M, Serial, &R>::open(rt, parts);
+    let (hub, (mut editor, other), mut viewers) = opened.expect(rt, "a hub");
+    let mut viewer = viewers.pop().expect(rt, "a viewer");
+    let receipt = submit(rt, alloc, &hub, &mut editor);
+    drop(hub);
+    check_closed(rt, &mut viewer);
+    viewer.learn(receipt);
+    check_closed(rt, &mut viewer);
+    drop(viewer);
+    drop(viewers);
+    drop(editor);
+    drop(other);
+}
+
+#[test]
+fn a_dropped_hub(rt: HostRuntime) {
+    let bench = bench(&rt, rt.alloc());
+    let parts = Parts::new(&rt, rt.alloc(), bench, 1).expect(&rt, "parts");
+    dropped::<Brand, Brand, Brand, _>(&rt, rt.alloc(), parts);
 }

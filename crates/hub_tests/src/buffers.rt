@@ -1,4 +1,5 @@
-//! A bench of a buffer with delays of 3, whose input `a` and output `y` are x at first. The horizon is 30.
+//! A bench of two buffers with delays of 3, `y` of the input `a` and `z` of the input `b`, all of which are x at first. The
+//! horizon is 400.
 
 use crate::compare::equal;
 use bench::{Bench, Snapshot};
@@ -9,33 +10,42 @@ use gatestep::Serial;
 use std::alloc::Global;
 use std::process::Abort;
 
+/// How many nets the design has before any commit.
+pub const NETS: usize = 4;
+
 fn word(rt: &impl Abort, alloc: Global, text: &str) -> Word {
     Word::new(alloc, text).expect(rt, "a word")
 }
 
-fn buffer(rt: &impl Abort, alloc: Global) -> Edit {
+fn buffer(rt: &impl Abort, alloc: Global, name: &str, input: &str, output: &str) -> Edit {
     let mut inputs = Pins::new(alloc);
-    let pin = Pin::Net(word(rt, alloc, "a"));
+    let pin = Pin::Net(word(rt, alloc, input));
     inputs.push(pin).expect(rt, "a pin");
     Edit::AddGate {
-        name: word(rt, alloc, "g"),
+        name: word(rt, alloc, name),
         kind: GateKind::Buf,
         delays: DelayTimes::uniform(3),
-        output: word(rt, alloc, "y"),
+        output: word(rt, alloc, output),
         inputs,
     }
 }
 
-fn edits(rt: &impl Abort, alloc: Global) -> Vec<Edit> {
-    let mut edits = Vec::with_capacity(alloc, 4).expect(rt, "room");
-    edits.push(input(rt, alloc, "a")).expect(rt, "room");
-    let output = Edit::AddNet {
-        name: word(rt, alloc, "y"),
+fn wire(rt: &impl Abort, alloc: Global, name: &str) -> Edit {
+    Edit::AddNet {
+        name: word(rt, alloc, name),
         kind: NetKind::Wire,
-    };
-    edits.push(output).expect(rt, "room");
-    edits.push(buffer(rt, alloc)).expect(rt, "room");
-    let horizon = Edit::Horizon { time: 30 };
+    }
+}
+
+fn edits(rt: &impl Abort, alloc: Global) -> Vec<Edit> {
+    let mut edits = Vec::with_capacity(alloc, 7).expect(rt, "room");
+    for (name, from, to) in [("g", "a", "y"), ("h", "b", "z")] {
+        edits.push(input(rt, alloc, from)).expect(rt, "room");
+        edits.push(wire(rt, alloc, to)).expect(rt, "room");
+        let gate = buffer(rt, alloc, name, from, to);
+        edits.push(gate).expect(rt, "room");
+    }
+    let horizon = Edit::Horizon { time: 400 };
     edits.push(horizon).expect(rt, "room");
     edits
 }
@@ -62,16 +72,16 @@ pub fn input(rt: &impl Abort, alloc: Global, name: &str) -> Edit {
     }
 }
 
-/// The input has this value from this time on.
-pub fn stim(rt: &impl Abort, alloc: Global, time: u64, value: Value) -> Edit {
+/// The input of this name has this value from this time on.
+pub fn stim(rt: &impl Abort, alloc: Global, net: &str, time: u64, value: Value) -> Edit {
     Edit::Stim {
-        net: word(rt, alloc, "a"),
+        net: word(rt, alloc, net),
         time,
         value,
     }
 }
 
-/// The wave of the output has so many changes, and this is the last one.
+/// The wave of `y` has so many changes, and this is the last one.
 pub fn check(rt: &impl Abort, snapshot: &Snapshot, count: usize, time: u64, value: Value) {
     let wave = snapshot.wave("y").expect(rt, "a net of this name");
     let changes = wave.changes();

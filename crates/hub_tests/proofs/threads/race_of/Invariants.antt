@@ -1,4 +1,4 @@
-use Rattle.hub_tests.proofs.threads.two_editors_and_eight_viewers.Given as goal
+use Rattle.hub_tests.proofs.threads.race_of.Given as goal
 
 abbrev pub ghosts-race-J-HubName : goal.ghosts-race-J-HubName
 ghosts-race-J-HubName g a = record { origin = a.parts.origin; book = a.parts.book }
