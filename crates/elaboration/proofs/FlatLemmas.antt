@@ -16,7 +16,7 @@ use Rattle.vtext.specs.Sound.{IsGoodNumber, IsSoundModule}
 use Rattle.elaboration.specs.declared.limits.TheConstants.{MAX_DEPTH}
 use Rattle.elaboration.specs.Scopes.{Scope, gates_of, inner, is_own, nets_of, own_gate, own_gates, own_net, own_nets, scopes_below, scopes_of, top_scope}
 use Rattle.elaboration.specs.SoundScopes.{IsPath, IsSoundScope}
-use Rattle.elaboration.proofs.PairLemmas.{found_holds, pairs_head, pairs_tail}
+use Rattle.elaboration.proofs.PairLemmas.{flat_append, found_holds, pairs_head, pairs_tail}
 
 -- Pairs of two lists.
 
@@ -51,10 +51,6 @@ pairs_of_map {X} {Y} f (x ∷ xs) pairs =
     unmap : (P : Y → Type 0) (zs : List X) → All P (map f zs) → All (λ z. P (f z)) zs
     unmap P [] all = All-nil (λ z. P (f z))
     unmap P (z ∷ zs) all = All-cons (λ z. P (f z)) z zs (All-head P (f z) (map f zs) all) (unmap P zs (All-tail P (f z) (map f zs) all))
-
-flat_append : {A B : Type 0} (f : A → List B) (xs ys : List A) → flat_map f (xs ++ ys) ≡ flat_map f xs ++ flat_map f ys
-flat_append f [] ys = refl
-flat_append f (x ∷ xs) ys = ap (λ bs. f x ++ bs) (flat_append f xs ys) ∙ sym (append_assoc (f x) (flat_map f xs) (flat_map f ys))
 
 -- `joined` and `whole` are laws of parts.
 module _ (joined : (a b : List ℕ) → parts (a ++ 46 ∷ b) ≡ parts a ++ parts b) (whole : (part : List ℕ) → IsTrue (is_part part) → parts part ≡ part ∷ []) where

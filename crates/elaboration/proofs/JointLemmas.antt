@@ -10,16 +10,13 @@ use Rattle.vtext.specs.declared.net.Net as nets
 use Rattle.vtext.specs.Nets.{place_of}
 use Rattle.elaboration.specs.Numbered.{AreDistinct, joints_from, place_for, with_joint}
 use Rattle.elaboration.specs.Ports.{joined_from}
-use Rattle.elaboration.proofs.PairLemmas.{pairs_head, pairs_tail, position_first}
+use Rattle.elaboration.proofs.PairLemmas.{differ, pairs_head, pairs_tail, position_first}
 use Rattle.elaboration.proofs.PortLemmas.{same_swapped}
 
 -- nothing is connected by no connections
 pub none_joined : (at place : ℕ) (nets : List (ℕ × nets.Net)) → replicate (length nets) None ≡ joints_from [] at place nets
 none_joined at place [] = refl
 none_joined at place (net ∷ more) = ap (λ (js : List (Option Terminal)). None ∷ js) (none_joined at (suc place) more)
-
-differ : (a b : ℕ) → a ≢ b → nat_eq a b ≡ false
-differ a b apart = grind (arith, nat_tests)
 
 same : (a b : ℕ) → a ≡ b → nat_eq a b ≡ true
 same a b e = grind (arith, nat_tests)

@@ -23,15 +23,12 @@ use Rattle.elaboration.specs.Elaborations.{IsNode, IsScope, IsSlot}
 use Rattle.elaboration.specs.Numbered.{AreDistinct, PlacedScope, SoFar, Start, inner_start, joints_from, kept_scopes, next_place, none, place_after, placed, ref_at, slot_for, slot_of, slots_from, top_start, with_below, with_instance, with_scope}
 use Rattle.elaboration.specs.Ports.{joined_from, joined_to}
 use Rattle.elaboration.specs.Scopes.{Node, Scope, inner, is_own, nets_of, node_at, node_of, own_net, own_nets, scopes_below, scopes_of, tied, top_scope, wired}
-use Rattle.elaboration.proofs.PairLemmas.{found_holds, pairs_head, pairs_tail, position_first}
+use Rattle.elaboration.proofs.PairLemmas.{differ, flat_append, found_holds, pairs_head, pairs_tail, position_first}
 
 -- Numbers and lists.
 
 abbrev most : ℕ
 most = 2 ^ 64 - 1
-
-differ : (a b : ℕ) → a ≢ b → nat_eq a b ≡ false
-differ a b apart = grind (arith, nat_tests)
 
 same_number : (a : ℕ) → nat_eq a a ≡ true
 same_number a = grind (arith, nat_tests)
@@ -41,10 +38,6 @@ zip_append R [] [] vs ws first second = second
 zip_append R [] (y ∷ ys) vs ws first second = absurd first
 zip_append R (x ∷ xs) [] vs ws first second = absurd first
 zip_append R (x ∷ xs) (y ∷ ys) vs ws first second = (first.0, zip_append R xs ys vs ws first.1 second)
-
-flat_append : {A B : Type 0} (f : A → List B) (xs ys : List A) → flat_map f (xs ++ ys) ≡ flat_map f xs ++ flat_map f ys
-flat_append f [] ys = refl
-flat_append f (x ∷ xs) ys = ap (λ bs. f x ++ bs) (flat_append f xs ys) ∙ sym (append_assoc (f x) (flat_map f xs) (flat_map f ys))
 
 append_nil : {X : Type 0} (xs : List X) → xs ++ [] ≡ xs
 append_nil [] = refl

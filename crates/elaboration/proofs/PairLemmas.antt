@@ -1,9 +1,10 @@
 -- Lists whose items differ in pairs; places in lists.
-use Rattle.std.proofs.Common.{◌≡◌, ℕ, suc, ◌+◌, Bool, true, false, cond, List, [], ◌∷◌, Option, Some, refl, sym, ap, ◌∙◌, arith, All, AllPairs, subst}
-use Rattle.std.specs.Prelude.{option_map, position}
+use Rattle.std.proofs.Common.{◌≡◌, ℕ, suc, ◌+◌, Bool, true, false, cond, List, [], ◌∷◌, Option, Some, refl, sym, ap, ◌∙◌, arith, All, AllPairs, subst, ◌≢◌, ◌++◌, nat_eq, append_assoc}
+use Rattle.std.specs.Prelude.{flat_map, option_map, position}
 use Rattle.std.specs.List.{position_from}
 use Rattle.std.specs.Map.{lookup}
 use Rattle.std.proofs.lemmas.List.Elements.{All-head, All-tail}
+use Rattle.std.proofs.lemmas.Bool.Decides.{nat_tests}
 use Rattle.std.proofs.lemmas.Iterator.Adapters.{position_from-zero}
 
 module _ {X : Type 0} (R : X → X → Type 0) where
@@ -45,3 +46,10 @@ module _ {M : Type 0} (P : M → Type 0) (test : ℕ → Bool) where
   found_holds (x ∷ modules) m all e =
       found_first (test x.0) x.1 (lookup test modules) m (All-head (λ (o : ℕ × M). P o.1) x modules all)
       (λ f. found_holds modules m (All-tail (λ (o : ℕ × M). P o.1) x modules all) f) e
+
+pub flat_append : {A B : Type 0} (f : A → List B) (xs ys : List A) → flat_map f (xs ++ ys) ≡ flat_map f xs ++ flat_map f ys
+flat_append f [] ys = refl
+flat_append f (x ∷ xs) ys = ap (λ bs. f x ++ bs) (flat_append f xs ys) ∙ sym (append_assoc (f x) (flat_map f xs) (flat_map f ys))
+
+pub differ : (a b : ℕ) → a ≢ b → nat_eq a b ≡ false
+differ a b apart = grind (arith, nat_tests)
