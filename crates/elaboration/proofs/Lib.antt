@@ -7,6 +7,7 @@ pub mod LineLemmas
 pub mod LoopLemmas
 pub mod PairLemmas
 pub mod PortLemmas
+pub mod RankLemmas
 pub mod RingLemmas
 pub mod ScopeLemmas
 pub mod SlotLemmas

@@ -1,5 +1,5 @@
 -- Loops that look for something, or go over modules.
-use Rattle.std.proofs.Common.{◌≡◌, ℕ, ◌+◌, ◌<◌, ◌≤◌, Bool, true, false, ◌||◌, List, [], ◌∷◌, ◌++◌, length, map, take, drop, get_or, sym, ap, ◌∙◌}
+use Rattle.std.proofs.Common.{◌≡◌, ℕ, zero, suc, ◌+◌, ◌-◌, ◌<◌, ◌≤◌, Bool, true, false, ◌||◌, List, [], ◌∷◌, ◌++◌, length, map, take, drop, get_or, sym, ap, ◌∙◌, arith}
 use Rattle.std.specs.List.{list_any}
 use Rattle.std.proofs.lemmas.List.{at_drop_more, map_more, take_all}
 use Rattle.std.proofs.lemmas.List.{at_drop_all}
@@ -25,3 +25,18 @@ map_next f xs i d ys y within before is =
 
 pub map_end : {X Y : Type 0} (f : X → Y) (xs : List X) (i : ℕ) (ys : List Y) → length xs ≤ i → ys ≡ map f (take i xs) → ys ≡ map f xs
 map_end f xs i ys past before = before ∙ ap (map f) (take_all i xs past)
+
+-- tables that are made one from another
+module _ {X : Type 0} (table : ℕ → X) (before after : X) (pass : (levels : ℕ) → before ≡ table levels → after ≡ table (suc levels)) (same : after ≡ before) where
+  stays : (levels more : ℕ) → before ≡ table levels → before ≡ table (more + levels)
+  stays levels zero is = let none : levels ≡ zero + levels = omega arith in is ∙ ap table none
+  stays levels (suc more) is =
+      let next : suc (more + levels) ≡ suc more + levels = omega arith in
+      sym same ∙ pass (more + levels) (stays levels more is) ∙ ap table next
+
+  -- after a pass that changes nothing no other does
+  pub stays_until : (levels most : ℕ) → levels ≤ most → before ≡ table levels → before ≡ table most
+  stays_until levels most within is =
+      let left : ℕ = most - levels in
+      let all : left + levels ≡ most = omega (arith, within) in
+      stays levels left is ∙ ap table all

@@ -81,7 +81,11 @@ fn counts(alloc: Global, modules: &Modules, levels: usize) -> Result<Vec<usize>,
 {
     let mut counts = no_counts(alloc, modules)?;
     for _level in 0..levels {
-        counts = one_more(alloc, modules, counts.as_slice())?;
+        let more = one_more(alloc, modules, counts.as_slice())?;
+        if more.as_slice() == counts.as_slice() {
+            return Ok(counts);
+        }
+        counts = more;
     }
     Ok(counts)
 }

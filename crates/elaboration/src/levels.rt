@@ -63,7 +63,11 @@ pub fn are_deeper(alloc: Global, modules: &Modules, levels: usize) -> Result<Vec
 {
     let mut deep = all_deep(alloc, modules)?;
     for _level in 0..levels {
-        deep = one_more(alloc, modules, deep.as_slice())?;
+        let more = one_more(alloc, modules, deep.as_slice())?;
+        if more.as_slice() == deep.as_slice() {
+            return Ok(deep);
+        }
+        deep = more;
     }
     Ok(deep)
 }

@@ -10,12 +10,14 @@ mod limits;
 mod lines;
 mod node;
 mod ports;
+mod ranks;
 mod rings;
 mod scope;
 mod scopes;
 mod slots;
 mod start;
 mod tops;
+mod walk;
 
 pub use elaboration::{Elaboration, elaborate};
 pub use lines::fault_at;

@@ -1,11 +1,13 @@
 //! Modules that are among their own instances, or theirs, and so on.
 
-ghost use Rattle.std.specs.Prelude.{◌≡◌, ◌<◌, ◌||◌, ◌&&◌, ℕ, suc, false, IfOk, OnOk, length, nat_eq, slice_index_or};
+ghost use Rattle.std.specs.Prelude.{◌≡◌, ◌<◌, ◌||◌, ◌&&◌, ℕ, suc, false, true, IfOk, OnOk, length, nat_eq, slice_index_or};
 ghost use Rattle.vtext.specs.Modules.{ModuleEntry};
 ghost use Rattle.std.specs.List.{list_any};
 ghost use Rattle.indexmap.specs.IndexSet.{contains};
+ghost use Rattle.elaboration.specs.Ranks.{fall};
 ghost use Rattle.elaboration.specs.Tops.{instantiates, reaches};
 
+use crate::ranks::Ranks;
 use indexmap::IndexSet;
 use std::alloc::{AllocError, Global};
 use vtext::{Module, ModuleInstance, Modules};
@@ -94,9 +96,41 @@ fn inner_of(alloc: Global, modules: &Modules, name: u32) -> Result<IndexSet<u32>
     Ok(reached)
 }
 
-/// Whether the module of a name is among its own instances, or theirs, and so on.
-pub fn is_recursive(alloc: Global, modules: &Modules, name: u32) -> Result<bool, AllocError>
-    ensures { IfOk result (λ recursive. recursive ≡ reaches modules.now.modules name (length modules.now.modules) name) }
+/// Whether the module of a name is found among its own instances, or theirs, and so on, by a walk that takes each module once.
+/// In texts whose modules are all there and have different names it is found if it is there.
+fn is_found(alloc: Global, modules: &Modules, name: u32) -> Result<bool, AllocError>
+    ensures { IfOk result (λ found. found ≡ true → reaches modules.now.modules name (length modules.now.modules) name ≡ true) }
+{
+    let mut reached = inner_of(alloc, modules, name)?;
+    for place in 0..modules.count() {
+        if reached.contains(&name) {
+            return Ok(true);
+        }
+        add_inner_at(modules, &mut reached, place)?;
+    }
+    Ok(false)
+}
+
+/// Adds the names of the modules that the module at a place of a set has instances of.
+fn add_inner_at(
+    modules: &Modules,
+    reached: &mut IndexSet<u32>,
+    place: usize,
+) -> Result<(), AllocError>
+    ensures { (from between : ℕ) → ((name : ℕ) → contains nat_eq reached.old name ≡ true → reaches modules.now.modules from between name ≡ true) →
+        OnOk result ((name : ℕ) → contains nat_eq reached.new name ≡ true → reaches modules.now.modules from (suc between) name ≡ true) }
+{
+    if let Some(name) = reached.get_index(place).copied() {
+        if let Some(entry) = modules.find(name) {
+            add_modules(reached, entry.instances())?;
+        }
+    }
+    Ok(())
+}
+
+/// Whether the module of a name is among its own instances, or theirs, and so on, found in as many rounds as it takes.
+fn is_reached(alloc: Global, modules: &Modules, name: u32) -> Result<bool, AllocError>
+    ensures { IfOk result (λ reached. reached ≡ reaches modules.now.modules name (length modules.now.modules) name) }
 {
     let mut reached = inner_of(alloc, modules, name)?;
     for _between in 0..modules.count() {
@@ -105,4 +139,23 @@ pub fn is_recursive(alloc: Global, modules: &Modules, name: u32) -> Result<bool,
         }
     }
     Ok(reached.contains(&name))
+}
+
+/// Whether the module of a name is among its own instances, or theirs, and so on, where ranks of modules never fall.
+pub fn is_recursive(
+    alloc: Global,
+    modules: &Modules,
+    ranks: &Ranks,
+    name: u32,
+) -> Result<bool, AllocError>
+    requires { fall ranks.now modules.now.modules ≡ false }
+    ensures { IfOk result (λ recursive. recursive ≡ reaches modules.now.modules name (length modules.now.modules) name) }
+{
+    if !ranks.may_recur(modules, name) {
+        return Ok(false);
+    }
+    if is_found(alloc, modules, name)? {
+        return Ok(true);
+    }
+    is_reached(alloc, modules, name)
 }

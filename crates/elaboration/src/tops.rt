@@ -12,6 +12,7 @@ ghost use Rattle.vtext.specs.ReadFaults.{out_of_memory};
 
 use crate::lines::fault_at;
 use crate::ports::instances_at;
+use crate::ranks::Ranks;
 use crate::rings::{add_modules, at, is_recursive};
 use indexmap::IndexSet;
 use std::alloc::{AllocError, Global};
@@ -46,9 +47,10 @@ fn first_recursive(
 ) -> Result<Option<ReadFault>, AllocError>
     ensures { IfOk result (λ fault. fault ≡ option_map (λ m. fault_at text.now m.1.start Recursive) (find (is_recursive modules.now.modules) modules.now.modules)) }
 {
+    let ranks = Ranks::of(alloc, modules)?;
     for place in 0..modules.count() {
         let (name, entry) = at(modules, place);
-        if is_recursive(alloc, modules, name)? {
+        if is_recursive(alloc, modules, &ranks, name)? {
             return Ok(Some(fault_at(text, entry.start(), ReadFaultKind::Recursive)));
         }
     }

@@ -1,7 +1,7 @@
 use Rattle.std.proofs.Common.{◌≡◌, ◌+◌, ℕ, suc, length, ap, ◌∙◌, arith}
 use Rattle.elaboration.specs.Tops.{reaches}
 use Rattle.elaboration.proofs.RingLemmas.{reached_in_all}
-use Rattle.elaboration.proofs.rings.is_recursive.Goals as goal
+use Rattle.elaboration.proofs.rings.is_reached.Goals as goal
 
 pub returns-then-not-branch : goal.returns-then-not-branch
 returns-then-not-branch c =

@@ -1,0 +1,7 @@
+use Rattle.std.proofs.Common.{◌≡◌, false, take}
+use Rattle.std.specs.List.{list_any}
+use Rattle.elaboration.specs.Ranks.{is_lower}
+use Rattle.elaboration.proofs.ranks.Ranks.are_lower.Given as goal
+
+abbrev pub invariant-loop-instance : goal.invariant-loop-instance
+invariant-loop-instance l = list_any (is_lower l.self l.rank) (take l.instance-index l.instances) ≡ false
