@@ -1,0 +1,21 @@
+//! Reads design texts, to be timed from outside: each word names a file, which is read as often as it is named. Each line of the
+//! output says how many nets and gates the design has. Without words it writes nothing.
+#![tactic(auto)]
+
+use anyhow::{Result, bail};
+use design::NameHasher;
+use programs::all_bytes_of;
+use std::env;
+use std::fs::File;
+use vread::read;
+
+fn main(rt: HostRuntime) -> Result<()> {
+    for word in env::args(&rt)?.skip(1) {
+        let text = all_bytes_of(rt.alloc(), File::open(&rt, word.as_str()))?;
+        let Ok(design) = read(rt.alloc(), NameHasher::new(&rt), text.as_slice(), None) else {
+            bail!("a text is refused");
+        };
+        println!(rt; "{} {}", design.net_count(), design.gate_count())?;
+    }
+    Ok(())
+}
