@@ -11,7 +11,14 @@ ghost use Rattle.elaboration.specs.Scopes.{Scope, gates_of, nets_of, node_at, sc
 ghost use Rattle.elaboration.specs.Tops.{top_of};
 ghost use Rattle.elaboration.specs.SoundScopes.{IsSoundScope};
 
+use crate::limits::{MAX_DEPTH, MAX_INSTANCES};
 use design::laws::{parts_are_names, parts_of_joined};
+
+/// The limits of a hierarchy have these numbers.
+pub fn limits()
+    ensures depth { MAX_DEPTH ≡ 32 }
+    ensures instances { MAX_INSTANCES ≡ 65536 }
+{}
 
 /// What a terminal is in a scope as it is kept is what it is in the design's.
 #[tactic(auto, using(crate::proofs::KeptLemmas::ref_ok))]
