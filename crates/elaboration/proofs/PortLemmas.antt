@@ -82,13 +82,6 @@ new_first names name c cs some fresh =
     ∙ ap (λ b. (b || any_seen names cs) || (list_any (names_port name) cs || is_named_twice cs)) fresh
     )
 
-old_first : (names : List ℕ) (name : ℕ) (c : PortConnection) (cs : List PortConnection) → c.port ≡ Some name → list_any (nat_eq name) names ≡ true
-    → is_again names (c ∷ cs) ≡ true
-old_first names name c cs some seen =
-    ap (λ (port : Option ℕ). (option_map_or (λ n. list_any (nat_eq n) names) port false || any_seen names cs)
-    || (option_map_or (λ n. list_any (names_port n) cs) port false || is_named_twice cs)) some
-    ∙ ap (λ b. (b || any_seen names cs) || (list_any (names_port name) cs || is_named_twice cs)) seen
-
 module _ (connections : List PortConnection) (i : ℕ) (d : PortConnection) (within : i < length connections) where
   pub unnamed_next : (names : List ℕ) → (get_or connections i d).port ≡ None → is_again names (drop (i + 1) connections) ≡ is_again names (drop i connections)
   unnamed_next names none = unnamed_first names (get_or connections i d) (drop (i + 1) connections) none ∙ sym (at_drop_more (is_again names) connections i d within)
@@ -96,10 +89,6 @@ module _ (connections : List PortConnection) (i : ℕ) (d : PortConnection) (wit
   pub new_next : (names : List ℕ) (name : ℕ) → (get_or connections i d).port ≡ Some name → list_any (nat_eq name) names ≡ false
       → is_again (names ++ name ∷ []) (drop (i + 1) connections) ≡ is_again names (drop i connections)
   new_next names name some fresh = new_first names name (get_or connections i d) (drop (i + 1) connections) some fresh ∙ sym (at_drop_more (is_again names) connections i d within)
-
-  pub old_next : (names : List ℕ) (name : ℕ) → (get_or connections i d).port ≡ Some name → list_any (nat_eq name) names ≡ true
-      → is_again names (drop i connections) ≡ true
-  old_next names name some seen = at_drop_more (is_again names) connections i d within ∙ old_first names name (get_or connections i d) (drop (i + 1) connections) some seen
 
 -- the same with the number of the next place as code has it
 pub fault_first : (m : ModuleEntry) (at : ℕ) (c : PortConnection) (cs : List PortConnection)

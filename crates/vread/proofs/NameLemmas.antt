@@ -1,11 +1,9 @@
 -- Names of a text that a design may have.
-use Rattle.std.proofs.Common.{◌≡◌, ℕ, ◌≤◌, List, [], ◌∷◌, length, false, nat_lt, All, arith}
+use Rattle.std.proofs.Common.{ℕ, ◌≤◌, List, [], ◌∷◌, All, arith}
 use Rattle.std.specs.Str.{IsUtf8, IsAscii}
-use Rattle.std.proofs.lemmas.Bool.Decides.{nat_tests}
 use Rattle.std.proofs.lemmas.List.Elements.{All-head, All-tail}
 use Rattle.std.proofs.lemmas.Str.{IsUtf8-from_ascii}
 use Rattle.std.proofs.lemmas.Str.Ascii.{IsAscii-nil, IsAscii-cons}
-use Rattle.design.specs.declared.limits.TheConstants.{MAX_NAME}
 
 printed_is_ascii : (bytes : List ℕ) → All (λ byte. (33 ≤ byte) × (byte ≤ 126)) bytes → IsAscii bytes
 printed_is_ascii [] h = IsAscii-nil
@@ -16,7 +14,3 @@ printed_is_ascii (byte ∷ bytes) h =
 -- printable bytes are text
 pub printed_is_text : (bytes : List ℕ) → All (λ byte. (33 ≤ byte) × (byte ≤ 126)) bytes → IsUtf8 bytes
 printed_is_text bytes h = IsUtf8-from_ascii bytes (printed_is_ascii bytes h)
-
--- no longer than a name
-pub no_longer : (bytes : List ℕ) → nat_lt MAX_NAME (length bytes) ≡ false → length bytes ≤ MAX_NAME
-no_longer bytes short = grind (arith, nat_tests)
