@@ -1,56 +1,26 @@
 -- The names of a design differ, since what stands between their dots does.
-use Rattle.std.proofs.Common.{◌≡◌, ◌≢◌, ℕ, zero, suc, arith, IsTrue, List, [], ◌∷◌, ◌++◌, map, nat_eq, Option, Some, None, All, AllPairs, refl, sym, ap, subst, ◌∙◌, append_assoc, get_or}
+use Rattle.std.proofs.Common.{◌≡◌, ◌≢◌, ◌≤◌, ℕ, zero, suc, IsTrue, List, [], ◌∷◌, ◌++◌, map, nat_eq, Option, Some, None, All, AllPairs, refl, sym, ap, subst, ◌∙◌, append_assoc, get_or}
 use Rattle.std.specs.Prelude.{codes, flat_map, filter}
 use Rattle.std.specs.Map.{lookup}
 use Rattle.std.specs.Option.{option_map_or}
 use Rattle.std.proofs.lemmas.List.{append_cancel_left, map-append}
 use Rattle.std.proofs.lemmas.List.Elements.{All-append, All-cons, All-filter, All-head, All-map, All-nil, All-tail, All-weaker}
-use Rattle.std.proofs.lemmas.List.Kept.{AllPairs-cons, AllPairs-filter}
+use Rattle.std.proofs.lemmas.List.Kept.{AllPairs-filter}
 use Rattle.design.specs.Names.{is_part, parts}
 use Rattle.design.specs.Netlist as netlist
 use Rattle.vtext.specs.declared.net.Net as nets
 use Rattle.vtext.specs.GateNames.{gate_bytes}
 use Rattle.vtext.specs.Modules.{GateEntry, InstanceEntry, ModuleEntry}
 use Rattle.vtext.specs.Names.{name_at, number_of}
-use Rattle.vtext.specs.Sound.{IsGoodNumber, IsSoundModule}
+use Rattle.vtext.specs.declared.range.TheConstants.{MAX_INDEX}
+use Rattle.vtext.specs.Bits.{bit_bytes, bit_of}
+use Rattle.vtext.specs.Sound.{AreApart, IsGoodNumber, IsSoundModule, IsSoundNet}
 use Rattle.elaboration.specs.declared.limits.TheConstants.{MAX_DEPTH}
-use Rattle.elaboration.specs.Scopes.{Scope, gates_of, inner, is_own, nets_of, own_gate, own_gates, own_net, own_nets, scopes_below, scopes_of, top_scope}
+use Rattle.elaboration.specs.Scopes.{Scope, flat_names, gates_of, inner, is_own, nets_of, own_bits, own_gate, own_gates, own_net, own_nets, scopes_below, scopes_of, top_scope}
 use Rattle.elaboration.specs.SoundScopes.{IsPath, IsSoundScope}
-use Rattle.elaboration.proofs.PairLemmas.{flat_append, found_holds, pairs_head, pairs_tail}
-
--- Pairs of two lists.
-
-module _ {X : Type 0} (R : X → X → Type 0) where
-  no_pairs : AllPairs R []
-  no_pairs = λ i j d before within. absurd (omega arith)
-
-  pairs_append : (xs ys : List X) → AllPairs R xs → AllPairs R ys → All (λ x. All (R x) ys) xs → AllPairs R (xs ++ ys)
-  pairs_append [] ys first second across = second
-  pairs_append (x ∷ xs) ys first second across =
-      AllPairs-cons R x (xs ++ ys)
-      (All-append (R x) xs ys (pairs_head R x xs first) (All-head (λ (a : X). All (R a) ys) x xs across))
-      (pairs_append xs ys (pairs_tail R x xs first) second (All-tail (λ (a : X). All (R a) ys) x xs across))
-
--- each of some items differs from each of others, where they have what does
-all_across : {X : Type 0} (P Q : X → Type 0) (R : X → X → Type 0) → ((x y : X) → P x → Q y → R x y) → (xs ys : List X) → All P xs → All Q ys → All (λ x. All (R x) ys) xs
-all_across {X} P Q R apart xs ys first second = All-weaker P (λ (x : X). All (R x) ys) (λ x p. All-weaker Q (R x) (λ y q. apart x y p q) ys second) xs first
-
-pairs_map : {X Y : Type 0} (f : X → Y) (P : X → Type 0) (R : X → X → Type 0) (S : Y → Y → Type 0) → ((x y : X) → P x → P y → R x y → S (f x) (f y)) → (xs : List X) → All P xs → AllPairs R xs → AllPairs S (map f xs)
-pairs_map f P R S keeps [] all pairs = no_pairs S
-pairs_map {X} {Y} f P R S keeps (x ∷ xs) all pairs =
-    AllPairs-cons S (f x) (map f xs)
-    (All-map (S (f x)) f xs (λ k d within. keeps x (get_or xs k d) (All-head P x xs all) (All-tail P x xs all k d within) (pairs_head R x xs pairs k d within)))
-    (pairs_map f P R S keeps xs (All-tail P x xs all) (pairs_tail R x xs pairs))
-
-pairs_of_map : {X Y : Type 0} (f : X → Y) (xs : List X) → AllPairs (λ a b. a ≢ b) (map f xs) → AllPairs (λ a b. f a ≢ f b) xs
-pairs_of_map f [] pairs = no_pairs (λ a b. f a ≢ f b)
-pairs_of_map {X} {Y} f (x ∷ xs) pairs =
-    AllPairs-cons (λ a b. f a ≢ f b) x xs (unmap (λ y. f x ≢ y) xs (pairs_head (λ (a b : Y). a ≢ b) (f x) (map f xs) pairs))
-    (pairs_of_map f xs (pairs_tail (λ (a b : Y). a ≢ b) (f x) (map f xs) pairs))
-  where
-    unmap : (P : Y → Type 0) (zs : List X) → All P (map f zs) → All (λ z. P (f z)) zs
-    unmap P [] all = All-nil (λ z. P (f z))
-    unmap P (z ∷ zs) all = All-cons (λ z. P (f z)) z zs (All-head P (f z) (map f zs) all) (unmap P zs (All-tail P (f z) (map f zs) all))
+use Rattle.elaboration.proofs.BelowLemmas.{HoldsInside, all_below}
+use Rattle.elaboration.proofs.NetNames.{net_name_parts, net_names_differ, nets_apart}
+use Rattle.elaboration.proofs.PairLemmas.{all_across, all_flat, flat_append, found_holds, no_pairs, pairs_append, pairs_flat, pairs_head, pairs_map, pairs_of_map, pairs_tail}
 
 -- `joined` and `whole` are laws of parts.
 module _ (joined : (a b : List ℕ) → parts (a ++ 46 ∷ b) ≡ parts a ++ parts b) (whole : (part : List ℕ) → IsTrue (is_part part) → parts part ≡ part ∷ []) where
@@ -213,78 +183,71 @@ module _ (joined : (a b : List ℕ) → parts (a ++ 46 ∷ b) ≡ parts a ++ par
 
     -- All scopes are sound.
 
-    abbrev each_below : ℕ → Scope → InstanceEntry → List Scope
-    each_below levels scope i = option_map_or (λ m. scopes_below names modules levels (inner names modules scope i m)) (lookup (nat_eq i.«module») modules) []
+    abbrev SoundAt : Scope → Type 0
+    SoundAt scope = (qs : List (List ℕ)) × Sound scope qs
 
-    abbrev SoundOk : ℕ → Type 0
-    SoundOk levels = (scope : Scope) (qs : List (List ℕ)) → Sound scope qs → All (IsSoundScope names) (scopes_below names modules levels scope)
+    sound_inside : (scope : Scope) → SoundAt scope → All (HoldsInside names modules SoundAt scope) scope.entry.instances
+    sound_inside scope sound = λ k d within m found.
+        let i = get_or scope.entry.instances k d in
+        (sound.0 ++ name_at names i.name ∷ [], inner_sound scope sound.0 i m sound.1 (sound.1.1.instances k d within).name found)
 
-    sound_instance : (levels : ℕ) → SoundOk levels → (scope : Scope) (qs : List (List ℕ)) (i : InstanceEntry) → Sound scope qs → IsGoodNumber names i.name → (found : Option ModuleEntry) → found ≡ lookup (nat_eq i.«module») modules
-        → All (IsSoundScope names) (option_map_or (λ m. scopes_below names modules levels (inner names modules scope i m)) found [])
-    sound_instance levels others scope qs i sound good None e = All-nil (IsSoundScope names)
-    sound_instance levels others scope qs i sound good (Some m) e = others (inner names modules scope i m) (qs ++ name_at names i.name ∷ []) (inner_sound scope qs i m sound good e)
-
-    sound_instances : (levels : ℕ) → SoundOk levels → (scope : Scope) (qs : List (List ℕ)) (instances : List InstanceEntry) → Sound scope qs → All (λ i. IsGoodNumber names i.name) instances
-        → All (IsSoundScope names) (flat_map (each_below levels scope) instances)
-    sound_instances levels others scope qs [] sound good = All-nil (IsSoundScope names)
-    sound_instances levels others scope qs (i ∷ instances) sound good =
-        All-append (IsSoundScope names) (each_below levels scope i) (flat_map (each_below levels scope) instances)
-        (sound_instance levels others scope qs i sound (All-head (λ (j : InstanceEntry). IsGoodNumber names j.name) i instances good) (lookup (nat_eq i.«module») modules) refl)
-        (sound_instances levels others scope qs instances sound (All-tail (λ (j : InstanceEntry). IsGoodNumber names j.name) i instances good))
-
-    sound_here : (scope : Scope) (qs : List (List ℕ)) → Sound scope qs → IsSoundScope names scope
-    sound_here scope qs sound = record { name = sound.0; sound = sound.1; instances = qs; path = sound.2 }
-
-    sound_ok : (levels : ℕ) → SoundOk levels
-    sound_ok zero scope qs sound = All-cons (IsSoundScope names) scope [] (sound_here scope qs sound) (All-nil (IsSoundScope names))
-    sound_ok (suc levels) scope qs sound =
-        All-cons (IsSoundScope names) scope (flat_map (each_below levels scope) scope.entry.instances) (sound_here scope qs sound)
-        (sound_instances levels (sound_ok levels) scope qs scope.entry.instances sound (λ k d within. (sound.1.instances k d within).name))
+    sound_here : (scope : Scope) → SoundAt scope → IsSoundScope names scope
+    sound_here scope sound = record { name = sound.1.0; sound = sound.1.1; instances = sound.0; path = sound.1.2 }
 
     pub scopes_sound : (top : ℕ × ModuleEntry) → IsSoundModule names top → All (IsSoundScope names) (scopes_of names modules top.1)
     unfolding scopes_of
-    scopes_sound top sound = sound_ok MAX_DEPTH (top_scope names modules top.1) [] (top_sound top sound)
+    scopes_sound top sound =
+        all_below names modules SoundAt sound_inside (IsSoundScope names) sound_here MAX_DEPTH (top_scope names modules top.1) ([], top_sound top sound)
 
     -- The nets of a design.
 
-    abbrev mine : Scope → List (ℕ × nets.Net)
-    mine scope = filter (is_own names modules scope) scope.entry.nets
+    -- `bits` is a law of names of bits.
+    module _ (bits : (n vector index : ℕ) (base : List ℕ) → number_of names base ≡ Some vector → index ≤ MAX_INDEX → bit_of names n (bit_bytes base index) ≡ Some (record { name = n; vector = vector; index = index })) where
+      abbrev mine : Scope → List (ℕ × nets.Net)
+      mine scope = filter (is_own names modules scope) scope.entry.nets
 
-    abbrev net_names : Scope → List (List ℕ)
-    net_names scope = map (λ net. name_at names net.0) (mine scope)
+      abbrev net_names : Scope → List (List ℕ)
+      net_names scope = flat_map (flat_names names) (mine scope)
 
-    net_parts : (scope : Scope) (name : ℕ) → IsSoundModule names (name, scope.entry) → All (λ n. IsTrue (is_part n)) (net_names scope)
-    net_parts scope name sound =
-        All-map (λ n. IsTrue (is_part n)) (λ (net : ℕ × nets.Net). name_at names net.0) (mine scope)
-        (All-filter (is_own names modules scope) (λ net. IsTrue (is_part (name_at names net.0))) scope.entry.nets (λ k d within. (sound.nets k d within).part))
+      sound_nets : (scope : Scope) (name : ℕ) → IsSoundModule names (name, scope.entry) → All (IsSoundNet names) (mine scope)
+      sound_nets scope name sound = All-filter (is_own names modules scope) (IsSoundNet names) scope.entry.nets sound.nets
 
-    net_names_differ : (scope : Scope) (name : ℕ) → IsSoundModule names (name, scope.entry) → AllPairs (λ a b. a ≢ b) (net_names scope)
-    net_names_differ scope name sound =
-        pairs_map (λ (net : ℕ × nets.Net). name_at names net.0) (λ net. IsGoodNumber names net.0) (λ a b. a.0 ≢ b.0) (λ a b. a ≢ b)
-        (λ a b good other apart same.
-        let e : Some a.0 ≡ Some b.0 = sym good.known ∙ ap (number_of names) same ∙ other.known in
-        let equal : a.0 ≡ b.0 = cc in
-        apart equal)
-        (mine scope) (All-filter (is_own names modules scope) (λ net. IsGoodNumber names net.0) scope.entry.nets sound.nets)
-        (AllPairs-filter (λ a b. a.0 ≢ b.0) (is_own names modules scope) scope.entry.nets sound.distinct_nets)
+      net_parts : (scope : Scope) (name : ℕ) → IsSoundModule names (name, scope.entry) → All (λ n. IsTrue (is_part n)) (net_names scope)
+      net_parts scope name sound = all_flat (flat_names names) (IsSoundNet names) (λ n. IsTrue (is_part n)) (net_name_parts names) (mine scope) (sound_nets scope name sound)
 
-    own_net_names : (scope : Scope) (listed : List (ℕ × nets.Net)) → map (λ net. net.name) (map (own_net names modules scope) listed) ≡ map (λ n. scope.path ++ n) (map (λ net. name_at names net.0) listed)
-    own_net_names scope [] = refl
-    own_net_names scope (net ∷ more) = ap (λ (ns : List (List ℕ)). (scope.path ++ name_at names net.0) ∷ ns) (own_net_names scope more)
+      abbrev Differ : ℕ × nets.Net → ℕ × nets.Net → Type 0
+      Differ a b = (a.0 ≢ b.0) × AreApart names a b
 
-    all_net_names : (scopes : List Scope) → map (λ net. net.name) (flat_map (own_nets names modules) scopes) ≡ flat_map (λ scope. map (λ n. scope.path ++ n) (net_names scope)) scopes
-    all_net_names [] = refl
-    all_net_names (scope ∷ scopes) =
-        map-append (λ (net : netlist.NetEntry). net.name) (own_nets names modules scope) (flat_map (own_nets names modules) scopes)
-        ∙ ap (λ (ns : List (List ℕ)). ns ++ map (λ (net : netlist.NetEntry). net.name) (flat_map (own_nets names modules) scopes)) (own_net_names scope (mine scope))
-        ∙ ap (λ (ns : List (List ℕ)). map (λ n. scope.path ++ n) (net_names scope) ++ ns) (all_net_names scopes)
+      net_names_apart : (scope : Scope) (name : ℕ) → IsSoundModule names (name, scope.entry) → AllPairs (λ a b. a ≢ b) (net_names scope)
+      net_names_apart scope name sound =
+          pairs_flat (flat_names names) (IsSoundNet names) Differ (λ a b. a ≢ b) (net_names_differ names bits) (nets_apart names bits) (mine scope) (sound_nets scope name sound)
+          (AllPairs-filter Differ (is_own names modules scope) scope.entry.nets (λ i j d before within. (sound.distinct_nets i j d before within, sound.apart_nets i j d before within)))
 
-    pub nets_differ : (top : ℕ × ModuleEntry) → IsSoundModule names top → AllPairs (λ a b. a.name ≢ b.name) (nets_of names modules top.1)
-    unfolding scopes_of
-    nets_differ top sound =
-        pairs_of_map (λ (net : netlist.NetEntry). net.name) (nets_of names modules top.1)
-        (subst (λ (ns : List (List ℕ)). AllPairs (λ a b. a ≢ b) ns) (sym (all_net_names (scopes_below names modules MAX_DEPTH (top_scope names modules top.1))))
-        (apart_ok net_names net_parts net_names_differ MAX_DEPTH (top_scope names modules top.1) [] (top_sound top sound)))
+      own_bit_names : (scope : Scope) (net : nets.Net) (bytes : List (List ℕ)) → map (λ n. n.name) (map (own_net names modules scope net) bytes) ≡ map (λ n. scope.path ++ n) bytes
+      own_bit_names scope net [] = refl
+      own_bit_names scope net (name ∷ more) = ap (λ (ns : List (List ℕ)). (scope.path ++ name) ∷ ns) (own_bit_names scope net more)
+
+      own_net_names : (scope : Scope) (listed : List (ℕ × nets.Net)) → map (λ net. net.name) (flat_map (own_bits names modules scope) listed) ≡ map (λ n. scope.path ++ n) (flat_map (flat_names names) listed)
+      own_net_names scope [] = refl
+      own_net_names scope (net ∷ more) =
+          map-append (λ (n : netlist.NetEntry). n.name) (own_bits names modules scope net) (flat_map (own_bits names modules scope) more)
+          ∙ ap (λ (ns : List (List ℕ)). ns ++ map (λ (n : netlist.NetEntry). n.name) (flat_map (own_bits names modules scope) more)) (own_bit_names scope net.1 (flat_names names net))
+          ∙ ap (λ (ns : List (List ℕ)). map (λ n. scope.path ++ n) (flat_names names net) ++ ns) (own_net_names scope more)
+          ∙ sym (map-append (λ (n : List ℕ). scope.path ++ n) (flat_names names net) (flat_map (flat_names names) more))
+
+      all_net_names : (scopes : List Scope) → map (λ net. net.name) (flat_map (own_nets names modules) scopes) ≡ flat_map (λ scope. map (λ n. scope.path ++ n) (net_names scope)) scopes
+      all_net_names [] = refl
+      all_net_names (scope ∷ scopes) =
+          map-append (λ (net : netlist.NetEntry). net.name) (own_nets names modules scope) (flat_map (own_nets names modules) scopes)
+          ∙ ap (λ (ns : List (List ℕ)). ns ++ map (λ (net : netlist.NetEntry). net.name) (flat_map (own_nets names modules) scopes)) (own_net_names scope (mine scope))
+          ∙ ap (λ (ns : List (List ℕ)). map (λ n. scope.path ++ n) (net_names scope) ++ ns) (all_net_names scopes)
+
+      pub nets_differ : (top : ℕ × ModuleEntry) → IsSoundModule names top → AllPairs (λ a b. a.name ≢ b.name) (nets_of names modules top.1)
+      unfolding scopes_of
+      nets_differ top sound =
+          pairs_of_map (λ (net : netlist.NetEntry). net.name) (nets_of names modules top.1)
+          (subst (λ (ns : List (List ℕ)). AllPairs (λ a b. a ≢ b) ns) (sym (all_net_names (scopes_below names modules MAX_DEPTH (top_scope names modules top.1))))
+          (apart_ok net_names net_parts net_names_apart MAX_DEPTH (top_scope names modules top.1) [] (top_sound top sound)))
 
     -- The gates of a design.
 

@@ -1,34 +1,28 @@
 -- Scopes as they are kept are those of the design.
-use Rattle.std.proofs.Common.{◌≡◌, ◌≢◌, ℕ, zero, suc, ◌+◌, ◌-◌, ◌^◌, ◌<◌, ◌≤◌, min, Bool, true, false, cond, nat_eq, List, [], ◌∷◌, ◌++◌, length, map, replicate, Option, Some, None, is_none, unwrap_or, All, refl, sym, ap, subst, ◌∙◌, arith, append_assoc, length-append}
-use Rattle.std.specs.Prelude.{codes, option_and_then, option_map, position, flat_map, filter, fold}
+use Rattle.std.proofs.Common.{◌≡◌, ◌≢◌, ℕ, zero, suc, ◌+◌, ◌<◌, ◌≤◌, min, Bool, true, cond, nat_eq, List, [], ◌∷◌, ◌++◌, length, map, replicate, Option, Some, None, All, refl, sym, ap, subst, ◌∙◌, arith, append_assoc, length-append}
+use Rattle.std.specs.Prelude.{codes, option_and_then, option_map, position, flat_map, fold}
 use Rattle.std.specs.List.{AllZip, slice_get}
 use Rattle.std.specs.Map.{lookup}
 use Rattle.std.specs.Option.{option_map_or}
 use Rattle.std.proofs.lemmas.Bool.Decides.{nat_tests}
 use Rattle.std.proofs.lemmas.Option.{get_or_from_slice_get, slice_get_within}
-use Rattle.fourstate.specs.declared.value.Value.TheVariants.{Unknown}
 use Rattle.design.specs.Netlist.{NetEntry}
 use Rattle.vtext.specs.declared.gate.Terminal.{Terminal}
-use Rattle.vtext.specs.declared.gate.Terminal.TheVariants as terminals
 use Rattle.vtext.specs.declared.module_instance.PortConnection.{PortConnection}
 use Rattle.vtext.specs.declared.net.Net as nets
 use Rattle.vtext.specs.Modules.{InstanceEntry, ModuleEntry}
 use Rattle.vtext.specs.Names.{name_at}
-use Rattle.vtext.specs.Nets.{net_of}
-use Rattle.elaboration.specs.declared.node.NodeRef.{NodeRef}
-use Rattle.elaboration.specs.declared.node.NodeRef.TheVariants.{Tied}
 use Rattle.elaboration.specs.declared.node.Slot.{Slot}
 use Rattle.elaboration.specs.declared.limits.TheConstants.{MAX_DEPTH}
-use Rattle.elaboration.specs.Elaborations.{IsNode, IsScope, IsSlot}
-use Rattle.elaboration.specs.Numbered.{AreDistinct, PlacedScope, SoFar, Start, inner_start, joints_from, kept_scopes, next_place, none, place_after, placed, ref_at, slot_for, slot_of, slots_from, top_start, with_below, with_instance, with_scope}
+use Rattle.elaboration.specs.Elaborations.{IsScope, IsSlot}
+use Rattle.elaboration.specs.Numbered.{AreDistinct, PlacedScope, SoFar, Start, inner_start, joints_from, kept_scopes, none, place_after, placed, ref_at, slots_from, top_start, with_below, with_instance, with_scope}
 use Rattle.elaboration.specs.Ports.{joined_from, joined_to}
-use Rattle.elaboration.specs.Scopes.{Node, Scope, inner, is_own, nets_of, node_at, node_of, own_net, own_nets, scopes_below, scopes_of, tied, top_scope, wired}
+use Rattle.elaboration.specs.Scopes.{Scope, inner, nets_of, node_at, own_nets, scopes_below, scopes_of, top_scope}
 use Rattle.elaboration.proofs.PairLemmas.{differ, flat_append, found_holds, pairs_head, pairs_tail, position_first}
+use Rattle.elaboration.proofs.KeptNodes.{ref_ok}
+use Rattle.elaboration.proofs.KeptSlots.{At, count_two, IsGiven, IsStart, most, slots_ok}
 
 -- Numbers and lists.
-
-abbrev most : ℕ
-most = 2 ^ 64 - 1
 
 same_number : (a : ℕ) → nat_eq a a ≡ true
 same_number a = grind (arith, nat_tests)
@@ -46,9 +40,6 @@ append_nil (x ∷ xs) = ap (λ ys. x ∷ ys) (append_nil xs)
 count_on : (place more all top : ℕ) → all ≡ suc more → min (min (place + 1) top + more) top ≡ min (place + all) top
 count_on place more all top e = omega arith
 
-count_two : (a x y all top : ℕ) → all ≡ x + y → min (min (a + x) top + y) top ≡ min (a + all) top
-count_two a x y all top e = omega arith
-
 -- the place of an item whose number no other has
 place_of_item : (listed : List (ℕ × nets.Net)) (k : ℕ) (net : ℕ × nets.Net) → AreDistinct listed → slice_get listed k ≡ Some net → position (λ o. nat_eq net.0 o.0) listed ≡ Some k
 place_of_item [] k net distinct e = absurd (cc)
@@ -65,172 +56,51 @@ place_of_item (x ∷ xs) (suc k) net distinct e =
     ∙ ap (λ (b : Bool). cond b (Some 0) (option_map suc (position (λ (o : ℕ × nets.Net). nat_eq net.0 o.0) xs))) (differ net.0 x.0 apart)
     ∙ ap (option_map suc) (place_of_item xs k net (pairs_tail (λ (a b : ℕ × nets.Net). a.0 ≢ b.0) x xs distinct) e)
 
--- Nets of the design that stand from a place on: all that is said of places holds where there are not too many nets.
-
 module _ (names : List (List ℕ)) (modules : List (ℕ × ModuleEntry)) (flat : List NetEntry) where
-  record At (place : ℕ) (more : List NetEntry) : Type 0 where
-    stand : length flat < 2 ^ 64 → (k : ℕ) (net : NetEntry) → slice_get more k ≡ Some net → slice_get flat (place + k) ≡ Some net
-
-  at_head : (place : ℕ) (net : NetEntry) (more : List NetEntry) → At place (net ∷ more) → length flat < 2 ^ 64 → slice_get flat place ≡ Some net
-  at_head place net more at few =
-      let here : place + 0 ≡ place = omega arith in
-      ap (slice_get flat) (sym here) ∙ at.stand few 0 net refl
-
-  at_tail : (place : ℕ) (net : NetEntry) (more : List NetEntry) → At place (net ∷ more) → At (min (place + 1) most) more
-  at_tail place net more at = record {
-    stand = λ few k other e.
-        let within : place < length flat = slice_get_within flat place net (at_head place net more at few) in
-        let next : min (place + 1) most + k ≡ place + suc k = omega arith in
-        ap (slice_get flat) next ∙ at.stand few (suc k) other e;
-  }
-
-  -- What ports are connected to.
-
-  abbrev IsGiven : Option NodeRef → Option Node → Type 0
-  IsGiven (Some kept) (Some node) = IsNode flat kept node
-  IsGiven None None = Unit {0}
-  IsGiven kept node = ⊥
-
-  record IsStart (start : Start) (scope : Scope) : Type 0 where
-    entry : start.entry ≡ scope.entry
-    path : start.path ≡ scope.path
-    top : start.top ≡ scope.top
-    given : AllZip (λ g net. IsGiven g (scope.given net.0)) start.given scope.entry.nets
-
-  -- One scope.
-
-  module _ (scope : Scope) where
-    abbrev owned : List (ℕ × nets.Net) → List NetEntry
-    owned listed = map (own_net names modules scope) (filter (is_own names modules scope) listed)
-
-    record AreSlots (place : ℕ) (listed : List (ℕ × nets.Net)) (given : List (Option NodeRef)) (rest : List NetEntry) : Type 0 where
-      slots : AllZip (IsSlot names modules flat scope) (slots_from scope.top place listed given) listed
-      next : At (place_after place given) rest
-      count : place_after place given ≡ min (place + length (owned listed)) most
-
-    -- a connected port
-    slot_given : (place : ℕ) (net : ℕ × nets.Net) (more : List (ℕ × nets.Net)) (kept : NodeRef) (node : Node) (given : List (Option NodeRef)) (rest : List NetEntry)
-        → scope.given net.0 ≡ Some node → IsNode flat kept node → (owned more ≡ owned (net ∷ more) → AreSlots place more given rest) → AreSlots place (net ∷ more) (Some kept ∷ given) rest
-    slot_given place net more kept node given rest e is others =
-        let skip : owned more ≡ owned (net ∷ more) =
-        ap (λ (o : Option Node). map (own_net names modules scope) (cond (is_none o) (net ∷ filter (is_own names modules scope) more) (filter (is_own names modules scope) more))) (sym e) in
-        let tail = others skip in
-        record {
-          slots = (
-            record { node = subst (λ (o : Option Node). IsNode flat kept (unwrap_or o (wired (own_net names modules scope net)))) (sym e) is; own = ap (λ (o : Option Node). is_none o) (sym e) },
-            tail.slots,
-          );
-          next = tail.next;
-          count = tail.count ∙ ap (λ (ns : List NetEntry). min (place + length ns) most) skip;
-        }
-
-    -- a net of its own
-    slot_own : (place : ℕ) (net : ℕ × nets.Net) (more : List (ℕ × nets.Net)) (given : List (Option NodeRef)) (rest : List NetEntry)
-        → scope.given net.0 ≡ None → At place (owned (net ∷ more) ++ rest) → (At (next_place place None) (owned more ++ rest) → AreSlots (next_place place None) more given rest)
-        → AreSlots place (net ∷ more) (None ∷ given) rest
-    slot_own place net more given rest e at others =
-        let mine : NetEntry = own_net names modules scope net in
-        let first : owned (net ∷ more) ≡ mine ∷ owned more =
-        ap (λ (o : Option Node). map (own_net names modules scope) (cond (is_none o) (net ∷ filter (is_own names modules scope) more) (filter (is_own names modules scope) more))) e in
-        let here : At place (mine ∷ (owned more ++ rest)) = subst (λ (ns : List NetEntry). At place (ns ++ rest)) first at in
-        let tail = others (at_tail place mine (owned more ++ rest) here) in
-        let many : length (owned (net ∷ more)) ≡ suc (length (owned more)) = ap length first in
-        record {
-          slots = (
-            record {
-              node = subst (λ (o : Option Node). IsNode flat (slot_of scope.top place net.1 None).node (unwrap_or o (wired mine))) (sym e)
-                  (record { kind = refl; input = refl; place = λ few. at_head place mine (owned more ++ rest) here few });
-              own = ap (λ (o : Option Node). is_none o) (sym e);
-            },
-            tail.slots,
-          );
-          next = tail.next;
-          count = tail.count ∙ count_on place (length (owned more)) (length (owned (net ∷ more))) most many;
-        }
-
-    one_net : (place : ℕ) (net : ℕ × nets.Net) (more : List (ℕ × nets.Net)) (g : Option NodeRef) (given : List (Option NodeRef)) (rest : List NetEntry) (node : Option Node)
-        → scope.given net.0 ≡ node → IsGiven g node → At place (owned (net ∷ more) ++ rest)
-        → place ≤ most → ((from : ℕ) → from ≤ most → At from (owned more ++ rest) → AreSlots from more given rest) → AreSlots place (net ∷ more) (g ∷ given) rest
-    one_net place net more (Some kept) given rest (Some node) e is at small others =
-        slot_given place net more kept node given rest e is (λ skip. others place small (subst (λ (ns : List NetEntry). At place (ns ++ rest)) (sym skip) at))
-    one_net place net more (Some kept) given rest None e is at small others = absurd is
-    one_net place net more None given rest (Some node) e is at small others = absurd is
-    one_net place net more None given rest None e is at small others = slot_own place net more given rest e at (others (next_place place None) (omega arith))
-
-    slots_ok : (place : ℕ) (listed : List (ℕ × nets.Net)) (given : List (Option NodeRef)) (rest : List NetEntry) → place ≤ most
-        → AllZip (λ g net. IsGiven g (scope.given net.0)) given listed → At place (owned listed ++ rest) → AreSlots place listed given rest
-    slots_ok place [] [] rest small zip at = record { slots = tt; next = at; count = omega arith }
-    slots_ok place [] (g ∷ given) rest small zip at = absurd zip
-    slots_ok place (net ∷ more) [] rest small zip at = absurd zip
-    slots_ok place (net ∷ more) (g ∷ given) rest small zip at =
-        one_net place net more g given rest (scope.given net.0) refl zip.0 at small (λ from low here. slots_ok from more given rest low zip.1 here)
-
   -- the scopes that come after others
   record Made (before after : SoFar) (scopes : List Scope) (rest : List NetEntry) : Type 0 where
     news : List PlacedScope
     list : after.list ≡ before.list ++ news
     each : AllZip (IsScope names modules flat) news scopes
-    next : At after.count rest
+    next : At names modules flat after.count rest
     count : after.count ≡ min (before.count + length (flat_map (own_nets names modules) scopes)) most
 
-  scope_ok : (so_far : SoFar) (start : Start) (scope : Scope) (rest : List NetEntry) → so_far.count ≤ most → IsStart start scope → At so_far.count (own_nets names modules scope ++ rest)
-      → IsScope names modules flat (placed so_far.count start) scope × At (with_scope so_far start).count rest × ((with_scope so_far start).count ≡ min (so_far.count + length (own_nets names modules scope)) most)
+  scope_ok : (so_far : SoFar) (start : Start) (scope : Scope) (rest : List NetEntry) → so_far.count ≤ most → IsStart names modules flat start scope → At names modules flat so_far.count (own_nets names modules scope ++ rest)
+      → IsScope names modules flat (placed so_far.count start) scope × At names modules flat (with_scope so_far start).count rest × ((with_scope so_far start).count ≡ min (so_far.count + length (own_nets names modules scope)) most)
   scope_ok so_far start scope rest small is at =
-      let zip : AllZip (λ g net. IsGiven g (scope.given net.0)) start.given scope.entry.nets = is.given in
-      let made = slots_ok scope so_far.count scope.entry.nets start.given rest small zip at in
+      let zip : AllZip (λ g net. IsGiven names modules flat g (scope.given net.0)) start.given scope.entry.nets = is.given in
+      let made = slots_ok names modules flat scope so_far.count scope.entry.nets start.given rest small zip at in
+      let counted : place_after so_far.count start.entry.nets start.given ≡ place_after so_far.count scope.entry.nets start.given =
+      ap (λ (m : ModuleEntry). place_after so_far.count m.nets start.given) is.entry in
       let same : slots_from start.top so_far.count start.entry.nets start.given ≡ slots_from scope.top so_far.count scope.entry.nets start.given =
       ap (λ (t : Bool). slots_from t so_far.count start.entry.nets start.given) is.top ∙ ap (λ (m : ModuleEntry). slots_from scope.top so_far.count m.nets start.given) is.entry in (
         record { entry = is.entry; path = is.path; slots = subst (λ (ss : List Slot). AllZip (IsSlot names modules flat scope) ss scope.entry.nets) (sym same) made.slots },
-        made.next,
-        made.count,
+        subst (λ (n : ℕ). At names modules flat n rest) (sym counted) made.next,
+        counted ∙ made.count,
       )
-
-  -- Terminals.
-
-  found_case : (scope : Scope) (b : Bool) (n : ℕ) (slot : Slot) (net : ℕ × nets.Net) (slot_rest : Option Slot) (net_rest : Option nets.Net) → nat_eq n net.0 ≡ b → IsSlot names modules flat scope slot net
-      → IsNode flat (option_map_or (λ s. s.node) slot_rest (Tied Unknown)) (option_map_or (λ o. node_of names modules scope (n, o)) net_rest (tied Unknown))
-      → IsNode flat (option_map_or (λ s. s.node) (cond b (Some slot) slot_rest) (Tied Unknown)) (option_map_or (λ o. node_of names modules scope (n, o)) (cond b (Some net.1) net_rest) (tied Unknown))
-  found_case scope true n slot net slot_rest net_rest e is others =
-      let here : net.0 ≡ n = grind (arith, nat_tests) in
-      subst (λ (k : ℕ). IsNode flat slot.node (node_of names modules scope (k, net.1))) here is.node
-  found_case scope false n slot net slot_rest net_rest e is others = others
-
-  found_ok : (scope : Scope) (n : ℕ) (slots : List Slot) (listed : List (ℕ × nets.Net)) → AllZip (IsSlot names modules flat scope) slots listed
-      → IsNode flat (option_map_or (λ s. s.node) (slot_for n listed slots) (Tied Unknown)) (option_map_or (λ o. node_of names modules scope (n, o)) (net_of listed n) (tied Unknown))
-  found_ok scope n [] [] zip = refl
-  found_ok scope n [] (net ∷ listed) zip = absurd zip
-  found_ok scope n (slot ∷ slots) [] zip = absurd zip
-  found_ok scope n (slot ∷ slots) (net ∷ listed) zip =
-      found_case scope (nat_eq n net.0) n slot net (slot_for n listed slots) (net_of listed n) refl zip.0 (found_ok scope n slots listed zip.1)
-
-  pub ref_ok : (kept : PlacedScope) (scope : Scope) → IsScope names modules flat kept scope → (terminal : Terminal) → IsNode flat (ref_at kept terminal) (node_at names modules scope terminal)
-  ref_ok kept scope is (terminals.Constant value) = refl
-  ref_ok kept scope is (terminals.Net n) =
-      subst (λ (m : ModuleEntry). IsNode flat (option_map_or (λ s. s.node) (slot_for n m.nets kept.slots) (Tied Unknown)) (node_at names modules scope (terminals.Net n))) (sym is.entry)
-      (found_ok scope n kept.slots scope.entry.nets is.slots)
 
   -- Instances.
 
-  given_of : (kept : PlacedScope) (scope : Scope) → IsScope names modules flat kept scope → (terminal : Option Terminal) → IsGiven (option_map (ref_at kept) terminal) (option_map (node_at names modules scope) terminal)
+  given_of : (kept : PlacedScope) (scope : Scope) → IsScope names modules flat kept scope → (terminal : Option Terminal) → IsGiven names modules flat (option_map (ref_at kept) terminal) (option_map (node_at names modules scope) terminal)
   given_of kept scope is None = tt
-  given_of kept scope is (Some terminal) = ref_ok kept scope is terminal
+  given_of kept scope is (Some terminal) = ref_ok names modules flat kept scope is terminal
 
   given_from : (kept : PlacedScope) (scope : Scope) → IsScope names modules flat kept scope → (m : ModuleEntry) → AreDistinct m.nets → (connections : List PortConnection) (k : ℕ) (listed : List (ℕ × nets.Net))
       → ((j : ℕ) (net : ℕ × nets.Net) → slice_get listed j ≡ Some net → slice_get m.nets (k + j) ≡ Some net)
-      → AllZip (λ g net. IsGiven g (option_map (node_at names modules scope) (joined_to m connections net.0))) (map (option_map (ref_at kept)) (joints_from connections 0 k listed)) listed
+      → AllZip (λ g net. IsGiven names modules flat g (option_map (node_at names modules scope) (joined_to m connections net.0))) (map (option_map (ref_at kept)) (joints_from connections 0 k listed)) listed
   given_from kept scope is m distinct connections k [] part = tt
   given_from kept scope is m distinct connections k (net ∷ listed) part =
       let zero_on : k + 0 ≡ k = omega arith in
       let there : slice_get m.nets k ≡ Some net = ap (slice_get m.nets) (sym zero_on) ∙ part 0 net refl in
       let joined : joined_from connections 0 k net.0 ≡ joined_to m connections net.0 =
       ap (λ (o : Option ℕ). option_and_then (λ place. joined_from connections 0 place net.0) o) (sym (place_of_item m.nets k net distinct there)) in (
-        subst (λ (t : Option Terminal). IsGiven (option_map (ref_at kept) (joined_from connections 0 k net.0)) (option_map (node_at names modules scope) t)) joined
+        subst (λ (t : Option Terminal). IsGiven names modules flat (option_map (ref_at kept) (joined_from connections 0 k net.0)) (option_map (node_at names modules scope) t)) joined
             (given_of kept scope is (joined_from connections 0 k net.0)),
         given_from kept scope is m distinct connections (suc k) listed
             (λ j other e. let on : suc k + j ≡ k + suc j = omega arith in ap (slice_get m.nets) on ∙ part (suc j) other e),
       )
 
-  start_ok : (kept : PlacedScope) (scope : Scope) → IsScope names modules flat kept scope → (i : InstanceEntry) (m : ModuleEntry) → AreDistinct m.nets → IsStart (inner_start names kept i m) (inner names modules scope i m)
+  start_ok : (kept : PlacedScope) (scope : Scope) → IsScope names modules flat kept scope → (i : InstanceEntry) (m : ModuleEntry) → AreDistinct m.nets → IsStart names modules flat (inner_start names kept i m) (inner names modules scope i m)
   start_ok kept scope is i m distinct = record {
     entry = refl;
     path = ap (λ (p : List ℕ). p ++ name_at names i.name ++ codes ".") is.path;
@@ -243,7 +113,7 @@ module _ (names : List (List ℕ)) (modules : List (ℕ × ModuleEntry)) (flat :
   abbrev flat_nets : List Scope → List NetEntry
   flat_nets scopes = flat_map (own_nets names modules) scopes
 
-  made_none : (so_far : SoFar) (rest : List NetEntry) → so_far.count ≤ most → At so_far.count rest → Made so_far so_far [] rest
+  made_none : (so_far : SoFar) (rest : List NetEntry) → so_far.count ≤ most → At names modules flat so_far.count rest → Made so_far so_far [] rest
   made_none so_far rest small at = record { news = []; list = sym (append_nil so_far.list); each = tt; next = at; count = omega arith }
 
   made_two : (a b c : SoFar) (xs ys : List Scope) (rest : List NetEntry) → Made a b xs (flat_nets ys ++ rest) → Made b c ys rest → Made a c (xs ++ ys) rest
@@ -270,17 +140,17 @@ module _ (names : List (List ℕ)) (modules : List (ℕ × ModuleEntry)) (flat :
 
   abbrev BelowOk : ℕ → Type 0
   BelowOk levels = (kept : PlacedScope) (scope : Scope) (so_far : SoFar) (rest : List NetEntry) → so_far.count ≤ most → IsScope names modules flat kept scope
-      → At so_far.count (flat_nets (below levels scope) ++ rest) → Made so_far (with_below names modules levels kept so_far) (below levels scope) rest
+      → At names modules flat so_far.count (flat_nets (below levels scope) ++ rest) → Made so_far (with_below names modules levels kept so_far) (below levels scope) rest
 
   module _ (all_distinct : All (λ m. AreDistinct m.1.nets) modules) where
     -- a scope and those below it
-    scopes_made : (levels : ℕ) → BelowOk levels → (so_far : SoFar) (start : Start) (scope : Scope) (rest : List NetEntry) → so_far.count ≤ most → IsStart start scope
-        → At so_far.count (flat_nets (scopes_below names modules levels scope) ++ rest)
+    scopes_made : (levels : ℕ) → BelowOk levels → (so_far : SoFar) (start : Start) (scope : Scope) (rest : List NetEntry) → so_far.count ≤ most → IsStart names modules flat start scope
+        → At names modules flat so_far.count (flat_nets (scopes_below names modules levels scope) ++ rest)
         → Made so_far (with_below names modules levels (placed so_far.count start) (with_scope so_far start)) (scopes_below names modules levels scope) rest
     scopes_made levels others so_far start scope rest small is at =
         let all = all_is levels scope in
-        let at_all : At so_far.count (own_nets names modules scope ++ (flat_nets (below levels scope) ++ rest)) =
-        subst (λ (ns : List NetEntry). At so_far.count ns)
+        let at_all : At names modules flat so_far.count (own_nets names modules scope ++ (flat_nets (below levels scope) ++ rest)) =
+        subst (λ (ns : List NetEntry). At names modules flat so_far.count ns)
         (ap (λ (ss : List Scope). flat_nets ss ++ rest) all ∙ append_assoc (own_nets names modules scope) (flat_nets (below levels scope)) rest) at in
         let first = scope_ok so_far start scope (flat_nets (below levels scope) ++ rest) small is at_all in
         let low : (with_scope so_far start).count ≤ most = omega (arith, first.2) in
@@ -298,7 +168,7 @@ module _ (names : List (List ℕ)) (modules : List (ℕ × ModuleEntry)) (flat :
     -- one instance, of a module that the text has or has not
     instance_case : (levels : ℕ) → BelowOk levels → (kept : PlacedScope) (scope : Scope) → IsScope names modules flat kept scope → (i : InstanceEntry) (so_far : SoFar) (rest : List NetEntry) (found : Option ModuleEntry)
         → found ≡ lookup (nat_eq i.«module») modules → so_far.count ≤ most
-        → At so_far.count (flat_nets (option_map_or (λ m. scopes_below names modules levels (inner names modules scope i m)) found []) ++ rest)
+        → At names modules flat so_far.count (flat_nets (option_map_or (λ m. scopes_below names modules levels (inner names modules scope i m)) found []) ++ rest)
         → Made so_far (option_map_or (λ m. with_below names modules levels (placed so_far.count (inner_start names kept i m)) (with_scope so_far (inner_start names kept i m))) found so_far)
         (option_map_or (λ m. scopes_below names modules levels (inner names modules scope i m)) found []) rest
     instance_case levels others kept scope is i so_far rest None e small at = made_none so_far rest small at
@@ -307,14 +177,14 @@ module _ (names : List (List ℕ)) (modules : List (ℕ × ModuleEntry)) (flat :
         (start_ok kept scope is i m (found_holds (λ (o : ModuleEntry). AreDistinct o.nets) (nat_eq i.«module») modules m all_distinct e)) at
 
     instances_ok : (levels : ℕ) → BelowOk levels → (kept : PlacedScope) (scope : Scope) → IsScope names modules flat kept scope → (instances : List InstanceEntry) (so_far : SoFar) (rest : List NetEntry) → so_far.count ≤ most
-        → At so_far.count (flat_nets (flat_map (below_instance levels scope) instances) ++ rest)
+        → At names modules flat so_far.count (flat_nets (flat_map (below_instance levels scope) instances) ++ rest)
         → Made so_far (fold (with_instance names modules levels kept) so_far instances) (flat_map (below_instance levels scope) instances) rest
     instances_ok levels others kept scope is [] so_far rest small at = made_none so_far rest small at
     instances_ok levels others kept scope is (i ∷ instances) so_far rest small at =
         let mine = below_instance levels scope i in
         let more = flat_map (below_instance levels scope) instances in
-        let at_mine : At so_far.count (flat_nets mine ++ (flat_nets more ++ rest)) =
-        subst (λ (ns : List NetEntry). At so_far.count ns)
+        let at_mine : At names modules flat so_far.count (flat_nets mine ++ (flat_nets more ++ rest)) =
+        subst (λ (ns : List NetEntry). At names modules flat so_far.count ns)
         (ap (λ (ns : List NetEntry). ns ++ rest) (flat_append (own_nets names modules) mine more) ∙ append_assoc (flat_nets mine) (flat_nets more) rest) at in
         let first = instance_case levels others kept scope is i so_far (flat_nets more ++ rest) (lookup (nat_eq i.«module») modules) refl small at_mine in
         let low : (with_instance names modules levels kept so_far i).count ≤ most = omega (arith, first.count) in
@@ -329,14 +199,14 @@ module _ (names : List (List ℕ)) (modules : List (ℕ × ModuleEntry)) (flat :
 
     -- The scopes of the design.
 
-    none_given : (top : ModuleEntry) (listed : List (ℕ × nets.Net)) → AllZip (λ g net. IsGiven g ((top_scope names modules top).given net.0)) (replicate (length listed) None) listed
+    none_given : (top : ModuleEntry) (listed : List (ℕ × nets.Net)) → AllZip (λ g net. IsGiven names modules flat g ((top_scope names modules top).given net.0)) (replicate (length listed) None) listed
     none_given top [] = tt
     none_given top (net ∷ listed) = (tt, none_given top listed)
 
     top_made : (top : ModuleEntry) → flat ≡ nets_of names modules top → Made none (kept_scopes names modules top) (scopes_of names modules top) []
     unfolding kept_scopes scopes_of
     top_made top e =
-        let start : IsStart (top_start top) (top_scope names modules top) = record { entry = refl; path = refl; top = refl; given = none_given top top.nets } in
+        let start : IsStart names modules flat (top_start top) (top_scope names modules top) = record { entry = refl; path = refl; top = refl; given = none_given top top.nets } in
         scopes_made MAX_DEPTH (below_ok MAX_DEPTH) none (top_start top) (top_scope names modules top) [] (omega arith) start
         (record {
           stand = λ few k net there.

@@ -7,7 +7,8 @@ use Rattle.std.specs.List.{list_any}
 use Rattle.std.specs.Option.{option_and_then, option_map_or, option_or}
 use Rattle.indexmap.specs.IndexSet.{insert_key}
 use Rattle.vtext.specs.declared.module_instance.PortConnection.{PortConnection}
-use Rattle.vtext.specs.Modules.{InstanceEntry, ModuleEntry}
+use Rattle.vtext.specs.declared.net.Net.{Net}
+use Rattle.vtext.specs.Modules.{ModuleEntry}
 use Rattle.elaboration.specs.Ports.{connection_fault, connections_fault, port_at, first_instance_fault, is_named_twice, names_port, second_pass_from}
 
 -- a module of which nothing is said
@@ -91,11 +92,11 @@ module _ (connections : List PortConnection) (i : ℕ) (d : PortConnection) (wit
   new_next names name some fresh = new_first names name (get_or connections i d) (drop (i + 1) connections) some fresh ∙ sym (at_drop_more (is_again names) connections i d within)
 
 -- the same with the number of the next place as code has it
-pub fault_first : (m : ModuleEntry) (at : ℕ) (c : PortConnection) (cs : List PortConnection)
-    → connections_fault m at (c ∷ cs) ≡ option_or (option_and_then (connection_fault c) (port_at m at c)) (connections_fault m (at + 1) cs)
-fault_first m at c cs =
+pub fault_first : (listed : List (ℕ × Net)) (m : ModuleEntry) (at : ℕ) (c : PortConnection) (cs : List PortConnection)
+    → connections_fault listed m at (c ∷ cs) ≡ option_or (option_and_then (connection_fault listed c) (port_at m at c)) (connections_fault listed m (at + 1) cs)
+fault_first listed m at c cs =
     let next : suc at ≡ at + 1 = omega arith in
-    ap (λ (n : ℕ). option_or (option_and_then (connection_fault c) (port_at m at c)) (connections_fault m n cs)) next
+    ap (λ (n : ℕ). option_or (option_and_then (connection_fault listed c) (port_at m at c)) (connections_fault listed m n cs)) next
 
 pub fresh_of : (b r : Bool) → r ≡ not b → r ≡ true → b ≡ false
 fresh_of true r e h = absurd (true≢false (sym h ∙ e))
@@ -106,9 +107,10 @@ new_last names name fresh = ap (λ (b : Bool). cond b names (names ++ name ∷ [
 
 -- The instances of modules, one after another.
 
-pub second_next : (text : List ℕ) (modules : List (ℕ × ModuleEntry)) (place : ℕ) (instances : List InstanceEntry) → place < length modules
-    → instances ≡ (get_or modules place blank).1.instances
-    → second_pass_from text modules (drop place modules) ≡ option_or (first_instance_fault text modules instances) (second_pass_from text modules (drop (place + 1) modules))
-second_next text modules place instances within same =
+pub second_next : (text : List ℕ) (modules : List (ℕ × ModuleEntry)) (place : ℕ) (outer : ModuleEntry) → place < length modules
+    → outer ≡ (get_or modules place blank).1
+    → second_pass_from text modules (drop place modules)
+    ≡ option_or (first_instance_fault text modules outer.nets outer.instances) (second_pass_from text modules (drop (place + 1) modules))
+second_next text modules place outer within same =
     at_drop_more (second_pass_from text modules) modules place blank within
-    ∙ ap (λ (is : List InstanceEntry). option_or (first_instance_fault text modules is) (second_pass_from text modules (drop (place + 1) modules))) (sym same)
+    ∙ ap (λ (m : ModuleEntry). option_or (first_instance_fault text modules m.nets m.instances) (second_pass_from text modules (drop (place + 1) modules))) (sym same)

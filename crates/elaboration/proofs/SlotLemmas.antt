@@ -37,9 +37,9 @@ slot_found n (net ∷ more) (slot ∷ slots) =
 
 pub next_slot : (top : Bool) (listed : List (ℕ × nets.Net)) (given : List (Option NodeRef)) (i : ℕ) (net : ℕ × nets.Net) (node : Option NodeRef) (place : ℕ) (items : List Slot)
     → i < length listed → i < length given → net ≡ get_or listed i net → node ≡ get_or given i node
-    → (items ++ slot_of top place net.1 node ∷ []) ++ slots_from top (next_place place node) (drop (i + 1) listed) (drop (i + 1) given) ≡ items ++ slots_from top place (drop i listed) (drop i given)
+    → (items ++ slot_of top place net.1 node ∷ []) ++ slots_from top (next_place place net.1 node) (drop (i + 1) listed) (drop (i + 1) given) ≡ items ++ slots_from top place (drop i listed) (drop i given)
 next_slot top listed given i net node place items in_nets in_given is_net is_node =
-    append_assoc items (slot_of top place net.1 node ∷ []) (slots_from top (next_place place node) (drop (i + 1) listed) (drop (i + 1) given))
+    append_assoc items (slot_of top place net.1 node ∷ []) (slots_from top (next_place place net.1 node) (drop (i + 1) listed) (drop (i + 1) given))
     ∙ ap (λ ss. items ++ ss) (sym (
     at_drop_more (λ ns. slots_from top place ns (drop i given)) listed i net in_nets
     ∙ ap (λ (n : ℕ × nets.Net). slots_from top place (n ∷ drop (i + 1) listed) (drop i given)) (sym is_net)
@@ -47,7 +47,13 @@ next_slot top listed given i net node place items in_nets in_given is_net is_nod
     ∙ ap (λ (g : Option NodeRef). slots_from top place (net ∷ drop (i + 1) listed) (g ∷ drop (i + 1) given)) (sym is_node)
     ))
 
-pub place_next : (given : List (Option NodeRef)) (i : ℕ) (node : Option NodeRef) (place : ℕ) → i < length given → node ≡ get_or given i node
-    → place_after (next_place place node) (drop (i + 1) given) ≡ place_after place (drop i given)
-place_next given i node place within is =
-    sym (at_drop_more (place_after place) given i node within ∙ ap (λ (g : Option NodeRef). place_after place (g ∷ drop (i + 1) given)) (sym is))
+pub place_next : (listed : List (ℕ × nets.Net)) (given : List (Option NodeRef)) (i : ℕ) (net : ℕ × nets.Net) (node : Option NodeRef) (place : ℕ)
+    → i < length listed → i < length given → net ≡ get_or listed i net → node ≡ get_or given i node
+    → place_after (next_place place net.1 node) (drop (i + 1) listed) (drop (i + 1) given) ≡ place_after place (drop i listed) (drop i given)
+place_next listed given i net node place in_nets in_given is_net is_node =
+    sym (
+    at_drop_more (λ ns. place_after place ns (drop i given)) listed i net in_nets
+    ∙ ap (λ (n : ℕ × nets.Net). place_after place (n ∷ drop (i + 1) listed) (drop i given)) (sym is_net)
+    ∙ at_drop_more (λ gs. place_after place (net ∷ drop (i + 1) listed) gs) given i node in_given
+    ∙ ap (λ (g : Option NodeRef). place_after place (net ∷ drop (i + 1) listed) (g ∷ drop (i + 1) given)) (sym is_node)
+    )

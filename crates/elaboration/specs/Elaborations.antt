@@ -1,5 +1,5 @@
 -- The design that the modules of a text make: its top and its scopes, or the fault of the modules.
-use Rattle.std.specs.Prelude.{◌≡◌, ◌<◌, ◌^◌, ℕ, List, length, Option, None, Some, if◌then◌else◌, slice_get, min, ◌-◌}
+use Rattle.std.specs.Prelude.{◌≡◌, ◌<◌, ◌^◌, ℕ, List, length, Option, None, Some, if◌then◌else◌, slice_get, min, All, ◌+◌, ◌-◌}
 use Rattle.std.specs.List.{AllZip}
 use Rattle.std.specs.Option.{option_map_or, option_or}
 use Rattle.design.specs.Netlist.{NetEntry}
@@ -8,9 +8,9 @@ use Rattle.vtext.specs.declared.fault.ReadFault.{ReadFault}
 use Rattle.vtext.specs.declared.fault.ReadFaultKind.TheVariants.{Edit}
 use Rattle.vtext.specs.declared.net.Net as nets
 use Rattle.vtext.specs.Modules.{ModuleEntry, ModuleList}
-use Rattle.elaboration.specs.declared.node.NetRef.{NetRef}
+use Rattle.elaboration.specs.declared.node.NetRun.{NetRun}
 use Rattle.elaboration.specs.declared.node.NodeRef.{NodeRef}
-use Rattle.elaboration.specs.declared.node.NodeRef.TheVariants.{Net, Tied}
+use Rattle.elaboration.specs.declared.node.NodeRef.TheVariants.{Nets, Tied}
 use Rattle.elaboration.specs.declared.node.Slot.{Slot}
 use Rattle.elaboration.specs.Levels.{has_many_instances}
 use Rattle.elaboration.specs.Numbered.{PlacedScope}
@@ -29,14 +29,15 @@ elaboration_fault text modules =
     option_or (second_pass text modules)
     (option_or (third_pass text modules) (option_map_or (levels_fault text modules) (top_of modules) None))
 
--- What is kept of a net, among the nets of the design: its place in their order counts where there are not too many.
-pub record IsNet (nets : List NetEntry) (kept : NetRef) (net : NetEntry) : Type 0 where
-  pub kind : kept.kind ≡ net.kind
-  pub input : kept.is_input ≡ net.is_input
-  pub place : length nets < 2 ^ 64 → slice_get nets kept.place ≡ Some net
+-- What is kept of some nets, among the nets of the design: their places in its order count where there are not too many.
+pub record IsRun (nets : List NetEntry) (kept : NetRun) (wires : List NetEntry) : Type 0 where
+  pub width : kept.width ≡ length wires
+  pub kinds : All (λ net. kept.kind ≡ net.kind) wires
+  pub inputs : All (λ net. kept.is_input ≡ net.is_input) wires
+  pub places : length nets < 2 ^ 64 → (k : ℕ) (net : NetEntry) → slice_get wires k ≡ Some net → slice_get nets (kept.place + k) ≡ Some net
 
 abbrev pub IsNode : List NetEntry → NodeRef → Node → Type 0
-IsNode nets (Net kept) (wired net) = IsNet nets kept net
+IsNode nets (Nets kept) (wired wires) = IsRun nets kept wires
 IsNode nets (Tied kept) (tied value) = kept ≡ value
 IsNode nets kept node = ⊥
 

@@ -1,5 +1,5 @@
--- Scopes as they are kept: a net of the design is known by its place in the design's order.
-use Rattle.std.specs.Prelude.{Bool, true, false, ℕ, zero, suc, nat_eq, ◌+◌, ◌-◌, ◌^◌, ◌≢◌, ◌&&◌, ◌++◌, if◌then◌else◌, min, List, [], ◌∷◌, length, map, replicate, set, fold, AllPairs, Option, None, Some, option_map, codes}
+-- Scopes as they are kept: a net of the design is known by its place in the design's order, and the bits of a vector stand together.
+use Rattle.std.specs.Prelude.{Bool, true, false, ℕ, zero, suc, nat_eq, nat_lt, ◌+◌, ◌-◌, ◌^◌, ◌≢◌, ◌&&◌, ◌++◌, if◌then◌else◌, min, List, [], ◌∷◌, length, map, replicate, set, fold, AllPairs, Option, None, Some, option_map, codes}
 use Rattle.std.specs.Map.{lookup}
 use Rattle.std.specs.Option.{option_map_or}
 use Rattle.fourstate.specs.declared.value.Value.TheVariants.{Unknown}
@@ -7,14 +7,17 @@ use Rattle.vtext.specs.declared.gate.Terminal.{Terminal}
 use Rattle.vtext.specs.declared.gate.Terminal.TheVariants as terminals
 use Rattle.vtext.specs.declared.module_instance.PortConnection.{PortConnection}
 use Rattle.vtext.specs.declared.net.Net as nets
+use Rattle.vtext.specs.declared.range.Range.{Range}
 use Rattle.vtext.specs.Modules.{InstanceEntry, ModuleEntry}
 use Rattle.vtext.specs.Names.{name_at}
 use Rattle.vtext.specs.Nets.{is_input, net_kind, place_of}
+use Rattle.vtext.specs.Ranges.{place_of_bit, width_of}
 use Rattle.elaboration.specs.declared.limits.TheConstants.{MAX_DEPTH}
+use Rattle.elaboration.specs.declared.node.NetRun.{NetRun}
 use Rattle.elaboration.specs.declared.node.NodeRef.{NodeRef}
-use Rattle.elaboration.specs.declared.node.NodeRef.TheVariants.{Net, Tied}
+use Rattle.elaboration.specs.declared.node.NodeRef.TheVariants.{Nets, Tied}
 use Rattle.elaboration.specs.declared.node.Slot.{Slot}
-use Rattle.elaboration.specs.Ports.{joined_from}
+use Rattle.elaboration.specs.Ports.{joined_from, range_of}
 
 -- A scope before its nets have places.
 pub record Start : Type 0 where
@@ -41,23 +44,24 @@ pub record SoFar : Type 0 where
 abbrev pub slot_of : Bool → ℕ → nets.Net → Option NodeRef → Slot
 slot_of top place net (Some node) = record { node = node; is_own = false }
 slot_of top place net None =
-    record { node = Net (record { place = place; kind = net_kind net; is_input = top && is_input net }); is_own = true }
+    record { node = Nets (record { place = place; width = width_of net.range; kind = net_kind net; is_input = top && is_input net }); is_own = true }
 
--- the place of the next net, as far as numbers go
-abbrev pub next_place : ℕ → Option NodeRef → ℕ
-next_place place (Some node) = place
-next_place place None = min (place + 1) (2 ^ 64 - 1)
+-- the place after a net, as far as numbers go
+abbrev pub next_place : ℕ → nets.Net → Option NodeRef → ℕ
+next_place place net (Some node) = place
+next_place place net None = min (place + width_of net.range) (2 ^ 64 - 1)
 
 -- what nets are, of which those that come with the scope have places from here on
 abbrev pub slots_from : Bool → ℕ → List (ℕ × nets.Net) → List (Option NodeRef) → List Slot
 slots_from top place [] given = []
 slots_from top place (net ∷ more) [] = []
-slots_from top place (net ∷ more) (node ∷ given) = slot_of top place net.1 node ∷ slots_from top (next_place place node) more given
+slots_from top place (net ∷ more) (node ∷ given) = slot_of top place net.1 node ∷ slots_from top (next_place place net.1 node) more given
 
 -- the place after those that they take
-abbrev pub place_after : ℕ → List (Option NodeRef) → ℕ
-place_after place [] = place
-place_after place (node ∷ given) = place_after (next_place place node) given
+abbrev pub place_after : ℕ → List (ℕ × nets.Net) → List (Option NodeRef) → ℕ
+place_after place [] given = place
+place_after place (net ∷ more) [] = place
+place_after place (net ∷ more) (node ∷ given) = place_after (next_place place net.1 node) more given
 
 abbrev pub placed : ℕ → Start → PlacedScope
 placed place start =
@@ -66,7 +70,7 @@ placed place start =
 -- a scope more
 abbrev pub with_scope : SoFar → Start → SoFar
 with_scope so_far start =
-    record { list = so_far.list ++ placed so_far.count start ∷ []; count = place_after so_far.count start.given }
+    record { list = so_far.list ++ placed so_far.count start ∷ []; count = place_after so_far.count start.entry.nets start.given }
 
 -- Instances.
 
@@ -76,10 +80,25 @@ slot_for n [] slots = None
 slot_for n (net ∷ more) [] = None
 slot_for n (net ∷ more) (slot ∷ slots) = if nat_eq n net.0 then Some slot else slot_for n more slots
 
+-- the net at a place of a run alone; past its end none
+abbrev pub run_bit : ℕ → NetRun → NetRun
+run_bit place run = record run { place = min (run.place + place) (2 ^ 64 - 1); width = if nat_lt place run.width then 1 else 0 }
+
+-- the bit of an index, of what has a range
+abbrev pub bit_ref : Option Range → ℕ → NodeRef → NodeRef
+bit_ref None i node = node
+bit_ref (Some range) i (Nets run) = Nets (run_bit (place_of_bit range i) run)
+bit_ref (Some range) i (Tied value) = Tied value
+
+-- what the net of this name is
+abbrev pub ref_for : PlacedScope → ℕ → NodeRef
+ref_for scope n = option_map_or (λ slot. slot.node) (slot_for n scope.entry.nets scope.slots) (Tied Unknown)
+
 -- what a terminal in a scope is
 abbrev pub ref_at : PlacedScope → Terminal → NodeRef
 ref_at scope (terminals.Constant value) = Tied value
-ref_at scope (terminals.Net n) = option_map_or (λ slot. slot.node) (slot_for n scope.entry.nets scope.slots) (Tied Unknown)
+ref_at scope (terminals.Net n) = ref_for scope n
+ref_at scope (terminals.Bit n i) = bit_ref (range_of scope.entry.nets n) i (ref_for scope n)
 
 -- nets have different names
 abbrev pub AreDistinct : List (ℕ × nets.Net) → Type 0

@@ -1,18 +1,22 @@
 //! Laws of elaboration: each contract is the law, and no function gives anything.
 
-ghost use Rattle.std.specs.Prelude.{◌≡◌, ◌≢◌, ℕ, List, All, AllPairs, IsSome, None};
+ghost use Rattle.std.specs.Prelude.{◌≡◌, ◌≢◌, ℕ, List, All, AllPairs, IsSome, IsTrue, None, Some};
+ghost use Rattle.design.specs.Names.{is_part};
 ghost use Rattle.design.specs.Netlist.{NetEntry};
 ghost use Rattle.vtext.specs.Modules.{ModuleEntry};
-ghost use Rattle.vtext.specs.Sound.{IsSoundModule};
+ghost use Rattle.vtext.specs.Sound.{IsSoundModule, IsSoundNet};
 ghost use Rattle.vtext.specs.declared.gate.Terminal as terminals;
+ghost use Rattle.vtext.specs.declared.net.Net as nets;
 ghost use Rattle.elaboration.specs.Elaborations.{IsNode, IsScope, elaboration_fault};
 ghost use Rattle.elaboration.specs.Numbered.{PlacedScope, ref_at};
-ghost use Rattle.elaboration.specs.Scopes.{Scope, gates_of, nets_of, node_at, scopes_of};
+ghost use Rattle.elaboration.specs.Scopes.{Scope, flat_names, gates_of, nets_of, node_at, scopes_of};
 ghost use Rattle.elaboration.specs.Tops.{top_of};
-ghost use Rattle.elaboration.specs.SoundScopes.{IsSoundScope};
+ghost use Rattle.elaboration.specs.SoundScopes.{IsSingleGate, IsSoundScope};
+ghost use Rattle.elaboration.specs.Ports.{second_pass};
 
 use crate::limits::{MAX_DEPTH, MAX_INSTANCES};
 use design::laws::{parts_are_names, parts_of_joined};
+use vtext::laws::bit_names_are_bits;
 
 /// The limits of a hierarchy have these numbers.
 pub fn limits()
@@ -21,7 +25,7 @@ pub fn limits()
 {}
 
 /// What a terminal is in a scope as it is kept is what it is in the design's.
-#[tactic(auto, using(crate::proofs::KeptLemmas::ref_ok))]
+#[tactic(auto, using(crate::proofs::KeptNodes::ref_ok))]
 pub fn terminals_are_nodes()
     ensures { (names : List (List ℕ)) (modules : List (ℕ × ModuleEntry)) (flat : List NetEntry) (kept : PlacedScope) (scope : Scope) → IsScope names modules flat kept scope →
         (terminal : terminals.Terminal) → IsNode flat (ref_at kept terminal) (node_at names modules scope terminal) }
@@ -36,6 +40,7 @@ pub fn flat_names()
 {
     parts_of_joined();
     parts_are_names();
+    bit_names_are_bits();
 }
 
 /// The scopes of sound modules are sound.
@@ -51,4 +56,16 @@ pub fn scopes_are_sound()
 #[tactic(auto, using(crate::proofs::TopLemmas::top_there))]
 pub fn faultless_has_top()
     ensures { (text : List ℕ) (modules : List (ℕ × ModuleEntry)) → elaboration_fault text modules ≡ None → IsSome (top_of modules) }
+{}
+
+/// The names of the nets that a net of a sound module is in the design are parts of names.
+pub fn flat_names_are_parts()
+    ensures { (names : List (List ℕ)) (net : ℕ × nets.Net) → IsSoundNet names net → All (λ name. IsTrue (is_part name)) (flat_names names net) }
+{}
+
+/// Each terminal of a gate is one net of the design, or a constant, where no instance has a fault.
+pub fn gate_terminals_are_single()
+    ensures { (text : List ℕ) (names : List (List ℕ)) (modules : List (ℕ × ModuleEntry)) (top : ℕ × ModuleEntry) → All (IsSoundModule names) modules →
+        second_pass text modules ≡ None → top_of modules ≡ Some top →
+        All (λ scope. All (IsSingleGate names modules scope) scope.entry.gates) (scopes_of names modules top.1) }
 {}

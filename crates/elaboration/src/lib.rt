@@ -18,8 +18,9 @@ mod slots;
 mod start;
 mod tops;
 mod walk;
+mod widths;
 
 pub use elaboration::{Elaboration, elaborate};
 pub use lines::fault_at;
-pub use node::{NetRef, NodeRef, Slot};
+pub use node::{NetRun, NodeRef, Slot};
 pub use scope::Scope;

@@ -5,6 +5,8 @@ ghost use Rattle.vtext.specs.Modules.{ModuleEntry};
 ghost use Rattle.elaboration.specs.Ports.{connection_fault, connections_fault, first_instance_fault, has_stranger, instance_fault, is_named_twice, is_output, is_tied, port_at, ports_fault, second_pass};
 
 use crate::lines::fault_at;
+use crate::rings::at;
+use crate::widths::is_width_wrong;
 use indexmap::IndexSet;
 use std::alloc::{AllocError, Global};
 use vtext::{
@@ -71,11 +73,13 @@ fn is_tied(terminal: Option<Terminal>) -> bool
     }
 }
 
-/// Why the connection of a port is refused, if it is.
-fn connection_fault(connection: PortConnection, port: Net) -> Option<ReadFaultKind>
-    ensures { result ≡ connection_fault connection port }
+/// Why the connection of a port is refused, if it is: the widths differ, or a constant is on an output.
+fn connection_fault(outer: &Module, connection: PortConnection, port: Net) -> Option<ReadFaultKind>
+    ensures { result ≡ connection_fault outer.now.nets connection port }
 {
-    if is_output(port) && is_tied(connection.terminal) {
+    if is_width_wrong(outer, connection.terminal, port) {
+        Some(ReadFaultKind::WidthMismatch)
+    } else if is_output(port) && is_tied(connection.terminal) {
         Some(ReadFaultKind::PortKind)
     } else {
         None
@@ -84,22 +88,27 @@ fn connection_fault(connection: PortConnection, port: Net) -> Option<ReadFaultKi
 
 /// Why the connection at a place is refused, if it is.
 fn fault_of_connection(
+    outer: &Module,
     inner: &Module,
     place: usize,
     connection: PortConnection,
 ) -> Option<ReadFaultKind>
-    ensures { result ≡ option_and_then (connection_fault connection) (port_at inner.now place connection) }
+    ensures { result ≡ option_and_then (connection_fault outer.now.nets connection) (port_at inner.now place connection) }
 {
     let port = port_at(inner, place, connection)?;
-    connection_fault(connection, port)
+    connection_fault(outer, connection, port)
 }
 
 /// Why the first connection that is refused is.
-fn connections_fault(inner: &Module, connections: &[PortConnection]) -> Option<ReadFaultKind>
-    ensures { result ≡ connections_fault inner.now 0 connections.now }
+fn connections_fault(
+    outer: &Module,
+    inner: &Module,
+    connections: &[PortConnection],
+) -> Option<ReadFaultKind>
+    ensures { result ≡ connections_fault outer.now.nets inner.now 0 connections.now }
 {
     for (place, connection) in connections.iter().enumerate() {
-        if let Some(kind) = fault_of_connection(inner, place, *connection) {
+        if let Some(kind) = fault_of_connection(outer, inner, place, *connection) {
             return Some(kind);
         }
     }
@@ -109,42 +118,44 @@ fn connections_fault(inner: &Module, connections: &[PortConnection]) -> Option<R
 /// Why an instance of a module is refused, if it is.
 fn ports_fault(
     alloc: Global,
+    outer: &Module,
     connections: &[PortConnection],
     inner: &Module,
 ) -> Result<Option<ReadFaultKind>, AllocError>
-    ensures { IfOk result (λ kind. kind ≡ ports_fault connections.now inner.now) }
+    ensures { IfOk result (λ kind. kind ≡ ports_fault outer.now.nets connections.now inner.now) }
 {
     if has_stranger(inner, connections) || is_named_twice(alloc, connections)? {
         return Ok(Some(ReadFaultKind::PortCount));
     }
-    Ok(connections_fault(inner, connections))
+    Ok(connections_fault(outer, inner, connections))
 }
 
-/// Why an instance is refused, if it is.
+/// Why an instance in a module is refused, if it is.
 fn instance_fault(
     alloc: Global,
     modules: &Modules,
+    outer: &Module,
     instance: &ModuleInstance,
 ) -> Result<Option<ReadFaultKind>, AllocError>
-    ensures { IfOk result (λ kind. kind ≡ instance_fault modules.now.modules instance.now) }
+    ensures { IfOk result (λ kind. kind ≡ instance_fault modules.now.modules outer.now.nets instance.now) }
 {
     match modules.find(instance.module()) {
-        Some(inner) => ports_fault(alloc, instance.connections(), inner),
+        Some(inner) => ports_fault(alloc, outer, instance.connections(), inner),
         None => Ok(Some(ReadFaultKind::UnknownModule)),
     }
 }
 
-/// The first fault of some instances.
+/// The first fault of the instances in a module.
 fn first_instance_fault(
     alloc: Global,
     text: &[u8],
     modules: &Modules,
-    instances: &[ModuleInstance],
+    outer: &Module,
 ) -> Result<Option<ReadFault>, AllocError>
-    ensures { IfOk result (λ fault. fault ≡ first_instance_fault text.now modules.now.modules instances.now) }
+    ensures { IfOk result (λ fault. fault ≡ first_instance_fault text.now modules.now.modules outer.now.nets outer.now.instances) }
 {
-    for instance in instances {
-        if let Some(kind) = instance_fault(alloc, modules, instance)? {
+    for instance in outer.instances() {
+        if let Some(kind) = instance_fault(alloc, modules, outer, instance)? {
             return Ok(Some(fault_at(text, instance.start(), kind)));
         }
     }
@@ -160,8 +171,8 @@ pub fn second_pass(
     ensures { IfOk result (λ fault. fault ≡ second_pass text.now modules.now.modules) }
 {
     for place in 0..modules.count() {
-        let instances = instances_at(modules, place);
-        if let Some(fault) = first_instance_fault(alloc, text, modules, instances)? {
+        let (_, outer) = at(modules, place);
+        if let Some(fault) = first_instance_fault(alloc, text, modules, outer)? {
             return Ok(Some(fault));
         }
     }

@@ -1,10 +1,10 @@
 //! A scope of a design.
 
 ghost use Rattle.std.specs.Prelude.{◌≡◌, slice_get};
-ghost use Rattle.vtext.specs.declared.gate.Terminal.TheVariants.{Net};
-ghost use Rattle.elaboration.specs.Numbered.{ref_at, slot_for};
+ghost use Rattle.elaboration.specs.Numbered.{ref_at, ref_for, slot_for};
 
 use crate::node::{NodeRef, Slot};
+use crate::widths::range_of;
 use fourstate::Value;
 use std::marker::Model;
 use vtext::{Module, Terminal};
@@ -62,12 +62,16 @@ impl<'a> Scope<'a> {
         match terminal {
             Terminal::Constant(value) => NodeRef::Tied(value),
             Terminal::Net(name) => self.node_of(name),
+            Terminal::Bit(name, index) => {
+                let range = range_of(self.module(), name);
+                self.node_of(name).bit(range, index)
+            }
         }
     }
 
     /// What the net of this name is.
     fn node_of(&self, name: u32) -> NodeRef
-        ensures { result ≡ ref_at self.now (Net name) }
+        ensures { result ≡ ref_for self.now name }
     {
         match self.slot_of(name) {
             Some(slot) => slot.node,

@@ -3,7 +3,7 @@
 ghost use Rattle.std.specs.Prelude.{◌≡◌, IfOk, length};
 ghost use Rattle.elaboration.specs.Numbered.{next_place, place_after, slot_of, slots_from};
 
-use crate::node::{NetRef, NodeRef, Slot};
+use crate::node::{NetRun, NodeRef, Slot};
 use std::alloc::{AllocError, Global};
 use vtext::{Module, Net};
 
@@ -15,7 +15,7 @@ pub struct PlacedSlots {
 }
 
 /// What the nets of a module are, whose connected ports are given; the others come with the scope, and have the places from
-/// `first` on.
+/// `first` on, each as many as it has bits.
 pub fn slots_of(
     alloc: Global,
     entry: &Module,
@@ -25,7 +25,7 @@ pub fn slots_of(
 ) -> Result<PlacedSlots, AllocError>
     requires { length given.now ≡ length entry.now.nets }
     ensures items { IfOk result (λ slots. slots.items.items ≡ slots_from is_top first entry.now.nets given.now) }
-    ensures next { IfOk result (λ slots. slots.next ≡ place_after first given.now) }
+    ensures next { IfOk result (λ slots. slots.next ≡ place_after first entry.now.nets given.now) }
 {
     let mut items = Vec::with_capacity(alloc, entry.net_count())?;
     let mut next = first;
@@ -35,7 +35,7 @@ pub fn slots_of(
         };
         let node = given[place];
         items.push(slot_of(is_top, next, net, node))?;
-        next = next_place(next, node);
+        next = next_place(next, net, node);
     }
     Ok(PlacedSlots { items, next })
 }
@@ -50,8 +50,9 @@ fn slot_of(is_top: bool, place: usize, net: Net, given: Option<NodeRef>) -> Slot
             is_own: false,
         },
         None => Slot {
-            node: NodeRef::Net(NetRef {
+            node: NodeRef::Nets(NetRun {
                 place,
+                width: net.width(),
                 kind: net.net_kind(),
                 is_input: is_top && net.is_input(),
             }),
@@ -60,12 +61,12 @@ fn slot_of(is_top: bool, place: usize, net: Net, given: Option<NodeRef>) -> Slot
     }
 }
 
-/// The place of the next net of the design, as far as numbers go.
-fn next_place(place: usize, given: Option<NodeRef>) -> usize
-    ensures { result ≡ next_place place given }
+/// The place after a net, as far as numbers go.
+fn next_place(place: usize, net: Net, given: Option<NodeRef>) -> usize
+    ensures { result ≡ next_place place net given }
 {
     match given {
         Some(_) => place,
-        None => place.saturating_add(1),
+        None => place.saturating_add(net.width()),
     }
 }

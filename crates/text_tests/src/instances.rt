@@ -208,7 +208,7 @@ const FAULTS: [Case<'static>; 37] = [
     ("module m; h u(\n;", "line 2: 2 Syntax"),
     ("module m; h u(a,\n;", "line 2: 2 Syntax"),
     ("module m; h u(\n2'b0);", "line 2: 2 Syntax"),
-    ("module m; h u(a\n[0]);", "line 2: 3 Unsupported"),
+    ("module m; h u(\n[0]);", "line 2: 2 Syntax"),
     ("module m; h u(\nwire);", "line 2: 2 Syntax"),
     ("module m; h u(\nalways);", "line 2: 3 Unsupported"),
     ("module m; h u(\n", "line 2: 2 Syntax"),

@@ -7,13 +7,13 @@ use std::alloc::Global;
 use std::process::Abort;
 use vread::{ReadFault, ReadFaultKind};
 
-const TOO_MANY: Option<ReadFaultKind> = Some(ReadFaultKind::Edit(EditFault::TooMany));
+pub const TOO_MANY: Option<ReadFaultKind> = Some(ReadFaultKind::Edit(EditFault::TooMany));
 
-const BAD_NAME: Option<ReadFaultKind> = Some(ReadFaultKind::Edit(EditFault::BadName));
+pub const BAD_NAME: Option<ReadFaultKind> = Some(ReadFaultKind::Edit(EditFault::BadName));
 
 const DRIVEN_INPUT: Option<ReadFaultKind> = Some(ReadFaultKind::Edit(EditFault::DrivenInput));
 
-const PORT_KIND: Option<ReadFaultKind> = Some(ReadFaultKind::PortKind);
+pub const PORT_KIND: Option<ReadFaultKind> = Some(ReadFaultKind::PortKind);
 
 fn add(rt: &impl Abort, text: &mut String, more: &str) {
     text.push_str(more).expect(rt, "room");
@@ -75,8 +75,8 @@ fn levels_and_instances(rt: HostRuntime) {
     }
 }
 
-// What stands before a name, its length, what stands behind it, and the fault.
-type LongName<'a> = (&'a str, usize, &'a str, Option<ReadFaultKind>);
+/// What stands before a name, its length, what stands behind it, and the fault.
+pub type LongName<'a> = (&'a str, usize, &'a str, Option<ReadFaultKind>);
 
 fn check_name(rt: &impl Abort, alloc: Global, case: usize, name: LongName<'_>) {
     let (before, length, after, fault) = name;
@@ -207,11 +207,16 @@ const NAMES: [LongName<'static>; 24] = [
     ),
 ];
 
+/// Each text has this fault in its second line, or none.
+pub fn check_names(rt: &impl Abort, alloc: Global, names: &[LongName<'_>]) {
+    for (case, name) in names.iter().enumerate() {
+        check_name(rt, alloc, case, *name);
+    }
+}
+
 #[test]
 fn long_names_of_designs(rt: HostRuntime) {
-    for (case, name) in NAMES.iter().enumerate() {
-        check_name(&rt, rt.alloc(), case, *name);
-    }
+    check_names(&rt, rt.alloc(), &NAMES);
 }
 
 /// How many gates a module has, its header, the header and the items of the module around it, and the fault.

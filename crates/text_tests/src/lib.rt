@@ -27,3 +27,5 @@ mod refused;
 mod sessions;
 #[cfg(test)]
 mod tops;
+#[cfg(test)]
+mod vectors;

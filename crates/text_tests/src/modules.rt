@@ -9,7 +9,7 @@ use lexing::MAX_TEXT;
 use std::alloc::Global;
 use std::process::Abort;
 use vtext::{
-    Direction, Gate, Module, ModuleInstance, Modules, Names, Net, PortConnection, ReadFault,
+    Direction, Gate, Module, ModuleInstance, Modules, Names, Net, PortConnection, Range, ReadFault,
     ReadFaultKind, Terminal, gate_name, modules,
 };
 
@@ -31,7 +31,7 @@ fn add_name(rt: &impl Abort, shown: &mut String, bytes: &[u8]) {
     }
 }
 
-// A net as `NAME`, with `<` for an input, `>` for an output, and its kind where one is written.
+// A net as `NAME`, with `<` for an input, `>` for an output, and its range and its kind where they are written.
 fn add_net(rt: &impl Abort, shown: &mut String, names: &Names, name: u32, net: Net) {
     let before = match net.direction {
         Some(Direction::Input) => " <",
@@ -40,6 +40,9 @@ fn add_net(rt: &impl Abort, shown: &mut String, names: &Names, name: u32, net: N
     };
     add(rt, shown, before);
     add_name(rt, shown, names.text(name));
+    if let Some(Range { left, right }) = net.range {
+        write!(shown, "[{left}:{right}]").expect(rt, "room");
+    }
     if let Some(kind) = net.kind {
         add(rt, shown, ":");
         add(rt, shown, kind.keyword());
@@ -49,6 +52,10 @@ fn add_net(rt: &impl Abort, shown: &mut String, names: &Names, name: u32, net: N
 fn add_terminal(rt: &impl Abort, shown: &mut String, names: &Names, terminal: Terminal) {
     match terminal {
         Terminal::Net(name) => add_name(rt, shown, names.text(name)),
+        Terminal::Bit(name, index) => {
+            add_name(rt, shown, names.text(name));
+            write!(shown, "[{index}]").expect(rt, "room");
+        }
         Terminal::Constant(value) => add_name(rt, shown, &[value.symbol()]),
     }
 }
@@ -66,7 +73,7 @@ fn add_gate(rt: &impl Abort, alloc: Global, shown: &mut String, names: &Names, g
     let kind = gate.kind().keyword();
     let DelayTimes { rise, fall } = gate.delays();
     write!(shown, "={kind} #({rise},{fall}) ").expect(rt, "room");
-    add_name(rt, shown, names.text(gate.output()));
+    add_terminal(rt, shown, names, gate.output());
     for input in gate.inputs() {
         add(rt, shown, " ");
         add_terminal(rt, shown, names, *input);
@@ -321,7 +328,7 @@ const FAULTS: [Case<'static>; 46] = [
     ("module m; endmodule\nu", "line 2: 2 Syntax"),
     ("module m; endmodule\nendmodule", "line 2: 2 Syntax"),
     ("module m;\nmodule n;", "line 2: 2 Syntax"),
-    ("module m; wire\n[3:0] a;", "line 2: 3 Unsupported"),
+    ("module m; wire a\n[3:0];", "line 2: 2 Syntax"),
     ("module m; buf #1.5", "line 1: 2 Syntax"),
     ("module m; buf #1 g(y,\n2'b0);", "line 2: 2 Syntax"),
     ("module m; wire\n\\ a;", "line 2: 2 Syntax"),

@@ -9,6 +9,7 @@ mod changes;
 mod questions;
 mod scopes;
 mod texts;
+mod vectors;
 
 use crate::compare::equal;
 use devices::Device;

@@ -1,9 +1,14 @@
 pub mod AnswerLemmas
 pub mod DesignLemmas
+pub mod FaultLemmas
 pub mod FitLemmas
+pub mod GateLemmas
 pub mod GrowLemmas
+pub mod LengthLemmas
 pub mod Lists
 pub mod NameLemmas
 pub mod NetLemmas
+pub mod NodeLemmas
+pub mod OwnNames
 pub mod PairLemmas
 pub mod ZipLemmas

@@ -10,17 +10,15 @@ use Rattle.edits.specs.declared.fault.EditFault.TheVariants.{BadName, DrivenInpu
 use Rattle.vtext.specs.declared.fault.ReadFault.{ReadFault}
 use Rattle.vtext.specs.declared.fault.ReadFaultKind.{ReadFaultKind}
 use Rattle.vtext.specs.declared.fault.ReadFaultKind.TheVariants.{PortKind, Edit}
-use Rattle.vtext.specs.declared.gate.Terminal.TheVariants as terminals
 use Rattle.vtext.specs.declared.net.Net as nets
 use Rattle.vtext.specs.GateNames.{gate_bytes}
 use Rattle.vtext.specs.Modules.{GateEntry, ModuleEntry, ModuleList}
-use Rattle.vtext.specs.Names.{name_at}
 use Rattle.vtext.specs.Nets.{net_kind}
 use Rattle.vread.specs.declared.joints.Rule.{Rule}
 use Rattle.vread.specs.declared.joints.Rule.TheVariants as rules
 use Rattle.elaboration.specs.Elaborations.{elaboration_fault}
 use Rattle.elaboration.specs.Ports.{fault_at}
-use Rattle.elaboration.specs.Scopes.{Node, Scope, gates_of, is_own, nets_of, node_at, node_of, scopes_of, tied, wired}
+use Rattle.elaboration.specs.Scopes.{Node, Scope, flat_names, gates_of, is_own, nets_of, node_at, node_of, scopes_of, tied, wired}
 use Rattle.elaboration.specs.Tops.{top_of}
 
 -- Rules by which nets resolve several drivers (IEEE 1364-2005, 4.6).
@@ -40,16 +38,18 @@ is_clash rules.Wand rules.Wand = false
 is_clash rules.Wor rules.Wor = false
 is_clash port net = true
 
+-- a port of this kind may not be one of these nets
 abbrev pub clashes : NetKind → Node → Bool
-clashes kind (wired net) = is_clash (rule_of kind) (rule_of net.kind)
+clashes kind (wired nets) = list_any (λ net. is_clash (rule_of kind) (rule_of net.kind)) nets
 clashes kind (tied value) = false
 
 abbrev pub is_constant_node : Node → Bool
-is_constant_node (wired net) = false
+is_constant_node (wired nets) = false
 is_constant_node (tied value) = true
 
+-- one of its nets is an input of the design
 abbrev pub is_input_node : Node → Bool
-is_input_node (wired net) = net.is_input
+is_input_node (wired nets) = list_any (λ net. net.is_input) nets
 is_input_node (tied value) = false
 
 -- `names` is the table of names, and `modules` are those of the text.
@@ -60,7 +60,7 @@ module _ (names : List (List ℕ)) (modules : List (ℕ × ModuleEntry)) where
 
   -- what a gate of the scope drives
   abbrev pub driven : Scope → GateEntry → Node
-  driven scope gate = node_at names modules scope (terminals.Net gate.output)
+  driven scope gate = node_at names modules scope gate.output
 
   -- a gate drives a port that is tied to a constant
   abbrev pub drives_constant : Scope → GateEntry → Bool
@@ -73,8 +73,9 @@ module _ (names : List (List ℕ)) (modules : List (ℕ × ModuleEntry)) where
   abbrev pub is_long : Scope → List ℕ → Bool
   is_long scope name = nat_lt MAX_NAME (length scope.path + length name)
 
+  -- a net that comes with the scope has such a name, or one of a vector's bits has
   abbrev pub is_long_net : Scope → ℕ × nets.Net → Bool
-  is_long_net scope net = is_own names modules scope net && is_long scope (name_at names net.0)
+  is_long_net scope net = is_own names modules scope net && list_any (is_long scope) (flat_names names net)
 
   abbrev pub is_long_gate : Scope → GateEntry → Bool
   is_long_gate scope gate = is_long scope (gate_bytes names gate)

@@ -1,5 +1,6 @@
 -- What is made of the scopes of a design as they are kept: its nets and gates, one after another.
-use Rattle.std.specs.Prelude.{◌≡◌, ◌≢◌, ◌≤◌, ◌+◌, ◌-◌, ◌^◌, Bool, true, false, ℕ, IsTrue, ◌&&◌, ◌||◌, not, nat_lt, min, if◌then◌else◌, List, [], ◌∷◌, ◌++◌, length, map, fold, slice_get, All, AllPairs, IsSome, IsSomeAnd, Option, None, Some}
+use Rattle.std.specs.Prelude.{◌≡◌, ◌≢◌, ◌≤◌, ◌+◌, ◌-◌, ◌^◌, Bool, true, false, ℕ, IsTrue, ◌&&◌, ◌||◌, not, nat_lt, min, max, if◌then◌else◌, List, [], ◌∷◌, ◌++◌, length, map, fold, slice_get, All, AllPairs, IsSome, IsSomeAnd, Option, None, Some}
+use Rattle.std.specs.Fmt.{decimal}
 use Rattle.std.specs.List.{list_any}
 use Rattle.std.specs.Option.{option_map_or}
 use Rattle.fourstate.specs.Delays.{AreDelays}
@@ -12,14 +13,17 @@ use Rattle.design.specs.Netlist as netlist
 use Rattle.edits.specs.declared.fault.EditFault.TheVariants.{BadName, DrivenInput, TooMany}
 use Rattle.vtext.specs.declared.fault.ReadFaultKind.{ReadFaultKind}
 use Rattle.vtext.specs.declared.fault.ReadFaultKind.TheVariants.{PortKind, Edit}
-use Rattle.vtext.specs.declared.gate.Terminal.TheVariants as terminals
 use Rattle.vtext.specs.declared.net.Net as nets
+use Rattle.vtext.specs.declared.range.Range.{Range}
+use Rattle.vtext.specs.Bits.{bit_bytes}
 use Rattle.vtext.specs.GateNames.{gate_bytes}
 use Rattle.vtext.specs.Modules.{GateEntry}
 use Rattle.vtext.specs.Names.{name_at}
 use Rattle.vtext.specs.Nets.{net_kind}
+use Rattle.vtext.specs.Ranges.{indexes}
+use Rattle.elaboration.specs.declared.node.NetRun.{NetRun}
 use Rattle.elaboration.specs.declared.node.NodeRef.{NodeRef}
-use Rattle.elaboration.specs.declared.node.NodeRef.TheVariants.{Net, Tied}
+use Rattle.elaboration.specs.declared.node.NodeRef.TheVariants.{Nets, Tied}
 use Rattle.elaboration.specs.declared.node.Slot.{Slot}
 use Rattle.elaboration.specs.Elaborations.{Elaborated}
 use Rattle.elaboration.specs.Numbered.{PlacedScope, ref_at}
@@ -34,15 +38,15 @@ any_slot passes (slot ∷ slots) (net ∷ nets) = passes slot net || any_slot pa
 -- What may be wrong with a scope.
 
 abbrev pub clashes : NetKind → NodeRef → Bool
-clashes kind (Net kept) = is_clash (rule_of kind) (rule_of kept.kind)
+clashes kind (Nets run) = nat_lt 0 run.width && is_clash (rule_of kind) (rule_of run.kind)
 clashes kind (Tied value) = false
 
 abbrev pub is_tied : NodeRef → Bool
-is_tied (Net kept) = false
+is_tied (Nets run) = false
 is_tied (Tied value) = true
 
 abbrev pub is_input_ref : NodeRef → Bool
-is_input_ref (Net kept) = kept.is_input
+is_input_ref (Nets run) = nat_lt 0 run.width && run.is_input
 is_input_ref (Tied value) = false
 
 abbrev pub is_misjoined : Slot → ℕ × nets.Net → Bool
@@ -50,7 +54,7 @@ is_misjoined slot net = not slot.is_own && clashes (net_kind net.1) slot.node
 
 -- what a gate of the scope drives
 abbrev pub driven : PlacedScope → GateEntry → NodeRef
-driven scope gate = ref_at scope (terminals.Net gate.output)
+driven scope gate = ref_at scope gate.output
 
 abbrev pub drives_constant : PlacedScope → GateEntry → Bool
 drives_constant scope gate = is_tied (driven scope gate)
@@ -64,20 +68,28 @@ drives_input scope gate = is_input_ref (driven scope gate)
 abbrev pub is_input_driven : PlacedScope → Bool
 is_input_driven scope = list_any (drives_input scope) scope.entry.gates
 
--- a name after this path is over its limit
-abbrev pub is_long : List ℕ → List ℕ → Bool
-is_long path name = nat_lt MAX_NAME (length path + length name)
+-- a name of so many bytes after this path is over its limit
+abbrev pub is_long : List ℕ → ℕ → Bool
+is_long path bytes = nat_lt MAX_NAME (length path + bytes)
+
+-- how many bytes the longest index of a range has, with its brackets
+abbrev pub bracketed_length : Range → ℕ
+bracketed_length range = 2 + length (decimal (max range.left range.right))
 
 -- how many gates there are, as far as numbers go
 abbrev pub gate_count : List PlacedScope → ℕ
 gate_count scopes = fold (λ count scope. min (count + length scope.entry.gates) (2 ^ 64 - 1)) 0 scopes
 
 module _ (names : List (List ℕ)) where
+  -- how many bytes the longest of a net's names has
+  abbrev pub longest : ℕ × nets.Net → ℕ
+  longest net = length (name_at names net.0) + option_map_or bracketed_length net.1.range 0
+
   abbrev pub is_long_net : List ℕ → Slot → ℕ × nets.Net → Bool
-  is_long_net path slot net = slot.is_own && is_long path (name_at names net.0)
+  is_long_net path slot net = slot.is_own && is_long path (longest net)
 
   abbrev pub is_long_gate : List ℕ → GateEntry → Bool
-  is_long_gate path gate = is_long path (gate_bytes names gate)
+  is_long_gate path gate = is_long path (length (gate_bytes names gate))
 
   abbrev pub is_long_named : PlacedScope → Bool
   is_long_named scope = any_slot (is_long_net scope.path) scope.slots scope.entry.nets || list_any (is_long_gate scope.path) scope.entry.gates
@@ -94,17 +106,28 @@ module _ (names : List (List ℕ)) where
 
   -- The nets that come with a scope.
 
-  abbrev pub node_nets : List ℕ → NodeRef → ℕ → List netlist.NetEntry
-  node_nets path (Net kept) n = netlist.new_net (path ++ name_at names n) kept.kind kept.is_input ∷ []
-  node_nets path (Tied value) n = []
+  -- one of a run, by its name in the scope
+  abbrev pub run_net : List ℕ → NetRun → List ℕ → netlist.NetEntry
+  run_net path run name = netlist.new_net (path ++ name) run.kind run.is_input
 
-  abbrev pub slot_nets : List ℕ → Slot → ℕ → List netlist.NetEntry
-  slot_nets path slot n = if slot.is_own then node_nets path slot.node n else []
+  -- the bits of a vector, from the left
+  abbrev pub bits_nets : List ℕ → NetRun → ℕ → Range → List netlist.NetEntry
+  bits_nets path run n range = map (λ i. run_net path run (bit_bytes (name_at names n) i)) (indexes range)
+
+  abbrev pub run_nets : List ℕ → NetRun → ℕ → Option Range → List netlist.NetEntry
+  run_nets path run n range = option_map_or (bits_nets path run n) range (run_net path run (name_at names n) ∷ [])
+
+  abbrev pub node_nets : List ℕ → NodeRef → ℕ × nets.Net → List netlist.NetEntry
+  node_nets path (Nets run) net = run_nets path run net.0 net.1.range
+  node_nets path (Tied value) net = []
+
+  abbrev pub slot_nets : List ℕ → Slot → ℕ × nets.Net → List netlist.NetEntry
+  slot_nets path slot net = if slot.is_own then node_nets path slot.node net else []
 
   abbrev pub slots_nets : List ℕ → List Slot → List (ℕ × nets.Net) → List netlist.NetEntry
   slots_nets path [] nets = []
   slots_nets path (slot ∷ slots) [] = []
-  slots_nets path (slot ∷ slots) (net ∷ nets) = slot_nets path slot net.0 ++ slots_nets path slots nets
+  slots_nets path (slot ∷ slots) (net ∷ nets) = slot_nets path slot net ++ slots_nets path slots nets
 
   abbrev pub kept_nets : PlacedScope → List netlist.NetEntry
   kept_nets scope = slots_nets scope.path scope.slots scope.entry.nets
@@ -115,28 +138,28 @@ pub record AreFitNets (nets : List netlist.NetEntry) : Type 0 where
   pub distinct : AllPairs (λ a b. a.name ≢ b.name) nets
   pub room : length nets ≤ MAX_NETS
 
--- Its gates, among the nets of the design: these are `flat`.
+-- Its gates, among the nets of the design: these are `flat`. Each of their terminals is a run of one net, or a constant.
 
 module _ (flat : List netlist.NetEntry) where
   abbrev pub net_at : ℕ → List ℕ
   net_at place = option_map_or (λ net. net.name) (slice_get flat place) []
 
   abbrev pub output_of : NodeRef → List ℕ
-  output_of (Net kept) = net_at kept.place
+  output_of (Nets run) = net_at run.place
   output_of (Tied value) = []
 
   abbrev pub connection_of : NodeRef → Connection
-  connection_of (Net kept) = to_net (net_at kept.place)
+  connection_of (Nets run) = to_net (net_at run.place)
   connection_of (Tied value) = to_constant value
 
   -- what a gate reads is a constant, or one of the nets
   abbrev pub IsReadable : NodeRef → Type 0
-  IsReadable (Net kept) = IsSome (slice_get flat kept.place)
+  IsReadable (Nets run) = IsSome (slice_get flat run.place)
   IsReadable (Tied value) = Unit {0}
 
   -- what it drives is one of the nets, and no input
   abbrev pub IsDrivable : NodeRef → Type 0
-  IsDrivable (Net kept) = IsSomeAnd (slice_get flat kept.place) (λ net. net.is_input ≡ false)
+  IsDrivable (Nets run) = IsSomeAnd (slice_get flat run.place) (λ net. net.is_input ≡ false)
   IsDrivable (Tied value) = ⊥
 
 module _ (names : List (List ℕ)) (flat : List netlist.NetEntry) (scope : PlacedScope) where

@@ -14,7 +14,10 @@ use crate::names::name_from;
 use crate::nets::with_nets;
 use design::laws::parts_are_names;
 use design::{Design, NameHasher};
-use elaboration::laws::{flat_names, scopes_are_sound, terminals_are_nodes};
+use elaboration::laws::{
+    flat_names, flat_names_are_parts, gate_terminals_are_single, scopes_are_sound,
+    terminals_are_nodes,
+};
 use elaboration::{Elaboration, elaborate, fault_at};
 use fourstate::TimeUnit;
 use std::alloc::{AllocError, Global};
@@ -32,6 +35,7 @@ pub fn design_of(
     ensures whole { IfOk result (λ design. design_of modules.now ≡ Some (netlist design)) }
     ensures err { IfErr result (λ fault. (fault ≡ out_of_memory) ⊎ (late_fault text.now modules.now ≡ Some fault)) }
 {
+    scopes_are_sound();
     terminals_are_nodes();
     let elaboration = elaborate(alloc, text, modules)?;
     if let Some(kind) = scopes_fault(modules.names(), &elaboration) {
@@ -54,6 +58,8 @@ fn design_from(
     ensures { IfOk result (λ design. netlist design ≡ netlist_of modules.now elaboration.now.top) }
 {
     flat_names();
+    flat_names_are_parts();
+    gate_terminals_are_single();
     scopes_are_sound();
     terminals_are_nodes();
     parts_are_names();

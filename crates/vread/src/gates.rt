@@ -84,7 +84,7 @@ fn gate_of(
 {
     let name = name_of_gate(alloc, names, scope, gate)?;
     let inputs = connections(alloc, design, scope, gate.inputs())?;
-    let output = output_of(design, scope.node(vtext::Terminal::Net(gate.output())));
+    let output = output_of(design, scope.node(gate.output()));
     let delays = delays_of(gate);
     Ok(Gate::new(name, gate.kind(), delays, output, inputs))
 }
@@ -123,7 +123,7 @@ fn output_of(design: &Design, node: NodeRef) -> NetKey
     ensures name { name_of design.now.nets result ≡ output_of (netlist design.now).nets node }
 {
     match node {
-        NodeRef::Net(net) => key_of(design, net),
+        NodeRef::Nets(run) => key_of(design, run),
         NodeRef::Tied(_) => unreachable!(),
     }
 }
@@ -154,7 +154,7 @@ fn connection(design: &Design, node: NodeRef) -> Terminal
     ensures there { IsThere design.now.nets result }
 {
     match node {
-        NodeRef::Net(net) => Terminal::Net(key_of(design, net)),
+        NodeRef::Nets(run) => Terminal::Net(key_of(design, run)),
         NodeRef::Tied(value) => Terminal::Constant(value),
     }
 }

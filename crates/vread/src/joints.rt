@@ -32,7 +32,7 @@ fn clashes(kind: NetKind, node: NodeRef) -> bool
     ensures { result ≡ clashes kind node }
 {
     match node {
-        NodeRef::Net(net) => is_clash(rule_of(kind), rule_of(net.kind)),
+        NodeRef::Nets(run) => run.width > 0 && is_clash(rule_of(kind), rule_of(run.kind)),
         NodeRef::Tied(_) => false,
     }
 }
@@ -51,17 +51,17 @@ pub fn is_tied(node: NodeRef) -> bool
     ensures { result ≡ is_tied node }
 {
     match node {
-        NodeRef::Net(_) => false,
+        NodeRef::Nets(_) => false,
         NodeRef::Tied(_) => true,
     }
 }
 
-/// Whether it is an input of the design.
+/// Whether it is an input of the design, or several.
 pub fn is_input(node: NodeRef) -> bool
     ensures { result ≡ is_input_ref node }
 {
     match node {
-        NodeRef::Net(net) => net.is_input,
+        NodeRef::Nets(run) => run.width > 0 && run.is_input,
         NodeRef::Tied(_) => false,
     }
 }

@@ -9,7 +9,7 @@ use crate::lengths::is_long_named;
 use design::{MAX_GATES, MAX_NETS};
 use edits::EditFault;
 use elaboration::{Elaboration, Scope};
-use vtext::{Gate, Names, ReadFaultKind, Terminal};
+use vtext::{Gate, Names, ReadFaultKind};
 
 /// Why a design's scopes are no design; none where they are one.
 pub fn scopes_fault(names: &Names, design: &Elaboration) -> Option<ReadFaultKind>
@@ -86,7 +86,7 @@ fn drive_constants(scope: &Scope) -> bool
 fn drives_constant(scope: &Scope, gate: &Gate) -> bool
     ensures { result ≡ drives_constant scope.now gate.now }
 {
-    is_tied(scope.node(Terminal::Net(gate.output())))
+    is_tied(scope.node(gate.output()))
 }
 
 /// Whether a gate drives an input of the design.
@@ -103,5 +103,5 @@ fn is_input_driven(scope: &Scope) -> bool
 fn drives_input(scope: &Scope, gate: &Gate) -> bool
     ensures { result ≡ drives_input scope.now gate.now }
 {
-    is_input(scope.node(Terminal::Net(gate.output())))
+    is_input(scope.node(gate.output()))
 }

@@ -3,13 +3,14 @@
 ghost use Rattle.std.specs.Prelude.{◌≡◌, ◌&&◌, ◌+◌, ◌<◌, ◌≤◌, ◌^◌, length, nat_lt};
 ghost use Rattle.std.specs.Fmt.{decimal};
 ghost use Rattle.std.specs.List.{list_any};
+ghost use Rattle.std.specs.Option.{option_map_or};
 ghost use Rattle.vtext.specs.Names.{name_at};
 ghost use Rattle.vtext.specs.GateNames.{gate_bytes, instance_bytes, numbered};
-ghost use Rattle.vread.specs.Parts.{any_slot, is_long, is_long_gate, is_long_named, is_long_net};
+ghost use Rattle.vread.specs.Parts.{any_slot, bracketed_length, is_long, is_long_gate, is_long_named, is_long_net, longest};
 
 use design::MAX_NAME;
 use elaboration::{Scope, Slot};
-use vtext::{Gate, InstanceName, Names};
+use vtext::{Gate, InstanceName, Names, Net, Range};
 
 /// Whether a net that comes with a scope, or a gate of it, has a name over the limit.
 pub fn is_long_named(names: &Names, scope: &Scope) -> bool
@@ -24,20 +25,39 @@ fn are_long_nets(names: &Names, scope: &Scope) -> bool
     let slots = scope.slots();
     let entry = scope.module();
     for place in 0..slots.len() {
-        let Some((name, _)) = entry.net_at(place) else {
+        let Some((name, net)) = entry.net_at(place) else {
             return false;
         };
-        if is_long_net(names, scope, slots[place], name) {
+        if is_long_net(names, scope, slots[place], name, net) {
             return true;
         }
     }
     false
 }
 
-fn is_long_net(names: &Names, scope: &Scope, slot: Slot, name: u32) -> bool
-    ensures { result ≡ (slot.is_own && is_long scope.now.path (name_at names.now name)) }
+fn is_long_net(names: &Names, scope: &Scope, slot: Slot, name: u32, net: Net) -> bool
+    ensures { result ≡ (slot.is_own && is_long scope.now.path (longest names.now (name, net))) }
 {
-    slot.is_own && is_long(scope, names.text(name).len())
+    slot.is_own && is_long(scope, longest(names, name, net.range))
+}
+
+/// How many bytes the longest name of a net, or of the bits of a vector, has.
+fn longest(names: &Names, name: u32, range: Option<Range>) -> usize
+    ensures { result ≡ length (name_at names.now name) + option_map_or bracketed_length range 0 }
+{
+    let base = names.text(name).len();
+    match range {
+        Some(range) => base + bracketed_length(range),
+        None => base,
+    }
+}
+
+/// How many bytes the longest index of a range has, with its brackets.
+fn bracketed_length(range: Range) -> usize
+    ensures value { result ≡ bracketed_length range }
+    ensures most { result ≤ 22 }
+{
+    2 + digit_count(range.left.max(range.right) as u64)
 }
 
 fn are_long_gates(names: &Names, scope: &Scope) -> bool

@@ -2,9 +2,11 @@
 
 ghost use Rattle.std.specs.Prelude.{◌≡◌, ◌++◌, IfOk, IsTrue};
 ghost use Rattle.design.specs.Names.{is_name};
+ghost use Rattle.vtext.specs.Bits.{bit_bytes};
 
 use design::Name;
 use design::laws::names_print;
+use itoa::Buffer;
 use std::alloc::{AllocError, Global};
 
 /// The name that these bytes are.
@@ -40,4 +42,25 @@ pub fn name_in(alloc: Global, path: &[u8], name: &[u8]) -> Result<Name, AllocErr
     bytes.extend_from_slice(path)?;
     bytes.extend_from_slice(name)?;
     name_from(alloc, bytes.as_slice())
+}
+
+/// The name that the bit of an index has in the design, of a vector of this name in a scope.
+pub fn bit_in(alloc: Global, path: &[u8], base: &[u8], index: u16) -> Result<Name, AllocError>
+    requires { IsTrue (is_name (path.now ++ bit_bytes base.now index)) }
+    ensures { IfOk result (λ made. made ≡ path.now ++ bit_bytes base.now index) }
+{
+    let bytes = bit_text(alloc, path, base, index)?;
+    name_from(alloc, bytes.as_slice())
+}
+
+fn bit_text(alloc: Global, path: &[u8], base: &[u8], index: u16) -> Result<Vec<u8>, AllocError>
+    ensures { IfOk result (λ text. text.items ≡ path.now ++ bit_bytes base.now index) }
+{
+    let mut buffer = Buffer::new();
+    let mut text = Vec::from_slice(alloc, path)?;
+    text.extend_from_slice(base)?;
+    text.push(b'[')?;
+    text.extend_from_slice(buffer.format(index).as_bytes())?;
+    text.push(b']')?;
+    Ok(text)
 }

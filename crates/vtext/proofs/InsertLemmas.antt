@@ -12,7 +12,7 @@ same_number n = grind (arith, nat_tests)
 apart_numbers : (a b : ℕ) → nat_eq a b ≡ false → b ≢ a
 apart_numbers a b h e = true≢false (sym (ap (λ (n : ℕ). nat_eq n b) (sym e) ∙ same_number b) ∙ h)
 
-same_numbers : (a b : ℕ) → nat_eq a b ≡ true → a ≡ b
+pub same_numbers : (a b : ℕ) → nat_eq a b ≡ true → a ≡ b
 same_numbers a b h = grind (arith, nat_tests)
 
 -- what holds of each entry, and of the one that is put in

@@ -1,194 +1,103 @@
 -- What is left of the words behind each state of a walk: the rest of some tree, at which no cause holds.
-use Rattle.std.proofs.Common.{◌≡◌, ◌⊎◌, ℕ, List, [], ◌∷◌, Option, Some, None, fold}
-use Rattle.fourstate.specs.Delays.{delay_times, uniform_delays, with_fall}
-use Rattle.fourstate.specs.declared.net.NetKind.{NetKind}
+use Rattle.std.proofs.Common.{◌≡◌, ◌⊎◌, inl, inr, ℕ, Bool, true, false, cond, List, [], ◌∷◌, Option, Some, None, Result, Ok, Err, refl}
+use Rattle.vtext.specs.declared.cause.Cause.{Cause}
 use Rattle.vtext.specs.declared.gate.Terminal.{Terminal}
+use Rattle.vtext.specs.declared.parser_state.Declared.TheVariants as declared
 use Rattle.vtext.specs.declared.parser_state.ParserState.{ParserState}
 use Rattle.vtext.specs.declared.parser_state.ParserState.TheVariants as state
-use Rattle.vtext.specs.declared.parser_state.ParserState.TheVariants.{Outside, ModuleName, ModuleHead, OlderNext, OlderName, InlineStart, InlineName, InlineNext, InlineMore, HeaderEnd, Items, PortStart, PortName, PortNext, NetName, NetNext, GateStart, RiseDelay, RiseEnd, FallDelay, FallEnd, InstanceStart, InstanceOpen, TerminalStart, TerminalEnd, InstanceEnd, ModuleInstanceName, ModuleInstanceOpen, OrderedStart, OrderedEnd, NamedStart, NamedOpen, NamedTerminal, NamedClose, NamedEnd, ModuleInstanceEnd}
 use Rattle.vtext.specs.declared.word.Word.{Word}
-use Rattle.vtext.specs.declared.word.Word.TheVariants.{Endmodule, Name, Number, Open, Close, Comma, Semicolon, Hash}
+use Rattle.vtext.specs.declared.word.Word.TheVariants.{Name, Open, Close, Comma, Hash, Dot, Colon, OpenBracket, CloseBracket}
 use Rattle.vtext.specs.declared.word.Placed.{Placed}
-use Rattle.vtext.specs.Causes.{completed_cause, delay_cause, end_cause, header_cause, module_cause, net_cause, port_cause}
-use Rattle.vtext.specs.Instances.{completed}
-use Rattle.vtext.specs.Notes.{connect, declare_net, declare_port, direct_port, finished, instantiated, list_port}
+use Rattle.vtext.specs.Causes.{module_cause, header_cause}
+use Rattle.vtext.specs.Notes.{connect, list_port}
 use Rattle.vtext.specs.Readings.{Reading}
-use Rattle.vtext.specs.Trees.{AreAdmitted, AreModuleInstancesAdmitted, Connections, ModuleInstance, NamedPort, after_connections, after_module_instance, after_named, connections_then, module_instance_then, module_instances_then, more_named_then, named_then, place_then, places_then, AreInstancesAdmitted, AreItemsAdmitted, AreMarked, ArePartsAdmitted, ArePortsAdmitted, Delay, Header, Instance, IsHeaderAdmitted, Item, Mark, Part, Port, after_header, after_instance, after_items, after_parts, after_port, after_terminal, delay_then, header_then, instance_then, instances_then, items_then, kind_then, names_then, parts_then, plain, ports_then, terminal_word, terminals_then}
-use Rattle.vtext.specs.Trees.Delay.{no_delay, one_delay, enclosed_delay, two_delays}
+use Rattle.vtext.specs.Trees.{AreMarked, ArePartsAdmitted, IsModuleInstanceAdmitted, IsPlaceAdmitted, Mark, ModuleInstance, Part, after_module_instance, after_parts, module_instance_then, parts_then, place_then, plain}
+use Rattle.vtext.specs.Turns.{Walk, goes, unless}
+use Rattle.vtext.proofs.RestTrees.{Setting}
+use Rattle.vtext.proofs.RestTrees as trees
 
 -- words that stand behind one that was read
-abbrev pub Behind : Word → List Mark → List Placed → Type 0
-Behind w marks words = (place : ℕ) → AreMarked marks (record { word = w; start = place } ∷ words)
+abbrev pub Follows : Word → List Mark → List Placed → Type 0
+Follows w marks words = (place : ℕ) → AreMarked marks (record { word = w; start = place } ∷ words)
 
 -- words that stand behind two
-abbrev pub BehindTwo : Word → Word → List Mark → List Placed → Type 0
-BehindTwo v w marks words = (place next : ℕ) → AreMarked marks (record { word = v; start = place } ∷ record { word = w; start = next } ∷ words)
+abbrev pub FollowsTwo : Word → Word → List Mark → List Placed → Type 0
+FollowsTwo v w marks words = (place next : ℕ) → AreMarked marks (record { word = v; start = place } ∷ record { word = w; start = next } ∷ words)
 
--- with the net kind that a declaration writes, if any
-abbrev pub kinded : Reading → Option NetKind → Reading
-kinded r None = r
-kinded r (Some kind) = record r { kind = Some kind }
-
--- with the delay that a gate item writes, if any
-abbrev pub delayed : Reading → Delay → Reading
-delayed r no_delay = r
-delayed r (one_delay d) = record r { delays = uniform_delays d }
-delayed r (enclosed_delay d) = record r { delays = uniform_delays d }
-delayed r (two_delays rise fall) = record r { delays = delay_times rise fall }
-
--- the numbers of a delay are in their limits
-abbrev pub IsInLimits : Delay → Type 0
-IsInLimits no_delay = Unit {0}
-IsInLimits (one_delay d) = delay_cause d ≡ None
-IsInLimits (enclosed_delay d) = delay_cause d ≡ None
-IsInLimits (two_delays rise fall) = (delay_cause rise ≡ None) × (delay_cause fall ≡ None)
-
--- Below the walk leads to `last`.
-module _ (default : Option ℕ) (table : List (List ℕ)) (last : Reading) where
-  -- the items that are left of a module, after this reading, and the parts that are left of the text
-  pub record Tail (r : Reading) : Type 0 where
-    pub items : List Item
-    pub parts : List Part
-    pub items_free : AreItemsAdmitted default table r items
-    pub end_free : end_cause (after_items default table r items) ≡ None
-    pub parts_free : ArePartsAdmitted default table (finished (after_items default table r items)) parts
-    pub last_same : last ≡ after_parts default table (finished (after_items default table r items)) parts
-
-  abbrev pub body : (r : Reading) → Tail r → List Mark
-  body r tail = items_then tail.items (plain Endmodule ∷ parts_then tail.parts [])
-
-  abbrev pub headed : (r : Reading) → Tail r → List Mark
-  headed r tail = plain Close ∷ plain Semicolon ∷ body r tail
-
-  abbrev pub ended : (r : Reading) → Tail r → List Mark
-  ended r tail = plain Semicolon ∷ body r tail
-
-  -- the words are the rest of an instance of a module, after this reading, and what is left behind it
-  abbrev pub Completes : Reading → (List Mark → List Mark) → List Placed → Type 0
-  Completes r marks words =
-      (more : List ModuleInstance) × (AreModuleInstancesAdmitted (instantiated r) more
-      × ((tail : Tail (fold after_module_instance (instantiated r) more))
-      × AreMarked (marks (module_instances_then more (ended (fold after_module_instance (instantiated r) more) tail))) words))
-
+module _ (s : Setting) where
   -- the words are the rest behind a state
   abbrev pub Rest : ParserState → Reading → List Placed → Type 0
-  Rest Outside r words = (parts : List Part) × (AreMarked (parts_then parts []) words × (ArePartsAdmitted default table r parts × (last ≡ after_parts default table r parts)))
-  Rest ModuleName r words =
-      (n : ℕ) × ((module_cause r n ≡ None) × ((header : Header) × (IsHeaderAdmitted (record r { name = n }) header
-      × ((tail : Tail (after_header (record r { name = n }) header)) × AreMarked (plain (Name n) ∷ header_then header (body (after_header (record r { name = n }) header) tail)) words))))
-  Rest ModuleHead r words =
-      (header : Header) × (IsHeaderAdmitted r header × ((tail : Tail (after_header r header)) × AreMarked (header_then header (body (after_header r header) tail)) words))
-  Rest state.Header r words =
-      (header : Header) × (IsHeaderAdmitted r header × ((tail : Tail (after_header r header)) × Behind Open (header_then header (body (after_header r header) tail)) words))
-  Rest OlderNext r words =
-      (names : List ℕ) × (AreAdmitted list_port (λ now name. header_cause now name ≡ None) r names
-      × ((tail : Tail (fold list_port r names)) × AreMarked (names_then names (headed (fold list_port r names) tail)) words))
-  Rest OlderName r words =
-      (n : ℕ) × ((names : List ℕ) × (AreAdmitted list_port (λ now name. header_cause now name ≡ None) r (n ∷ names)
-      × ((tail : Tail (fold list_port r (n ∷ names))) × AreMarked (plain (Name n) ∷ names_then names (headed (fold list_port r (n ∷ names)) tail)) words)))
-  Rest InlineStart r words =
-      (kind : Option NetKind) × ((n : ℕ) × ((ports : List Port) × ((header_cause (kinded r kind) n ≡ None) × (ArePortsAdmitted (declare_port (kinded r kind) n) ports
-      × ((tail : Tail (fold after_port (declare_port (kinded r kind) n) ports))
-      × AreMarked (kind_then kind (plain (Name n) ∷ ports_then ports (headed (fold after_port (declare_port (kinded r kind) n) ports) tail))) words)))))
-  Rest InlineName r words =
-      (n : ℕ) × ((ports : List Port) × ((header_cause r n ≡ None) × (ArePortsAdmitted (declare_port r n) ports
-      × ((tail : Tail (fold after_port (declare_port r n) ports)) × AreMarked (plain (Name n) ∷ ports_then ports (headed (fold after_port (declare_port r n) ports) tail)) words))))
-  Rest InlineNext r words =
-      (ports : List Port) × (ArePortsAdmitted r ports × ((tail : Tail (fold after_port r ports)) × AreMarked (ports_then ports (headed (fold after_port r ports) tail)) words))
-  Rest InlineMore r words =
-      (ports : List Port) × (ArePortsAdmitted r ports × ((tail : Tail (fold after_port r ports)) × Behind Comma (ports_then ports (headed (fold after_port r ports) tail)) words))
-  Rest HeaderEnd r words = (tail : Tail r) × AreMarked (ended r tail) words
-  Rest Items r words = (tail : Tail r) × AreMarked (body r tail) words
-  Rest PortStart r words =
-      (kind : Option NetKind) × ((n : ℕ) × ((names : List ℕ) × (AreAdmitted direct_port (λ now name. port_cause now name ≡ None) (kinded r kind) (n ∷ names)
-      × ((tail : Tail (fold direct_port (kinded r kind) (n ∷ names)))
-      × AreMarked (kind_then kind (plain (Name n) ∷ names_then names (ended (fold direct_port (kinded r kind) (n ∷ names)) tail))) words))))
-  Rest PortName r words =
-      (n : ℕ) × ((names : List ℕ) × (AreAdmitted direct_port (λ now name. port_cause now name ≡ None) r (n ∷ names)
-      × ((tail : Tail (fold direct_port r (n ∷ names))) × AreMarked (plain (Name n) ∷ names_then names (ended (fold direct_port r (n ∷ names)) tail)) words)))
-  Rest PortNext r words =
-      (names : List ℕ) × (AreAdmitted direct_port (λ now name. port_cause now name ≡ None) r names
-      × ((tail : Tail (fold direct_port r names)) × AreMarked (names_then names (ended (fold direct_port r names) tail)) words))
-  Rest NetName r words =
-      (n : ℕ) × ((names : List ℕ) × (AreAdmitted declare_net (λ now name. net_cause now name ≡ None) r (n ∷ names)
-      × ((tail : Tail (fold declare_net r (n ∷ names))) × AreMarked (plain (Name n) ∷ names_then names (ended (fold declare_net r (n ∷ names)) tail)) words)))
-  Rest NetNext r words =
-      (names : List ℕ) × (AreAdmitted declare_net (λ now name. net_cause now name ≡ None) r names
-      × ((tail : Tail (fold declare_net r names)) × AreMarked (names_then names (ended (fold declare_net r names) tail)) words))
-  Rest GateStart r words =
-      (delay : Delay) × ((i : Instance) × ((more : List Instance) × (IsInLimits delay × (AreInstancesAdmitted table (delayed r delay) (i ∷ more)
-      × ((tail : Tail (fold (after_instance table) (delayed r delay) (i ∷ more)))
-      × AreMarked (delay_then delay (instance_then i (instances_then more (ended (fold (after_instance table) (delayed r delay) (i ∷ more)) tail)))) words)))))
-  Rest state.Delay r words =
-      (delay : Delay) × ((i : Instance) × ((more : List Instance) × (IsInLimits delay × (AreInstancesAdmitted table (delayed r delay) (i ∷ more)
-      × ((tail : Tail (fold (after_instance table) (delayed r delay) (i ∷ more)))
-      × Behind Hash (delay_then delay (instance_then i (instances_then more (ended (fold (after_instance table) (delayed r delay) (i ∷ more)) tail)))) words)))))
-  Rest RiseDelay r words =
-      (delay : Delay) × ((i : Instance) × ((more : List Instance) × (IsInLimits delay × (AreInstancesAdmitted table (delayed r delay) (i ∷ more)
-      × ((tail : Tail (fold (after_instance table) (delayed r delay) (i ∷ more)))
-      × BehindTwo Hash Open (delay_then delay (instance_then i (instances_then more (ended (fold (after_instance table) (delayed r delay) (i ∷ more)) tail)))) words)))))
-  Rest RiseEnd r words =
-      ((i : Instance) × ((more : List Instance) × (AreInstancesAdmitted table r (i ∷ more)
-      × ((tail : Tail (fold (after_instance table) r (i ∷ more)))
-      × AreMarked (plain Close ∷ instance_then i (instances_then more (ended (fold (after_instance table) r (i ∷ more)) tail))) words))))
-      ⊎ ((f : ℕ) × ((i : Instance) × ((more : List Instance) × ((delay_cause f ≡ None) × (AreInstancesAdmitted table (record r { delays = with_fall r.delays f }) (i ∷ more)
-      × ((tail : Tail (fold (after_instance table) (record r { delays = with_fall r.delays f }) (i ∷ more)))
-      × AreMarked (plain Comma ∷ plain (Number f) ∷ plain Close ∷ instance_then i (instances_then more (ended (fold (after_instance table) (record r { delays = with_fall r.delays f }) (i ∷ more)) tail))) words))))))
-  Rest FallDelay r words =
-      (f : ℕ) × ((i : Instance) × ((more : List Instance) × ((delay_cause f ≡ None) × (AreInstancesAdmitted table (record r { delays = with_fall r.delays f }) (i ∷ more)
-      × ((tail : Tail (fold (after_instance table) (record r { delays = with_fall r.delays f }) (i ∷ more)))
-      × AreMarked (plain (Number f) ∷ plain Close ∷ instance_then i (instances_then more (ended (fold (after_instance table) (record r { delays = with_fall r.delays f }) (i ∷ more)) tail))) words)))))
-  Rest FallEnd r words =
-      (i : Instance) × ((more : List Instance) × (AreInstancesAdmitted table r (i ∷ more)
-      × ((tail : Tail (fold (after_instance table) r (i ∷ more)))
-      × AreMarked (plain Close ∷ instance_then i (instances_then more (ended (fold (after_instance table) r (i ∷ more)) tail))) words)))
-  Rest InstanceStart r words =
-      (i : Instance) × ((more : List Instance) × (AreInstancesAdmitted table r (i ∷ more)
-      × ((tail : Tail (fold (after_instance table) r (i ∷ more)))
-      × AreMarked (instance_then i (instances_then more (ended (fold (after_instance table) r (i ∷ more)) tail))) words)))
-  Rest InstanceOpen r words =
-      (first : Terminal) × ((others : List Terminal) × ((more : List Instance) × ((completed_cause table (fold after_terminal r (first ∷ others)) ≡ None)
-      × (AreInstancesAdmitted table (completed table (fold after_terminal r (first ∷ others))) more
-      × ((tail : Tail (fold (after_instance table) (completed table (fold after_terminal r (first ∷ others))) more))
-      × AreMarked (plain Open ∷ plain (terminal_word first) ∷ terminals_then others
-      (instances_then more (ended (fold (after_instance table) (completed table (fold after_terminal r (first ∷ others))) more) tail))) words)))))
-  Rest TerminalStart r words =
-      (first : Terminal) × ((others : List Terminal) × ((more : List Instance) × ((completed_cause table (fold after_terminal r (first ∷ others)) ≡ None)
-      × (AreInstancesAdmitted table (completed table (fold after_terminal r (first ∷ others))) more
-      × ((tail : Tail (fold (after_instance table) (completed table (fold after_terminal r (first ∷ others))) more))
-      × AreMarked (plain (terminal_word first) ∷ terminals_then others
-      (instances_then more (ended (fold (after_instance table) (completed table (fold after_terminal r (first ∷ others))) more) tail))) words)))))
-  Rest TerminalEnd r words =
-      (others : List Terminal) × ((more : List Instance) × ((completed_cause table (fold after_terminal r others) ≡ None)
-      × (AreInstancesAdmitted table (completed table (fold after_terminal r others)) more
-      × ((tail : Tail (fold (after_instance table) (completed table (fold after_terminal r others)) more))
-      × AreMarked (terminals_then others (instances_then more (ended (fold (after_instance table) (completed table (fold after_terminal r others)) more) tail))) words))))
-  Rest InstanceEnd r words =
-      (more : List Instance) × (AreInstancesAdmitted table r more
-      × ((tail : Tail (fold (after_instance table) r more)) × AreMarked (instances_then more (ended (fold (after_instance table) r more) tail)) words))
-  Rest ModuleInstanceName r words =
-      (i : ModuleInstance) × ((more : List ModuleInstance) × (AreModuleInstancesAdmitted r (i ∷ more)
-      × ((tail : Tail (fold after_module_instance r (i ∷ more)))
-      × AreMarked (module_instance_then i (module_instances_then more (ended (fold after_module_instance r (i ∷ more)) tail))) words)))
-  Rest ModuleInstanceOpen r words =
-      (connections : Connections) × Completes (after_connections r connections) (λ rest. plain Open ∷ connections_then connections rest) words
-  Rest state.Connections r words = (connections : Connections) × Completes (after_connections r connections) (λ rest. connections_then connections rest) words
-  Rest OrderedStart r words =
-      (place : Option Terminal) × ((places : List (Option Terminal)) × Completes (fold connect r (place ∷ places)) (λ rest. place_then place (places_then places rest)) words)
-  Rest OrderedEnd r words = (places : List (Option Terminal)) × Completes (fold connect r places) (λ rest. places_then places rest) words
-  Rest NamedStart r words =
-      (c : NamedPort) × ((more : List NamedPort) × Completes (fold after_named r (c ∷ more)) (λ rest. named_then c (more_named_then more rest)) words)
-  Rest state.NamedPort r words =
-      (c : NamedPort) × ((more : List NamedPort) × Completes (fold after_named r (c ∷ more))
-      (λ rest. plain (Name c.port) ∷ plain Open ∷ place_then c.terminal (plain Close ∷ more_named_then more rest)) words)
-  Rest NamedOpen r words =
-      (place : Option Terminal) × ((more : List NamedPort) × Completes (fold after_named (connect r place) more)
-      (λ rest. plain Open ∷ place_then place (plain Close ∷ more_named_then more rest)) words)
-  Rest NamedTerminal r words =
-      (place : Option Terminal) × ((more : List NamedPort) × Completes (fold after_named (connect r place) more)
-      (λ rest. place_then place (plain Close ∷ more_named_then more rest)) words)
-  Rest NamedClose r words = (more : List NamedPort) × Completes (fold after_named r more) (λ rest. plain Close ∷ more_named_then more rest) words
-  Rest NamedEnd r words = (more : List NamedPort) × Completes (fold after_named r more) (λ rest. more_named_then more rest) words
-  Rest ModuleInstanceEnd r words =
-      (more : List ModuleInstance) × (AreModuleInstancesAdmitted r more
-      × ((tail : Tail (fold after_module_instance r more)) × AreMarked (module_instances_then more (ended (fold after_module_instance r more) tail)) words))
+  Rest state.Outside r words =
+      (parts : List Part) × (AreMarked (parts_then parts []) words × (ArePartsAdmitted s.default s.table r parts × (s.last ≡ after_parts s.default s.table r parts)))
+  Rest state.ModuleName r words =
+      (n : ℕ) × ((module_cause r n ≡ None) × ((rest : trees.Head s (record r { name = n })) × AreMarked (plain (Name n) ∷ trees.head_marks s rest) words))
+  Rest state.ModuleHead r words = (rest : trees.Head s r) × AreMarked (trees.head_marks s rest) words
+  Rest state.Header r words = (rest : trees.Head s r) × Follows Open (trees.head_marks s rest) words
+  Rest state.OlderNext r words = (rest : trees.Listed s r) × AreMarked (trees.listed_marks s rest) words
+  Rest state.OlderName r words =
+      (n : ℕ) × ((header_cause r n ≡ None) × ((rest : trees.Listed s (list_port r n)) × AreMarked (plain (Name n) ∷ trees.listed_marks s rest) words))
+  Rest state.InlineStart r words = (rest : trees.Kinded s declared.InlinePort r) × AreMarked (trees.kinded_marks s declared.InlinePort r rest) words
+  Rest state.InlineKind r words = (rest : trees.Ranged s declared.InlinePort r) × AreMarked (trees.ranged_marks s declared.InlinePort r rest) words
+  Rest state.InlineName r words = (rest : trees.Declaration s declared.InlinePort r) × AreMarked (trees.declaration_marks s declared.InlinePort r rest) words
+  Rest state.InlineNext r words = (rest : trees.Ports s r) × AreMarked (trees.ports_marks s rest) words
+  Rest state.InlineMore r words = (rest : trees.Ports s r) × Follows Comma (trees.ports_marks s rest) words
+  Rest state.HeaderEnd r words = (tail : trees.Tail s r) × AreMarked (trees.ended s tail) words
+  Rest state.Items r words = (tail : trees.Tail s r) × AreMarked (trees.body s tail) words
+  Rest state.PortStart r words = (rest : trees.Kinded s declared.Port r) × AreMarked (trees.kinded_marks s declared.Port r rest) words
+  Rest state.PortKind r words = (rest : trees.Ranged s declared.Port r) × AreMarked (trees.ranged_marks s declared.Port r rest) words
+  Rest state.PortName r words = (rest : trees.Declaration s declared.Port r) × AreMarked (trees.declaration_marks s declared.Port r rest) words
+  Rest state.PortNext r words = (rest : trees.Directed s r) × AreMarked (trees.directed_marks s rest) words
+  Rest state.NetStart r words = (rest : trees.Ranged s declared.Net r) × AreMarked (trees.ranged_marks s declared.Net r rest) words
+  Rest state.NetName r words = (rest : trees.Declaration s declared.Net r) × AreMarked (trees.declaration_marks s declared.Net r rest) words
+  Rest state.NetNext r words = (rest : trees.Nets s r) × AreMarked (trees.nets_marks s rest) words
+  Rest (state.LeftBound of) r words = (rest : trees.Bounds s of r) × AreMarked (trees.bounds_marks s of r rest) words
+  Rest (state.BoundColon of) r words = (rest : trees.Right s of r) × AreMarked (plain Colon ∷ trees.right_marks s of r rest) words
+  Rest (state.RightBound of) r words = (rest : trees.Right s of r) × AreMarked (trees.right_marks s of r rest) words
+  Rest (state.RangeEnd of) r words = (rest : trees.Declaration s of r) × AreMarked (plain CloseBracket ∷ trees.declaration_marks s of r rest) words
+  Rest state.GateStart r words = (rest : trees.Delayed s r) × AreMarked (trees.delayed_marks s r rest) words
+  Rest state.Delay r words = (rest : trees.Delayed s r) × Follows Hash (trees.delayed_marks s r rest) words
+  Rest state.RiseDelay r words = (rest : trees.Delayed s r) × FollowsTwo Hash Open (trees.delayed_marks s r rest) words
+  Rest state.RiseEnd r words =
+      ((rest : trees.Gates s r) × AreMarked (plain Close ∷ trees.gates_marks s r rest) words)
+      ⊎ ((rest : trees.Fall s r) × AreMarked (plain Comma ∷ trees.fall_marks s r rest) words)
+  Rest state.FallDelay r words = (rest : trees.Fall s r) × AreMarked (trees.fall_marks s r rest) words
+  Rest state.FallEnd r words = (rest : trees.Gates s r) × AreMarked (plain Close ∷ trees.gates_marks s r rest) words
+  Rest state.InstanceStart r words = (rest : trees.Gates s r) × AreMarked (trees.gates_marks s r rest) words
+  Rest state.InstanceOpen r words = (rest : trees.First s r) × AreMarked (plain Open ∷ trees.first_marks s r rest) words
+  Rest state.TerminalStart r words = (rest : trees.First s r) × AreMarked (trees.first_marks s r rest) words
+  Rest state.TerminalEnd r words = (rest : trees.Terminals s r) × AreMarked (trees.terminals_marks s rest) words
+  Rest (state.IndexStart of) r words = (rest : trees.Index s of r) × AreMarked (plain OpenBracket ∷ trees.index_marks s of r rest) words
+  Rest (state.Index of) r words = (rest : trees.Index s of r) × AreMarked (trees.index_marks s of r rest) words
+  Rest (state.IndexEnd of) r words = (rest : trees.Behind s of r) × AreMarked (plain CloseBracket ∷ trees.behind_marks s of r rest) words
+  Rest state.InstanceEnd r words = (rest : trees.Instances s r) × AreMarked (trees.instances_marks s rest) words
+  Rest state.ModuleInstanceName r words =
+      (i : ModuleInstance) × (IsModuleInstanceAdmitted s.table r i × ((rest : trees.ModuleInstances s (after_module_instance r i))
+      × AreMarked (module_instance_then i (trees.module_instances_marks s rest)) words))
+  Rest state.ModuleInstanceOpen r words = (rest : trees.Connected s r) × AreMarked (plain Open ∷ trees.connected_marks s r rest) words
+  Rest state.Connections r words = (rest : trees.Connected s r) × AreMarked (trees.connected_marks s r rest) words
+  Rest state.OrderedStart r words =
+      (place : Option Terminal) × (IsPlaceAdmitted s.table r place × ((rest : trees.Places s (connect r place)) × AreMarked (place_then place (trees.places_marks s rest)) words))
+  Rest state.OrderedEnd r words = (rest : trees.Places s r) × AreMarked (trees.places_marks s rest) words
+  Rest state.NamedStart r words = (rest : trees.NamedConnection s r) × AreMarked (plain Dot ∷ trees.named_connection_marks s r rest) words
+  Rest state.NamedPort r words = (rest : trees.NamedConnection s r) × AreMarked (trees.named_connection_marks s r rest) words
+  Rest state.NamedOpen r words = (rest : trees.NamedPlace s r) × AreMarked (plain Open ∷ trees.named_place_marks s r rest) words
+  Rest state.NamedTerminal r words = (rest : trees.NamedPlace s r) × AreMarked (trees.named_place_marks s r rest) words
+  Rest state.NamedClose r words = (rest : trees.NamedPorts s r) × AreMarked (plain Close ∷ trees.named_marks s rest) words
+  Rest state.NamedEnd r words = (rest : trees.NamedPorts s r) × AreMarked (trees.named_marks s rest) words
+  Rest state.ModuleInstanceEnd r words = (rest : trees.ModuleInstances s r) × AreMarked (trees.module_instances_marks s rest) words
+
+  -- the words are the rest behind where a turn leads
+  abbrev pub RestIn : Result Walk Cause → List Placed → Type 0
+  RestIn (Ok walk) words = Rest walk.state walk.so_far words
+  RestIn (Err why) words = ⊥
+
+  -- a turn that leads somewhere has no cause
+  pub through : (found : Option Cause) (to : ParserState) (r : Reading) (words : List Placed) → RestIn (unless found (goes to r)) words
+      → (found ≡ None) × Rest to r words
+  through None to r words rest = (refl, rest)
+  through (Some why) to r words rest = absurd rest
+
+  -- one of two turns led there
+  pub either : (b : Bool) (this that : Result Walk Cause) (words : List Placed) → RestIn (cond b this that) words → RestIn this words ⊎ RestIn that words
+  either true this that words rest = inl rest
+  either false this that words rest = inr rest

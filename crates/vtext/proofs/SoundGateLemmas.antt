@@ -1,7 +1,8 @@
 -- The gates that an instance gives are sound, and stay so when nets are added.
-use Rattle.std.proofs.Common.{◌≡◌, ℕ, suc, ◌==◌, Bool, true, false, cond, not, ◌||◌, IsSome, IsTrue, MatchOption, List, [], ◌∷◌, Option, Some, None, All, length, refl}
+use Rattle.std.proofs.Common.{◌≡◌, ℕ, suc, ◌==◌, Bool, true, false, cond, not, ◌||◌, IsTrue, MatchOption, List, [], ◌∷◌, Option, Some, None, All, length, refl}
 use Rattle.std.proofs.lemmas.List.Elements.{All-cons, All-drop, All-head, All-nil, All-tail, All-take, All-weaker}
 use Rattle.std.specs.List.{list_any}
+use Rattle.std.specs.Prelude.{IsSomeAnd}
 use Rattle.fourstate.specs.Delays.{AreDelays}
 use Rattle.fourstate.specs.Gates.{takes_inputs}
 use Rattle.vtext.specs.declared.cause.Cause.{Cause}
@@ -12,32 +13,50 @@ use Rattle.vtext.specs.declared.gate.Terminal.TheVariants as terminal
 use Rattle.vtext.specs.declared.module_instance.PortConnection.{PortConnection}
 use Rattle.vtext.specs.declared.net.Net.{Net}
 use Rattle.vtext.specs.Causes.{completed_cause}
-use Rattle.vtext.specs.Instances.{called, gate_of, gates_of, inputs_of, instance_name, is_arity_wrong, is_constant, is_constant_driven, net_number, output_count, outputs_of, part_gates}
+use Rattle.vtext.specs.Instances.{called, gate_of, gates_of, inputs_of, instance_name, is_arity_wrong, is_constant, is_constant_driven, output_count, outputs_of, part_gates}
 use Rattle.vtext.specs.Modules.{GateEntry, InstanceEntry}
-use Rattle.vtext.specs.Nets.{net_of}
+use Rattle.vtext.specs.Nets.{is_scalar, net_of}
 use Rattle.vtext.specs.Readings.{Reading}
-use Rattle.vtext.specs.Sound.{IsConnected, IsGoodNumber, IsPortConnected, IsSoundGate, IsSoundInstance}
+use Rattle.vtext.specs.Ranges.{has_bit}
+use Rattle.vtext.specs.Sound.{IsDriven, IsGoodNumber, IsJoinable, IsPortConnected, IsSingle, IsSoundGate, IsSoundInstance}
+use Rattle.vtext.proofs.NetEnds.{AreKept}
 use Rattle.vtext.proofs.SpellingLemmas.{IsGoodInstance, gate_spelled}
 
--- Nets are added.
+-- More is said of nets.
 
-abbrev pub AreKept : List (ℕ × Net) → List (ℕ × Net) → Type 0
-AreKept nets more = (n : ℕ) → IsSome (net_of nets n) → IsSome (net_of more n)
+single_still : (nets more : List (ℕ × Net)) → AreKept nets more → (t : Terminal) → IsSingle nets t → IsSingle more t
+single_still nets more kept (terminal.Net n) h = step (net_of nets n) refl h
+  where
+    step : (found : Option Net) → net_of nets n ≡ found → IsSomeAnd found (λ net. is_scalar net ≡ true) → IsSomeAnd (net_of more n) (λ net. is_scalar net ≡ true)
+    step None e h = absurd h
+    step (Some net) e h = kept.scalars n net e h
+single_still nets more kept (terminal.Bit n i) h = step (net_of nets n) refl h
+  where
+    step : (found : Option Net) → net_of nets n ≡ found → IsSomeAnd found (λ net. has_bit net.range i ≡ true) → IsSomeAnd (net_of more n) (λ net. has_bit net.range i ≡ true)
+    step None e h = absurd h
+    step (Some net) e h = kept.bits n net i e h
+single_still nets more kept (terminal.Constant value) h = h
 
-connected_still : (nets more : List (ℕ × Net)) → AreKept nets more → (t : Terminal) → IsConnected nets t → IsConnected more t
-connected_still nets more kept (terminal.Net n) h = kept n h
-connected_still nets more kept (terminal.Constant value) h = h
+pub all_single_still : (nets more : List (ℕ × Net)) → AreKept nets more → (ts : List Terminal) → All (IsSingle nets) ts → All (IsSingle more) ts
+all_single_still nets more kept ts all = All-weaker (IsSingle nets) (IsSingle more) (single_still nets more kept) ts all
 
-pub all_connected_still : (nets more : List (ℕ × Net)) → AreKept nets more → (ts : List Terminal) → All (IsConnected nets) ts → All (IsConnected more) ts
-all_connected_still nets more kept ts all = All-weaker (IsConnected nets) (IsConnected more) (connected_still nets more kept) ts all
+driven_still : (nets more : List (ℕ × Net)) → AreKept nets more → (t : Terminal) → IsDriven nets t → IsDriven more t
+driven_still nets more kept (terminal.Net n) h = single_still nets more kept (terminal.Net n) h
+driven_still nets more kept (terminal.Bit n i) h = single_still nets more kept (terminal.Bit n i) h
+driven_still nets more kept (terminal.Constant value) h = absurd h
+
+joinable_still : (nets more : List (ℕ × Net)) → AreKept nets more → (t : Terminal) → IsJoinable nets t → IsJoinable more t
+joinable_still nets more kept (terminal.Net n) h = kept.there n h
+joinable_still nets more kept (terminal.Bit n i) h = single_still nets more kept (terminal.Bit n i) h
+joinable_still nets more kept (terminal.Constant value) h = h
 
 gate_still : (names : List (List ℕ)) (nets more : List (ℕ × Net)) → AreKept nets more → (g : GateEntry) → IsSoundGate names nets g → IsSoundGate names more g
 gate_still names nets more kept g h = record {
   spelled = h.spelled;
   fits = h.fits;
   delays = h.delays;
-  output = kept g.output h.output;
-  inputs = all_connected_still nets more kept g.inputs h.inputs;
+  output = driven_still nets more kept g.output h.output;
+  inputs = all_single_still nets more kept g.inputs h.inputs;
 }
 
 pub gates_still : (names : List (List ℕ)) (nets more : List (ℕ × Net)) → AreKept nets more → (gs : List GateEntry)
@@ -47,9 +66,9 @@ gates_still names nets more kept gs all = All-weaker (IsSoundGate names nets) (I
 connection_still : (nets more : List (ℕ × Net)) → AreKept nets more → (c : PortConnection) → IsPortConnected nets c → IsPortConnected more c
 connection_still nets more kept c h = step c.terminal h
   where
-    step : (t : Option Terminal) → MatchOption t (Unit {0}) (IsConnected nets) → MatchOption t (Unit {0}) (IsConnected more)
+    step : (t : Option Terminal) → MatchOption t (Unit {0}) (IsJoinable nets) → MatchOption t (Unit {0}) (IsJoinable more)
     step None h = tt
-    step (Some t) h = connected_still nets more kept t h
+    step (Some t) h = joinable_still nets more kept t h
 
 pub connections_still : (nets more : List (ℕ × Net)) → AreKept nets more → (cs : List PortConnection) → All (IsPortConnected nets) cs → All (IsPortConnected more) cs
 connections_still nets more kept cs all = All-weaker (IsPortConnected nets) (IsPortConnected more) (connection_still nets more kept) cs all
@@ -68,24 +87,21 @@ instances_still names nets more kept is all =
 
 -- Outputs.
 
--- an output is one of the nets
-abbrev IsDriven : List (ℕ × Net) → Terminal → Type 0
-IsDriven nets t = IsSome (net_of nets (net_number t))
-
 or_false : (a b : Bool) → (a || b) ≡ false → (a ≡ false) × (b ≡ false)
 or_false true b h = absurd cc
 or_false false b h = (refl, h)
 
-driven : (nets : List (ℕ × Net)) (t : Terminal) → is_constant t ≡ false → IsConnected nets t → IsDriven nets t
+driven : (nets : List (ℕ × Net)) (t : Terminal) → is_constant t ≡ false → IsSingle nets t → IsDriven nets t
 driven nets (terminal.Net n) free h = h
+driven nets (terminal.Bit n i) free h = h
 driven nets (terminal.Constant value) free h = absurd cc
 
-all_driven : (nets : List (ℕ × Net)) (ts : List Terminal) → list_any is_constant ts ≡ false → All (IsConnected nets) ts → All (IsDriven nets) ts
+all_driven : (nets : List (ℕ × Net)) (ts : List Terminal) → list_any is_constant ts ≡ false → All (IsSingle nets) ts → All (IsDriven nets) ts
 all_driven nets [] free all = All-nil (IsDriven nets)
 all_driven nets (t ∷ ts) free all =
     let both = or_false (is_constant t) (list_any is_constant ts) free in
-    All-cons (IsDriven nets) t ts (driven nets t both.0 (All-head (IsConnected nets) t ts all))
-    (all_driven nets ts both.1 (All-tail (IsConnected nets) t ts all))
+    All-cons (IsDriven nets) t ts (driven nets t both.0 (All-head (IsSingle nets) t ts all))
+    (all_driven nets ts both.1 (All-tail (IsSingle nets) t ts all))
 
 -- The gates of an instance.
 
@@ -93,7 +109,7 @@ record IsReady (names : List (List ℕ)) (nets : List (ℕ × Net)) (r : Reading
   called : IsGoodInstance names i
   fits : IsTrue (takes_inputs r.gate (length inputs))
   delays : AreDelays r.delays
-  connected : All (IsConnected nets) inputs
+  connected : All (IsSingle nets) inputs
 
 module _ (names : List (List ℕ)) (nets : List (ℕ × Net)) (r : Reading) (i : InstanceName) (inputs : List Terminal) (ready : IsReady names nets r i inputs) where
   one_sound : (part : Option ℕ) (t : Terminal) → IsDriven nets t → IsSoundGate names nets (gate_of r i part inputs t)
@@ -139,7 +155,7 @@ good_instance names None unnamed good = tt
 good_instance names (Some n) unnamed good = good
 
 pub completed_sound : (names : List (List ℕ)) (r : Reading) → completed_cause names r ≡ None → IsGoodName names r.instance
-    → AreDelays r.delays → All (IsConnected r.nets) r.terminals
+    → AreDelays r.delays → All (IsSingle r.nets) r.terminals
     → All (IsSoundGate names r.nets) (gates_of r (instance_name r) (inputs_of r.gate r.terminals) (outputs_of r.gate r.terminals))
 completed_sound names r free good delays all =
     let outputs = outputs_of r.gate r.terminals in
@@ -150,7 +166,7 @@ completed_sound names r free good delays all =
       called = good_instance names r.instance r.unnamed good;
       fits = not_false (takes_inputs r.gate (length inputs)) arity.1;
       delays = delays;
-      connected = All-drop (IsConnected r.nets) (output_count r.gate (length r.terminals)) r.terminals all;
+      connected = All-drop (IsSingle r.nets) (output_count r.gate (length r.terminals)) r.terminals all;
     } in
     all_sound names r.nets r (instance_name r) inputs ready outputs
-    (all_driven r.nets outputs clear.1 (All-take (IsConnected r.nets) (output_count r.gate (length r.terminals)) r.terminals all))
+    (all_driven r.nets outputs clear.1 (All-take (IsSingle r.nets) (output_count r.gate (length r.terminals)) r.terminals all))

@@ -2,18 +2,18 @@
 use Rattle.std.proofs.Common.{◌≡◌, ℕ, suc, ◌+◌, ◌-◌, ◌^◌, ◌<◌, true, List, [], ◌∷◌, Option, Some, None, Result, All, length, length-take, min, take, refl, subst, arith}
 use Rattle.std.proofs.lemmas.List.Elements.{All-head, All-nil, All-tail, All-take}
 use Rattle.vtext.specs.declared.cause.Cause.{Cause}
-use Rattle.vtext.specs.declared.net.Net.{Net}
 use Rattle.vtext.specs.declared.parser_state.ParserState.TheVariants.{Outside}
 use Rattle.vtext.specs.declared.word.Word.{Word}
 use Rattle.vtext.specs.declared.word.Placed.{Placed}
 use Rattle.vtext.specs.GateNames.{is_taken}
 use Rattle.vtext.specs.Modules.{InstanceEntry}
 use Rattle.vtext.specs.Readings.{Reading}
-use Rattle.vtext.specs.Sound.{AreGoodWords, IsGoodNumber, IsGoodWord, IsSoundGate, IsSoundInstance, IsSoundModule}
+use Rattle.vtext.specs.Sound.{AreGoodWords, IsGoodWord, IsSoundGate, IsSoundInstance, IsSoundModule}
 use Rattle.vtext.specs.Turns.{Walk}
 use Rattle.vtext.specs.Walks.{Leads, first_word, start, word_at}
 use Rattle.vtext.proofs.FreshLemmas.{IsSettled}
-use Rattle.vtext.proofs.SoundReadings.{Stands, StandsAfter}
+use Rattle.vtext.proofs.NetReadings.{no_nets}
+use Rattle.vtext.proofs.SoundStates.{Stands, StandsAfter}
 use Rattle.vtext.proofs.SoundSteps.{turn_stands}
 
 module _ (default : Option ℕ) (names : List (List ℕ)) where
@@ -36,8 +36,7 @@ module _ (default : Option ℕ) (names : List (List ℕ)) where
   begun room next small = (
     record {
       finished = All-nil (IsSoundModule names);
-      named = All-nil (λ (net : ℕ × Net). IsGoodNumber names net.0);
-      apart = tt;
+      sound_nets = no_nets names;
       fitting = All-nil (IsSoundGate names []);
       instantiated = All-nil (IsSoundInstance names []);
       instances_apart = λ i j d low high. absurd (omega arith);

@@ -7,7 +7,7 @@ use Rattle.fourstate.specs.declared.gate.GateKind.TheVariants.{Buf, Not}
 use Rattle.vtext.specs.declared.gate.InstanceName.{InstanceName}
 use Rattle.vtext.specs.declared.gate.InstanceName.TheVariants.{Written, Unnamed}
 use Rattle.vtext.specs.declared.gate.Terminal.{Terminal}
-use Rattle.vtext.specs.declared.gate.Terminal.TheVariants.{Net, Constant}
+use Rattle.vtext.specs.declared.gate.Terminal.TheVariants.{Constant}
 use Rattle.vtext.specs.GateNames.{instance_bytes, is_name_taken, is_part_taken, with_name_taken, with_parts_taken}
 use Rattle.vtext.specs.Modules.{GateEntry}
 use Rattle.vtext.specs.Readings.{Reading}
@@ -26,12 +26,7 @@ inputs_of kind terminals = drop (output_count kind (length terminals)) terminals
 
 abbrev pub is_constant : Terminal → Bool
 is_constant (Constant value) = true
-is_constant (Net n) = false
-
--- the net of an output, which is no constant
-abbrev pub net_number : Terminal → ℕ
-net_number (Net n) = n
-net_number (Constant value) = 0
+is_constant terminal = false
 
 -- there is no output, or the number of inputs doesn't fit the kind
 abbrev pub is_arity_wrong : GateKind → List Terminal → Bool
@@ -77,7 +72,7 @@ with_made_taken names taken instance outputs =
 -- the gate of one output
 abbrev pub gate_of : Reading → InstanceName → Option ℕ → List Terminal → Terminal → GateEntry
 gate_of r instance part inputs output =
-    record { kind = r.gate; delays = r.delays; instance = instance; part = part; output = net_number output; inputs = inputs }
+    record { kind = r.gate; delays = r.delays; instance = instance; part = part; output = output; inputs = inputs }
 
 -- the gates of several outputs, numbered from here on
 abbrev pub part_gates : Reading → InstanceName → List Terminal → ℕ → List Terminal → List GateEntry

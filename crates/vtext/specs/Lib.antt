@@ -1,3 +1,4 @@
+pub mod Bits
 pub mod Causes
 pub mod GateNames
 pub mod Instances
@@ -6,6 +7,7 @@ pub mod Modules
 pub mod Names
 pub mod Nets
 pub mod Notes
+pub mod Ranges
 pub mod ReadFaults
 pub mod Readings
 pub mod Reads

@@ -14,7 +14,7 @@ pub record GateEntry : Type 0 where
   pub delays : DelayTimes
   pub instance : InstanceName
   pub part : Option ℕ
-  pub output : ℕ
+  pub output : Terminal
   pub inputs : List Terminal
 
 -- an instance of a module: where its name begins, its name, the name of the module, its port connections in order

@@ -13,6 +13,7 @@ use Rattle.vtext.specs.declared.draft.Draft.{Draft}
 use Rattle.vtext.specs.declared.gate.Terminal.{Terminal}
 use Rattle.vtext.specs.declared.module_instance.PortConnection.{PortConnection}
 use Rattle.vtext.specs.declared.net.Net.{Net}
+use Rattle.vtext.specs.declared.range.Range.{Range}
 use Rattle.vtext.specs.Modules.{GateEntry, InstanceEntry, ModuleEntry}
 
 pub record Reading : Type 0 where
@@ -29,15 +30,18 @@ pub record Reading : Type 0 where
   pub instances : List InstanceEntry
   pub taken : List ℕ
   pub unnamed : ℕ
-  -- of a declaration: the direction, and the net kind that is written
+  -- of a declaration: the direction, and the net kind and the range that are written
   pub direction : Direction
   pub kind : Option NetKind
+  pub range : Option Range
   -- of a gate item: kind and delays
   pub gate : GateKind
   pub delays : DelayTimes
   -- of a gate instance: its name, if it has one, and the terminals so far
   pub instance : Option ℕ
   pub terminals : List Terminal
+  -- of a terminal with an index: the net
+  pub indexed : ℕ
   -- of an item that instantiates a module: the module's name
   pub of : ℕ
   -- of such an instance: where its name begins, its name, and the port connections so far
@@ -62,10 +66,12 @@ unread = record {
   unnamed = 0;
   direction = Input;
   kind = None;
+  range = None;
   gate = And;
   delays = uniform_delays 0;
   instance = None;
   terminals = [];
+  indexed = 0;
   of = 0;
   instance_start = 0;
   instance_name = 0;
@@ -88,10 +94,12 @@ view d = record {
   unnamed = d.module.unnamed;
   direction = d.declaration.direction;
   kind = d.declaration.kind;
+  range = d.declaration.range;
   gate = d.item.kind;
   delays = d.item.delays;
   instance = d.instance.name;
   terminals = d.instance.terminals.items;
+  indexed = d.indexed;
   of = d.module_instance.of;
   instance_start = d.module_instance.start;
   instance_name = d.module_instance.name;

@@ -6,9 +6,10 @@
 --   module   : "module" NAME optional( "(" optional(ports) ")" ) ";" { item } "endmodule"
 --   ports    : NAME { "," NAME }                                   older form
 --            | decl { "," decl | "," NAME }                        inline form
---   decl     : direction optional(net kind) NAME
---   item     : direction optional(net kind) NAME { "," NAME } ";"
---            | net kind NAME { "," NAME } ";"
+--   decl     : direction optional(net kind) optional(range) NAME
+--   range    : "[" NUMBER ":" NUMBER "]"
+--   item     : direction optional(net kind) optional(range) NAME { "," NAME } ";"
+--            | net kind optional(range) NAME { "," NAME } ";"
 --            | gate kind optional(delay) instance { "," instance } ";"
 --            | NAME minst { "," minst } ";"
 --   delay    : "#" NUMBER | "#" "(" NUMBER optional("," NUMBER) ")"
@@ -17,32 +18,34 @@
 --   conns    : optional(terminal) { "," optional(terminal) }       by order
 --            | conn { "," conn }                                   by name
 --   conn     : "." NAME "(" optional(terminal) ")"
---   terminal : NAME | CONSTANT
+--   terminal : NAME | NAME "[" NUMBER "]" | CONSTANT
 --
 -- No connections at all are none, and not one that is empty (own).
-use Rattle.std.specs.Prelude.{◌≡◌, true, ℕ, List, [], ◌∷◌, ◌++◌, MatchOption, Option, Some, None, fold, unwrap_or}
+use Rattle.std.specs.Prelude.{◌≡◌, true, ℕ, List, [], ◌∷◌, MatchOption, Option, Some, None, fold, unwrap_or}
 use Rattle.fourstate.specs.Delays.{delay_times, uniform_delays}
 use Rattle.fourstate.specs.declared.delay_times.DelayTimes.{DelayTimes}
 use Rattle.fourstate.specs.declared.gate.GateKind.{GateKind}
 use Rattle.fourstate.specs.declared.net.NetKind.{NetKind}
 use Rattle.fourstate.specs.declared.unit.TimeUnit.{TimeUnit}
 use Rattle.vtext.specs.declared.gate.Terminal.{Terminal}
-use Rattle.vtext.specs.declared.gate.Terminal.TheVariants.{Net, Constant}
+use Rattle.vtext.specs.declared.gate.Terminal.TheVariants.{Net, Bit, Constant}
+use Rattle.vtext.specs.declared.range.Range.{Range}
 use Rattle.vtext.specs.declared.word.Direction.{Direction}
 use Rattle.vtext.specs.declared.word.Word.{Word}
-use Rattle.vtext.specs.declared.word.Word.TheVariants.{Module, Endmodule, PortWord, NetWord, GateWord, Name, Number, Literal, Open, Close, Comma, Semicolon, Hash, Dot, Timescale}
+use Rattle.vtext.specs.declared.word.Word.TheVariants.{Module, Endmodule, PortWord, NetWord, GateWord, Name, Number, Literal, Open, Close, Comma, Semicolon, Hash, Dot, Colon, OpenBracket, CloseBracket, Timescale}
 use Rattle.vtext.specs.declared.word.Placed.{Placed}
-use Rattle.vtext.specs.Causes.{completed_cause, default_cause, delay_cause, direction_cause, end_cause, header_cause, instance_cause, module_cause, net_cause, port_cause}
+use Rattle.vtext.specs.Causes.{bound_cause, completed_cause, default_cause, delay_cause, direction_cause, end_cause, header_cause, index_cause, inline_cause, instance_cause, module_cause, net_cause, port_cause, terminal_cause, use_cause}
 use Rattle.vtext.specs.Instances.{completed}
-use Rattle.vtext.specs.Notes.{connect, declare_net, declare_port, direct_port, finished, instantiated, list_port, name_instance, name_module_instance, use_net}
+use Rattle.vtext.specs.Notes.{connect, declare_net, declare_port, direct_port, finished, instantiated, list_port, name_instance, name_module_instance, note_index, use_terminal}
 use Rattle.vtext.specs.Readings.{Reading}
 
 -- Trees.
 
--- a declaration of a port in a header: direction, net kind if one is written, name
+-- a declaration of a port in a header: direction, net kind and range if they are written, name
 pub record Decl : Type 0 where
   pub direction : Direction
   pub kind : Option NetKind
+  pub range : Option Range
   pub name : ℕ
 
 -- a port in a header of the inline form: a declaration, or a bare name
@@ -88,8 +91,8 @@ pub record ModuleInstance : Type 0 where
   pub connections : Connections
 
 pub data Item : Type 0 where
-  port_item : Direction → Option NetKind → ℕ → List ℕ → Item
-  net_item : NetKind → ℕ → List ℕ → Item
+  port_item : Direction → Option NetKind → Option Range → ℕ → List ℕ → Item
+  net_item : NetKind → Option Range → ℕ → List ℕ → Item
   gate_item : GateKind → Delay → Instance → List Instance → Item
   instance_item : ℕ → ModuleInstance → List ModuleInstance → Item
 
@@ -115,8 +118,13 @@ abbrev pub kind_then : Option NetKind → List Mark → List Mark
 kind_then None rest = rest
 kind_then (Some kind) rest = plain (NetWord kind) ∷ rest
 
+abbrev pub range_then : Option Range → List Mark → List Mark
+range_then None rest = rest
+range_then (Some range) rest =
+    plain OpenBracket ∷ plain (Number range.left) ∷ plain Colon ∷ plain (Number range.right) ∷ plain CloseBracket ∷ rest
+
 abbrev pub decl_then : Decl → List Mark → List Mark
-decl_then decl rest = plain (PortWord decl.direction) ∷ kind_then decl.kind (plain (Name decl.name) ∷ rest)
+decl_then decl rest = plain (PortWord decl.direction) ∷ kind_then decl.kind (range_then decl.range (plain (Name decl.name) ∷ rest))
 
 abbrev pub ports_then : List Port → List Mark → List Mark
 ports_then [] rest = rest
@@ -135,20 +143,21 @@ delay_then (one_delay d) rest = plain Hash ∷ plain (Number d) ∷ rest
 delay_then (enclosed_delay d) rest = plain Hash ∷ plain Open ∷ plain (Number d) ∷ plain Close ∷ rest
 delay_then (two_delays r f) rest = plain Hash ∷ plain Open ∷ plain (Number r) ∷ plain Comma ∷ plain (Number f) ∷ plain Close ∷ rest
 
-abbrev pub terminal_word : Terminal → Word
-terminal_word (Net n) = Name n
-terminal_word (Constant value) = Literal value
+abbrev pub terminal_then : Terminal → List Mark → List Mark
+terminal_then (Net n) rest = plain (Name n) ∷ rest
+terminal_then (Bit n i) rest = plain (Name n) ∷ plain OpenBracket ∷ plain (Number i) ∷ plain CloseBracket ∷ rest
+terminal_then (Constant value) rest = plain (Literal value) ∷ rest
 
 abbrev pub terminals_then : List Terminal → List Mark → List Mark
 terminals_then [] rest = plain Close ∷ rest
-terminals_then (terminal ∷ terminals) rest = plain Comma ∷ plain (terminal_word terminal) ∷ terminals_then terminals rest
+terminals_then (terminal ∷ terminals) rest = plain Comma ∷ terminal_then terminal (terminals_then terminals rest)
 
 abbrev pub name_then : Option ℕ → List Mark → List Mark
 name_then None rest = rest
 name_then (Some n) rest = plain (Name n) ∷ rest
 
 abbrev pub instance_then : Instance → List Mark → List Mark
-instance_then instance rest = name_then instance.name (plain Open ∷ plain (terminal_word instance.first) ∷ terminals_then instance.more rest)
+instance_then instance rest = name_then instance.name (plain Open ∷ terminal_then instance.first (terminals_then instance.more rest))
 
 abbrev pub instances_then : List Instance → List Mark → List Mark
 instances_then [] rest = rest
@@ -157,7 +166,7 @@ instances_then (instance ∷ instances) rest = plain Comma ∷ instance_then ins
 -- what may be left empty
 abbrev pub place_then : Option Terminal → List Mark → List Mark
 place_then None rest = rest
-place_then (Some terminal) rest = plain (terminal_word terminal) ∷ rest
+place_then (Some terminal) rest = terminal_then terminal rest
 
 abbrev pub places_then : List (Option Terminal) → List Mark → List Mark
 places_then [] rest = plain Close ∷ rest
@@ -172,7 +181,7 @@ more_named_then (connection ∷ more) rest = plain Comma ∷ named_then connecti
 
 abbrev pub connections_then : Connections → List Mark → List Mark
 connections_then no_connections rest = plain Close ∷ rest
-connections_then (by_order terminal places) rest = plain (terminal_word terminal) ∷ places_then places rest
+connections_then (by_order terminal places) rest = terminal_then terminal (places_then places rest)
 connections_then (by_order_late place places) rest = plain Comma ∷ place_then place (places_then places rest)
 connections_then (by_name first more) rest = named_then first (more_named_then more rest)
 
@@ -184,8 +193,10 @@ module_instances_then [] rest = rest
 module_instances_then (instance ∷ instances) rest = plain Comma ∷ module_instance_then instance (module_instances_then instances rest)
 
 abbrev pub item_then : Item → List Mark → List Mark
-item_then (port_item direction kind n names) rest = plain (PortWord direction) ∷ kind_then kind (plain (Name n) ∷ names_then names (plain Semicolon ∷ rest))
-item_then (net_item kind n names) rest = plain (NetWord kind) ∷ plain (Name n) ∷ names_then names (plain Semicolon ∷ rest)
+item_then (port_item direction kind range n names) rest =
+    plain (PortWord direction) ∷ kind_then kind (range_then range (plain (Name n) ∷ names_then names (plain Semicolon ∷ rest)))
+item_then (net_item kind range n names) rest =
+    plain (NetWord kind) ∷ range_then range (plain (Name n) ∷ names_then names (plain Semicolon ∷ rest))
 item_then (gate_item kind delay instance instances) rest =
     plain (GateWord kind) ∷ delay_then delay (instance_then instance (instances_then instances (plain Semicolon ∷ rest)))
 item_then (instance_item of instance instances) rest =
@@ -201,7 +212,7 @@ module_then start name header items rest = at_place start Module ∷ plain (Name
 -- What they say.
 
 abbrev pub after_decl : Reading → Decl → Reading
-after_decl r decl = declare_port (record r { direction = decl.direction; kind = decl.kind }) decl.name
+after_decl r decl = declare_port (record r { direction = decl.direction; kind = decl.kind; range = decl.range }) decl.name
 
 abbrev pub after_port : Reading → Port → Reading
 after_port r (declared decl) = after_decl r decl
@@ -220,16 +231,12 @@ times_of default (one_delay d) = uniform_delays d
 times_of default (enclosed_delay d) = uniform_delays d
 times_of default (two_delays r f) = delay_times r f
 
-abbrev pub after_terminal : Reading → Terminal → Reading
-after_terminal r (Net n) = use_net r n
-after_terminal r (Constant value) = record r { terminals = r.terminals ++ Constant value ∷ [] }
-
 abbrev pub after_name : Reading → Option ℕ → Reading
 after_name r None = record r { instance = None }
 after_name r (Some n) = name_instance r n
 
 abbrev pub after_terminals : Reading → Instance → Reading
-after_terminals r instance = fold after_terminal (after_name r instance.name) (instance.first ∷ instance.more)
+after_terminals r instance = fold use_terminal (after_name r instance.name) (instance.first ∷ instance.more)
 
 abbrev pub after_instance : List (List ℕ) → Reading → Instance → Reading
 after_instance table r instance = completed table (after_terminals r instance)
@@ -250,8 +257,9 @@ abbrev pub after_module_instance : Reading → ModuleInstance → Reading
 after_module_instance r instance = instantiated (after_connections (name_module_instance r instance.start instance.name) instance.connections)
 
 abbrev pub after_item : Option ℕ → List (List ℕ) → Reading → Item → Reading
-after_item default table r (port_item direction kind n names) = fold direct_port (record r { direction = direction; kind = kind }) (n ∷ names)
-after_item default table r (net_item kind n names) = fold declare_net (record r { kind = Some kind }) (n ∷ names)
+after_item default table r (port_item direction kind range n names) =
+    fold direct_port (record r { direction = direction; kind = kind; range = range }) (n ∷ names)
+after_item default table r (net_item kind range n names) = fold declare_net (record r { kind = Some kind; range = range }) (n ∷ names)
 after_item default table r (gate_item kind delay instance instances) = fold (after_instance table) (after_gate default r kind delay) (instance ∷ instances)
 after_item default table r (instance_item of instance instances) = fold after_module_instance (record r { of = of }) (instance ∷ instances)
 
@@ -265,6 +273,11 @@ abbrev pub AreAdmitted : (Reading → ℕ → Reading) → (Reading → ℕ → 
 AreAdmitted after P r [] = Unit {0}
 AreAdmitted after P r (n ∷ names) = P r n × AreAdmitted after P (after r n) names
 
+-- both bounds of a range are within the limit
+abbrev pub IsRangeAdmitted : Option Range → Type 0
+IsRangeAdmitted None = Unit {0}
+IsRangeAdmitted (Some range) = (bound_cause range.left ≡ None) × (bound_cause range.right ≡ None)
+
 abbrev pub IsDelayAdmitted : Option ℕ → Delay → Type 0
 IsDelayAdmitted default no_delay = default_cause default ≡ None
 IsDelayAdmitted default (one_delay d) = delay_cause d ≡ None
@@ -275,47 +288,92 @@ abbrev pub IsNameAdmitted : Reading → Option ℕ → Type 0
 IsNameAdmitted r None = Unit {0}
 IsNameAdmitted r (Some n) = instance_cause r n ≡ None
 
-abbrev pub IsInstanceAdmitted : List (List ℕ) → Reading → Instance → Type 0
-IsInstanceAdmitted table r instance = IsNameAdmitted r instance.name × (completed_cause table (after_terminals r instance) ≡ None)
+-- an index is that of a bit
+abbrev pub IsBitAdmitted : List (List ℕ) → Reading → ℕ → ℕ → Type 0
+IsBitAdmitted table r n i = (use_cause table r n ≡ None) × (index_cause (note_index r n) i ≡ None)
+
+-- a terminal of a gate
+abbrev pub IsTerminalAdmitted : List (List ℕ) → Reading → Terminal → Type 0
+IsTerminalAdmitted table r (Net n) = terminal_cause table r n ≡ None
+IsTerminalAdmitted table r (Bit n i) = IsBitAdmitted table r n i
+IsTerminalAdmitted table r (Constant value) = Unit {0}
+
+abbrev pub AreTerminalsAdmitted : List (List ℕ) → Reading → List Terminal → Type 0
+AreTerminalsAdmitted table r [] = Unit {0}
+AreTerminalsAdmitted table r (terminal ∷ terminals) = IsTerminalAdmitted table r terminal × AreTerminalsAdmitted table (use_terminal r terminal) terminals
+
+pub record IsInstanceAdmitted (table : List (List ℕ)) (r : Reading) (instance : Instance) : Type 0 where
+  pub name : IsNameAdmitted r instance.name
+  pub terminals : AreTerminalsAdmitted table (after_name r instance.name) (instance.first ∷ instance.more)
+  pub whole : completed_cause table (after_terminals r instance) ≡ None
 
 abbrev pub AreInstancesAdmitted : List (List ℕ) → Reading → List Instance → Type 0
 AreInstancesAdmitted table r [] = Unit {0}
 AreInstancesAdmitted table r (instance ∷ instances) = IsInstanceAdmitted table r instance × AreInstancesAdmitted table (after_instance table r instance) instances
 
-abbrev pub AreModuleInstancesAdmitted : Reading → List ModuleInstance → Type 0
-AreModuleInstancesAdmitted r [] = Unit {0}
-AreModuleInstancesAdmitted r (instance ∷ instances) =
-    (instance_cause r instance.name ≡ None) × AreModuleInstancesAdmitted (after_module_instance r instance) instances
+-- what a port is connected to, if anything: a whole vector may be
+abbrev pub IsPlaceAdmitted : List (List ℕ) → Reading → Option Terminal → Type 0
+IsPlaceAdmitted table r None = Unit {0}
+IsPlaceAdmitted table r (Some (Net n)) = use_cause table r n ≡ None
+IsPlaceAdmitted table r (Some (Bit n i)) = IsBitAdmitted table r n i
+IsPlaceAdmitted table r (Some (Constant value)) = Unit {0}
+
+abbrev pub ArePlacesAdmitted : List (List ℕ) → Reading → List (Option Terminal) → Type 0
+ArePlacesAdmitted table r [] = Unit {0}
+ArePlacesAdmitted table r (place ∷ places) = IsPlaceAdmitted table r place × ArePlacesAdmitted table (connect r place) places
+
+abbrev pub AreNamedAdmitted : List (List ℕ) → Reading → List NamedPort → Type 0
+AreNamedAdmitted table r [] = Unit {0}
+AreNamedAdmitted table r (connection ∷ more) =
+    IsPlaceAdmitted table (record r { port = Some connection.port }) connection.terminal × AreNamedAdmitted table (after_named r connection) more
+
+abbrev pub AreConnectionsAdmitted : List (List ℕ) → Reading → Connections → Type 0
+AreConnectionsAdmitted table r no_connections = Unit {0}
+AreConnectionsAdmitted table r (by_order terminal places) = ArePlacesAdmitted table r (Some terminal ∷ places)
+AreConnectionsAdmitted table r (by_order_late place places) = ArePlacesAdmitted table r (None ∷ place ∷ places)
+AreConnectionsAdmitted table r (by_name first more) = AreNamedAdmitted table r (first ∷ more)
+
+pub record IsModuleInstanceAdmitted (table : List (List ℕ)) (r : Reading) (instance : ModuleInstance) : Type 0 where
+  pub name : instance_cause r instance.name ≡ None
+  pub connections : AreConnectionsAdmitted table (name_module_instance r instance.start instance.name) instance.connections
+
+abbrev pub AreModuleInstancesAdmitted : List (List ℕ) → Reading → List ModuleInstance → Type 0
+AreModuleInstancesAdmitted table r [] = Unit {0}
+AreModuleInstancesAdmitted table r (instance ∷ instances) =
+    IsModuleInstanceAdmitted table r instance × AreModuleInstancesAdmitted table (after_module_instance r instance) instances
 
 abbrev pub IsItemAdmitted : Option ℕ → List (List ℕ) → Reading → Item → Type 0
-IsItemAdmitted default table r (port_item direction kind n names) =
-    (direction_cause r ≡ None) × AreAdmitted direct_port (λ now name. port_cause now name ≡ None) (record r { direction = direction; kind = kind }) (n ∷ names)
-IsItemAdmitted default table r (net_item kind n names) =
-    AreAdmitted declare_net (λ now name. net_cause now name ≡ None) (record r { kind = Some kind }) (n ∷ names)
+IsItemAdmitted default table r (port_item direction kind range n names) =
+    (direction_cause r ≡ None) × IsRangeAdmitted range
+    × AreAdmitted direct_port (λ now name. port_cause table now name ≡ None) (record r { direction = direction; kind = kind; range = range }) (n ∷ names)
+IsItemAdmitted default table r (net_item kind range n names) =
+    IsRangeAdmitted range × AreAdmitted declare_net (λ now name. net_cause table now name ≡ None) (record r { kind = Some kind; range = range }) (n ∷ names)
 IsItemAdmitted default table r (gate_item kind delay instance instances) =
     IsDelayAdmitted default delay × AreInstancesAdmitted table (after_gate default r kind delay) (instance ∷ instances)
-IsItemAdmitted default table r (instance_item of instance instances) = AreModuleInstancesAdmitted (record r { of = of }) (instance ∷ instances)
+IsItemAdmitted default table r (instance_item of instance instances) = AreModuleInstancesAdmitted table (record r { of = of }) (instance ∷ instances)
 
 abbrev pub AreItemsAdmitted : Option ℕ → List (List ℕ) → Reading → List Item → Type 0
 AreItemsAdmitted default table r [] = Unit {0}
 AreItemsAdmitted default table r (item ∷ items) = IsItemAdmitted default table r item × AreItemsAdmitted default table (after_item default table r item) items
 
-abbrev pub IsDeclAdmitted : Reading → Decl → Type 0
-IsDeclAdmitted r decl = header_cause r decl.name ≡ None
+abbrev pub IsDeclAdmitted : List (List ℕ) → Reading → Decl → Type 0
+IsDeclAdmitted table r decl =
+    IsRangeAdmitted decl.range × (inline_cause table (record r { direction = decl.direction; kind = decl.kind; range = decl.range }) decl.name ≡ None)
 
-abbrev pub IsPortAdmitted : Reading → Port → Type 0
-IsPortAdmitted r (declared decl) = IsDeclAdmitted r decl
-IsPortAdmitted r (bare n) = header_cause r n ≡ None
+abbrev pub IsPortAdmitted : List (List ℕ) → Reading → Port → Type 0
+IsPortAdmitted table r (declared decl) = IsDeclAdmitted table r decl
+IsPortAdmitted table r (bare n) = inline_cause table r n ≡ None
 
-abbrev pub ArePortsAdmitted : Reading → List Port → Type 0
-ArePortsAdmitted r [] = Unit {0}
-ArePortsAdmitted r (port ∷ ports) = IsPortAdmitted r port × ArePortsAdmitted (after_port r port) ports
+abbrev pub ArePortsAdmitted : List (List ℕ) → Reading → List Port → Type 0
+ArePortsAdmitted table r [] = Unit {0}
+ArePortsAdmitted table r (port ∷ ports) = IsPortAdmitted table r port × ArePortsAdmitted table (after_port r port) ports
 
-abbrev pub IsHeaderAdmitted : Reading → Header → Type 0
-IsHeaderAdmitted r no_ports = Unit {0}
-IsHeaderAdmitted r empty_ports = Unit {0}
-IsHeaderAdmitted r (older_ports n names) = AreAdmitted list_port (λ now name. header_cause now name ≡ None) r (n ∷ names)
-IsHeaderAdmitted r (inline_ports decl ports) = IsDeclAdmitted r decl × ArePortsAdmitted (after_decl (record r { inline = true }) decl) ports
+abbrev pub IsHeaderAdmitted : List (List ℕ) → Reading → Header → Type 0
+IsHeaderAdmitted table r no_ports = Unit {0}
+IsHeaderAdmitted table r empty_ports = Unit {0}
+IsHeaderAdmitted table r (older_ports n names) = AreAdmitted list_port (λ now name. header_cause now name ≡ None) r (n ∷ names)
+IsHeaderAdmitted table r (inline_ports decl ports) =
+    IsDeclAdmitted table (record r { inline = true }) decl × ArePortsAdmitted table (after_decl (record r { inline = true }) decl) ports
 
 -- A module, its word `module` beginning at this place.
 
@@ -325,7 +383,7 @@ after_body default table r start name header items = after_items default table (
 -- the name is free, header and items are admitted, and each name of the header has a direction in the end
 pub record IsModuleAdmitted (default : Option ℕ) (table : List (List ℕ)) (r : Reading) (start name : ℕ) (header : Header) (items : List Item) : Type 0 where
   pub free : module_cause r name ≡ None
-  pub header_admitted : IsHeaderAdmitted (record r { start = start; name = name }) header
+  pub header_admitted : IsHeaderAdmitted table (record r { start = start; name = name }) header
   pub items_admitted : AreItemsAdmitted default table (after_header (record r { start = start; name = name }) header) items
   pub directed : end_cause (after_body default table r start name header items) ≡ None
 

@@ -15,8 +15,12 @@ pub enum Cause {
     ZeroDelay,
     /// A delay over the limit.
     DelayTooLarge,
+    /// A bound of a range, or an index, over the limit.
+    TooMany,
     /// A name that is taken.
     DuplicateName,
+    /// A vector where a scalar is wanted, another range than that of the declaration before, or an index that is none.
+    WidthMismatch,
     /// The number of terminals doesn't fit the gate.
     WrongArity,
     /// A constant as an output.

@@ -1,15 +1,20 @@
 //! Why what has been read refuses a word that the grammar admits.
 
-ghost use Rattle.std.specs.Prelude.{◌≡◌, ◌<◌, ◌-◌, ◌^◌, IfOk};
+ghost use Rattle.std.specs.Prelude.{◌≡◌, ◌<◌, ◌-◌, ◌^◌, false, IfOk};
 ghost use Rattle.std.specs.List.{list_any};
-ghost use Rattle.vtext.specs.Nets.{is_undirected};
-ghost use Rattle.vtext.specs.Causes.{completed_cause, declared_again, default_cause, delay_cause, directed_again, direction_cause, end_cause, gate_cause, header_cause, instance_cause, is_hash, misfit, module_cause, net_cause, port_cause, when};
+ghost use Rattle.std.specs.Option.{option_map_or};
+ghost use Rattle.vtext.specs.Bits.{bit_names, is_clash};
+ghost use Rattle.vtext.specs.Nets.{is_undirected, net_of};
+ghost use Rattle.vtext.specs.Ranges.{has_bit};
+ghost use Rattle.vtext.specs.Causes.{bound_cause, completed_cause, declared_again, declared_cause, default_cause, delay_cause, directed_again, direction_cause, end_cause, gate_cause, header_cause, index_cause, inline_cause, instance_cause, is_hash, is_index, misfit, module_cause, net_cause, new_cause, port_cause, same_range, terminal_cause, use_cause, when};
 ghost use Rattle.vtext.specs.Readings.{view};
 
+use crate::bits::BitName;
 use crate::cause::Cause;
 use crate::draft::Draft;
 use crate::names::Names;
 use crate::net::Net;
+use crate::range::{MAX_INDEX, Range};
 use crate::terminals::{is_arity_wrong, is_constant_driven, split};
 use crate::word::Word;
 use fourstate::{MAX_DELAY, NetKind};
@@ -21,7 +26,6 @@ pub fn misfit(word: Word) -> Cause
 {
     match word {
         Word::Stray => Cause::Byte,
-        Word::OpenBracket => Cause::Unsupported,
         Word::Refused => Cause::Unsupported,
         _ => Cause::Syntax,
     }
@@ -73,6 +77,33 @@ pub fn gate_cause(default: Option<u32>, next: Option<Word>) -> Option<Cause>
     }
 }
 
+/// Why a bound of a range, or an index, is refused, whatever the net is.
+pub fn bound_cause(number: u32) -> Option<Cause>
+    ensures { result ≡ bound_cause number }
+{
+    when(number > MAX_INDEX, Cause::TooMany)
+}
+
+/// Whether this word begins an index.
+pub fn is_index(next: Option<Word>) -> bool
+    ensures { result ≡ is_index next }
+{
+    match next {
+        Some(Word::OpenBracket) => true,
+        _ => false,
+    }
+}
+
+fn same_range(a: Option<Range>, b: Option<Range>) -> bool
+    ensures { result ≡ same_range a b }
+{
+    match (a, b) {
+        (None, None) => true,
+        (Some(a), Some(b)) => a.left == b.left && a.right == b.right,
+        _ => false,
+    }
+}
+
 fn directed_again(kind: Option<NetKind>, net: Net) -> Option<Cause>
     ensures { result ≡ directed_again kind net }
 {
@@ -110,6 +141,96 @@ impl Draft {
         when(self.net(name).is_some(), Cause::DuplicateName)
     }
 
+    fn is_clash(&self, names: &Names, bits: &[BitName], name: u32, range: Option<Range>) -> bool
+        requires { bits.now ≡ bit_names names.now }
+        ensures { result ≡ is_clash names.now (view self.now).nets name range }
+    {
+        match range {
+            Some(range) => self.has_named_bit(bits, name, range),
+            None => self.is_named_bit(names, name),
+        }
+    }
+
+    fn new_cause(
+        &self,
+        names: &Names,
+        bits: &[BitName],
+        name: u32,
+        range: Option<Range>,
+    ) -> Option<Cause>
+        requires { bits.now ≡ bit_names names.now }
+        ensures { result ≡ new_cause names.now (view self.now) name range }
+    {
+        when(
+            self.is_clash(names, bits, name, range),
+            Cause::DuplicateName,
+        )
+    }
+
+    fn declared_cause(&self, names: &Names, bits: &[BitName], name: u32, net: Net) -> Option<Cause>
+        requires { bits.now ≡ bit_names names.now }
+        ensures { result ≡ declared_cause names.now (view self.now) name net }
+    {
+        let range = self.declaration.range;
+        if net.is_used() {
+            when(!same_range(range, net.range), Cause::WidthMismatch)
+        } else {
+            self.new_cause(names, bits, name, range)
+        }
+    }
+
+    /// Why a header of the inline form refuses the name of a port.
+    pub fn inline_cause(&self, names: &Names, bits: &[BitName], name: u32) -> Option<Cause>
+        requires { bits.now ≡ bit_names names.now }
+        ensures { result ≡ inline_cause names.now (view self.now) name }
+    {
+        match self.header_cause(name) {
+            Some(cause) => Some(cause),
+            None => self.new_cause(names, bits, name, self.declaration.range),
+        }
+    }
+
+    /// Why a terminal may not name a net of which this was said.
+    pub fn use_cause(&self, names: &Names, name: u32, said: Option<Net>) -> Option<Cause>
+        requires { said ≡ net_of (view self.now).nets name }
+        ensures { result ≡ use_cause names.now (view self.now) name }
+    {
+        if said.unwrap_or(Net::BLANK).is_used() {
+            return None;
+        }
+        when(self.is_named_bit(names, name), Cause::DuplicateName)
+    }
+
+    /// Why a terminal of a gate may not be a net, without an index, of which this was said.
+    pub fn terminal_cause(&self, names: &Names, name: u32, said: Option<Net>) -> Option<Cause>
+        requires { said ≡ net_of (view self.now).nets name }
+        ensures { result ≡ terminal_cause names.now (view self.now) name }
+    {
+        if let Some(cause) = self.use_cause(names, name, said) {
+            return Some(cause);
+        }
+        when(said?.range.is_some(), Cause::WidthMismatch)
+    }
+
+    /// Why an index is refused.
+    pub fn index_cause(&self, number: u32) -> Option<Cause>
+        ensures { result ≡ index_cause (view self.now) number }
+    {
+        if let Some(cause) = bound_cause(number) {
+            return Some(cause);
+        }
+        when(!self.has_bit(number as u16), Cause::WidthMismatch)
+    }
+
+    fn has_bit(&self, index: u16) -> bool
+        ensures { result ≡ option_map_or (λ net. has_bit net.range index) (net_of (view self.now).nets (view self.now).indexed) false }
+    {
+        match self.net(self.indexed) {
+            Some(net) => net.has_bit(index),
+            None => false,
+        }
+    }
+
     /// Why no item may begin with a direction.
     pub fn direction_cause(&self) -> Option<Cause>
         ensures { result ≡ direction_cause (view self.now) }
@@ -132,20 +253,29 @@ impl Draft {
     }
 
     /// Why a port declaration refuses a name.
-    pub fn port_cause(&self, name: u32) -> Option<Cause>
-        ensures { result ≡ port_cause (view self.now) name }
+    pub fn port_cause(&self, names: &Names, bits: &[BitName], name: u32) -> Option<Cause>
+        requires { bits.now ≡ bit_names names.now }
+        ensures { result ≡ port_cause names.now (view self.now) name }
     {
-        match self.net(name) {
-            Some(net) => directed_again(self.declaration.kind, net),
-            None => Some(Cause::Syntax),
+        let Some(net) = self.net(name) else {
+            return Some(Cause::Syntax);
+        };
+        match directed_again(self.declaration.kind, net) {
+            Some(cause) => Some(cause),
+            None => self.declared_cause(names, bits, name, net),
         }
     }
 
     /// Why a net declaration refuses a name.
-    pub fn net_cause(&self, name: u32) -> Option<Cause>
-        ensures { result ≡ net_cause (view self.now) name }
+    pub fn net_cause(&self, names: &Names, bits: &[BitName], name: u32) -> Option<Cause>
+        requires { bits.now ≡ bit_names names.now }
+        ensures { result ≡ net_cause names.now (view self.now) name }
     {
-        declared_again(self.net(name)?)
+        let net = self.net(name).unwrap_or(Net::BLANK);
+        match declared_again(net) {
+            Some(cause) => Some(cause),
+            None => self.declared_cause(names, bits, name, net),
+        }
     }
 
     /// Why a gate instance, or one of a module, may not have a name.

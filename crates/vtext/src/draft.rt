@@ -10,6 +10,7 @@ use crate::gate::{Gate, Terminal};
 use crate::module::Module;
 use crate::module_instance::{ModuleInstance, PortConnection};
 use crate::net::Net;
+use crate::range::Range;
 use crate::word::Direction;
 use fourstate::{DelayTimes, GateKind, NetKind, TimeUnit};
 use indexmap::{IndexMap, IndexSet};
@@ -27,6 +28,8 @@ pub struct Draft {
     pub declaration: Declaration,
     pub item: GateItem,
     pub instance: InstanceDraft,
+    /// The net of a terminal whose index is being read.
+    pub indexed: u32,
     pub module_instance: ModuleInstanceDraft,
 }
 
@@ -47,11 +50,12 @@ pub struct ModuleDraft {
     pub unnamed: u64,
 }
 
-/// The declaration that is being read: its direction, and the net kind that it writes.
+/// The declaration that is being read: its direction, and the net kind and the range that it writes.
 #[derive(Clone, Copy, Debug)]
 pub struct Declaration {
     pub direction: Direction,
     pub kind: Option<NetKind>,
+    pub range: Option<Range>,
 }
 
 /// The gate item that is being read.
@@ -119,6 +123,7 @@ impl Draft {
             declaration: Declaration {
                 direction: Direction::Input,
                 kind: None,
+                range: None,
             },
             item: GateItem {
                 kind: GateKind::And,
@@ -128,6 +133,7 @@ impl Draft {
                 name: None,
                 terminals: Vec::new(alloc),
             },
+            indexed: 0,
             module_instance: ModuleInstanceDraft {
                 of: 0,
                 start: 0,

@@ -140,8 +140,10 @@ pub fn kind_of(cause: Cause) -> ReadFaultKind
         Cause::BadName => ReadFaultKind::Edit(EditFault::BadName),
         Cause::ZeroDelay => ReadFaultKind::Edit(EditFault::ZeroDelay),
         Cause::DelayTooLarge => ReadFaultKind::Edit(EditFault::DelayTooLarge),
+        Cause::TooMany => ReadFaultKind::Edit(EditFault::TooMany),
         Cause::DuplicateName => ReadFaultKind::Edit(EditFault::DuplicateName),
         Cause::WrongArity => ReadFaultKind::Edit(EditFault::WrongArity),
+        Cause::WidthMismatch => ReadFaultKind::WidthMismatch,
         Cause::PortKind => ReadFaultKind::PortKind,
     }
 }

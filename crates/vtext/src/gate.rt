@@ -12,8 +12,10 @@ pub(crate) const INLINE_INPUTS: usize = 4;
 /// What a terminal of a gate is connected to.
 #[derive(Clone, Copy, Debug, PartialEq, Eq)]
 pub enum Terminal {
-    /// The net whose name has this number.
+    /// The net whose name has this number: a scalar, or, in a port connection, a whole vector.
     Net(u32),
+    /// The bit of this index of the vector whose name has this number.
+    Bit(u32, u16),
     /// A value that never changes.
     Constant(Value),
 }
@@ -41,7 +43,7 @@ pub struct Gate {
     delays: DelayTimes,
     instance: InstanceName,
     part: Option<usize>,
-    output: u32,
+    output: Terminal,
     inputs: SmallVec<Terminal, INLINE_INPUTS>,
 }
 
@@ -60,7 +62,7 @@ impl Gate {
         delays: DelayTimes,
         instance: InstanceName,
         part: Option<usize>,
-        output: u32,
+        output: Terminal,
         inputs: SmallVec<Terminal, INLINE_INPUTS>,
     ) -> Gate
         ensures { result ≡ record { kind = kind; delays = delays; instance = instance; part = part; output = output; inputs = inputs.items } }
@@ -103,8 +105,8 @@ impl Gate {
         self.part
     }
 
-    /// The net that it drives, by the number of the name.
-    pub fn output(&self) -> u32
+    /// What it drives: a scalar, or a bit of a vector.
+    pub fn output(&self) -> Terminal
         ensures { result ≡ self.now.output }
     {
         self.output

@@ -2,14 +2,14 @@
 
 ghost use Rattle.std.specs.Prelude.{◌<◌, ◌-◌, ◌^◌, IfOk};
 ghost use Rattle.vtext.specs.Readings.{view};
-ghost use Rattle.vtext.specs.Turns.{IsTurn, delay, fall_delay, fall_end, gate_start, instance_open, instance_start, rise_delay, rise_end, terminal_end, terminal_start};
+ghost use Rattle.vtext.specs.Turns.{IsTurn, delay, fall_delay, fall_end, gate_start, instance_open, instance_start, plain_terminal, rise_delay, rise_end, terminal_end, terminal_start};
 
 use crate::cause::Cause;
-use crate::causes::{delay_cause, misfit};
+use crate::causes::{delay_cause, is_index, misfit};
 use crate::draft::Draft;
 use crate::gate::Terminal;
 use crate::names::Names;
-use crate::parser_state::ParserState;
+use crate::parser_state::{Indexed, ParserState};
 use crate::turn::Turn;
 use crate::word::Word;
 use fourstate::DelayTimes;
@@ -121,21 +121,42 @@ impl Draft {
     }
 
     /// Where a terminal is wanted.
-    pub fn terminal_start(&mut self, word: Word) -> Result<Turn, AllocError>
-        ensures { IfOk result (λ turn. IsTurn turn (view self.new) (terminal_start (view self.old) word)) }
+    pub fn terminal_start(
+        &mut self,
+        names: &Names,
+        word: Word,
+        after: Option<Word>,
+    ) -> Result<Turn, AllocError>
+        ensures { IfOk result (λ turn. IsTurn turn (view self.new) (terminal_start names.now (view self.old) word after)) }
     {
         match word {
             Word::Name(name) => {
-                self.use_net(name)?;
-                Ok(Turn::To(ParserState::TerminalEnd))
+                if is_index(after) {
+                    self.index_name(Indexed::Gate, names, name)
+                } else {
+                    self.plain_terminal(names, name)
+                }
             }
             Word::Misnamed => Ok(Turn::Refused(Cause::BadName)),
             Word::Literal(value) => {
-                self.instance.terminals.push(Terminal::Constant(value))?;
+                self.add_terminal(Terminal::Constant(value))?;
                 Ok(Turn::To(ParserState::TerminalEnd))
             }
             other => Ok(Turn::Refused(misfit(other))),
         }
+    }
+
+    /// A terminal without an index is named.
+    fn plain_terminal(&mut self, names: &Names, name: u32) -> Result<Turn, AllocError>
+        ensures { IfOk result (λ turn. IsTurn turn (view self.new) (plain_terminal names.now (view self.old) name)) }
+    {
+        let said = self.net(name);
+        if let Some(cause) = self.terminal_cause(names, name, said) {
+            return Ok(Turn::Refused(cause));
+        }
+        self.note_net(name, said)?;
+        self.add_terminal(Terminal::Net(name))?;
+        Ok(Turn::To(ParserState::TerminalEnd))
     }
 
     /// Behind a terminal.

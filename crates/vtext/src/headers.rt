@@ -1,13 +1,16 @@
 //! What modules and their headers do with a word, in each state of the parser.
 
-ghost use Rattle.std.specs.Prelude.{IfOk};
+ghost use Rattle.std.specs.Prelude.{◌≡◌, IfOk};
+ghost use Rattle.vtext.specs.Bits.{bit_names};
 ghost use Rattle.vtext.specs.Readings.{view};
-ghost use Rattle.vtext.specs.Turns.{IsTurn, header, header_end, inline_more, inline_name, inline_next, inline_start, module_head, module_name, older_name, older_next, outside};
+ghost use Rattle.vtext.specs.Turns.{IsTurn, header, header_end, inline_kind, inline_more, inline_name, inline_next, inline_start, module_head, module_name, older_name, older_next, outside};
 
+use crate::bits::BitName;
 use crate::cause::Cause;
 use crate::causes::misfit;
 use crate::draft::{Declaration, Draft};
-use crate::parser_state::ParserState;
+use crate::names::Names;
+use crate::parser_state::{Declared, ParserState};
 use crate::turn::Turn;
 use crate::word::Word;
 use std::alloc::AllocError;
@@ -68,6 +71,7 @@ impl Draft {
                 self.declaration = Declaration {
                     direction,
                     kind: None,
+                    range: None,
                 };
                 Ok(Turn::To(ParserState::InlineStart))
             }
@@ -105,25 +109,53 @@ impl Draft {
     }
 
     /// Behind a direction in the inline form.
-    pub fn inline_start(&mut self, word: Word) -> Result<Turn, AllocError>
-        ensures { IfOk result (λ turn. IsTurn turn (view self.new) (inline_start (view self.old) word)) }
+    pub fn inline_start(
+        &mut self,
+        names: &Names,
+        bits: &[BitName],
+        word: Word,
+    ) -> Result<Turn, AllocError>
+        requires { bits.now ≡ bit_names names.now }
+        ensures { IfOk result (λ turn. IsTurn turn (view self.new) (inline_start names.now (view self.old) word)) }
     {
         match word {
             Word::NetWord(kind) => {
                 self.declaration.kind = Some(kind);
-                Ok(Turn::To(ParserState::InlineName))
+                Ok(Turn::To(ParserState::InlineKind))
             }
-            other => self.inline_name(other),
+            other => self.inline_kind(names, bits, other),
         }
     }
 
-    /// Behind a net kind in the inline form.
-    pub fn inline_name(&mut self, word: Word) -> Result<Turn, AllocError>
-        ensures { IfOk result (λ turn. IsTurn turn (view self.new) (inline_name (view self.old) word)) }
+    /// Behind a net kind in the inline form, or a direction without one.
+    pub fn inline_kind(
+        &mut self,
+        names: &Names,
+        bits: &[BitName],
+        word: Word,
+    ) -> Result<Turn, AllocError>
+        requires { bits.now ≡ bit_names names.now }
+        ensures { IfOk result (λ turn. IsTurn turn (view self.new) (inline_kind names.now (view self.old) word)) }
+    {
+        match word {
+            Word::OpenBracket => Ok(Turn::To(ParserState::LeftBound(Declared::InlinePort))),
+            other => self.inline_name(names, bits, other),
+        }
+    }
+
+    /// Behind a range in the inline form, or where none is written.
+    pub fn inline_name(
+        &mut self,
+        names: &Names,
+        bits: &[BitName],
+        word: Word,
+    ) -> Result<Turn, AllocError>
+        requires { bits.now ≡ bit_names names.now }
+        ensures { IfOk result (λ turn. IsTurn turn (view self.new) (inline_name names.now (view self.old) word)) }
     {
         match word {
             Word::Name(name) => {
-                if let Some(cause) = self.header_cause(name) {
+                if let Some(cause) = self.inline_cause(names, bits, name) {
                     return Ok(Turn::Refused(cause));
                 }
                 self.declare_port(name)?;
@@ -146,18 +178,25 @@ impl Draft {
     }
 
     /// Behind a comma in the inline form.
-    pub fn inline_more(&mut self, word: Word) -> Result<Turn, AllocError>
-        ensures { IfOk result (λ turn. IsTurn turn (view self.new) (inline_more (view self.old) word)) }
+    pub fn inline_more(
+        &mut self,
+        names: &Names,
+        bits: &[BitName],
+        word: Word,
+    ) -> Result<Turn, AllocError>
+        requires { bits.now ≡ bit_names names.now }
+        ensures { IfOk result (λ turn. IsTurn turn (view self.new) (inline_more names.now (view self.old) word)) }
     {
         match word {
             Word::PortWord(direction) => {
                 self.declaration = Declaration {
                     direction,
                     kind: None,
+                    range: None,
                 };
                 Ok(Turn::To(ParserState::InlineStart))
             }
-            other => self.inline_name(other),
+            other => self.inline_name(names, bits, other),
         }
     }
 

@@ -113,7 +113,7 @@ impl Draft {
             self.item.delays,
             instance,
             part,
-            output.net(),
+            output,
             inputs,
         );
         self.module.gates.push(gate)?;

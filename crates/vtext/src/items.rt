@@ -1,13 +1,16 @@
 //! What the items of a module do with a word, in each state of the parser.
 
-ghost use Rattle.std.specs.Prelude.{IfOk};
+ghost use Rattle.std.specs.Prelude.{◌≡◌, IfOk};
+ghost use Rattle.vtext.specs.Bits.{bit_names};
 ghost use Rattle.vtext.specs.Readings.{view};
-ghost use Rattle.vtext.specs.Turns.{IsTurn, items, list_next, net_name, port_name, port_start};
+ghost use Rattle.vtext.specs.Turns.{IsTurn, items, list_next, net_name, net_start, port_kind, port_name, port_start};
 
+use crate::bits::BitName;
 use crate::cause::Cause;
 use crate::causes::{gate_cause, misfit};
 use crate::draft::{Declaration, Draft, GateItem};
-use crate::parser_state::ParserState;
+use crate::names::Names;
+use crate::parser_state::{Declared, ParserState};
 use crate::turn::Turn;
 use crate::word::Word;
 use fourstate::DelayTimes;
@@ -32,12 +35,14 @@ impl Draft {
                 self.declaration = Declaration {
                     direction,
                     kind: None,
+                    range: None,
                 };
                 Ok(Turn::To(ParserState::PortStart))
             }
             Word::NetWord(kind) => {
                 self.declaration.kind = Some(kind);
-                Ok(Turn::To(ParserState::NetName))
+                self.declaration.range = None;
+                Ok(Turn::To(ParserState::NetStart))
             }
             Word::GateWord(kind) => {
                 if let Some(cause) = gate_cause(default, after) {
@@ -67,25 +72,53 @@ impl Draft {
     }
 
     /// Behind the direction of an item.
-    pub fn port_start(&mut self, word: Word) -> Result<Turn, AllocError>
-        ensures { IfOk result (λ turn. IsTurn turn (view self.new) (port_start (view self.old) word)) }
+    pub fn port_start(
+        &mut self,
+        names: &Names,
+        bits: &[BitName],
+        word: Word,
+    ) -> Result<Turn, AllocError>
+        requires { bits.now ≡ bit_names names.now }
+        ensures { IfOk result (λ turn. IsTurn turn (view self.new) (port_start names.now (view self.old) word)) }
     {
         match word {
             Word::NetWord(kind) => {
                 self.declaration.kind = Some(kind);
-                Ok(Turn::To(ParserState::PortName))
+                Ok(Turn::To(ParserState::PortKind))
             }
-            other => self.port_name(other),
+            other => self.port_kind(names, bits, other),
+        }
+    }
+
+    /// Behind the net kind of an item with a direction, or a direction without one.
+    pub fn port_kind(
+        &mut self,
+        names: &Names,
+        bits: &[BitName],
+        word: Word,
+    ) -> Result<Turn, AllocError>
+        requires { bits.now ≡ bit_names names.now }
+        ensures { IfOk result (λ turn. IsTurn turn (view self.new) (port_kind names.now (view self.old) word)) }
+    {
+        match word {
+            Word::OpenBracket => Ok(Turn::To(ParserState::LeftBound(Declared::Port))),
+            other => self.port_name(names, bits, other),
         }
     }
 
     /// Where a port declaration wants a name.
-    pub fn port_name(&mut self, word: Word) -> Result<Turn, AllocError>
-        ensures { IfOk result (λ turn. IsTurn turn (view self.new) (port_name (view self.old) word)) }
+    pub fn port_name(
+        &mut self,
+        names: &Names,
+        bits: &[BitName],
+        word: Word,
+    ) -> Result<Turn, AllocError>
+        requires { bits.now ≡ bit_names names.now }
+        ensures { IfOk result (λ turn. IsTurn turn (view self.new) (port_name names.now (view self.old) word)) }
     {
         match word {
             Word::Name(name) => {
-                if let Some(cause) = self.port_cause(name) {
+                if let Some(cause) = self.port_cause(names, bits, name) {
                     return Ok(Turn::Refused(cause));
                 }
                 self.direct_port(name)?;
@@ -95,13 +128,35 @@ impl Draft {
         }
     }
 
+    /// Behind the net kind of an item.
+    pub fn net_start(
+        &mut self,
+        names: &Names,
+        bits: &[BitName],
+        word: Word,
+    ) -> Result<Turn, AllocError>
+        requires { bits.now ≡ bit_names names.now }
+        ensures { IfOk result (λ turn. IsTurn turn (view self.new) (net_start names.now (view self.old) word)) }
+    {
+        match word {
+            Word::OpenBracket => Ok(Turn::To(ParserState::LeftBound(Declared::Net))),
+            other => self.net_name(names, bits, other),
+        }
+    }
+
     /// Where a net declaration wants a name.
-    pub fn net_name(&mut self, word: Word) -> Result<Turn, AllocError>
-        ensures { IfOk result (λ turn. IsTurn turn (view self.new) (net_name (view self.old) word)) }
+    pub fn net_name(
+        &mut self,
+        names: &Names,
+        bits: &[BitName],
+        word: Word,
+    ) -> Result<Turn, AllocError>
+        requires { bits.now ≡ bit_names names.now }
+        ensures { IfOk result (λ turn. IsTurn turn (view self.new) (net_name names.now (view self.old) word)) }
     {
         match word {
             Word::Name(name) => {
-                if let Some(cause) = self.net_cause(name) {
+                if let Some(cause) = self.net_cause(names, bits, name) {
                     return Ok(Turn::Refused(cause));
                 }
                 self.declare_net(name)?;

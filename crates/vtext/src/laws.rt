@@ -1,8 +1,9 @@
 //! Laws of the walk: each contract is the law, and no function gives anything.
 
-ghost use Rattle.std.specs.Prelude.{◌≡◌, ◌<◌, ◌⊎◌, ◌++◌, ℕ, true, List, ◌∷◌, Option, None, Some, IsSome, All, length};
+ghost use Rattle.std.specs.Prelude.{◌≡◌, ◌<◌, ◌≤◌, ◌⊎◌, ◌++◌, ℕ, true, List, ◌∷◌, Option, None, Some, IsSome, All, length};
 ghost use Rattle.lexing.specs.Texts.{name_bytes};
 ghost use Rattle.lexing.specs.declared.token.Token as tokens;
+ghost use Rattle.vtext.specs.Bits.{bit_bytes, bit_of};
 ghost use Rattle.vtext.specs.Names.{name_at, number_of};
 ghost use Rattle.vtext.specs.Words.{is_named, names_of};
 ghost use Rattle.vtext.specs.Modules.{ModuleList};
@@ -12,6 +13,8 @@ ghost use Rattle.vtext.specs.Sound.{IsSoundModule};
 ghost use Rattle.vtext.specs.Trees.{ArePartsAdmitted, AreWritten, Part, after_parts};
 ghost use Rattle.vtext.specs.Turns.{Walk};
 ghost use Rattle.vtext.specs.Walks.{IsFault, Leads, first_word, start};
+ghost use Rattle.vtext.specs.declared.bits.BitName as bits;
+ghost use Rattle.vtext.specs.declared.range.TheConstants.{MAX_INDEX};
 ghost use Rattle.vtext.specs.declared.cause.Cause as causes;
 ghost use Rattle.vtext.specs.declared.fault.ReadFault as faults;
 ghost use Rattle.vtext.specs.declared.parser_state.ParserState.TheVariants.{Outside};
@@ -83,6 +86,14 @@ pub fn names_are_numbers()
     ensures same { (names : List (List ℕ)) (a b : List ℕ) (n : ℕ) → number_of names a ≡ Some n → number_of names b ≡ Some n → a ≡ b }
     ensures there { (text : List ℕ) (before after : List tokens.Token) (token : tokens.Token) → is_named token.shape ≡ true →
         IsSome (number_of (names_of text (before ++ token ∷ after)) (name_bytes text token)) }
+{}
+
+/// A name is read as that of a bit exactly where it is a name of the table, and an index in brackets behind it.
+pub fn bit_names_are_bits()
+    ensures there { (names : List (List ℕ)) (n vector index : ℕ) (base : List ℕ) → number_of names base ≡ Some vector → index ≤ MAX_INDEX →
+        bit_of names n (bit_bytes base index) ≡ Some (record { name = n; vector = vector; index = index }) }
+    ensures only { (names : List (List ℕ)) (n : ℕ) (bytes : List ℕ) (bit : bits.BitName) → bit_of names n bytes ≡ Some bit →
+        (bit.name ≡ n) × (bit.index ≤ MAX_INDEX) × ((base : List ℕ) × (number_of names base ≡ Some bit.vector) × (bytes ≡ bit_bytes base bit.index)) }
 {}
 
 /// The modules of every text are sound: a design may have their names; nets, gates and instances have different ones each; gates

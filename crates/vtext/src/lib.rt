@@ -1,6 +1,8 @@
 //! The module list of a structural Verilog text (IEEE 1364-2005, 3, 7 and 12), or its first fault.
 #![tactic(auto)]
 
+mod bits;
+mod bounds;
 mod cause;
 mod causes;
 mod draft;
@@ -9,6 +11,7 @@ mod gate;
 mod gate_items;
 mod gate_names;
 mod headers;
+mod indexes;
 mod instances;
 mod items;
 mod keywords;
@@ -22,6 +25,7 @@ mod names;
 mod net;
 mod nets;
 mod parser_state;
+mod range;
 mod read;
 mod table;
 mod terminals;
@@ -40,5 +44,6 @@ pub use module_instance::{ModuleInstance, PortConnection};
 pub use module_list::Modules;
 pub use names::Names;
 pub use net::Net;
+pub use range::Range;
 pub use read::modules;
 pub use word::Direction;

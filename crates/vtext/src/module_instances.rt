@@ -1,8 +1,7 @@
 //! What items say that instantiate modules.
 
 ghost use Rattle.std.specs.Prelude.{◌≡◌, OnOk};
-ghost use Rattle.vtext.specs.Nets.{with_use};
-ghost use Rattle.vtext.specs.Notes.{connect, instantiated, name_module_instance, with_terminal};
+ghost use Rattle.vtext.specs.Notes.{add_connection, instantiated, name_module_instance};
 ghost use Rattle.vtext.specs.Readings.{view};
 
 use crate::draft::Draft;
@@ -23,20 +22,10 @@ impl Draft {
         Ok(())
     }
 
-    fn note_terminal(&mut self, terminal: Option<Terminal>) -> Result<(), AllocError>
-        ensures { OnOk result (view self.new ≡ record (view self.old) { nets = with_terminal (view self.old).nets terminal }) }
+    /// A port is connected to this, or to nothing, of which all else is said.
+    pub fn add_connection(&mut self, terminal: Option<Terminal>) -> Result<(), AllocError>
+        ensures { OnOk result (view self.new ≡ add_connection (view self.old) terminal) }
     {
-        match terminal {
-            Some(Terminal::Net(name)) => self.note_use(name),
-            _ => Ok(()),
-        }
-    }
-
-    /// A port is connected to this, or to nothing.
-    pub fn connect(&mut self, terminal: Option<Terminal>) -> Result<(), AllocError>
-        ensures { OnOk result (view self.new ≡ connect (view self.old) terminal) }
-    {
-        self.note_terminal(terminal)?;
         let port = self.module_instance.port;
         self.module_instance
             .connections

@@ -2,13 +2,15 @@
 
 ghost use Rattle.std.specs.Prelude.{IfOk};
 ghost use Rattle.vtext.specs.Readings.{view};
-ghost use Rattle.vtext.specs.Turns.{IsTurn, connected, connections, module_instance_name, module_instance_open, named_close, named_end, named_open, named_port, named_start, named_terminal, ordered_end, ordered_start};
+ghost use Rattle.vtext.specs.Turns.{IsTurn, connected, connections, module_instance_name, module_instance_open, named_close, named_end, named_open, named_port, named_start, named_terminal, ordered_end, ordered_start, plain_connection};
 
 use crate::cause::Cause;
-use crate::causes::misfit;
+use crate::causes::{is_index, misfit};
 use crate::draft::Draft;
 use crate::gate::Terminal;
-use crate::parser_state::ParserState;
+use crate::indexes::behind;
+use crate::names::Names;
+use crate::parser_state::{Indexed, ParserState};
 use crate::turn::Turn;
 use crate::word::Word;
 use std::alloc::{AllocError, Global};
@@ -41,27 +43,60 @@ impl Draft {
         }
     }
 
+    /// A net is named that a port is connected to, without an index.
+    fn plain_connection(
+        &mut self,
+        of: Indexed,
+        names: &Names,
+        name: u32,
+    ) -> Result<Turn, AllocError>
+        ensures { IfOk result (λ turn. IsTurn turn (view self.new) (plain_connection of names.now (view self.old) name)) }
+    {
+        let said = self.net(name);
+        if let Some(cause) = self.use_cause(names, name, said) {
+            return Ok(Turn::Refused(cause));
+        }
+        self.note_net(name, said)?;
+        self.add_connection(Some(Terminal::Net(name)))?;
+        Ok(Turn::To(behind(of)))
+    }
+
     /// Where a port may be connected.
-    fn connected(&mut self, to: ParserState, word: Word) -> Result<Turn, AllocError>
-        ensures { IfOk result (λ turn. IsTurn turn (view self.new) (connected to (view self.old) word)) }
+    fn connected(
+        &mut self,
+        of: Indexed,
+        names: &Names,
+        word: Word,
+        after: Option<Word>,
+    ) -> Result<Turn, AllocError>
+        ensures { IfOk result (λ turn. IsTurn turn (view self.new) (connected of names.now (view self.old) word after)) }
     {
         match word {
             Word::Name(name) => {
-                self.connect(Some(Terminal::Net(name)))?;
-                Ok(Turn::To(to))
+                if is_index(after) {
+                    self.index_name(of, names, name)
+                } else {
+                    self.plain_connection(of, names, name)
+                }
             }
             Word::Misnamed => Ok(Turn::Refused(Cause::BadName)),
             Word::Literal(value) => {
-                self.connect(Some(Terminal::Constant(value)))?;
-                Ok(Turn::To(to))
+                self.add_connection(Some(Terminal::Constant(value)))?;
+                Ok(Turn::To(behind(of)))
             }
             other => Ok(Turn::Refused(misfit(other))),
         }
     }
 
     /// Behind the `(` of port connections.
-    pub fn connections(&mut self, alloc: Global, word: Word) -> Result<Turn, AllocError>
-        ensures { IfOk result (λ turn. IsTurn turn (view self.new) (connections (view self.old) word)) }
+    pub fn connections(
+        &mut self,
+        alloc: Global,
+        names: &Names,
+        word: Word,
+        after: Option<Word>,
+    ) -> Result<Turn, AllocError>
+        ensures { IfOk result (λ turn. IsTurn turn (view self.new) (connections names.now (view self.old) word after)) }
     {
         match word {
             Word::Close => {
@@ -70,28 +105,34 @@ impl Draft {
             }
             Word::Dot => Ok(Turn::To(ParserState::NamedPort)),
             Word::Comma => {
-                self.connect(None)?;
+                self.add_connection(None)?;
                 Ok(Turn::To(ParserState::OrderedStart))
             }
-            other => self.connected(ParserState::OrderedEnd, other),
+            other => self.connected(Indexed::Ordered, names, other, after),
         }
     }
 
     /// Behind a comma of connections by order.
-    pub fn ordered_start(&mut self, alloc: Global, word: Word) -> Result<Turn, AllocError>
-        ensures { IfOk result (λ turn. IsTurn turn (view self.new) (ordered_start (view self.old) word)) }
+    pub fn ordered_start(
+        &mut self,
+        alloc: Global,
+        names: &Names,
+        word: Word,
+        after: Option<Word>,
+    ) -> Result<Turn, AllocError>
+        ensures { IfOk result (λ turn. IsTurn turn (view self.new) (ordered_start names.now (view self.old) word after)) }
     {
         match word {
             Word::Comma => {
-                self.connect(None)?;
+                self.add_connection(None)?;
                 Ok(Turn::To(ParserState::OrderedStart))
             }
             Word::Close => {
-                self.connect(None)?;
+                self.add_connection(None)?;
                 self.instantiate(alloc)?;
                 Ok(Turn::To(ParserState::ModuleInstanceEnd))
             }
-            other => self.connected(ParserState::OrderedEnd, other),
+            other => self.connected(Indexed::Ordered, names, other, after),
         }
     }
 
@@ -144,15 +185,20 @@ impl Draft {
     }
 
     /// Behind the `(` of a connection by name.
-    pub fn named_terminal(&mut self, word: Word) -> Result<Turn, AllocError>
-        ensures { IfOk result (λ turn. IsTurn turn (view self.new) (named_terminal (view self.old) word)) }
+    pub fn named_terminal(
+        &mut self,
+        names: &Names,
+        word: Word,
+        after: Option<Word>,
+    ) -> Result<Turn, AllocError>
+        ensures { IfOk result (λ turn. IsTurn turn (view self.new) (named_terminal names.now (view self.old) word after)) }
     {
         match word {
             Word::Close => {
-                self.connect(None)?;
+                self.add_connection(None)?;
                 Ok(Turn::To(ParserState::NamedEnd))
             }
-            other => self.connected(ParserState::NamedClose, other),
+            other => self.connected(Indexed::Named, names, other, after),
         }
     }
 

@@ -1,6 +1,6 @@
 //! The table of names.
 
-ghost use Rattle.std.specs.Prelude.{◌≡◌, [], IfOk, OnOk, OnErr, Some};
+ghost use Rattle.std.specs.Prelude.{◌≡◌, ◌≤◌, ◌^◌, [], IfOk, OnOk, OnErr, Some, length};
 ghost use Rattle.vtext.specs.Names.{name_at, number_of, with_name};
 
 use design::NameHasher;
@@ -42,6 +42,14 @@ impl<'a> Names<'a> {
     {
         let place = self.texts.get_index_of(name)?;
         Some(place as u32)
+    }
+
+    /// How many names there are.
+    pub fn len(&self) -> usize
+        ensures count { result ≡ length self.now }
+        ensures most { result ≤ 2 ^ 32 }
+    {
+        self.texts.len()
     }
 
     /// The name of a number; empty where there is none.

@@ -1,8 +1,10 @@
 //! The nets of a module.
 
 ghost use Rattle.std.specs.Prelude.{◌≡◌};
-ghost use Rattle.vtext.specs.Nets.{directed, is_declared, is_input, is_undirected, is_used, listed, net_kind, ported, used};
+ghost use Rattle.vtext.specs.Ranges.{has_bit, width_of};
+ghost use Rattle.vtext.specs.Nets.{directed, is_declared, is_input, is_scalar, is_undirected, is_used, listed, net_kind, ported, used};
 
+use crate::range::Range;
 use crate::word::Direction;
 use fourstate::NetKind;
 
@@ -15,6 +17,8 @@ pub struct Net {
     pub direction: Option<Direction>,
     /// The kind that a declaration writes; without one it is `wire`.
     pub kind: Option<NetKind>,
+    /// The range that its declarations write; without one it is a scalar.
+    pub range: Option<Range>,
     /// Whether it came to be by its use as a terminal.
     pub implicit: bool,
 }
@@ -25,6 +29,7 @@ impl Net {
         port: false,
         direction: None,
         kind: None,
+        range: None,
         implicit: false,
     };
 
@@ -39,13 +44,14 @@ impl Net {
     }
 
     /// A port that a header of the inline form declares.
-    pub fn ported(direction: Direction, kind: Option<NetKind>) -> Net
-        ensures { result ≡ ported direction kind }
+    pub fn ported(direction: Direction, kind: Option<NetKind>, range: Option<Range>) -> Net
+        ensures { result ≡ ported direction kind range }
     {
         Net {
             port: true,
             direction: Some(direction),
             kind,
+            range,
             implicit: false,
         }
     }
@@ -88,12 +94,40 @@ impl Net {
         self.port && self.direction.is_none()
     }
 
-    /// The net after a port declaration, with the kind that it writes, if any.
-    pub fn directed(self, direction: Direction, kind: Option<NetKind>) -> Net
-        ensures { result ≡ directed direction kind self }
+    /// Whether it is a scalar that was declared or used.
+    pub fn is_scalar(self) -> bool
+        ensures { result ≡ is_scalar self }
+    {
+        self.is_used() && self.range.is_none()
+    }
+
+    /// How many bits it has, 1 to 65,536; a scalar has one.
+    pub fn width(self) -> usize
+        ensures { result ≡ width_of self.range }
+    {
+        match self.range {
+            Some(range) => range.width(),
+            None => 1,
+        }
+    }
+
+    /// Whether it is a vector that has a bit of this index.
+    pub fn has_bit(self, index: u16) -> bool
+        ensures { result ≡ has_bit self.range index }
+    {
+        match self.range {
+            Some(range) => range.contains(index),
+            None => false,
+        }
+    }
+
+    /// The net after a port declaration, with the kind that it writes, if any, and the range.
+    pub fn directed(self, direction: Direction, kind: Option<NetKind>, range: Option<Range>) -> Net
+        ensures { result ≡ directed direction kind range self }
     {
         Net {
             direction: Some(direction),
+            range,
             kind: match kind {
                 Some(kind) => Some(kind),
                 None => self.kind,

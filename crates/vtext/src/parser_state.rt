@@ -1,5 +1,27 @@
 //! The states of the parser.
 
+/// What a range is written in.
+#[derive(Clone, Copy, Debug, PartialEq, Eq)]
+pub enum Declared {
+    /// A declaration of the inline form of a header.
+    InlinePort,
+    /// An item with a direction.
+    Port,
+    /// An item without one.
+    Net,
+}
+
+/// What a terminal with an index is written in.
+#[derive(Clone, Copy, Debug, PartialEq, Eq)]
+pub enum Indexed {
+    /// A gate instance.
+    Gate,
+    /// A connection by order.
+    Ordered,
+    /// A connection by name.
+    Named,
+}
+
 /// A point within a line of the grammar: what has been read of it, and so what may come next. Nothing in the grammar
 /// nests, so there is no stack.
 #[derive(Clone, Copy, Debug, PartialEq, Eq)]
@@ -19,6 +41,8 @@ pub enum ParserState {
     /// Behind a direction in the inline form.
     InlineStart,
     /// Behind a net kind in the inline form.
+    InlineKind,
+    /// Behind a range in the inline form.
     InlineName,
     /// Behind a port's name in the inline form.
     InlineNext,
@@ -30,14 +54,26 @@ pub enum ParserState {
     Items,
     /// Behind the direction of an item.
     PortStart,
+    /// Behind the net kind of an item with a direction.
+    PortKind,
     /// Where a port declaration wants a name.
     PortName,
     /// Behind a name of a port declaration.
     PortNext,
+    /// Behind the net kind of an item.
+    NetStart,
     /// Where a net declaration wants a name.
     NetName,
     /// Behind a name of a net declaration.
     NetNext,
+    /// Behind the `[` of a range.
+    LeftBound(Declared),
+    /// Behind the left bound of a range.
+    BoundColon(Declared),
+    /// Behind the `:` of a range.
+    RightBound(Declared),
+    /// Behind the right bound of a range.
+    RangeEnd(Declared),
     /// Behind the word of a gate kind.
     GateStart,
     /// Behind `#`.
@@ -58,6 +94,12 @@ pub enum ParserState {
     TerminalStart,
     /// Behind a terminal.
     TerminalEnd,
+    /// Behind a name that an index follows.
+    IndexStart(Indexed),
+    /// Behind the `[` of an index.
+    Index(Indexed),
+    /// Behind the number of an index.
+    IndexEnd(Indexed),
     /// Behind the `)` of a gate instance.
     InstanceEnd,
     /// Where the name of an instance of a module is wanted.

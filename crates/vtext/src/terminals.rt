@@ -1,7 +1,7 @@
 //! The terminals of a gate instance.
 
 ghost use Rattle.std.specs.Prelude.{◌≡◌, ◌≤◌, ◌<◌, length};
-ghost use Rattle.vtext.specs.Instances.{inputs_of, is_arity_wrong, is_constant, is_constant_driven, net_number, output_count, outputs_of, part_count};
+ghost use Rattle.vtext.specs.Instances.{inputs_of, is_arity_wrong, is_constant, is_constant_driven, output_count, outputs_of, part_count};
 
 use crate::gate::Terminal;
 use fourstate::{GateKind, fits};
@@ -13,17 +13,7 @@ impl Terminal {
     {
         match self {
             Terminal::Constant(_) => true,
-            Terminal::Net(_) => false,
-        }
-    }
-
-    /// The net of an output, by the number of its name.
-    pub fn net(self) -> u32
-        ensures { result ≡ net_number self }
-    {
-        match self {
-            Terminal::Net(name) => name,
-            Terminal::Constant(_) => 0,
+            Terminal::Net(_) | Terminal::Bit(_, _) => false,
         }
     }
 }

@@ -6,6 +6,7 @@ ghost use Rattle.vtext.specs.Readings.{view};
 ghost use Rattle.vtext.specs.Sound.{AreGoodWords};
 ghost use Rattle.vtext.specs.Walks.{IsRefusal, Leads, start, word_at};
 
+use crate::bits::bits_of;
 use crate::cause::Cause;
 use crate::draft::Draft;
 use crate::names::Names;
@@ -54,11 +55,20 @@ pub fn walk(
     ensures text { IfOk result (λ draft. Leads default names.now start words.now None (record { state = Outside; so_far = view draft })) }
     ensures fault { IfErr result (IsRefusal default names.now words.now) }
 {
+    let bits = bits_of(alloc, names)?;
     let mut draft = Draft::new(alloc);
     let mut state = ParserState::Outside;
     for i in 0..words.len() {
         let after = word_at(words, i + 1);
-        match draft.turn(alloc, default, names, state, words[i], after)? {
+        match draft.turn(
+            alloc,
+            default,
+            names,
+            bits.as_slice(),
+            state,
+            words[i],
+            after,
+        )? {
             Turn::To(to) => state = to,
             Turn::Refused(cause) => return Err(Refusal::Fault(i, cause)),
         }

@@ -120,7 +120,7 @@ fn check_refused(
 }
 
 // Texts that open no session: the line and the kind of the fault.
-const FAULTS: [(&[u8], u64, ReadFaultKind); 18] = [
+const FAULTS: [(&[u8], u64, ReadFaultKind); 19] = [
     (b"", 1, ReadFaultKind::NoTop),
     (b"module m; endmodul", 1, ReadFaultKind::Syntax),
     (b"modulem; endmodule", 1, ReadFaultKind::Syntax),
@@ -149,6 +149,11 @@ const FAULTS: [(&[u8], u64, ReadFaultKind); 18] = [
         b"module m (a,b,y);\n input a,b;\n output y;\n nand NAND2_1 (t, a, b);\n not (y, t);\nendmodule",
         4,
         ReadFaultKind::Edit(EditFault::ZeroDelay),
+    ),
+    (
+        b"module m(y);\noutput y;\nwire [3:0] v;\nnot #1 g(y,v);\nendmodule",
+        4,
+        ReadFaultKind::WidthMismatch,
     ),
     (
         b"// a gate drives an input\nmodule m(input a);\nnot #1 (a, b);\nendmodule",

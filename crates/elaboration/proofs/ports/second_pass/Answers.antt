@@ -1,5 +1,6 @@
-use Rattle.std.proofs.Common.{◌+◌, sym, ap, ◌∙◌, drop, arith}
+use Rattle.std.proofs.Common.{ℕ, ◌+◌, sym, ap, ◌∙◌, drop, arith}
 use Rattle.std.specs.Option.{option_or}
+use Rattle.vtext.specs.Modules.{ModuleEntry}
 use Rattle.elaboration.specs.Ports.{second_pass_from}
 use Rattle.elaboration.proofs.PortLemmas.{blank, second_next}
 use Rattle.elaboration.proofs.ports.second_pass.Goals as goal
@@ -11,7 +12,7 @@ returns-in-Some c =
     let place = c.loop-place.place in
     sym (
     sym c.loop-place.invariant
-    ∙ second_next text modules place c.instances_at-instances.result.now (omega (arith, c.loop-place-test.true, c.count-place-end.ensures)) (c.instances_at-instances.ensures blank)
+    ∙ second_next text modules place c.at.result.1.now (omega (arith, c.loop-place-test.true, c.count-place-end.ensures)) (ap (λ (m : ℕ × ModuleEntry). m.1) (c.at.ensures blank))
     ∙ ap (λ found. option_or found (second_pass_from text modules (drop (place + 1) modules))) (sym c.in_ok-fault.ensures ∙ c.in-Some.is)
     )
 
@@ -21,7 +22,7 @@ loop-place-preserved c =
     let modules = c.args.modules.now.modules in
     let place = c.loop-place.place in
     sym (
-    second_next text modules place c.instances_at-instances.result.now (omega (arith, c.loop-place-test.true, c.count-place-end.ensures)) (c.instances_at-instances.ensures blank)
+    second_next text modules place c.at.result.1.now (omega (arith, c.loop-place-test.true, c.count-place-end.ensures)) (ap (λ (m : ℕ × ModuleEntry). m.1) (c.at.ensures blank))
     ∙ ap (λ found. option_or found (second_pass_from text modules (drop (place + 1) modules))) (sym c.in_ok-fault.ensures ∙ c.in_default.is)
     )
     ∙ c.loop-place.invariant

@@ -25,9 +25,12 @@ loop-place-preserved c =
     record {
       items =
           ap (λ (n : ℕ). c.push.new.self.items ++ slots_from top n rest_nets rest) c.next_place-next.ensures
-          ∙ ap (λ (ss : List Slot). ss ++ slots_from top (next_place next node) rest_nets rest)
+          ∙ ap (λ (ss : List Slot). ss ++ slots_from top (next_place next net.1 node) rest_nets rest)
           (c.in_ok-push.ensures.items ∙ ap (λ (s : Slot). c.loop-place.items.items ++ s ∷ []) c.slot_of.ensures)
           ∙ next_slot top listed given place net node next c.loop-place.items.items in_nets in_given is_net is_node
           ∙ c.loop-place.invariant.items;
-      next = ap (λ (n : ℕ). place_after n rest) c.next_place-next.ensures ∙ place_next given place node next in_given is_node ∙ c.loop-place.invariant.next;
+      next =
+          ap (λ (n : ℕ). place_after n rest_nets rest) c.next_place-next.ensures
+          ∙ place_next listed given place net node next in_nets in_given is_net is_node
+          ∙ c.loop-place.invariant.next;
     }

@@ -3,10 +3,12 @@ use Rattle.std.specs.Prelude.{option_map}
 use Rattle.vtext.specs.declared.fault.ReadFaultKind.{ReadFaultKind}
 use Rattle.vtext.specs.Modules.{ModuleEntry}
 use Rattle.elaboration.specs.Ports.{fault_at}
+use Rattle.elaboration.specs.Scopes.{nets_of}
 use Rattle.vread.specs.LateFaults.{scopes_fault}
 use Rattle.vread.specs.Netlists.{netlist_of}
 use Rattle.vread.specs.Parts.{kept_fault}
-use Rattle.vread.proofs.DesignLemmas.{fault_same, late_is}
+use Rattle.vread.proofs.DesignLemmas.{top_sound}
+use Rattle.vread.proofs.FaultLemmas.{fault_same, late_is}
 use Rattle.vread.proofs.build.design_of.Goals as goal
 
 pub design_from-requires : goal.design_from-requires
@@ -14,10 +16,14 @@ design_from-requires c =
     let list = c.args.modules.now in
     let design = c.in_ok-elaboration.elaboration in
     let is = c.in_ok-elaboration.ensures.ok in
+    let text = c.args.text.now in
+    let same : kept_fault list.names design ≡ scopes_fault list.names list.modules design.top.1 =
+    fault_same text list design is (c.terminals_are_nodes.ensures list.names list.modules (nets_of list.names list.modules design.top.1))
+    (c.scopes_are_sound.ensures list.names list.modules design.top c.requires (top_sound text list design is c.requires)) in
     record {
       sound = c.requires;
-      elaborated = (c.args.text.now, is);
-      faultless = sym (fault_same c.args.text.now list design is c.terminals_are_nodes.ensures) ∙ ap (λ (ns : List (List ℕ)). kept_fault ns design) (sym c.names.ensures) ∙ sym c.scopes_fault.ensures ∙ c.in_default.is;
+      elaborated = (text, is);
+      faultless = sym same ∙ ap (λ (ns : List (List ℕ)). kept_fault ns design) (sym c.names.ensures) ∙ sym c.scopes_fault.ensures ∙ c.in_default.is;
     }
 
 pub returns-in-Some-clause-err : goal.returns-in-Some-clause-err
@@ -26,11 +32,13 @@ returns-in-Some-clause-err c =
     let design = c.in_ok-elaboration.elaboration in
     let is = c.in_ok-elaboration.ensures.ok in
     let text = c.args.text.now in
+    let same : kept_fault list.names design ≡ scopes_fault list.names list.modules design.top.1 =
+    fault_same text list design is (c.terminals_are_nodes.ensures list.names list.modules (nets_of list.names list.modules design.top.1))
+    (c.scopes_are_sound.ensures list.names list.modules design.top c.requires (top_sound text list design is c.requires)) in
     let kind : Option ReadFaultKind = scopes_fault list.names list.modules design.top.1 in
-    let found : kind ≡ Some c.in-Some.kind =
-    sym (fault_same text list design is c.terminals_are_nodes.ensures) ∙ ap (λ (ns : List (List ℕ)). kept_fault ns design) (sym c.names.ensures) ∙ sym c.scopes_fault.ensures ∙ c.in-Some.is in
+    let found : kind ≡ Some c.in-Some.kind = sym same ∙ ap (λ (ns : List (List ℕ)). kept_fault ns design) (sym c.names.ensures) ∙ sym c.scopes_fault.ensures ∙ c.in-Some.is in
     inr (
-    late_is text list design is c.terminals_are_nodes.ensures
+    late_is text list design is
     ∙ ap (λ (k : Option ReadFaultKind). option_map (fault_at text design.top.1.start) k) found
     ∙ sym (ap Some (c.fault_at.ensures ∙ ap (λ (start : ℕ). fault_at text start c.in-Some.kind) c.start.ensures))
     )
@@ -41,10 +49,12 @@ returns c =
     let design = c.in_ok-elaboration.elaboration in
     let is = c.in_ok-elaboration.ensures.ok in
     let text = c.args.text.now in
-    let found : scopes_fault list.names list.modules design.top.1 ≡ None =
-    sym (fault_same text list design is c.terminals_are_nodes.ensures) ∙ ap (λ (ns : List (List ℕ)). kept_fault ns design) (sym c.names.ensures) ∙ sym c.scopes_fault.ensures ∙ c.in_default.is in
+    let same : kept_fault list.names design ≡ scopes_fault list.names list.modules design.top.1 =
+    fault_same text list design is (c.terminals_are_nodes.ensures list.names list.modules (nets_of list.names list.modules design.top.1))
+    (c.scopes_are_sound.ensures list.names list.modules design.top c.requires (top_sound text list design is c.requires)) in
+    let found : scopes_fault list.names list.modules design.top.1 ≡ None = sym same ∙ ap (λ (ns : List (List ℕ)). kept_fault ns design) (sym c.names.ensures) ∙ sym c.scopes_fault.ensures ∙ c.in_default.is in
     record {
-      faultless = late_is text list design is c.terminals_are_nodes.ensures ∙ ap (λ (k : Option ReadFaultKind). option_map (fault_at text design.top.1.start) k) found;
+      faultless = late_is text list design is ∙ ap (λ (k : Option ReadFaultKind). option_map (fault_at text design.top.1.start) k) found;
       whole = ap (λ (t : Option (ℕ × ModuleEntry)). option_map (netlist_of list) t) is.top ∙ ap Some (sym c.in_ok-design.ensures);
       err = tt;
     }

@@ -12,12 +12,12 @@ returns-in_default c =
 pub returns-then-is_long_net : goal.returns-then-is_long_net
 returns-then-is_long_net c =
     let p = is_long_net c.args.names.now c.args.scope.now.path in
-    any_here p c.slots-slots.result.now c.module-entry.result.now.nets c.loop-place.place c.loop-place.invariant blank_slot (c.in-Some.name, c.in-Some.field-0-1) (omega (arith, c.loop-place-test.true)) c.in-Some.ensures
+    any_here p c.slots-slots.result.now c.module-entry.result.now.nets c.loop-place.place c.loop-place.invariant blank_slot (c.in-Some.name, c.in-Some.net) (omega (arith, c.loop-place-test.true)) c.in-Some.ensures
     (sym c.is_long_net.ensures ∙ c.if-is_long_net.true)
     ∙ of_scope p c.args.scope.now c.slots-slots.result.now c.module-entry.result.now c.slots-slots.ensures c.module-entry.ensures
 
 pub loop-place-preserved : goal.loop-place-preserved
 loop-place-preserved c =
     let p = is_long_net c.args.names.now c.args.scope.now.path in
-    any_past p c.slots-slots.result.now c.module-entry.result.now.nets c.loop-place.place c.loop-place.invariant blank_slot (c.in-Some.name, c.in-Some.field-0-1) (omega (arith, c.loop-place-test.true)) c.in-Some.ensures
+    any_past p c.slots-slots.result.now c.module-entry.result.now.nets c.loop-place.place c.loop-place.invariant blank_slot (c.in-Some.name, c.in-Some.net) (omega (arith, c.loop-place-test.true)) c.in-Some.ensures
     (sym c.is_long_net.ensures ∙ c.if-is_long_net.false)

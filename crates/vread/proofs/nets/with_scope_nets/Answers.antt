@@ -25,7 +25,7 @@ of_scope names scope slots entry is_slots is_entry =
 -- the slot at a place comes first of those that are left
 next : (names : List (List ℕ)) (path : List ℕ) (slots : List Slot) (listed : List (ℕ × nets.Net)) (i : ℕ) (net : ℕ × nets.Net) (ns all : List NetEntry) → i < length slots → Some net ≡ slice_get listed i
     → ns ++ slots_nets names path (drop i slots) (drop i listed) ≡ all
-    → ns ++ (slot_nets names path (get_or slots i blank_slot) net.0 ++ slots_nets names path (drop (i + 1) slots) (drop (i + 1) listed)) ≡ all
+    → ns ++ (slot_nets names path (get_or slots i blank_slot) net ++ slots_nets names path (drop (i + 1) slots) (drop (i + 1) listed)) ≡ all
 next names path slots listed i net ns all within is before =
     ap (λ (l : List NetEntry). ns ++ l) (sym (both_here (slots_nets names path) slots listed i blank_slot net within is)) ∙ before
 
@@ -54,8 +54,8 @@ with_slot-requires c =
     let first = netlist c.args.design in
     let ns = (netlist c.loop-place.made).nets in
     let all : List NetEntry = first.nets ++ slots_nets names scope.path slots entry.nets in
-    fit_part ns (slot_nets names scope.path (get_or slots place blank_slot) c.in-Some.name) (slots_nets names scope.path (drop (place + 1) slots) (drop (place + 1) entry.nets)) all
-    (next names scope.path slots entry.nets place (c.in-Some.name, c.in-Some.field-0-1) ns all (omega (arith, c.loop-place-test.true)) c.in-Some.ensures c.loop-place.invariant.all)
+    fit_part ns (slot_nets names scope.path (get_or slots place blank_slot) (c.in-Some.name, c.in-Some.net)) (slots_nets names scope.path (drop (place + 1) slots) (drop (place + 1) entry.nets)) all
+    (next names scope.path slots entry.nets place (c.in-Some.name, c.in-Some.net) ns all (omega (arith, c.loop-place-test.true)) c.in-Some.ensures c.loop-place.invariant.all)
     (subst (λ (l : List NetEntry). AreFitNets (first.nets ++ l)) (sym (of_scope names scope slots entry c.slots-slots.ensures c.module-entry.ensures)) c.requires)
 
 pub loop-place-preserved : goal.loop-place-preserved
@@ -68,11 +68,11 @@ loop-place-preserved c =
     let first = netlist c.args.design in
     let before = netlist c.loop-place.made in
     let now = netlist c.in_ok-made.made in
-    let part : List NetEntry = slot_nets names scope.path (get_or slots place blank_slot) c.in-Some.name in
+    let part : List NetEntry = slot_nets names scope.path (get_or slots place blank_slot) (c.in-Some.name, c.in-Some.net) in
     let all : List NetEntry = first.nets ++ slots_nets names scope.path slots entry.nets in
     record {
       all = nets_more first before now part (slots_nets names scope.path (drop (place + 1) slots) (drop (place + 1) entry.nets)) all c.in_ok-made.ensures
-          (next names scope.path slots entry.nets place (c.in-Some.name, c.in-Some.field-0-1) before.nets all (omega (arith, c.loop-place-test.true)) c.in-Some.ensures c.loop-place.invariant.all);
+          (next names scope.path slots entry.nets place (c.in-Some.name, c.in-Some.net) before.nets all (omega (arith, c.loop-place-test.true)) c.in-Some.ensures c.loop-place.invariant.all);
       others = nets_others first before c.loop-place.invariant.others now part c.in_ok-made.ensures;
     }
 

@@ -10,8 +10,8 @@ use Rattle.vtext.proofs.walks.walk.Goals as goal
 pub loop-i-init : goal.loop-i-init
 loop-i-init c = record { leads = ap (λ (r : Reading). record { state = Outside; so_far = r }) (sym c.new-draft.ensures) }
 
-pub turn-requires : goal.turn-requires
-turn-requires c =
+pub turn-requires-clause-room : goal.turn-requires-clause-room
+turn-requires-clause-room c =
     room_left c.args.default c.args.names.now c.args.words.now c.loop-i.i (record { state = c.loop-i.state; so_far = view c.loop-i.draft }) c.loop-i-test.true
     (omega (arith, c.loop-i.auto.i-end)) c.requires.good c.loop-i.invariant.leads
 
