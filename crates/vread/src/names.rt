@@ -9,6 +9,9 @@ use design::laws::names_print;
 use itoa::Buffer;
 use std::alloc::{AllocError, Global};
 
+/// How many bytes an index has at most, with its brackets.
+const MOST_BRACKETED: usize = 7;
+
 /// The name that these bytes are.
 pub fn name_from(alloc: Global, bytes: &[u8]) -> Result<Name, AllocError>
     requires { IsTrue (is_name bytes.now) }
@@ -57,7 +60,12 @@ fn bit_text(alloc: Global, path: &[u8], base: &[u8], index: u16) -> Result<Vec<u
     ensures { IfOk result (λ text. text.items ≡ path.now ++ bit_bytes base.now index) }
 {
     let mut buffer = Buffer::new();
-    let mut text = Vec::from_slice(alloc, path)?;
+    let room = path
+        .len()
+        .saturating_add(base.len())
+        .saturating_add(MOST_BRACKETED);
+    let mut text = Vec::with_capacity(alloc, room)?;
+    text.extend_from_slice(path)?;
     text.extend_from_slice(base)?;
     text.push(b'[')?;
     text.extend_from_slice(buffer.format(index).as_bytes())?;
