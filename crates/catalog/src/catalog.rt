@@ -17,15 +17,17 @@ use std::alloc::{AllocError, Global};
 use std::fmt;
 use std::marker::Model;
 
-/// Records, each under a key of its own and with a name that no other has, in the order in which they were added (own).
-/// Contracts see the list of the records with their keys. A copy shares all that is as large as the catalog; of what is then
-/// changed a chunk is copied first, or the names that were added last, and no record. A look-up takes one step and no memory, but a place is counted as long as
-/// removals have left gaps, which `close_up` closes. The key of a record that was removed may come to be that of another.
+/// Records, each under a key of its own and with a name that no other has, in the order in which they were added
+/// (own). Contracts see the list of the records with their keys. A copy shares all that is as large as the catalog; of
+/// what is then changed a chunk is copied first, or the names that were added last, and no record. A look-up takes one
+/// step and no memory, but a place is counted as long as removals have left gaps, which `close_up` closes. The key of a
+/// record that was removed may come to be that of another. Of the records of one name that were replaced or removed,
+/// one may stay in memory until the names are gathered anew.
 #[derive(Drop)]
 pub struct Catalog<R: Named> {
     alloc: Global,
     hasher: NameHasher,
-    names: Names,
+    names: Names<R>,
     slots: Slots,
     order: Order<R>,
     len: usize,
@@ -43,7 +45,7 @@ impl<R: Named> Model for Catalog<R> {
 
     ghost view = { λ a. entries_in a.order };
 
-    ghost invariant = { λ a. IsTable R.name (found a.names) (slot_at a.slots) a.order a.len };
+    ghost invariant = { λ a. IsTable R.name (found R.name a.names) (slot_at a.slots) a.order a.len };
 }
 
 impl<R: Named> Catalog<R> {

@@ -6,6 +6,7 @@ ghost use Rattle.catalog.specs.Columns.{entries_in};
 ghost use Rattle.catalog.specs.Found.{found};
 ghost use Rattle.catalog.specs.Table.{AreFound};
 
+use crate::by_name::ByName;
 use crate::hasher::NameHasher;
 use crate::named::Named;
 use crate::names::{Names, write};
@@ -18,13 +19,13 @@ use std::sync::Arc;
 pub(crate) fn ready_names<R: Named>(
     alloc: Global,
     hasher: NameHasher,
-    names: Names,
+    names: Names<R>,
     order: &Order<R>,
     len: usize,
-) -> Result<Names, AllocError>
+) -> Result<Names<R>, AllocError>
     requires distinct { AllPairs (λ a b. a ≢ b) (names_of R.name (entries_in order.now)) }
-    requires found { AreFound R.name (found names) (entries_in order.now) }
-    ensures { IfOk result (λ ready. AreFound R.name (found ready) (entries_in order.now)) }
+    requires found { AreFound R.name (found R.name names) (entries_in order.now) }
+    ensures { IfOk result (λ ready. AreFound R.name (found R.name ready) (entries_in order.now)) }
 {
     if names.is_full(len) {
         gathered(alloc, hasher, order)
@@ -38,14 +39,15 @@ fn gathered<R: Named>(
     alloc: Global,
     hasher: NameHasher,
     order: &Order<R>,
-) -> Result<Names, AllocError>
+) -> Result<Names<R>, AllocError>
     requires { AllPairs (λ a b. a ≢ b) (names_of R.name (entries_in order.now)) }
-    ensures { IfOk result (λ names. AreFound R.name (found names) (entries_in order.now)) }
+    ensures { IfOk result (λ names. AreFound R.name (found R.name names) (entries_in order.now)) }
 {
     let mut map = IndexMap::with_hasher(alloc, hasher);
     for index in 0..order.len() {
         if let Some(entry) = entry_at(order, index) {
-            write(alloc, &mut map, entry.1.value().name(), entry.0)?;
+            let record = entry.1.clone()?;
+            write(&mut map, ByName { record }, entry.0)?;
         }
     }
     Ok(Names {

@@ -2,11 +2,12 @@
 
 ghost use Rattle.std.specs.Prelude.{◌≡◌, List, ℕ, None, Some, IfOk, OnOk, if◌then◌else◌};
 ghost use Rattle.std.specs.Arc.{arc_value};
-ghost use Rattle.indexmap.specs.IndexMap.{get_by_text};
 ghost use Rattle.catalog.specs.Catalog.{same_name};
-ghost use Rattle.catalog.specs.Found.{found, text_in};
+ghost use Rattle.catalog.specs.Found.{found, found_in, key_under};
 
+use crate::by_name::ByName;
 use crate::hasher::NameHasher;
+use crate::named::Named;
 use indexmap::IndexMap;
 use std::alloc::{AllocError, Global};
 use std::sync::Arc;
@@ -14,20 +15,22 @@ use std::sync::Arc;
 /// How many names are kept apart from those that copies of a catalog share, before all are gathered anew (own).
 const MAX_ADDED: usize = 1_024;
 
-pub(crate) type Map = IndexMap<String, usize, NameHasher>;
+/// Keys, each under a record that had its name, and no name twice.
+pub(crate) type Map<R> = IndexMap<ByName<R>, usize, NameHasher>;
 
-/// The key that each name had last: the names that copies of a catalog share, and those added since. Names that no
-/// record has any more may be among them.
+/// The key that each name had last: the names that copies of a catalog share, and those added since. A name is that of
+/// the first record that had it since all were gathered anew: this one stays in memory until they are again, also where
+/// another record is under the key by then, or none. So names that no record has any more may be among them.
 #[derive(Drop)]
-pub(crate) struct Names {
-    pub(crate) base: Option<Arc<Map>>,
-    pub(crate) added: Option<Arc<Map>>,
+pub(crate) struct Names<R: Named> {
+    pub(crate) base: Option<Arc<Map<R>>>,
+    pub(crate) added: Option<Arc<Map<R>>>,
 }
 
-impl Names {
+impl<R: Named> Names<R> {
     /// No name.
-    pub(crate) fn empty() -> Names
-        ensures { (name : List ℕ) → found result name ≡ None }
+    pub(crate) fn empty() -> Names<R>
+        ensures { (name : List ℕ) → found R.name result name ≡ None }
     {
         Names {
             base: None,
@@ -36,8 +39,8 @@ impl Names {
     }
 
     /// The same names, with one owner more.
-    pub(crate) fn try_clone(&self) -> Result<Names, AllocError>
-        ensures { IfOk result (λ copy. (name : List ℕ) → found copy name ≡ found self.now name) }
+    pub(crate) fn try_clone(&self) -> Result<Names<R>, AllocError>
+        ensures { IfOk result (λ copy. (name : List ℕ) → found R.name copy name ≡ found R.name self.now name) }
     {
         let base = try_clone(&self.base)?;
         let added = try_clone(&self.added)?;
@@ -46,7 +49,7 @@ impl Names {
 
     /// The key that a name had last.
     pub(crate) fn get(&self, name: &str) -> Option<usize>
-        ensures { result ≡ found self.now name.now }
+        ensures { result ≡ found R.name self.now name.now }
     {
         match get(&self.added, name) {
             Some(key) => Some(key),
@@ -60,20 +63,20 @@ impl Names {
         count(&self.added) >= MAX_ADDED || count(&self.base) >= limit
     }
 
-    /// The names with this key under a name.
+    /// The names with this key under the name of a record.
     pub(crate) fn with(
         self,
         alloc: Global,
         hasher: NameHasher,
-        name: &str,
+        name: ByName<R>,
         key: usize,
-    ) -> Result<Names, AllocError>
-        ensures { IfOk result (λ names. (other : List ℕ) → found names other ≡ (if same_name name.now other then Some key else found self other)) }
+    ) -> Result<Names<R>, AllocError>
+        ensures { IfOk result (λ names. (other : List ℕ) → found R.name names other ≡ (if same_name (R.name name.record) other then Some key else found R.name self other)) }
     {
         let Names { base, added } = self;
         match added {
             Some(added) => {
-                let added = put(alloc, added, name, key)?;
+                let added = put(added, name, key)?;
                 Ok(Names {
                     base,
                     added: Some(added),
@@ -85,20 +88,20 @@ impl Names {
 }
 
 /// The names of a base alone, with this key under a name: in the base where it has no other owner.
-fn with_base(
+fn with_base<R: Named>(
     alloc: Global,
     hasher: NameHasher,
-    base: Option<Arc<Map>>,
-    name: &str,
+    base: Option<Arc<Map<R>>>,
+    name: ByName<R>,
     key: usize,
-) -> Result<Names, AllocError>
-    ensures { IfOk result (λ names. (other : List ℕ) → found names other ≡ (if same_name name.now other then Some key else text_in base other)) }
+) -> Result<Names<R>, AllocError>
+    ensures { IfOk result (λ names. (other : List ℕ) → found R.name names other ≡ (if same_name (R.name name.record) other then Some key else found_in R.name base other)) }
 {
     match base {
         Some(base) => {
             if Arc::strong_count(&base) == 1 {
                 Ok(Names {
-                    base: Some(put(alloc, base, name, key)?),
+                    base: Some(put(base, name, key)?),
                     added: None,
                 })
             } else {
@@ -116,33 +119,45 @@ fn with_base(
 }
 
 /// This key alone under a name.
-fn first(alloc: Global, hasher: NameHasher, name: &str, key: usize) -> Result<Arc<Map>, AllocError>
-    ensures { IfOk result (λ map. (other : List ℕ) → get_by_text (arc_value map) other ≡ (if same_name name.now other then Some key else None)) }
+fn first<R: Named>(
+    alloc: Global,
+    hasher: NameHasher,
+    name: ByName<R>,
+    key: usize,
+) -> Result<Arc<Map<R>>, AllocError>
+    ensures { IfOk result (λ map. (other : List ℕ) → key_under R.name (arc_value map) other ≡ (if same_name (R.name name.record) other then Some key else None)) }
 {
     let mut map = IndexMap::with_hasher(alloc, hasher);
-    write(alloc, &mut map, name, key)?;
+    write(&mut map, name, key)?;
     Ok(Arc::new(alloc, map)?)
 }
 
 /// The map with this key under a name. It is copied first where it has other owners.
-fn put(alloc: Global, mut map: Arc<Map>, name: &str, key: usize) -> Result<Arc<Map>, AllocError>
-    ensures { IfOk result (λ changed. (other : List ℕ) → get_by_text (arc_value changed) other ≡ (if same_name name.now other then Some key else get_by_text (arc_value map) other)) }
+fn put<R: Named>(
+    mut map: Arc<Map<R>>,
+    name: ByName<R>,
+    key: usize,
+) -> Result<Arc<Map<R>>, AllocError>
+    ensures { IfOk result (λ changed. (other : List ℕ) → key_under R.name (arc_value changed) other ≡ (if same_name (R.name name.record) other then Some key else key_under R.name (arc_value map) other)) }
 {
-    write(alloc, Arc::make_mut(&mut map)?, name, key)?;
+    write(Arc::make_mut(&mut map)?, name, key)?;
     Ok(map)
 }
 
 /// Puts this key under a name.
-pub(crate) fn write(alloc: Global, map: &mut Map, name: &str, key: usize) -> Result<(), AllocError>
-    ensures { OnOk result ((other : List ℕ) → get_by_text map.new other ≡ (if same_name name.now other then Some key else get_by_text map.old other)) }
+pub(crate) fn write<R: Named>(
+    map: &mut Map<R>,
+    name: ByName<R>,
+    key: usize,
+) -> Result<(), AllocError>
+    ensures { OnOk result ((other : List ℕ) → key_under R.name map.new other ≡ (if same_name (R.name name.record) other then Some key else key_under R.name map.old other)) }
 {
-    let text = String::from_str(alloc, name)?;
-    map.insert(text, key)?;
+    map.insert(name, key)?;
     Ok(())
 }
 
-fn try_clone(part: &Option<Arc<Map>>) -> Result<Option<Arc<Map>>, AllocError>
-    ensures { IfOk result (λ copy. (name : List ℕ) → text_in copy name ≡ text_in part.now name) }
+fn try_clone<R: Named>(part: &Option<Arc<Map<R>>>) -> Result<Option<Arc<Map<R>>>, AllocError>
+    ensures { IfOk result (λ copy. (name : List ℕ) → found_in R.name copy name ≡ found_in R.name part.now name) }
 {
     match part {
         Some(map) => Ok(Some(Arc::try_clone(map)?)),
@@ -150,8 +165,8 @@ fn try_clone(part: &Option<Arc<Map>>) -> Result<Option<Arc<Map>>, AllocError>
     }
 }
 
-fn get(part: &Option<Arc<Map>>, name: &str) -> Option<usize>
-    ensures { result ≡ text_in part.now name.now }
+fn get<R: Named>(part: &Option<Arc<Map<R>>>, name: &str) -> Option<usize>
+    ensures { result ≡ found_in R.name part.now name.now }
 {
     match part {
         Some(map) => map.get(name).copied(),
@@ -159,7 +174,7 @@ fn get(part: &Option<Arc<Map>>, name: &str) -> Option<usize>
     }
 }
 
-fn count(part: &Option<Arc<Map>>) -> usize {
+fn count<R: Named>(part: &Option<Arc<Map<R>>>) -> usize {
     match part {
         Some(map) => map.len(),
         None => 0,

@@ -1,11 +1,11 @@
 //! One chunk of a list: it is copied before a write where it has other owners.
 
-ghost use Rattle.std.specs.Prelude.{◌≡◌, ◌<◌, ◌∷◌, [], ◌++◌, OnErr, OnOk, length, slice_get, slice_set, take};
+ghost use Rattle.std.specs.Prelude.{◌≡◌, ◌<◌, ◌∷◌, [], ◌++◌, IfOk, OnErr, OnOk, length, slice_get, slice_set, take};
 ghost use Rattle.std.specs.Option.{option_copied};
 ghost use Rattle.chunked.specs.Chunks.{items_in};
 
 use crate::exact::ExactClone;
-use std::alloc::AllocError;
+use std::alloc::{AllocError, Global};
 use std::sync::Arc;
 
 /// How many elements a chunk has, but for the last one, which may have fewer (own).
@@ -13,6 +13,19 @@ pub(crate) const CHUNK: usize = 32;
 
 /// A chunk, which lists share as a whole.
 pub(crate) type Chunk<T> = Arc<Vec<T>>;
+
+/// A chunk without elements. It has room for all that it may get, so that it need not grow, but where it is the first
+/// of a row, since many lists stay short.
+pub(crate) fn empty<T: Drop>(alloc: Global, is_first: bool) -> Result<Chunk<T>, AllocError>
+    ensures { IfOk result (λ chunk. items_in chunk ≡ []) }
+{
+    let items = if is_first {
+        Vec::new(alloc)
+    } else {
+        Vec::with_capacity(alloc, CHUNK)?
+    };
+    Ok(Arc::new(alloc, items)?)
+}
 
 /// The element at an index.
 pub(crate) fn get<T: Drop>(chunk: &Chunk<T>, index: usize) -> Option<&T>

@@ -8,7 +8,6 @@ use crate::chunk::{self, CHUNK, Chunk};
 use crate::exact::ExactClone;
 use std::alloc::{AllocError, Global};
 use std::marker::Model;
-use std::sync::Arc;
 
 /// A list in chunks. A clone shares the chunks, and costs one pointer for each. Contracts see the list.
 #[derive(Debug, Drop)]
@@ -108,7 +107,7 @@ fn make_room<T: Drop>(chunks: &mut Vec<Chunk<T>>, at: usize) -> Result<(), Alloc
 {
     if at == chunks.len() {
         let alloc = *chunks.allocator();
-        let chunk = Arc::new(alloc, Vec::new(alloc))?;
+        let chunk = chunk::empty(alloc, at == 0)?;
         chunks.push(chunk)?;
     }
     Ok(())

@@ -11,7 +11,9 @@ mod random;
 
 use crate::compare::equal;
 use catalog::NameHasher;
-use design::{Design, Gate, GateKey, MAX_GATES, MAX_NETS, MAX_POINTS, Name, Net, NetKey, Terminal};
+use design::{
+    Design, Gate, GateKey, Inputs, MAX_GATES, MAX_NETS, MAX_POINTS, Name, Net, NetKey, Terminal,
+};
 use fourstate::{
     Delays, GateKind, MAX_TIME, Magnitude, NetKind, TimeUnit, Unit, Value, delay, fits,
 };
@@ -64,10 +66,10 @@ fn net_driven(rt: &impl Abort, design: &Design, text: &str) -> NetKey
     net
 }
 
-fn nets_read(rt: &impl Abort, alloc: Global, design: &Design, names: &[&str]) -> Vec<Terminal>
+fn nets_read(rt: &impl Abort, alloc: Global, design: &Design, names: &[&str]) -> Inputs
     ensures { All (IsThere design.now.nets) result.items }
 {
-    let mut inputs = Vec::new(alloc);
+    let mut inputs = Inputs::new(alloc);
     for text in names {
         let net = net_there(rt, design, text);
         inputs
@@ -85,7 +87,7 @@ fn gate(
     text: &str,
     kind: GateKind,
     output: &str,
-    inputs: Vec<Terminal>,
+    inputs: Inputs,
 ) -> Gate
     requires { All (IsThere design.now.nets) inputs.items }
     ensures { IsConnected design.now.nets result }

@@ -11,9 +11,8 @@ ghost use Rattle.design.specs.Records.{IsInPlaceOf, gate_with_delays, gate_with_
 ghost use Rattle.design.specs.Netlist.{GateEntry, has_gate, with_delays, with_gate, with_gate_changed, with_gate_kind, with_wiring, without_gate};
 
 use crate::design::Design;
-use crate::gate::Gate;
+use crate::gate::{Gate, Inputs};
 use crate::key::{GateKey, NetKey};
-use crate::terminal::Terminal;
 use crate::wires::Wires;
 use catalog::Catalog;
 use fourstate::laws::delays_in_range;
@@ -85,12 +84,7 @@ impl Design {
     }
 
     /// Puts a gate at other nets: it drives the net `output`, and reads `inputs`.
-    pub fn rewire(
-        self,
-        gate: GateKey,
-        output: NetKey,
-        inputs: Vec<Terminal>,
-    ) -> Result<Design, AllocError>
+    pub fn rewire(self, gate: GateKey, output: NetKey, inputs: Inputs) -> Result<Design, AllocError>
         requires fit { IsSomeAnd (gate_by_key self gate) (λ g. IsTrue (takes_inputs g.kind (length inputs.items))) }
         requires output { IsDrivable self.nets output }
         requires inputs { All (IsThere self.nets) inputs.items }
@@ -154,7 +148,7 @@ fn with_wiring_at(
     wires: Wires,
     key: GateKey,
     output: NetKey,
-    inputs: Vec<Terminal>,
+    inputs: Inputs,
 ) -> Result<(Catalog<Gate>, Wires), AllocError>
     requires fit { IsSomeAnd (record_at gates key) (λ g. IsTrue (takes_inputs g.kind (length inputs.items))) }
     requires readers { (k : ℕ) → IsInOrder (keys_of gates) (list_of wires.fanout k) }

@@ -11,8 +11,15 @@ use crate::terminal::Terminal;
 use catalog::Named;
 use fourstate::laws::delays_in_range;
 use fourstate::{Delays, GateKind};
+use smallvec::SmallVec;
 use std::alloc::AllocError;
 use std::marker::Model;
+
+/// How many inputs of a gate stand in the gate itself; only a gate of more takes memory for them (own).
+pub(crate) const INLINE_INPUTS: usize = 4;
+
+/// What the inputs of a gate are connected to, in order.
+pub type Inputs = SmallVec<Terminal, INLINE_INPUTS>;
 
 /// A gate instance: it drives the net of one key, and reads nets by key, or constants (IEEE 1364-2005, 7.1). The type
 /// keeps that the number of inputs fits the kind.
@@ -22,7 +29,7 @@ pub struct Gate {
     kind: GateKind,
     delays: Delays,
     output: NetKey,
-    inputs: Vec<Terminal>,
+    inputs: Inputs,
 }
 
 impl Model for Gate {
@@ -37,13 +44,7 @@ impl Model for Gate {
 
 impl Gate {
     /// A gate of this many inputs, in the order of its terminals after the output.
-    pub fn new(
-        name: Name,
-        kind: GateKind,
-        delays: Delays,
-        output: NetKey,
-        inputs: Vec<Terminal>,
-    ) -> Gate
+    pub fn new(name: Name, kind: GateKind, delays: Delays, output: NetKey, inputs: Inputs) -> Gate
         requires { IsTrue (takes_inputs kind (length inputs.items)) }
         ensures { result ≡ record { name = name; kind = kind; delays = delays; output = output; inputs = inputs.items } }
     {
@@ -111,11 +112,7 @@ impl Gate {
     }
 
     /// The gate at other nets.
-    pub(crate) fn with_wiring(
-        &self,
-        output: NetKey,
-        inputs: Vec<Terminal>,
-    ) -> Result<Gate, AllocError>
+    pub(crate) fn with_wiring(&self, output: NetKey, inputs: Inputs) -> Result<Gate, AllocError>
         requires { IsTrue (takes_inputs self.now.kind (length inputs.items)) }
         ensures { IfOk result (λ gate. gate ≡ gate_with_wiring self.now output inputs.items) }
     {
@@ -144,7 +141,7 @@ impl Clone for Gate {
 
     fn clone(&self) -> Result<Gate, AllocError> {
         let name = self.name.clone()?;
-        let inputs = Vec::from_slice(*self.inputs.allocator(), self.inputs())?;
+        let inputs = SmallVec::from_slice(*self.inputs.allocator(), self.inputs())?;
         Ok(Gate {
             name,
             kind: self.kind,

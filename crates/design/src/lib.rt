@@ -27,7 +27,7 @@ mod wiring;
 
 pub use catalog::NameHasher;
 pub use design::Design;
-pub use gate::Gate;
+pub use gate::{Gate, Inputs};
 pub use key::{GateKey, NetKey};
 pub use limits::{MAX_GATES, MAX_NAME, MAX_NETS, MAX_POINTS};
 pub use name::Name;

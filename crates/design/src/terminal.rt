@@ -11,3 +11,10 @@ pub enum Terminal {
     /// A value that never changes.
     Constant(Value),
 }
+
+/// What fills the places of a list that hold no terminal.
+impl Default for Terminal {
+    fn default() -> Terminal {
+        Terminal::Constant(Value::Unknown)
+    }
+}

@@ -1,3 +1,4 @@
+mod ClassLemmas
 pub mod DirectiveLemmas
 pub mod GapLemmas
 pub mod LawLemmas

@@ -5,12 +5,35 @@
 ghost use Rattle.std.specs.Prelude.{◌≡◌};
 ghost use Rattle.lexing.specs.Classes.{is_digit, is_letter, is_name_byte, is_number_byte, is_printed, is_space, is_value_digit};
 
+// What each byte is: `s` is white space, `a` a letter or `_`, `0` a digit, `$` itself, `.` any other byte that prints, and `?`
+// one that does not.
+static CLASSES: [u8; 256] = *b"\
+    ?????????ss?ss??????????????????\
+    s...$...........0000000000......\
+    .aaaaaaaaaaaaaaaaaaaaaaaaaa....a\
+    .aaaaaaaaaaaaaaaaaaaaaaaaaa....?\
+    ????????????????????????????????\
+    ????????????????????????????????\
+    ????????????????????????????????\
+    ????????????????????????????????";
+
+// Each byte of a name stands at its own place, and a dot at every other place.
+static NAME_BYTES: [u8; 256] = *b"\
+    ................................\
+    ....$...........0123456789......\
+    .ABCDEFGHIJKLMNOPQRSTUVWXYZ...._\
+    .abcdefghijklmnopqrstuvwxyz.....\
+    ................................\
+    ................................\
+    ................................\
+    ................................";
+
 /// Whether the byte is a blank, a tab, a line feed, a form feed or a carriage return.
 #[inline(always)]
 pub fn is_space(byte: u8) -> bool
     ensures { result ≡ is_space byte }
 {
-    matches!(byte, 9 | 10 | 12 | 13 | 32)
+    CLASSES[byte as usize] == b's'
 }
 
 /// Whether the byte is a letter or `_`.
@@ -18,7 +41,7 @@ pub fn is_space(byte: u8) -> bool
 pub fn is_letter(byte: u8) -> bool
     ensures { result ≡ is_letter byte }
 {
-    matches!(byte, b'A'..=b'Z' | b'a'..=b'z' | b'_')
+    CLASSES[byte as usize] == b'a'
 }
 
 /// Whether the byte is a decimal digit.
@@ -26,7 +49,7 @@ pub fn is_letter(byte: u8) -> bool
 pub fn is_digit(byte: u8) -> bool
     ensures { result ≡ is_digit byte }
 {
-    matches!(byte, b'0'..=b'9')
+    CLASSES[byte as usize] == b'0'
 }
 
 /// Whether the byte may stand in a name: a letter, `_`, a digit or `$`.
@@ -34,7 +57,7 @@ pub fn is_digit(byte: u8) -> bool
 pub fn is_name_byte(byte: u8) -> bool
     ensures { result ≡ is_name_byte byte }
 {
-    is_letter(byte) || is_digit(byte) || byte == b'$'
+    NAME_BYTES[byte as usize] != b'.'
 }
 
 /// Whether the byte may stand in a number: a digit or `_`.

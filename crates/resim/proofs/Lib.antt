@@ -5,3 +5,4 @@ pub mod Levels
 pub mod Pairs
 pub mod Points
 pub mod Reworks
+pub mod Weaving

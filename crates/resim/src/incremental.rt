@@ -17,8 +17,9 @@ use std::alloc::Global;
 use waveform::Run;
 
 /// The run of the new design by this stepper, from the run of the old one: at each moment only gates that are dirty and stirred
-/// are evaluated, and what is the same in both runs is shared. `OutOfMemory` where an allocation was refused, here or in a
-/// step; `WorkerLost` where a step answered so: then what was asked is the work up to some moment.
+/// are evaluated. What is the same in both runs is shared, but where edits touched a good part of the gates. `OutOfMemory` where
+/// an allocation was refused, here or in a step; `WorkerLost` where a step answered so: then what was asked is the work up to
+/// some moment.
 pub fn rerun<S: Stepper>(
     alloc: Global,
     old: &Design,
@@ -38,8 +39,8 @@ pub fn rerun<S: Stepper>(
     rerun_touched(alloc, old, run, new, &touched, stepper)
 }
 
-/// As `rerun`, where what edits touched is known: its cost follows what differs, and not the size of the design. Where the
-/// horizon is another, it goes through the whole design as well.
+/// As `rerun`, where what edits touched is known: its cost follows what differs, and not the size of the design, unless that is
+/// most of it. Where the horizon is another, it goes through the whole design as well.
 pub fn rerun_touched<S: Stepper>(
     alloc: Global,
     old: &Design,

@@ -13,6 +13,8 @@ ghost use Rattle.scratch.specs.Work.{HasGrownOrNot};
 ghost use Rattle.rundiff.specs.Dirty.{rework_at, rework_below};
 ghost use Rattle.rundiff.specs.Fronts.{IsFront};
 
+use crate::sweep::sweep;
+use crate::wide::is_wide;
 use design::Design;
 use edits::Touched;
 use gatestep::{Driver, StepFault, Stepper, Task};
@@ -20,9 +22,34 @@ use rundiff::Front;
 use std::alloc::Global;
 use waveform::Run;
 
-/// The run of the new design, which has the horizon of the old one: it goes from one moment at which something may differ to
-/// the next.
+/// The run of the new design, which has the horizon of the old one.
 pub fn rerun_level<S: Stepper>(
+    alloc: Global,
+    old: &Design,
+    run: &Run,
+    new: &Design,
+    touched: &Touched,
+    stepper: &mut S,
+) -> Result<Run, StepFault>
+    requires run { IsRun S.answer old.now run.now }
+    requires touched { IsTouched old.now new.now touched.now.nets.items touched.now.gates.items }
+    requires horizon { (netlist new.now).horizon ≡ (netlist old.now).horizon }
+    ensures run { IfOk result (IsRun S.answer new.now) }
+    ensures asked { OnOk result (S.asked stepper.new ≡ S.asked stepper.old
+        ++ rework_below S.answer (netlist old.now) (netlist new.now) (suc (netlist new.now).horizon)) }
+    ensures part { OnErr result ((n : ℕ) × (n ≤ suc (netlist new.now).horizon)
+        × (S.asked stepper.new ≡ S.asked stepper.old ++ rework_below S.answer (netlist old.now) (netlist new.now) n)) }
+    ensures lost { S.losses stepper.new ≡ S.losses stepper.old + (if loses_a_worker result then 1 else 0) }
+{
+    if is_wide(run, new, touched) {
+        sweep(alloc, old, run, new, stepper)
+    } else {
+        follow(alloc, old, run, new, touched, stepper)
+    }
+}
+
+/// The run of the new design: it goes from one moment at which something may differ to the next.
+fn follow<S: Stepper>(
     alloc: Global,
     old: &Design,
     run: &Run,
@@ -90,7 +117,7 @@ fn pass<S: Stepper>(
 }
 
 /// The answers to some tasks; no step is made where there is none.
-fn step_some<S: Stepper>(
+pub fn step_some<S: Stepper>(
     stepper: &mut S,
     tasks: &[Task],
     t: u64,

@@ -1,13 +1,16 @@
 //! The run of a design from the run of a former one: only what differs is evaluated.
 #![tactic(auto)]
 
+mod asking;
 mod cut;
 mod incremental;
 mod level;
 mod other_horizon;
 mod same;
 mod same_gates;
+mod sweep;
 mod touched;
+mod wide;
 
 pub use cut::shorten;
 pub use incremental::{rerun, rerun_touched};

@@ -29,7 +29,7 @@ use Rattle.rundiff.proofs.Alike.{off_shrinks}
 use Rattle.rundiff.proofs.ByKey.{IsGateAt, IsNetAt, gate_placed, net_placed}
 use Rattle.rundiff.proofs.ByPlace.{live_at}
 use Rattle.rundiff.proofs.Known.{known_gate}
-use Rattle.rundiff.proofs.OldLines.{keeps_none}
+use Rattle.rundiff.proofs.NamedLines.{keeps_none}
 use Rattle.rundiff.proofs.ReaderKeys.{placed}
 
 -- `waveform::laws::same_changes`

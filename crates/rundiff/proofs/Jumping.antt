@@ -27,7 +27,7 @@ use Rattle.rundiff.specs.declared.front.Front.{Front}
 use Rattle.rundiff.proofs.ByPlace.{live_at}
 use Rattle.rundiff.proofs.Known.{known_gate}
 use Rattle.rundiff.proofs.Noted.{NoneBefore, later_announced}
-use Rattle.rundiff.proofs.OldLines.{NoChange}
+use Rattle.rundiff.proofs.NamedLines.{NoChange}
 use Rattle.rundiff.proofs.Resting.{along_free, along_last, along_more, free_to}
 use Rattle.rundiff.proofs.Skipping.{Jumped, jump}
 use Rattle.rundiff.proofs.Still.{both, none_due}

@@ -10,6 +10,7 @@ pub mod Chosen
 pub mod Clean
 pub mod Clear
 pub mod Driven
+pub mod EachPlace
 pub mod Filtering
 pub mod Finished
 pub mod FirstLive
@@ -20,15 +21,16 @@ pub mod Leaving
 pub mod Lists
 pub mod LookedAt
 pub mod NetsDone
+pub mod NamedLines
 pub mod Noted
 pub mod NotedMore
-pub mod OldLines
 pub mod OneGate
 pub mod Outcoming
 pub mod Points
 pub mod Putting
 pub mod Quiet
 pub mod Reaching
+pub mod ReadBefore
 pub mod ReaderKeys
 pub mod Readers
 pub mod Resting

@@ -19,7 +19,7 @@ use Rattle.rundiff.specs.Places.{gate_at, net_at}
 use Rattle.rundiff.specs.Steady.{IsSteady}
 use Rattle.rundiff.proofs.Alike.{alike_grows}
 use Rattle.rundiff.proofs.Calm.{all_noted, calm}
-use Rattle.rundiff.proofs.OldLines.{NoChange}
+use Rattle.rundiff.proofs.NamedLines.{NoChange}
 use Rattle.rundiff.proofs.Quiet.{AreLookedAt, all_looked, not_so, quiet_alike, quiet_wave}
 use Rattle.rundiff.proofs.Still.{both}
 

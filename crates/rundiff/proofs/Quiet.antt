@@ -27,7 +27,7 @@ use Rattle.rundiff.specs.Places.{blank_gate, blank_net, gate_at, is_live, net_at
 use Rattle.rundiff.proofs.ByPlace.{live_at}
 use Rattle.rundiff.proofs.Lists.{filter_where, name_itself, same_name_equal}
 use Rattle.rundiff.proofs.NetsDone.{same_default}
-use Rattle.rundiff.proofs.OldLines.{NoChange}
+use Rattle.rundiff.proofs.NamedLines.{NoChange}
 use Rattle.rundiff.proofs.Resting.{along_free, along_last, free_more}
 use Rattle.rundiff.proofs.Sets.{or_none, or_second}
 use Rattle.rundiff.proofs.Still.{not_false, still_net}

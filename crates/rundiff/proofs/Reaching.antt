@@ -13,7 +13,7 @@ use Rattle.rundiff.specs.Fronts.{IsFront}
 use Rattle.rundiff.proofs.Clear.{is_clear}
 use Rattle.rundiff.proofs.Jumping.{front_on, idle_on}
 use Rattle.rundiff.proofs.Noted.{IsFirst, NoneBefore, first_late}
-use Rattle.rundiff.proofs.OldLines.{NoChange}
+use Rattle.rundiff.proofs.NamedLines.{NoChange}
 
 module _ (answer : Evaluation → ℕ → State) (old new : Netlist)
     (current : (e : Evaluation) (t : ℕ) → (answer e t).current ≡ (due e.state t).current)

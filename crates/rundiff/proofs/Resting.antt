@@ -23,7 +23,7 @@ use Rattle.rundiff.proofs.ByPlace.{get_at}
 use Rattle.rundiff.proofs.Still.{both}
 use Rattle.rundiff.proofs.Steps.{is_one}
 use Rattle.rundiff.proofs.Tasks.{can_store}
-use Rattle.rundiff.proofs.OldLines.{keeps_none}
+use Rattle.rundiff.proofs.NamedLines.{keeps_none}
 
 pub resting_held : (slice held_list resting_slice resting : List ℕ) (held test : ℕ → Bool) → slice ≡ held_list → resting_slice ≡ resting → ArePlaces held_list held → resting ≡ filter (λ p. not (test p)) slice →
     ArePlaces resting_slice (λ p. held p && not (test p))

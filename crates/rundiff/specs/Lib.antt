@@ -3,6 +3,7 @@ pub mod Finishing
 pub mod Fronts
 pub mod Kept
 pub mod Noting
+pub mod OldLines
 pub mod PlaceMaps
 pub mod Places
 pub mod Steady

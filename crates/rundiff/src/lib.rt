@@ -17,6 +17,7 @@ mod nets;
 mod next;
 mod noting;
 mod old;
+mod old_lines;
 mod opening;
 mod patches;
 mod place_map;
@@ -27,3 +28,4 @@ mod same;
 mod spreading;
 
 pub use front::Front;
+pub use old_lines::OldLines;

@@ -1,7 +1,7 @@
 -- The places of the elements that pass a test, and what stands there.
-use Rattle.std.proofs.Common.{◌≡◌, ◌<◌, ◌∙◌, sym, ap, subst, refl, Bool, true, false, ℕ, zero, suc, ◌+◌, List, [], ◌∷◌, ◌++◌, map, drop, take, length, Option, Some, None, slice_get, arith}
+use Rattle.std.proofs.Common.{◌≡◌, ◌<◌, ◌∙◌, sym, ap, subst, refl, Bool, true, false, ℕ, zero, suc, ◌+◌, List, [], ◌∷◌, ◌++◌, map, drop, take, length, Option, Some, None, slice_get, add-one, arith}
 use Rattle.std.specs.Prelude.{◌||◌}
-use Rattle.std.specs.List.{filter, zip}
+use Rattle.std.specs.List.{filter, range_with_len, zip}
 use Rattle.std.specs.Option.{option_map, option_map_or}
 use Rattle.std.proofs.lemmas.List.{length-map, map-append}
 use Rattle.std.proofs.lemmas.Option.{slice_get-map, slice_get_within}
@@ -93,3 +93,17 @@ zip_at [] ys i x y a b = absurd (cc)
 zip_at (v ∷ xs) [] i x y a b = absurd (cc)
 zip_at (v ∷ xs) (w ∷ ys) zero x y a b = cc
 zip_at (v ∷ xs) (w ∷ ys) (suc i) x y a b = zip_at xs ys i x y a b
+
+-- where every element passes, the places are all there are
+pub all_places : {X : Type 0} (a : ℕ) (xs : List X) → passing (λ _. true) a xs ≡ range_with_len a (length xs)
+all_places a [] = refl
+all_places a (x ∷ xs) = ap (λ l. a ∷ l) (all_places (a + 1) xs)
+
+range_from : (a n : ℕ) → range_with_len a (suc n) ≡ range_with_len a n ++ (a + n) ∷ []
+range_from a zero = let e : a + 0 ≡ a = omega arith in rw e refl
+range_from a (suc n) =
+    let e : a + suc n ≡ a + 1 + n = omega arith in
+    ap (λ l. a ∷ l) (range_from (a + 1) n) ∙ ap (λ m. a ∷ range_with_len (a + 1) n ++ m ∷ []) (sym e)
+
+pub one_place_more : (n : ℕ) → range_with_len 0 (n + 1) ≡ range_with_len 0 n ++ n ∷ []
+one_place_more n = let e : 0 + n ≡ n = omega arith in rw add-one (range_from 0 n ∙ ap (λ m. range_with_len 0 n ++ m ∷ []) e)

@@ -19,10 +19,10 @@ use Rattle.scratch.specs.Places.{Announces, Covers, has, pends_at, point_at}
 use Rattle.scratch.specs.Quiet.{IsQuiet}
 use Rattle.scratch.specs.Run.{state_after, state_before, value}
 use Rattle.scratch.specs.Stands.{Stands}
-use Rattle.scratch.specs.Work.{is_due, is_stirred, work_below}
+use Rattle.scratch.specs.Work.{is_due, is_stirred, stirred_at, work_below}
 use Rattle.scratch.specs.declared.engine.Engine.{Engine}
 use Rattle.scratch.proofs.Runs.{map_where, ready_all}
-use Rattle.scratch.proofs.Still.{Stays, quiet_gate, quiet_idle, quiet_net, still_after, trace_stays, wave_stays}
+use Rattle.scratch.proofs.Still.{Stays, none_kept, quiet_gate, quiet_idle, quiet_net, still_after, trace_stays, wave_stays}
 
 pub all_at : {X : Type 0} (P : X → Type 0) (xs : List X) (k : ℕ) (x : X) → All P xs → slice_get xs k ≡ Some x → P x
 all_at P [] k x all is = absurd (cc)
@@ -68,6 +68,7 @@ module _ (answer : Evaluation → ℕ → State) (d : Netlist)
   pub record Skipped (e : Engine) (n u : ℕ) : Type 0 where
     pub stands : Stands answer d e u
     pub idle : work_below answer d u ≡ work_below answer d n
+    pub quiet : (w : ℕ) → n ≤ w → w < u → stirred_at answer d w ≡ []
 
   module _ (e : Engine) (v : ℕ) (s : Stands answer d e (suc v)) (no_event : noted e.events (suc v) ≡ []) (no_point : noted e.points (suc v) ≡ []) where
     state_at : (k : ℕ) (x : GateEntry) → k < length d.gates → slice_get e.states.items k ≡ Some (state_before answer d (suc v) (slice_index_or d.gates k x))
@@ -131,18 +132,23 @@ module _ (answer : Evaluation → ℕ → State) (d : Netlist)
                 no_early_point = λ t below. early_on (noted e.points) no_point s.no_early_point t (search arith);
               };
           idle = quiet_idle answer d current v quiet;
+          quiet = λ w from low. let same : suc v ≡ w = omega arith in ap (stirred_at answer d) (sym same) ∙ none_kept (λ g. is_stirred answer d g (suc v)) d.gates calm;
         }
+
+  quiet_by : (e : Engine) (n v w : ℕ) → Skipped e n (suc v) → Skipped e (suc v) (suc (suc v)) → n ≤ w → (w < suc v) ⊎ (suc v ≤ w) → w < suc (suc v) → stirred_at answer d w ≡ []
+  quiet_by e n v w before one from (inl low) below = before.quiet w from low
+  quiet_by e n v w before one from (inr high) below = one.quiet w high below
 
   skip_by : (e : Engine) (n u : ℕ) → Skipped e n u → noted e.events u ≡ [] → noted e.points u ≡ [] → Skipped e n (suc u)
   skip_by e n zero s no_event no_point = absurd (let b = s.stands.begun in omega arith)
   skip_by e n (suc v) s no_event no_point =
       let one = skip_one e v s.stands no_event no_point in
-      record { stands = one.stands; idle = one.idle ∙ s.idle }
+      record { stands = one.stands; idle = one.idle ∙ s.idle; quiet = λ w from below. quiet_by e n v w s one from (cases_lt w (suc v)) below }
 
   skip : (e : Engine) (n k : ℕ) → Stands answer d e n → ((t : ℕ) → t < n + k → noted e.events t ≡ []) → ((t : ℕ) → t < n + k → noted e.points t ≡ []) → Skipped e n (n + k)
   skip e n zero s no_event no_point =
       let z : n + 0 ≡ n = omega arith in
-      record { stands = rw z s; idle = rw z refl }
+      record { stands = rw z s; idle = rw z refl; quiet = λ w from low. absurd (omega arith) }
   skip e n (suc k) s no_event no_point =
       let z : n + suc k ≡ suc (n + k) = omega arith in
       let before = skip e n k s (λ t low. no_event t (omega arith)) (λ t low. no_point t (omega arith)) in

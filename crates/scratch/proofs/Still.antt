@@ -115,7 +115,7 @@ found : (P : NetEntry → Type 0) (f h : NetEntry → Value) → ((n : NetEntry)
 found P f h same q [] all = refl
 found P f h same q (n ∷ ns) all = found_by f h q n ns (q n) (same n (All-head P n ns all)) (found P f h same q ns (All-tail P n ns all)) refl
 
-none_kept : {X : Type 0} (p : X → Bool) (xs : List X) → All (λ x. p x ≡ false) xs → filter p xs ≡ []
+pub none_kept : {X : Type 0} (p : X → Bool) (xs : List X) → All (λ x. p x ≡ false) xs → filter p xs ≡ []
 none_kept p [] none = refl
 none_kept p (x ∷ xs) none =
     let here = All-head (λ x. p x ≡ false) x xs none in

@@ -5,15 +5,13 @@ use Rattle.std.specs.Option.{option_map}
 use Rattle.std.proofs.lemmas.List.Elements.{All-map}
 use Rattle.std.proofs.lemmas.Option.{slice_get-map}
 use Rattle.fourstate.specs.declared.value.Value.{Value}
-use Rattle.gatestep.specs.Record.{at_moment}
 use Rattle.gatestep.specs.Step.{State, Evaluation}
 use Rattle.design.specs.Netlist.{GateEntry, Netlist}
 use Rattle.scratch.specs.Cells.{CellRecord}
 use Rattle.scratch.specs.Kept.{cell_of, evaluations_from}
 use Rattle.scratch.specs.Places.{passing}
-use Rattle.scratch.specs.Plain.{all_work_at}
 use Rattle.scratch.specs.Run.{state_before, value}
-use Rattle.scratch.specs.Work.{is_stirred, stirred_at, task_at, work_at}
+use Rattle.scratch.specs.Work.{is_stirred, stirred_at, task_at}
 use Rattle.scratch.proofs.Lists.{same_put}
 use Rattle.scratch.proofs.Moments.{evaluations_are, map_twice}
 use Rattle.scratch.proofs.Passing.{slices}
@@ -51,5 +49,5 @@ all_kept answer d [] = refl
 all_kept answer d (g ∷ gs) = ap (λ l. g ∷ l) (all_kept answer d gs)
 
 -- at 0 all gates are stirred
-pub first_work : (answer : Evaluation → ℕ → State) (d : Netlist) → all_work_at answer d 0 ≡ work_at answer d 0
-first_work answer d = ap (λ l. at_moment 0 (map (λ g. task_at answer d g 0) l)) (sym (all_kept answer d d.gates))
+pub first_answers : (answer : Evaluation → ℕ → State) (d : Netlist) → map (state_before answer d 1) (stirred_at answer d 0) ≡ map (state_before answer d 1) d.gates
+first_answers answer d = ap (map (state_before answer d 1)) (all_kept answer d d.gates)

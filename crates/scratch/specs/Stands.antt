@@ -1,12 +1,15 @@
 -- What stands between two moments of a run that skips the moments at which nothing happens.
-use Rattle.std.specs.Prelude.{◌≡◌, ◌<◌, ◌-◌, ℕ, [], map}
+use Rattle.std.specs.Prelude.{◌≡◌, ◌<◌, ◌-◌, ◌+◌, ◌&&◌, ℕ, [], map, not, All}
 use Rattle.event_queue.specs.Noted.{noted}
 use Rattle.gatestep.specs.Step.{State, Evaluation}
+use Rattle.gatestep.specs.Tasks.{PendingFrom}
 use Rattle.design.specs.Netlist.{Netlist}
 use Rattle.waveform.specs.Changes.{wave_changes_below, trace_below}
-use Rattle.scratch.specs.Places.{Announces, Covers, pends_at, point_at}
+use Rattle.scratch.specs.Places.{Announces, Covers, has, passing, pends_at, point_at}
 use Rattle.scratch.specs.Run.{state_after, state_before, value}
+use Rattle.scratch.specs.Work.{is_stirred}
 use Rattle.scratch.specs.declared.engine.Engine.{Engine}
+use Rattle.scratch.specs.declared.opening.Opening.{Opening}
 
 -- the moments below n are done, n not 0: each list is as the run has it, and what is still to happen is noted
 pub record Stands (answer : Evaluation → ℕ → State) (d : Netlist) (e : Engine) (n : ℕ) : Type 0 where
@@ -19,3 +22,24 @@ pub record Stands (answer : Evaluation → ℕ → State) (d : Netlist) (e : Eng
   pub points : Announces (point_at d.nets) (noted e.points) n
   pub no_early_event : (t : ℕ) → t < n → noted e.events t ≡ []
   pub no_early_point : (t : ℕ) → t < n → noted e.points t ≡ []
+
+-- the moments below t are done, t not 0, and so are the nets at t; the gates that are stirred at t are known
+pub record IsStirred (answer : Evaluation → ℕ → State) (d : Netlist) (e : Engine) (t : ℕ) : Type 0 where
+  pub begun : 0 < t
+  pub states : e.states.items ≡ map (state_before answer d t) d.gates
+  pub ready : All (PendingFrom t) e.states.items
+  pub values : e.values.items ≡ map (λ x. value answer d x t) d.nets
+  pub waves : e.waves.items ≡ map (λ x. wave_changes_below (value answer d x) (t + 1)) d.nets
+  pub traces : e.traces.items ≡ map (λ g. trace_below (state_after answer d g) t) d.gates
+  pub gates : e.gates.items ≡ passing (λ g. is_stirred answer d g t) 0 d.gates
+  pub events : Covers (λ k u. not (has k e.gates.items) && pends_at e.states.items k u) (noted e.events) (t + 1)
+  pub points : Announces (point_at d.nets) (noted e.points) (t + 1)
+  pub no_early_event : (u : ℕ) → u < t + 1 → noted e.events u ≡ []
+  pub no_early_point : (u : ℕ) → u < t + 1 → noted e.points u ≡ []
+
+-- the nets at 0 are done, and no gate, all of which are stirred
+pub record IsOpening (answer : Evaluation → ℕ → State) (d : Netlist) (o : Opening) : Type 0 where
+  pub states : o.states.items ≡ map (state_before answer d 0) d.gates
+  pub ready : All (PendingFrom 0) o.states.items
+  pub values : o.values.items ≡ map (λ x. value answer d x 0) d.nets
+  pub gates : o.gates.items ≡ passing (λ g. is_stirred answer d g 0) 0 d.gates

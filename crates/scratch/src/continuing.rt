@@ -11,10 +11,9 @@ ghost use Rattle.scratch.specs.Work.{work_from};
 use crate::engine::Engine;
 use crate::wiring::Wiring;
 use design::Design;
-use fourstate::Value;
-use gatestep::{Driver, StepFault, Stepper};
+use gatestep::{StepFault, Stepper};
 use std::alloc::Global;
-use waveform::{Run, laws};
+use waveform::Run;
 
 /// The run of the design by an engine of which the moments below `start` are done. It goes from one moment at which something
 /// happens to the next, and there asks for the stirred gates alone; a step is made only where there is one. After a fault what
@@ -36,18 +35,12 @@ pub fn run_on<S: Stepper>(
         × (S.asked stepper.new ≡ S.asked stepper.old ++ work_from S.answer (netlist design.now) start n)) }
     ensures lost { S.losses stepper.new ≡ S.losses stepper.old + (if loses_a_worker result then 1 else 0) }
 {
-    design.lawful();
-    laws::no_change::<Value>();
-    laws::no_change::<Driver>();
     let horizon = design.horizon();
     let mut engine = engine;
-    let mut done = start;
-    while let Some(t) = engine.next() {
-        if t > horizon {
-            break;
-        }
+    let mut t = engine.advance::<S>(design, start);
+    while t <= horizon {
         engine.pass(alloc, design, wiring, stepper, t)?;
-        done = t + 1;
+        t = engine.advance::<S>(design, t + 1);
     }
-    Ok(engine.into_recording().finish(alloc, design)?)
+    Ok(engine.finish::<S>(alloc, design)?)
 }

@@ -1,17 +1,17 @@
 //! A run that goes from one moment at which something happens to the next.
 
-ghost use Rattle.std.specs.Prelude.{◌≡◌, ◌≢◌, ◌<◌, ◌≤◌, ◌+◌, ◌++◌, [], ℕ, IfSome, IfNone, IfOk, OnOk, OnErr, if◌then◌else◌};
+ghost use Rattle.std.specs.Prelude.{◌≡◌, ◌≢◌, ◌<◌, ◌≤◌, ◌+◌, ◌++◌, [], ℕ, suc, map, IfSome, IfNone, IfOk, OnOk, OnErr, if◌then◌else◌};
 ghost use Rattle.fourstate.specs.declared.limits.TheConstants.{MAX_TIME};
 ghost use Rattle.event_queue.specs.Noted.{noted};
 ghost use Rattle.design.specs.Keys.{netlist};
 ghost use Rattle.scratch.specs.Kept.{IsWiring};
 ghost use Rattle.scratch.specs.Lost.{loses_a_worker};
-ghost use Rattle.scratch.specs.Stands.{Stands};
-ghost use Rattle.scratch.specs.Work.{HasGrownOrNot, work_at};
+ghost use Rattle.scratch.specs.Run.{IsRun, state_before};
+ghost use Rattle.scratch.specs.Stands.{IsStirred, Stands};
+ghost use Rattle.scratch.specs.Work.{HasGrownOrNot, stirred_at, work_at, work_below};
 
 use crate::asking::ask;
-use crate::moment::Moment;
-use crate::opening::{list_events, list_points};
+use crate::opening::Opening;
 use crate::recording::Recording;
 use crate::resolving::resolve_nets;
 use crate::settling::settle;
@@ -21,8 +21,8 @@ use design::Design;
 use event_queue::EventQueue;
 use fourstate::Value;
 use gatestep::{Driver, StepFault, Stepper, Task};
-use std::alloc::Global;
-use waveform::{Trace, Wave};
+use std::alloc::{AllocError, Global};
+use waveform::{Run, Trace, Wave, laws};
 
 /// What stands between two moments of a run, and what is to happen.
 #[derive(Drop)]
@@ -41,17 +41,20 @@ pub struct Engine {
     pub points: EventQueue,
     // The lists of one moment, which live through the run.
     listed: Vec<usize>,
-    gates: Vec<usize>,
+    /// The gates that are stirred at the moment, in order.
+    pub gates: Vec<usize>,
     nets: Vec<usize>,
     changed: Vec<usize>,
     driven: Vec<Value>,
-    tasks: Vec<Task>,
-    answers: Vec<Driver>,
+    /// Room for tasks.
+    pub tasks: Vec<Task>,
+    /// The answers of the stirred gates.
+    pub answers: Vec<Driver>,
 }
 
 impl Engine {
     /// What stands after moment 0.
-    pub fn open<S: Stepper>(
+    pub(crate) fn open<S: Stepper>(
         alloc: Global,
         design: &Design,
         wiring: &Wiring,
@@ -63,18 +66,23 @@ impl Engine {
         ensures part { OnErr result (HasGrownOrNot (S.asked stepper.old) (S.asked stepper.new) (work_at S.answer (netlist design.now) 0)) }
         ensures lost { S.losses stepper.new ≡ S.losses stepper.old + (if loses_a_worker result then 1 else 0) }
     {
-        design.lawful();
-        let mut moment = Moment::before(alloc, design)?;
-        moment.pass(design, wiring, stepper, 0)?;
-        let recording = Recording::open(alloc, &moment)?;
-        let events = list_events(alloc, moment.states.as_slice())?;
-        let points = list_points(alloc, design, 0)?;
-        let (states, values) = moment.parts();
-        Ok(Engine::new(alloc, states, values, recording, events, points))
+        let mut opening = Opening::before::<S>(alloc, design, wiring)?;
+        ask(
+            design,
+            wiring,
+            opening.values.as_slice(),
+            opening.states.as_slice(),
+            opening.gates.as_slice(),
+            stepper,
+            0,
+            &mut opening.tasks,
+            &mut opening.answers,
+        )?;
+        Ok(opening.settle::<S>(alloc, design)?)
     }
 
     /// What stands with these states, values and lines, and is to happen at these moments.
-    pub fn new(
+    pub(crate) fn new(
         alloc: Global,
         states: Vec<Driver>,
         values: Vec<Value>,
@@ -108,7 +116,7 @@ impl Engine {
     }
 
     /// The next moment for which something is noted.
-    pub fn next(&self) -> Option<u64>
+    fn next(&self) -> Option<u64>
         ensures some { IfSome result (λ t. noted self.now.events t ≡ [] → noted self.now.points t ≢ []) }
         ensures events { IfSome result (λ t. (u : ℕ) → u < t → noted self.now.events u ≡ []) }
         ensures points { IfSome result (λ t. (u : ℕ) → u < t → noted self.now.points u ≡ []) }
@@ -128,7 +136,7 @@ impl Engine {
     }
 
     /// Goes through the moment `t`, before which all is done. After a fault what stands is not known.
-    pub fn pass<S: Stepper>(
+    pub(crate) fn pass<S: Stepper>(
         &mut self,
         alloc: Global,
         design: &Design,
@@ -143,6 +151,35 @@ impl Engine {
         ensures asked { OnOk result (S.asked stepper.new ≡ S.asked stepper.old ++ work_at S.answer (netlist design.now) t) }
         ensures part { OnErr result (HasGrownOrNot (S.asked stepper.old) (S.asked stepper.new) (work_at S.answer (netlist design.now) t)) }
         ensures lost { S.losses stepper.new ≡ S.losses stepper.old + (if loses_a_worker result then 1 else 0) }
+    {
+        self.stir::<S>(alloc, design, wiring, t)?;
+        ask(
+            design,
+            wiring,
+            self.values.as_slice(),
+            self.states.as_slice(),
+            self.gates.as_slice(),
+            stepper,
+            t,
+            &mut self.tasks,
+            &mut self.answers,
+        )?;
+        self.settle::<S>(alloc, design, t)?;
+        Ok(())
+    }
+
+    /// Goes on to what the nets have at the moment `t`, before which all is done, and finds the stirred gates. After a fault
+    /// what stands is not known.
+    pub fn stir<S: Stepper>(
+        &mut self,
+        alloc: Global,
+        design: &Design,
+        wiring: &Wiring,
+        t: u64,
+    ) -> Result<(), AllocError>
+        requires wired { IsWiring (netlist design.now) wiring.now }
+        requires stands { Stands S.answer (netlist design.now) self.old t }
+        ensures { OnOk result (IsStirred S.answer (netlist design.now) self.new t) }
     {
         design.lawful();
         find_due(
@@ -174,17 +211,21 @@ impl Engine {
         )?;
         add_readers(wiring, self.changed.as_slice(), &mut self.gates)?;
         put_in_order(&mut self.gates);
-        ask(
-            design,
-            wiring,
-            self.values.as_slice(),
-            self.states.as_slice(),
-            self.gates.as_slice(),
-            stepper,
-            t,
-            &mut self.tasks,
-            &mut self.answers,
-        )?;
+        Ok(())
+    }
+
+    /// Takes the answers of the gates that are stirred at the moment `t` for their states. After a fault what stands is not
+    /// known.
+    pub fn settle<S: Stepper>(
+        &mut self,
+        alloc: Global,
+        design: &Design,
+        t: u64,
+    ) -> Result<(), AllocError>
+        requires stirred { IsStirred S.answer (netlist design.now) self.old t }
+        requires answers { self.old.answers.items ≡ map (state_before S.answer (netlist design.now) (t + 1)) (stirred_at S.answer (netlist design.now) t) }
+        ensures { OnOk result (Stands S.answer (netlist design.now) self.new (t + 1)) }
+    {
         settle::<S>(
             alloc,
             design,
@@ -198,13 +239,47 @@ impl Engine {
         Ok(())
     }
 
-    /// What is recorded.
-    pub fn into_recording(self) -> Recording
-        ensures { (result.waves ≡ self.waves) × (result.traces ≡ self.traces) }
+    /// The next moment, up to the horizon, at which something is noted, or else one more than the horizon. The moments below
+    /// `done` are done, and until then no gate is stirred.
+    pub fn advance<S: Stepper>(&self, design: &Design, done: u64) -> u64
+        requires stands { Stands S.answer (netlist design.now) self.now done }
+        requires within { done ≤ suc (netlist design.now).horizon }
+        ensures from { done ≤ result }
+        ensures within { result ≤ suc (netlist design.now).horizon }
+        ensures stands { Stands S.answer (netlist design.now) self.now result }
+        ensures quiet { (t : ℕ) → done ≤ t → t < result → stirred_at S.answer (netlist design.now) t ≡ [] }
+        ensures idle { work_below S.answer (netlist design.now) result ≡ work_below S.answer (netlist design.now) done }
     {
-        Recording {
+        design.lawful();
+        laws::no_change::<Value>();
+        laws::no_change::<Driver>();
+        let end = design.horizon() + 1;
+        self.next_below(end)
+    }
+
+    /// The next moment before `end` for which something is noted, or else `end`.
+    fn next_below(&self, end: u64) -> u64
+        ensures within { result ≤ end }
+        ensures some { result < end → noted self.now.events result ≡ [] → noted self.now.points result ≢ [] }
+        ensures events { (t : ℕ) → t < result → noted self.now.events t ≡ [] }
+        ensures points { (t : ℕ) → t < result → noted self.now.points t ≡ [] }
+    {
+        match self.next() {
+            Some(t) if t < end => t,
+            _ => end,
+        }
+    }
+
+    /// The run of the design, where all moments up to its horizon are done.
+    pub fn finish<S: Stepper>(self, alloc: Global, design: &Design) -> Result<Run, AllocError>
+        requires { Stands S.answer (netlist design.now) self (suc (netlist design.now).horizon) }
+        ensures { IfOk result (IsRun S.answer design.now) }
+    {
+        let recording = Recording {
             waves: self.waves,
             traces: self.traces,
-        }
+        };
+        let run = recording.finish(alloc, design)?;
+        Ok(run)
     }
 }

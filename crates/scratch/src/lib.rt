@@ -6,6 +6,7 @@ mod continuing;
 mod engine;
 mod extending;
 mod moment;
+mod noting;
 mod opening;
 pub mod plain;
 mod recording;
@@ -17,6 +18,10 @@ mod stirring;
 mod waves;
 mod wiring;
 
+pub use engine::Engine;
 pub use extending::extend;
+pub use moment::task_at;
+pub use opening::Opening;
 pub use run::simulate;
 pub use waves::{wave_at, wave_named};
+pub use wiring::{Cell, Input, Wiring, wire};

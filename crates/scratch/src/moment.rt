@@ -1,6 +1,6 @@
 //! One moment of a run: due events become current, then nets are resolved, then gates are evaluated.
 
-ghost use Rattle.std.specs.Prelude.{◌≡◌, ◌≤◌, ◌+◌, ◌++◌, map, length, slice_get, unwrap_or, All, OnOk, IfOk, MatchResult, if◌then◌else◌};
+ghost use Rattle.std.specs.Prelude.{◌≡◌, ◌<◌, ◌≤◌, ◌+◌, ◌++◌, IfSome, map, length, slice_get, unwrap_or, All, OnOk, IfOk, MatchResult, if◌then◌else◌};
 ghost use Rattle.fourstate.specs.declared.limits.TheConstants.{MAX_TIME};
 ghost use Rattle.gatestep.specs.Faults.{is_lost};
 ghost use Rattle.gatestep.specs.Record.{at_moment};
@@ -9,7 +9,7 @@ ghost use Rattle.gatestep.specs.Tasks.{IsReady, PendingFrom};
 ghost use Rattle.design.specs.Keys.{netlist};
 ghost use Rattle.scratch.specs.Kept.{IsWiring, currents_of, evaluation_from, evaluations_from, input_value, net_from, values_at, values_from};
 ghost use Rattle.scratch.specs.Run.{state_before, value};
-ghost use Rattle.scratch.specs.Work.{HasGrownOrNot};
+ghost use Rattle.scratch.specs.Work.{HasGrownOrNot, task_at};
 ghost use Rattle.scratch.specs.Plain.{all_work_at};
 
 use crate::wiring::{Cell, Input, Wiring};
@@ -73,6 +73,28 @@ impl Moment {
             (λ _. HasGrownOrNot (S.asked stepper.old) (S.asked stepper.new) (all_work_at S.answer (netlist design.now) t)) }
         ensures lost { S.losses stepper.new ≡ S.losses stepper.old + (if is_lost result then 1 else 0) }
     {
+        self.resolve::<S>(design, wiring, t)?;
+        find_tasks(
+            wiring,
+            self.values.as_slice(),
+            self.states.as_slice(),
+            &mut self.tasks,
+        )?;
+        self.step(stepper, t)
+    }
+
+    /// Finds the value of each net at the moment `t`, by the states before it.
+    pub fn resolve<S: Stepper>(
+        &mut self,
+        design: &Design,
+        wiring: &Wiring,
+        t: u64,
+    ) -> Result<(), AllocError>
+        requires wired { IsWiring (netlist design.now) wiring.now }
+        requires states { self.old.states.items ≡ map (state_before S.answer (netlist design.now) t) (netlist design.now).gates }
+        ensures values { OnOk result (self.new.values.items ≡ map (λ n. value S.answer (netlist design.now) n t) (netlist design.now).nets) }
+        ensures states { self.new.states.items ≡ self.old.states.items }
+    {
         find_currents(self.states.as_slice(), t, &mut self.currents)?;
         find_values(
             design,
@@ -82,13 +104,7 @@ impl Moment {
             &mut self.driven,
             &mut self.values,
         )?;
-        find_tasks(
-            wiring,
-            self.values.as_slice(),
-            self.states.as_slice(),
-            &mut self.tasks,
-        )?;
-        self.step(stepper, t)
+        Ok(())
     }
 
     /// The states and the values.
@@ -206,6 +222,27 @@ pub fn task(cell: &Cell, state: Driver, values: &[Value]) -> Task
         read_values.push(read(values, *input));
     }
     Task::new(cell.kind(), cell.delays(), state, read_values)
+}
+
+/// The task of the gate at a place at the moment `t`, by the states before it and the values at it.
+pub fn task_at<S: Stepper>(
+    design: &Design,
+    wiring: &Wiring,
+    values: &[Value],
+    states: &[Driver],
+    place: usize,
+    t: u64,
+) -> Task
+    requires wired { IsWiring (netlist design.now) wiring.now }
+    requires values { values.now ≡ map (λ n. value S.answer (netlist design.now) n t) (netlist design.now).nets }
+    requires states { states.now ≡ map (state_before S.answer (netlist design.now) t) (netlist design.now).gates }
+    requires ready { All (PendingFrom t) states.now }
+    requires there { place < length (netlist design.now).gates }
+    ensures task { IfSome (slice_get (netlist design.now).gates place) (λ g. result ≡ task_at S.answer (netlist design.now) g t) }
+    ensures ready { IsReady t result }
+{
+    let _design = design;
+    task(&wiring.cells[place], states[place], values)
 }
 
 /// The task of each cell.

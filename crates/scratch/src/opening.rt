@@ -1,62 +1,85 @@
-//! What is noted before a run goes on from a moment, and the next point of a net.
+//! Moment 0, at which every gate is stirred.
 
-ghost use Rattle.std.specs.Prelude.{◌≡◌, ◌<◌, ◌≤◌, ◌+◌, [], ℕ, true, All, IfOk, OnOk};
-ghost use Rattle.event_queue.specs.Noted.{noted};
-ghost use Rattle.gatestep.specs.Tasks.{PendingFrom};
+ghost use Rattle.std.specs.Prelude.{◌≡◌, map, true, IfOk};
 ghost use Rattle.design.specs.Keys.{netlist};
-ghost use Rattle.scratch.specs.Places.{Announces, Covers, IsNotedWithin, Keeps, pends_at, point_at};
+ghost use Rattle.scratch.specs.Kept.{IsWiring};
+ghost use Rattle.scratch.specs.Places.{passing};
+ghost use Rattle.scratch.specs.Run.{state_before};
+ghost use Rattle.scratch.specs.Stands.{IsOpening, Stands};
+ghost use Rattle.scratch.specs.Work.{stirred_at};
 
+use crate::engine::Engine;
+use crate::moment::Moment;
+use crate::noting::{list_events, list_points};
+use crate::recording::Recording;
+use crate::wiring::Wiring;
 use design::Design;
-use event_queue::EventQueue;
-use gatestep::Driver;
+use fourstate::Value;
+use gatestep::{Driver, Stepper, Task};
 use std::alloc::{AllocError, Global};
 
-/// The gates at the moments of their pending events.
-pub fn list_events(alloc: Global, states: &[Driver]) -> Result<EventQueue, AllocError>
-    ensures covers { IfOk result (λ events. Covers (pends_at states.now) (noted events) 0) }
-    ensures early { IfOk result (λ events. (n : ℕ) → All (PendingFrom n) states.now → (u : ℕ) → u < n → noted events u ≡ []) }
-{
-    let mut events = EventQueue::new(alloc);
-    for place in 0..states.len() {
-        let state = states[place];
-        if let Some((_, t)) = state.pend {
-            events.add(alloc, t, place)?;
-        }
-    }
-    Ok(events)
+/// What stands at moment 0 before its gates are evaluated.
+#[derive(Drop)]
+pub struct Opening {
+    /// The state of each gate's driver before it, in the order of the gates.
+    pub states: Vec<Driver>,
+    /// The value of each net, in the order of the nets.
+    pub values: Vec<Value>,
+    /// All gates, in order.
+    pub gates: Vec<usize>,
+    /// Room for tasks.
+    pub tasks: Vec<Task>,
+    /// The answers of the gates.
+    pub answers: Vec<Driver>,
 }
 
-/// Each net at the moment of its first stimulus point after the moment `t`.
-pub fn list_points(alloc: Global, design: &Design, t: u64) -> Result<EventQueue, AllocError>
-    ensures announces { IfOk result (λ points. Announces (point_at (netlist design.now).nets) (noted points) (t + 1)) }
-    ensures early { IfOk result (λ points. (u : ℕ) → u ≤ t → noted points u ≡ []) }
-{
-    let mut points = EventQueue::new(alloc);
-    for place in 0..design.net_count() {
-        note_next_point(alloc, design, place, t, &mut points)?;
+impl Opening {
+    /// What stands before any gate is evaluated.
+    pub fn before<S: Stepper>(
+        alloc: Global,
+        design: &Design,
+        wiring: &Wiring,
+    ) -> Result<Opening, AllocError>
+        requires wired { IsWiring (netlist design.now) wiring.now }
+        ensures { IfOk result (IsOpening S.answer (netlist design.now)) }
+    {
+        let mut moment = Moment::before(alloc, design)?;
+        moment.resolve::<S>(design, wiring, 0)?;
+        let (states, values) = moment.parts();
+        let gates = all_gates(alloc, design)?;
+        Ok(Opening {
+            states,
+            values,
+            gates,
+            tasks: Vec::new(alloc),
+            answers: Vec::new(alloc),
+        })
     }
-    Ok(points)
+
+    /// What stands after moment 0, by the answers of the gates.
+    pub fn settle<S: Stepper>(self, alloc: Global, design: &Design) -> Result<Engine, AllocError>
+        requires opening { IsOpening S.answer (netlist design.now) self }
+        requires answers { self.answers.items ≡ map (state_before S.answer (netlist design.now) 1) (stirred_at S.answer (netlist design.now) 0) }
+        ensures { IfOk result (λ engine. Stands S.answer (netlist design.now) engine 1) }
+    {
+        design.lawful();
+        let states = self.answers;
+        let values = self.values;
+        let recording = Recording::open(alloc, values.as_slice(), states.as_slice())?;
+        let events = list_events(alloc, states.as_slice())?;
+        let points = list_points(alloc, design, 0)?;
+        Ok(Engine::new(alloc, states, values, recording, events, points))
+    }
 }
 
-/// Notes the first stimulus point after the moment `t` of the net at a place.
-pub fn note_next_point(
-    alloc: Global,
-    design: &Design,
-    place: usize,
-    t: u64,
-    points: &mut EventQueue,
-) -> Result<(), AllocError>
-    ensures next { OnOk result ((u : ℕ) → t < u → point_at (netlist design.now).nets place u ≡ true → IsNotedWithin (noted points.new) place (t + 1) u) }
-    ensures kept { OnOk result (Keeps (noted points.old) (noted points.new)) }
-    ensures early { OnOk result ((u : ℕ) → u ≤ t → noted points.new u ≡ noted points.old u) }
+/// The places of all gates.
+fn all_gates(alloc: Global, design: &Design) -> Result<Vec<usize>, AllocError>
+    ensures { IfOk result (λ places. places.items ≡ passing (λ _. true) 0 (netlist design.now).gates) }
 {
-    if place >= design.net_count() {
-        return Ok(());
+    let count = design.gate_count();
+    let mut places = Vec::with_capacity(alloc, count)?;
+    for place in 0..count {
+        places.push(place)?;
     }
-    let net = design.net_at(place);
-    net.lawful();
-    if let Some(next) = net.next_point(t) {
-        points.add(alloc, next, place)?;
-    }
-    Ok(())
+    Ok(places)
 }

@@ -6,8 +6,9 @@ ghost use Rattle.catalog.specs.Catalog.{keys_of};
 ghost use Rattle.design.specs.Keys.{netlist};
 ghost use Rattle.scratch.specs.Recordings.{AreUnder};
 
-use crate::moment::Moment;
 use design::Design;
+use fourstate::Value;
+use gatestep::Driver;
 use std::alloc::{AllocError, Global};
 use waveform::{Run, Sample, Timeline, Trace, Wave};
 
@@ -22,13 +23,13 @@ pub struct Recording {
 
 impl Recording {
     /// What stands at moment 0.
-    pub fn open(alloc: Global, moment: &Moment) -> Result<Recording, AllocError>
-        requires { All (CanStore 0) moment.now.states.items }
-        ensures waves { IfOk result (λ recording. recording.waves.items ≡ map (λ v. (0, v) ∷ []) moment.now.values.items) }
-        ensures traces { IfOk result (λ recording. recording.traces.items ≡ map (λ s. (0, s) ∷ []) moment.now.states.items) }
+    pub fn open(alloc: Global, values: &[Value], states: &[Driver]) -> Result<Recording, AllocError>
+        requires { All (CanStore 0) states.now }
+        ensures waves { IfOk result (λ recording. recording.waves.items ≡ map (λ v. (0, v) ∷ []) values.now) }
+        ensures traces { IfOk result (λ recording. recording.traces.items ≡ map (λ s. (0, s) ∷ []) states.now) }
     {
-        let waves = open_each(alloc, moment.values.as_slice())?;
-        let traces = open_each(alloc, moment.states.as_slice())?;
+        let waves = open_each(alloc, values)?;
+        let traces = open_each(alloc, states)?;
         Ok(Recording { waves, traces })
     }
 

@@ -8,7 +8,7 @@ ghost use Rattle.scratch.specs.Stands.{Stands};
 ghost use Rattle.waveform.specs.Timelines.{value_by};
 
 use crate::engine::Engine;
-use crate::opening::{list_events, list_points};
+use crate::noting::{list_events, list_points};
 use crate::recording::Recording;
 use crate::waves::wave_at;
 use design::Design;

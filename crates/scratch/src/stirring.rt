@@ -7,7 +7,7 @@ ghost use Rattle.design.specs.Keys.{netlist};
 ghost use Rattle.scratch.specs.Kept.{output_at, places_at};
 ghost use Rattle.scratch.specs.Places.{Announces, AreRising, IsNotedWithin, Keeps, has, is_due_at, point_at};
 
-use crate::opening::note_next_point;
+use crate::noting::note_next_point;
 use crate::wiring::Wiring;
 use design::Design;
 use event_queue::EventQueue;

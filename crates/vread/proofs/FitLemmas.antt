@@ -44,9 +44,6 @@ nets_left ns more fit = record {
 }
 
 module _ (ns : List netlist.NetEntry) (n : netlist.NetEntry) (fit : AreFitNets (ns ++ n ∷ [])) where
-  pub net_named : IsTrue (is_name n.name)
-  net_named = all_last (λ m. IsTrue (is_name m.name)) ns n fit.named
-
   pub net_absent : (name : List ℕ) → name ≡ n.name → list_any (λ m. same_name m.name name) ns ≡ false
   net_absent name same =
       ap (λ (x : List ℕ). list_any (λ m. same_name m.name x) ns) same

@@ -8,6 +8,7 @@ pub mod LengthLemmas
 pub mod Lists
 pub mod NameLemmas
 pub mod NetLemmas
+pub mod NewNetLemmas
 pub mod NodeLemmas
 pub mod OwnNames
 pub mod PairLemmas

@@ -1,5 +1,5 @@
 -- The nets of a design, one after another.
-use Rattle.std.proofs.Common.{◌≡◌, ◌+◌, ◌-◌, ◌<◌, ◌≤◌, ◌++◌, Bool, true, false, List, [], ◌∷◌, map, Option, Some, None, refl, ap, subst, ◌∙◌, ℕ, suc, arith}
+use Rattle.std.proofs.Common.{◌≡◌, ◌++◌, true, false, List, Option, Some, None, refl, ap, subst, ◌∙◌, ℕ}
 use Rattle.std.specs.Prelude.{IfOk, IfSome, Result, Ok, Err}
 use Rattle.std.proofs.lemmas.Slice.Eq.{bytes_eq-Decides}
 use Rattle.fourstate.specs.declared.net.NetKind.{NetKind}
@@ -7,8 +7,6 @@ use Rattle.fourstate.specs.declared.net.NetKind.TheVariants.{Wire}
 use Rattle.design.specs.Keys.{Keyed, netlist}
 use Rattle.design.specs.Names.{same_name}
 use Rattle.design.specs.Netlist.{NetEntry, Netlist, has_net, new_net, with_net, with_net_kind}
-use Rattle.vtext.specs.declared.range.Range.{Range}
-use Rattle.vtext.specs.Ranges.{index_at, indexes_from, width}
 use Rattle.vread.proofs.Lists.{change_last}
 
 -- An input of another kind than `wire`.
@@ -34,23 +32,3 @@ input_made d new name kind o (Err e) there is absent holds = tt
 -- a name behind a path, whatever is made of the name
 pub same_joined : (f : List ℕ → List ℕ) (p q n m : List ℕ) → p ≡ q → n ≡ m → p ++ f n ≡ q ++ f m
 same_joined f p q n m path name = ap (λ (l : List ℕ). l ++ f n) path ∙ ap (λ (l : List ℕ). q ++ f l) name
-
-pub net_added : {E : Type 0} (r : Result Keyed E) (d : Netlist) (made name : List ℕ) (kind : NetKind) (is_input : Bool) → made ≡ name → IfOk r (λ k. netlist k ≡ with_net d (new_net made kind is_input))
-    → IfOk r (λ k. netlist k ≡ with_net d (new_net name kind is_input))
-net_added (Ok k) d made name kind is_input same holds = holds ∙ ap (λ (n : List ℕ). with_net d (new_net n kind is_input)) same
-net_added (Err e) d made name kind is_input same holds = tt
-
--- The bits of a vector, from a place on.
-module _ (f : ℕ → NetEntry) (range : Range) (place : ℕ) (ns all : List NetEntry) where
-  -- the one at the place comes first
-  pub next_bit : (i : ℕ) → i ≡ index_at range place → place < width range → ns ++ map f (indexes_from range place (width range - place)) ≡ all
-      → ns ++ ((f i ∷ []) ++ map f (indexes_from range (place + 1) (width range - (place + 1)))) ≡ all
-  next_bit i is within before =
-      let left : ℕ = width range - (place + 1) in
-      let count : suc left ≡ width range - place = omega arith in
-      ap (λ (j : ℕ). ns ++ (f j ∷ map f (indexes_from range (place + 1) left))) is
-      ∙ ap (λ (p : ℕ). ns ++ (f (index_at range place) ∷ map f (indexes_from range p left))) (omega arith)
-      ∙ ap (λ (n : ℕ). ns ++ map f (indexes_from range place n)) count ∙ before
-
-  pub no_bit : width range ≤ place → ns ++ map f (indexes_from range place (width range - place)) ≡ all → ns ++ [] ≡ all
-  no_bit past before = let count : 0 ≡ width range - place = omega arith in ap (λ (n : ℕ). ns ++ map f (indexes_from range place n)) count ∙ before

@@ -132,9 +132,13 @@ module _ (names : List (List ℕ)) where
   abbrev pub kept_nets : PlacedScope → List netlist.NetEntry
   kept_nets scope = slots_nets scope.path scope.slots scope.entry.nets
 
+-- the names of nets are good ones
+abbrev pub AreNamed : List netlist.NetEntry → Type 0
+AreNamed nets = All (λ net. IsTrue (is_name net.name)) nets
+
 -- nets that a design may have
 pub record AreFitNets (nets : List netlist.NetEntry) : Type 0 where
-  pub named : All (λ net. IsTrue (is_name net.name)) nets
+  pub named : AreNamed nets
   pub distinct : AllPairs (λ a b. a.name ≢ b.name) nets
   pub room : length nets ≤ MAX_NETS
 

@@ -67,7 +67,7 @@ fn design_from(
     let scopes = elaboration.scopes();
     let name = name_from(alloc, names.text(elaboration.top()))?;
     let design = Design::empty(alloc, hasher, name, unit_of(modules.unit()));
-    let design = with_nets(alloc, design, names, scopes)?;
+    let design = with_nets(alloc, design, names, scopes, elaboration.net_count())?;
     with_gates(alloc, design, names, scopes)
 }
 

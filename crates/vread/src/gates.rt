@@ -11,7 +11,7 @@ ghost use Rattle.vread.specs.Parts.{AreDistinctGates, AreFitGates, IsDrivable, I
 
 use crate::names::name_in;
 use crate::nets::key_of;
-use design::{Design, Gate, Name, NetKey, Terminal};
+use design::{Design, Gate, Inputs, Name, NetKey, Terminal};
 use elaboration::{NodeRef, Scope};
 use fourstate::Delays;
 use std::alloc::{AllocError, Global};
@@ -134,13 +134,13 @@ fn connections(
     design: &Design,
     scope: &Scope,
     inputs: &[vtext::Terminal],
-) -> Result<Vec<Terminal>, AllocError>
+) -> Result<Inputs, AllocError>
     requires { All (λ input. IsReadable (netlist design.now).nets (ref_at scope.now input)) inputs.now }
     ensures named { IfOk result (λ made. map (connection_in design.now.nets) made.items ≡ map (λ input. connection_of (netlist design.now).nets (ref_at scope.now input)) inputs.now) }
     ensures there { IfOk result (λ made. All (IsThere design.now.nets) made.items) }
     ensures count { IfOk result (λ made. length made.items ≡ length inputs.now) }
 {
-    let mut made = Vec::with_capacity(alloc, inputs.len())?;
+    let mut made = Inputs::with_capacity(alloc, inputs.len())?;
     for input in inputs {
         let connection = connection(design, scope.node(*input));
         made.push(connection)?;

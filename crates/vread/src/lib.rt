@@ -9,6 +9,7 @@ pub mod laws;
 mod lengths;
 mod names;
 mod nets;
+mod new_nets;
 mod reading;
 
 pub use reading::read;

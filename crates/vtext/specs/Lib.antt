@@ -15,4 +15,5 @@ pub mod Trees
 pub mod Turns
 pub mod Walks
 pub mod Sound
+pub mod Spellings
 pub mod Words

@@ -1,6 +1,6 @@
 //! Names that are those of bits of vectors.
 
-ghost use Rattle.std.specs.Prelude.{◌≡◌, ◌<◌, IfOk, IfSome, length};
+ghost use Rattle.std.specs.Prelude.{◌≡◌, ◌≢◌, ◌<◌, ◌++◌, ℕ, List, false, IfOk, IfSome, codes, length};
 ghost use Rattle.std.specs.List.{list_any};
 ghost use Rattle.lexing.specs.Numbers as numbers;
 ghost use Rattle.vtext.specs.Bits.{bit_at, bit_between, bit_names, bit_of, is_bit_of, is_index, is_named_bit, last_open, names_bit_of};
@@ -37,6 +37,16 @@ fn last_open(bytes: &[u8]) -> Option<usize>
         }
     }
     found
+}
+
+/// Whether bytes end with a closing bracket, as the name of a bit does.
+fn is_closed(bytes: &[u8]) -> bool
+    ensures { result ≡ false → (front : List ℕ) → bytes.now ≢ front ++ codes "]" }
+{
+    match bytes.strip_suffix(b"]".as_slice()) {
+        Some(_) => true,
+        None => false,
+    }
 }
 
 /// Whether bytes are what stands behind the opening bracket of this index.
@@ -81,6 +91,9 @@ impl<'a> Names<'a> {
         ensures { result ≡ bit_of self.now name (name_at self.now name) }
     {
         let bytes = self.text(name);
+        if !is_closed(bytes) {
+            return None;
+        }
         let place = last_open(bytes)?;
         self.bit_at(name, bytes, place)
     }

@@ -27,6 +27,7 @@ mod nets;
 mod parser_state;
 mod range;
 mod read;
+mod spelling;
 mod table;
 mod terminals;
 mod turn;

@@ -3,6 +3,7 @@
 ghost use Rattle.std.specs.Prelude.{◌≡◌, ◌≤◌, ◌^◌, [], IfOk, OnOk, OnErr, Some, length};
 ghost use Rattle.vtext.specs.Names.{name_at, number_of, with_name};
 
+use crate::spelling::Spelling;
 use design::NameHasher;
 use indexmap::IndexSet;
 use std::alloc::{AllocError, Global};
@@ -12,7 +13,7 @@ use std::marker::Model;
 /// 4,294,967,296.
 #[derive(Drop)]
 pub struct Names<'a> {
-    texts: IndexSet<&'a [u8], NameHasher>,
+    texts: IndexSet<Spelling<'a>, NameHasher>,
 }
 
 impl<'a> Model for Names<'a> {
@@ -20,7 +21,7 @@ impl<'a> Model for Names<'a> {
 
     ghost Value = { List (List ℕ) };
 
-    ghost view = { λ a. map (λ text. text.now) a.texts.keys };
+    ghost view = { λ a. map (λ text. text.bytes.now) a.texts.keys };
 
     ghost invariant = { λ a. length a.texts.keys ≤ 2 ^ 32 };
 }
@@ -40,7 +41,7 @@ impl<'a> Names<'a> {
     pub fn find(&self, name: &[u8]) -> Option<u32>
         ensures { result ≡ number_of self.now name.now }
     {
-        let place = self.texts.get_index_of(name)?;
+        let place = self.texts.get_index_of(&Spelling { bytes: name })?;
         Some(place as u32)
     }
 
@@ -57,7 +58,7 @@ impl<'a> Names<'a> {
         ensures { result.now ≡ name_at self.now number }
     {
         match self.texts.get_index(number as usize) {
-            Some(text) => *text,
+            Some(text) => text.bytes,
             None => &[],
         }
     }
@@ -71,7 +72,7 @@ impl<'a> Names<'a> {
         if self.texts.len() > u32::MAX as usize {
             return Err(AllocError);
         }
-        let (place, _) = self.texts.insert_full(name)?;
+        let (place, _) = self.texts.insert_full(Spelling { bytes: name })?;
         Ok(place as u32)
     }
 }

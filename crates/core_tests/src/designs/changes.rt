@@ -9,7 +9,7 @@ use super::{
     nets_read, set_point,
 };
 use crate::compare::equal;
-use design::{Design, GateKey, NetKey, Terminal};
+use design::{Design, GateKey, Inputs, NetKey};
 use fourstate::{Delays, GateKind, NetKind, Value, delay, fits};
 use std::alloc::Global;
 use std::process::Abort;
@@ -31,7 +31,7 @@ pub fn rewire(
     design: Design,
     gate: GateKey,
     output: &str,
-    inputs: Vec<Terminal>,
+    inputs: Inputs,
 ) -> Design
     requires { All (IsThere design.nets) inputs.items }
 {

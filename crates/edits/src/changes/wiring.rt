@@ -9,7 +9,7 @@ ghost use Rattle.edits.specs.Edits.{connection_of};
 
 use crate::fault::EditFault;
 use crate::pin::Pin;
-use design::{Design, NetKey, Terminal};
+use design::{Design, Inputs, NetKey, Terminal};
 use std::alloc::{AllocError, Global};
 
 /// The key of a gate's output, where its inputs are there too. `fit` says whether their number fits.
@@ -41,13 +41,13 @@ fn are_known(design: &Design, pins: &[Pin]) -> bool
 
 /// What a gate's inputs are connected to.
 #[tactic(auto, using(crate::proofs::KnownLemmas::known_at))]
-pub fn terminals(alloc: Global, design: &Design, pins: &[Pin]) -> Result<Vec<Terminal>, AllocError>
+pub fn terminals(alloc: Global, design: &Design, pins: &[Pin]) -> Result<Inputs, AllocError>
     requires { list_all (is_known (netlist design.now)) pins.now ≡ true }
     ensures named { IfOk result (λ terminals. map (connection_in design.now.nets) terminals.items ≡ map connection_of pins.now) }
     ensures there { IfOk result (λ terminals. All (IsThere design.now.nets) terminals.items) }
     ensures count { IfOk result (λ terminals. length terminals.items ≡ length pins.now) }
 {
-    let mut terminals = Vec::new(alloc);
+    let mut terminals = Inputs::new(alloc);
     for pin in pins {
         let terminal = terminal(design, pin).unwrap();
         terminals.push(terminal)?;

@@ -1,8 +1,8 @@
 use Rattle.std.proofs.Common.{take}
-use Rattle.std.specs.HashMap.{get_by_text}
 use Rattle.catalog.specs.Columns.{entries_in}
+use Rattle.catalog.specs.Found.{key_under}
 use Rattle.catalog.specs.Table.{AreFound}
 use Rattle.catalog.proofs.gather.gathered.Given as goal
 
 abbrev pub invariant-loop-index : goal.invariant-loop-index
-invariant-loop-index g l = AreFound g.R.Named.name (get_by_text l.map) (entries_in (take l.index l.order))
+invariant-loop-index g l = AreFound g.R.Named.name (key_under g.R.Named.name l.map) (entries_in (take l.index l.order))

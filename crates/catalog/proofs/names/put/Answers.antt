@@ -1,18 +1,19 @@
 use Rattle.std.proofs.Common.{◌≡◌, ◌∙◌, Some, refl, ap, sym, subst, inl, inr, if◌then◌else◌}
 use Rattle.std.specs.Arc.{arc_value}
-use Rattle.std.specs.HashMap.{get_by_text}
 use Rattle.std.specs.Result.{IsOk}
 use Rattle.catalog.specs.Catalog.{same_name}
+use Rattle.catalog.specs.Found.{key_under}
 use Rattle.catalog.proofs.NameLemmas.{lookup_same}
 use Rattle.catalog.proofs.names.put.Goals as goal
 
 pub returns : goal.returns
-returns c = λ other.
+returns g c = λ other.
+    let name_of = g.R.Named.name in
     let own = c.in_ok-make_mut.field-0.now in
-    let kept : get_by_text own other ≡ get_by_text (arc_value c.args.map) other =
+    let kept : key_under name_of own other ≡ key_under name_of (arc_value c.args.map) other =
     elim c.in_ok-make_mut.ensures.value [
-      | inl e ↦ ap (λ m. get_by_text m other) e
-      | inr copy ↦ lookup_same _ _ (λ p q r. (ap (λ bytes. same_name other bytes) r.0, r.1)) _ _ copy
+      | inl e ↦ ap (λ m. key_under name_of m other) e
+      | inr copy ↦ lookup_same _ _ (λ p q r. (ap (λ k. same_name other (name_of k.record)) r.0, r.1)) _ _ copy
     ] in
     let back = c.make_mut.follows.holds c.write.new.map (subst (λ r. IsOk r) (sym c.in_ok-make_mut.was) refl) in
-    ap (λ m. get_by_text m other) back ∙ c.in_ok-write.ensures other ∙ ap (λ o. if same_name c.args.name.now other then Some c.args.key else o) kept
+    ap (λ m. key_under name_of m other) back ∙ c.in_ok-write.ensures other ∙ ap (λ o. if same_name (name_of c.args.name.record) other then Some c.args.key else o) kept

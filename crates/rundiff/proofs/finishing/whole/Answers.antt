@@ -1,7 +1,7 @@
 use Rattle.std.proofs.Common.{◌∙◌, ◌-◌, ap, sym, arith}
 use Rattle.waveform.specs.Timelines.{entries_until}
 use Rattle.waveform.specs.Timelines.{changes_below}
-use Rattle.rundiff.proofs.OldLines.{keeps_none}
+use Rattle.rundiff.proofs.NamedLines.{keeps_none}
 use Rattle.rundiff.proofs.Putting.{if_mapped}
 use Rattle.rundiff.proofs.Tasks.{next_one}
 use Rattle.rundiff.proofs.finishing.whole.Goals as goal

@@ -10,7 +10,7 @@ use Rattle.design.specs.Netlist.{GateEntry, NetEntry, reads}
 use Rattle.rundiff.specs.Places.{blank_net, gate_at, is_among, is_live, net_at}
 use Rattle.rundiff.proofs.ByPlace.{get_at}
 use Rattle.rundiff.proofs.Driven.{is_there, read_get, take_whole}
-use Rattle.rundiff.proofs.OldLines.{some_equal}
+use Rattle.rundiff.proofs.NamedLines.{some_equal}
 use Rattle.rundiff.proofs.ReaderKeys.{reader_at}
 use Rattle.rundiff.proofs.Steps.{among_more, or_splits, same_place}
 use Rattle.rundiff.proofs.nets.readers_drive_live.Goals as goal

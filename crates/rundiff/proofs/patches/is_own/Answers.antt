@@ -1,6 +1,6 @@
 use Rattle.std.proofs.Common.{◌∙◌, ap, sym}
 use Rattle.std.specs.Option.{option_copied}
-use Rattle.rundiff.proofs.OldLines.{none_by}
+use Rattle.rundiff.proofs.NamedLines.{none_by}
 use Rattle.rundiff.proofs.patches.is_own.Goals as goal
 
 pub returns-in-Some : goal.returns-in-Some

@@ -2,7 +2,7 @@ use Rattle.std.proofs.Common.{◌≡◌, ◌∙◌, ◌≤◌, ap, sym, subst, �
 use Rattle.std.specs.Option.{ForSome}
 use Rattle.waveform.specs.Patches.{Keeps, PatchRecord}
 use Rattle.waveform.specs.Timelines.{end_of}
-use Rattle.rundiff.proofs.OldLines.{some_equal}
+use Rattle.rundiff.proofs.NamedLines.{some_equal}
 use Rattle.rundiff.proofs.Steps.{mapped}
 use Rattle.rundiff.proofs.patches.leave.Goals as goal
 

@@ -2,7 +2,7 @@ use Rattle.std.proofs.Common.{◌≡◌, ◌≤◌, ◌+◌, sym, subst, arith, 
 use Rattle.rundiff.specs.PlaceMaps.{kept_at}
 use Rattle.waveform.specs.Patches.{Keeps, PatchRecord}
 use Rattle.waveform.specs.Timelines.{value_by}
-use Rattle.rundiff.proofs.OldLines.{any_former, own_former}
+use Rattle.rundiff.proofs.NamedLines.{any_former, own_former}
 use Rattle.rundiff.proofs.patches.put.Goals as goal
 
 pub returns-clause-made : goal.returns-clause-made

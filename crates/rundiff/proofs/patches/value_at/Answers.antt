@@ -3,7 +3,7 @@ use Rattle.rundiff.specs.PlaceMaps.{kept_at}
 use Rattle.std.specs.Option.{option_copied}
 use Rattle.waveform.specs.Patches.{Keeps, PatchRecord}
 use Rattle.waveform.specs.Timelines.{changes_below, value_by}
-use Rattle.rundiff.proofs.OldLines.{keeps_none, never_own, own_former}
+use Rattle.rundiff.proofs.NamedLines.{keeps_none, never_own, own_former}
 use Rattle.rundiff.proofs.patches.value_at.Goals as goal
 
 pub returns-in-Some-clause-value : goal.returns-in-Some-clause-value

@@ -4,18 +4,18 @@ use Rattle.scratch.specs.Stands.{Stands}
 use Rattle.scratch.specs.Work.{work_from}
 use Rattle.scratch.proofs.continuing.run_on.Given as goal
 
--- the moments below `done` are done
+-- the moments below `t` are done
 abbrev pub invariant-loop-t : goal.invariant-loop-t
 invariant-loop-t g l =
     let answer = g.S.Stepper.answer in
     let d = netlist l.fn.design in
     record {
-      stands : Stands answer d l.engine l.done;
-      begun : l.fn.start ≤ l.done;
-      within : l.done ≤ suc l.horizon;
-      asked : g.S.Stepper.asked l.stepper ≡ g.S.Stepper.asked l.fn.stepper ++ work_from answer d l.fn.start l.done;
+      stands : Stands answer d l.engine l.t;
+      begun : l.fn.start ≤ l.t;
+      within : l.t ≤ suc l.horizon;
+      asked : g.S.Stepper.asked l.stepper ≡ g.S.Stepper.asked l.fn.stepper ++ work_from answer d l.fn.start l.t;
       losses : g.S.Stepper.losses l.stepper ≡ g.S.Stepper.losses l.fn.stepper;
     }
 
 abbrev pub decreases-loop-t : goal.decreases-loop-t
-decreases-loop-t g l = suc l.horizon - l.done
+decreases-loop-t g l = suc l.horizon - l.t

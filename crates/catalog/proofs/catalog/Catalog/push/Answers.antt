@@ -21,8 +21,8 @@ invariant_of-result g c =
     let item = c.args.item in
     let next : c.in_ok-more.more ≡ old.len + 1 = search rules in
     let new : key_named name_of (entries_in cells) (name_of item) ≡ None = rw c.self.view_is c.requires in
-    let names = found c.in_ok-names.names in
-    let more = found c.in_ok-names-2.names in
+    let names = found name_of c.in_ok-names.names in
+    let more = found name_of c.in_ok-names-2.names in
     let slots = slot_at c.enter.new.slots in
     subst (λ l. IsTable name_of more slots l c.in_ok-more.more) (sym (c.in_ok-names-2.ensures.last ∙ ap (λ r. cells ++ Some (key, r) ∷ []) c.in_ok-item.ensures))
     (subst (λ n. IsTable name_of more slots (cells ++ Some (key, item) ∷ []) n) (sym next)

@@ -30,8 +30,8 @@ invariant_of-result g c =
     let left = slot_at c.remove.new.self in
     let at = by_slot (slot_at old.slots) cells c.args.key index c.self.invariant.placed (sym c.get.ensures ∙ c.in-Some.is) in
     let e = at.2.0 in
-    subst (λ l. IsTable g.R.Named.name (found old.names) left l (old.len - 1)) (sym c.in_ok-set.ensures.ok)
-    (table_clear g.R.Named.name (found old.names) (slot_at old.slots) left cells old.len index e at.2.1 (ap left at.2.2 ∙ c.in_ok-remove.ensures.gone)
+    subst (λ l. IsTable g.R.Named.name (found g.R.Named.name old.names) left l (old.len - 1)) (sym c.in_ok-set.ensures.ok)
+    (table_clear g.R.Named.name (found g.R.Named.name old.names) (slot_at old.slots) left cells old.len index e at.2.1 (ap left at.2.2 ∙ c.in_ok-remove.ensures.gone)
     (λ other apart. c.in_ok-remove.ensures.others other (λ same. apart (same ∙ sym at.2.2))) c.self.invariant)
 
 pub returns : goal.returns

@@ -35,8 +35,8 @@ invariant_of-result g c =
     let name : IfSome (record_at (entries_in cells) c.args.key) (λ was. name_of item ≡ name_of was) = rw c.self.view_is c.requires.name in
     let there = subst (λ (k : ℕ). IfSome (record_at (entries_in cells) k) (λ was. name_of item ≡ name_of was)) (sym at.2.2) name in
     let order = c.in_ok-set.ensures.ok ∙ ap (λ r. slice_set cells index (Some (c.args.key, r))) c.in_ok-item.ensures ∙ ap (λ (k : ℕ). slice_set cells index (Some (k, item))) (sym at.2.2) in
-    subst (λ l. IsTable name_of (found old.names) (slot_at old.slots) l old.len) (sym order)
-    (table_set name_of (found old.names) (slot_at old.slots) cells old.len index e item (table_distinct name_of _ _ _ _ c.self.invariant).keys at.2.1 there c.self.invariant)
+    subst (λ l. IsTable name_of (found name_of old.names) (slot_at old.slots) l old.len) (sym order)
+    (table_set name_of (found name_of old.names) (slot_at old.slots) cells old.len index e item (table_distinct name_of _ _ _ _ c.self.invariant).keys at.2.1 there c.self.invariant)
 
 pub returns : goal.returns
 returns g c =

@@ -1,4 +1,4 @@
-use Rattle.std.proofs.Common.{◌≡◌, ◌∙◌, ◌<◌, ◌≤◌, ap, sym, subst, refl, suc, ℕ, List, true, false, length, not, Option, ◌⊎◌, inl, inr, ⊎_elim, arith}
+use Rattle.std.proofs.Common.{◌≡◌, ◌∙◌, ◌<◌, ap, sym, subst, refl, suc, ℕ, List, true, false, length, not, Option, ◌⊎◌, inl, inr, ⊎_elim, arith}
 use Rattle.std.specs.Prelude.{◌&&◌, ◌||◌, AllPairs}
 use Rattle.rundiff.specs.PlaceMaps.{kept_at}
 use Rattle.std.specs.BTreeSet.{contains}

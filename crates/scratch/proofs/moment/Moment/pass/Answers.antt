@@ -1,9 +1,9 @@
-use Rattle.std.proofs.Common.{◌≡◌, ◌++◌, ◌∙◌, ap, map, Result, Ok, Err, MatchResult, OnOk, add-one, inr}
+use Rattle.std.proofs.Common.{◌≡◌, ◌++◌, ◌∙◌, ap, map, subst, sym, Result, Ok, Err, MatchResult, OnOk, All, add-one, inr}
 use Rattle.gatestep.specs.Record.{at_moment}
 use Rattle.gatestep.specs.Tasks.{PendingFrom}
 use Rattle.design.specs.Keys.{netlist}
 use Rattle.scratch.specs.Run.{evaluation_at, net_at, state_before}
-use Rattle.scratch.proofs.Moments.{evaluations_are, map_twice, task_states, values_are}
+use Rattle.scratch.proofs.Moments.{evaluations_are, map_twice, task_states}
 use Rattle.scratch.proofs.moment.Moment.pass.Goals as goal
 
 -- what holds anyway holds on an `Ok`
@@ -23,41 +23,34 @@ either (Err e) p follows = follows p
 
 pub step-requires-clause-ready : goal.step-requires-clause-ready
 step-requires-clause-ready g c =
-    rw (c.in_ok-find_tasks.ensures, c.as_slice-4.ensures.value)
-    (task_states (PendingFrom c.args.t) c.as_slice-3.result.now c.args.wiring.now.cells.items c.args.self.now.states.items c.requires.ready)
+    rw c.in_ok-find_tasks.ensures
+    (task_states (PendingFrom c.args.t) c.as_slice.result.now c.args.wiring.now.cells.items c.as_slice-2.result.now
+    (subst (All (PendingFrom c.args.t)) (sym (c.as_slice-2.ensures.value ∙ c.resolve.ensures.states)) c.requires.ready))
 
 pub returns-clause-values : goal.returns-clause-values
-returns-clause-values g c =
-    let d = netlist c.args.design.now in
-    let before = state_before g.S.Stepper.answer d c.args.t in
-    let values : c.find_values.new.out.items ≡ map (λ n. net_at d before n c.args.t) d.nets =
-    rw (c.in_ok-find_values.ensures, c.as_slice-2.ensures.value, c.in_ok-find_currents.ensures, c.as_slice.ensures.value)
-    (values_are d before c.args.t c.args.self.now.states.items _ c.requires.states c.requires.wired.drivers) in
-    held c.step.result (c.step.ensures.values ∙ values)
+returns-clause-values g c = held c.step.result (c.step.ensures.values ∙ c.in_ok-resolve.ensures.values)
 
 pub returns-clause-states : goal.returns-clause-states
 returns-clause-states g c =
     let d = netlist c.args.design.now in
     let answer = g.S.Stepper.answer in
     let before = state_before answer d c.args.t in
-    let values : c.as_slice-3.result.now ≡ map (λ n. net_at d before n c.args.t) d.nets =
-    rw (c.as_slice-3.ensures.value, c.in_ok-find_values.ensures, c.as_slice-2.ensures.value, c.in_ok-find_currents.ensures, c.as_slice.ensures.value)
-    (values_are d before c.args.t c.args.self.now.states.items _ c.requires.states c.requires.wired.drivers) in
+    let values : c.as_slice.result.now ≡ map (λ n. net_at d before n c.args.t) d.nets = c.as_slice.ensures.value ∙ c.in_ok-resolve.ensures.values in
+    let states : c.as_slice-2.result.now ≡ map before d.gates = c.as_slice-2.ensures.value ∙ c.resolve.ensures.states ∙ c.requires.states in
     let tasks : c.find_tasks.new.out.items ≡ map (λ g. evaluation_at d before g c.args.t) d.gates =
-    rw (c.in_ok-find_tasks.ensures, c.as_slice-4.ensures.value)
-    (evaluations_are d before c.args.t c.as_slice-3.result.now c.args.wiring.now.cells.items c.args.self.now.states.items values c.requires.wired.cells c.requires.states) in
+    c.in_ok-find_tasks.ensures
+    ∙ evaluations_are d before c.args.t c.as_slice.result.now c.args.wiring.now.cells.items c.as_slice-2.result.now values c.requires.wired.cells states in
     mapped c.step.result c.step.ensures.states (λ answers.
     rw add-one (answers ∙ ap (map (λ task. answer task c.args.t)) tasks ∙ map_twice (λ g. evaluation_at d before g c.args.t) (λ task. answer task c.args.t) d.gates))
 
 pub returns-clause-asked : goal.returns-clause-asked
 returns-clause-asked g c =
-    let d = (netlist c.args.design.now) in
+    let d = netlist c.args.design.now in
     let answer = g.S.Stepper.answer in
     let before = state_before answer d c.args.t in
-    let values : c.as_slice-3.result.now ≡ map (λ n. net_at d before n c.args.t) d.nets =
-    rw (c.as_slice-3.ensures.value, c.in_ok-find_values.ensures, c.as_slice-2.ensures.value, c.in_ok-find_currents.ensures, c.as_slice.ensures.value)
-    (values_are d before c.args.t c.args.self.now.states.items _ c.requires.states c.requires.wired.drivers) in
+    let values : c.as_slice.result.now ≡ map (λ n. net_at d before n c.args.t) d.nets = c.as_slice.ensures.value ∙ c.in_ok-resolve.ensures.values in
+    let states : c.as_slice-2.result.now ≡ map before d.gates = c.as_slice-2.ensures.value ∙ c.resolve.ensures.states ∙ c.requires.states in
     let tasks : c.find_tasks.new.out.items ≡ map (λ g. evaluation_at d before g c.args.t) d.gates =
-    rw (c.in_ok-find_tasks.ensures, c.as_slice-4.ensures.value)
-    (evaluations_are d before c.args.t c.as_slice-3.result.now c.args.wiring.now.cells.items c.args.self.now.states.items values c.requires.wired.cells c.requires.states) in
+    c.in_ok-find_tasks.ensures
+    ∙ evaluations_are d before c.args.t c.as_slice.result.now c.args.wiring.now.cells.items c.as_slice-2.result.now values c.requires.wired.cells states in
     either c.step.result (c.step.ensures.asked ∙ ap (λ l. g.S.Stepper.asked c.args.stepper.now ++ at_moment c.args.t l) tasks) inr

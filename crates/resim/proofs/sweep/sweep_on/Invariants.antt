@@ -1,0 +1,21 @@
+use Rattle.std.proofs.Common.{◌≡◌, ◌≤◌, ◌-◌, ◌++◌, ℕ, suc, List}
+use Rattle.gatestep.specs.Step.{Evaluation}
+use Rattle.design.specs.Keys.{netlist}
+use Rattle.scratch.specs.Stands.{Stands}
+use Rattle.rundiff.specs.Dirty.{rework_below}
+use Rattle.resim.proofs.sweep.sweep_on.Given as goal
+
+-- the moments below `t` are done
+abbrev pub invariant-loop-t : goal.invariant-loop-t
+invariant-loop-t g l =
+    let answer = g.S.Stepper.answer in
+    let old = netlist l.fn.old in let new = netlist l.fn.new in
+    record {
+      stands : Stands answer new l.engine l.t;
+      within : l.t ≤ suc l.horizon;
+      asked : (was : List (Evaluation × ℕ)) → g.S.Stepper.asked l.fn.stepper ≡ was ++ rework_below answer old new 1 → g.S.Stepper.asked l.stepper ≡ was ++ rework_below answer old new l.t;
+      losses : g.S.Stepper.losses l.stepper ≡ g.S.Stepper.losses l.fn.stepper;
+    }
+
+abbrev pub decreases-loop-t : goal.decreases-loop-t
+decreases-loop-t g l = suc l.horizon - l.t

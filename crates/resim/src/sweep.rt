@@ -1,0 +1,197 @@
+//! The run of a design beside a former one, moment by moment as from scratch: where most of the design differs, this is less
+//! work than to look for what does.
+
+ghost use Rattle.std.specs.Prelude.{◌≡◌, ◌≤◌, ◌+◌, ◌++◌, ℕ, suc, List, IfOk, OnErr, OnOk, if◌then◌else◌};
+ghost use Rattle.gatestep.specs.Step.{Evaluation};
+ghost use Rattle.design.specs.Keys.{netlist};
+ghost use Rattle.scratch.specs.Kept.{IsWiring};
+ghost use Rattle.scratch.specs.Lost.{loses_a_worker};
+ghost use Rattle.scratch.specs.Run.{IsRun};
+ghost use Rattle.scratch.specs.Stands.{Stands};
+ghost use Rattle.scratch.specs.Work.{HasGrownOrNot};
+ghost use Rattle.rundiff.specs.Dirty.{rework_at, rework_below};
+ghost use Rattle.rundiff.specs.OldLines.{AreOldLines};
+
+use crate::asking::ask_dirty;
+use design::Design;
+use fourstate::Value;
+use gatestep::{Driver, StepFault, Stepper};
+use rundiff::OldLines;
+use scratch::{Engine, Opening, Wiring, wire};
+use std::alloc::Global;
+use waveform::{Run, Timeline};
+
+/// The run of the new design, whose horizon is no later than that of the old one. Nothing of it is shared with the old run.
+pub fn sweep<S: Stepper>(
+    alloc: Global,
+    old: &Design,
+    run: &Run,
+    new: &Design,
+    stepper: &mut S,
+) -> Result<Run, StepFault>
+    requires run { IsRun S.answer old.now run.now }
+    requires horizon { (netlist new.now).horizon ≤ (netlist old.now).horizon }
+    ensures run { IfOk result (IsRun S.answer new.now) }
+    ensures asked { OnOk result (S.asked stepper.new ≡ S.asked stepper.old
+        ++ rework_below S.answer (netlist old.now) (netlist new.now) (suc (netlist new.now).horizon)) }
+    ensures part { OnErr result ((n : ℕ) × (n ≤ suc (netlist new.now).horizon)
+        × (S.asked stepper.new ≡ S.asked stepper.old ++ rework_below S.answer (netlist old.now) (netlist new.now) n)) }
+    ensures lost { S.losses stepper.new ≡ S.losses stepper.old + (if loses_a_worker result then 1 else 0) }
+{
+    let blank_wave = Timeline::open(alloc, Value::Unknown)?;
+    let blank_trace = Timeline::open(alloc, Driver::start())?;
+    let lines = OldLines::find::<S>(alloc, old, run, new, &blank_wave, &blank_trace)?;
+    sweep_beside(alloc, &lines, old, new, stepper)
+}
+
+/// The run of the new design beside these lines of the old one.
+fn sweep_beside<S: Stepper>(
+    alloc: Global,
+    lines: &OldLines,
+    old: &Design,
+    new: &Design,
+    stepper: &mut S,
+) -> Result<Run, StepFault>
+    requires lines { AreOldLines S.answer (netlist old.now) (netlist new.now) lines.now }
+    requires horizon { (netlist new.now).horizon ≤ (netlist old.now).horizon }
+    ensures run { IfOk result (IsRun S.answer new.now) }
+    ensures asked { OnOk result (S.asked stepper.new ≡ S.asked stepper.old
+        ++ rework_below S.answer (netlist old.now) (netlist new.now) (suc (netlist new.now).horizon)) }
+    ensures part { OnErr result ((n : ℕ) × (n ≤ suc (netlist new.now).horizon)
+        × (S.asked stepper.new ≡ S.asked stepper.old ++ rework_below S.answer (netlist old.now) (netlist new.now) n)) }
+    ensures lost { S.losses stepper.new ≡ S.losses stepper.old + (if loses_a_worker result then 1 else 0) }
+{
+    let wiring = wire(alloc, new)?;
+    let mut room = Room {
+        known: Vec::new(alloc),
+        fresh: Vec::new(alloc),
+    };
+    let engine = open_beside(alloc, lines, old, new, &wiring, stepper, &mut room)?;
+    sweep_on(alloc, lines, old, new, &wiring, engine, stepper, &mut room)
+}
+
+/// The lists of one moment, which live through a run.
+#[derive(Drop)]
+struct Room {
+    known: Vec<Option<Driver>>,
+    fresh: Vec<Driver>,
+}
+
+/// What stands after moment 0.
+fn open_beside<S: Stepper>(
+    alloc: Global,
+    lines: &OldLines,
+    old: &Design,
+    new: &Design,
+    wiring: &Wiring,
+    stepper: &mut S,
+    room: &mut Room,
+) -> Result<Engine, StepFault>
+    requires lines { AreOldLines S.answer (netlist old.now) (netlist new.now) lines.now }
+    requires wired { IsWiring (netlist new.now) wiring.now }
+    ensures stands { IfOk result (λ engine. Stands S.answer (netlist new.now) engine 1) }
+    ensures asked { OnOk result (S.asked stepper.new ≡ S.asked stepper.old ++ rework_at S.answer (netlist old.now) (netlist new.now) 0) }
+    ensures part { OnErr result (HasGrownOrNot (S.asked stepper.old) (S.asked stepper.new) (rework_at S.answer (netlist old.now) (netlist new.now) 0)) }
+    ensures lost { S.losses stepper.new ≡ S.losses stepper.old + (if loses_a_worker result then 1 else 0) }
+{
+    let mut opening = Opening::before::<S>(alloc, new, wiring)?;
+    ask_dirty(
+        lines,
+        old,
+        new,
+        wiring,
+        opening.values.as_slice(),
+        opening.states.as_slice(),
+        opening.gates.as_slice(),
+        stepper,
+        0,
+        &mut opening.tasks,
+        &mut room.known,
+        &mut room.fresh,
+        &mut opening.answers,
+    )?;
+    Ok(opening.settle::<S>(alloc, new)?)
+}
+
+/// Goes through the moment `t`, before which all is done. After a fault what stands is not known.
+fn pass_beside<S: Stepper>(
+    engine: &mut Engine,
+    alloc: Global,
+    lines: &OldLines,
+    old: &Design,
+    new: &Design,
+    wiring: &Wiring,
+    stepper: &mut S,
+    t: u64,
+    room: &mut Room,
+) -> Result<(), StepFault>
+    requires lines { AreOldLines S.answer (netlist old.now) (netlist new.now) lines.now }
+    requires wired { IsWiring (netlist new.now) wiring.now }
+    requires stands { Stands S.answer (netlist new.now) engine.old t }
+    requires within { t ≤ (netlist old.now).horizon }
+    ensures stands { OnOk result (Stands S.answer (netlist new.now) engine.new (t + 1)) }
+    ensures asked { OnOk result (S.asked stepper.new ≡ S.asked stepper.old ++ rework_at S.answer (netlist old.now) (netlist new.now) t) }
+    ensures part { OnErr result (HasGrownOrNot (S.asked stepper.old) (S.asked stepper.new) (rework_at S.answer (netlist old.now) (netlist new.now) t)) }
+    ensures lost { S.losses stepper.new ≡ S.losses stepper.old + (if loses_a_worker result then 1 else 0) }
+{
+    engine.stir::<S>(alloc, new, wiring, t)?;
+    ask_dirty(
+        lines,
+        old,
+        new,
+        wiring,
+        engine.values.as_slice(),
+        engine.states.as_slice(),
+        engine.gates.as_slice(),
+        stepper,
+        t,
+        &mut engine.tasks,
+        &mut room.known,
+        &mut room.fresh,
+        &mut engine.answers,
+    )?;
+    engine.settle::<S>(alloc, new, t)?;
+    Ok(())
+}
+
+/// The run of the new design by an engine of which moment 0 is done.
+fn sweep_on<S: Stepper>(
+    alloc: Global,
+    lines: &OldLines,
+    old: &Design,
+    new: &Design,
+    wiring: &Wiring,
+    engine: Engine,
+    stepper: &mut S,
+    room: &mut Room,
+) -> Result<Run, StepFault>
+    requires lines { AreOldLines S.answer (netlist old.now) (netlist new.now) lines.now }
+    requires wired { IsWiring (netlist new.now) wiring.now }
+    requires stands { Stands S.answer (netlist new.now) engine 1 }
+    requires horizon { (netlist new.now).horizon ≤ (netlist old.now).horizon }
+    ensures run { IfOk result (IsRun S.answer new.now) }
+    ensures asked { OnOk result ((was : List (Evaluation × ℕ)) → S.asked stepper.old ≡ was ++ rework_below S.answer (netlist old.now) (netlist new.now) 1 →
+        S.asked stepper.new ≡ was ++ rework_below S.answer (netlist old.now) (netlist new.now) (suc (netlist new.now).horizon)) }
+    ensures part { OnErr result ((was : List (Evaluation × ℕ)) → S.asked stepper.old ≡ was ++ rework_below S.answer (netlist old.now) (netlist new.now) 1 →
+        (n : ℕ) × (n ≤ suc (netlist new.now).horizon) × (S.asked stepper.new ≡ was ++ rework_below S.answer (netlist old.now) (netlist new.now) n)) }
+    ensures lost { S.losses stepper.new ≡ S.losses stepper.old + (if loses_a_worker result then 1 else 0) }
+{
+    let horizon = new.horizon();
+    let mut engine = engine;
+    let mut t = engine.advance::<S>(new, 1);
+    while t <= horizon {
+        pass_beside(
+            &mut engine,
+            alloc,
+            lines,
+            old,
+            new,
+            wiring,
+            stepper,
+            t,
+            room,
+        )?;
+        t = engine.advance::<S>(new, t + 1);
+    }
+    Ok(engine.finish::<S>(alloc, new)?)
+}

@@ -1,0 +1,25 @@
+-- Lines of the old run by the places of the new design.
+use Rattle.std.proofs.Common.{◌≡◌, ◌∙◌, ap, sym, subst, refl, ℕ, zero, suc, ◌+◌, List, [], ◌∷◌, ◌++◌, Some, length, arith}
+use Rattle.std.specs.Prelude.{IfSome, slice_get}
+use Rattle.rundiff.specs.OldLines.{HoldsEach}
+
+pub holds_more : {X : Type 0} (P : ℕ → X → Type 0) (xs : List X) (x : X) → HoldsEach xs P → P (length xs) x → HoldsEach (xs ++ x ∷ []) P
+holds_more P [] x each here zero = here
+holds_more P [] x each here (suc p) = tt
+holds_more P (y ∷ ys) x each here zero = each zero
+holds_more P (y ∷ ys) x each here (suc p) = holds_more (λ q. P (suc q)) ys x (λ q. each (suc q)) here p
+
+-- an element more is as many as places so far, and is so too
+pub grown : {X : Type 0} (P : ℕ → X → Type 0) (xs ys : List X) (x : X) (k : ℕ) → ys ≡ xs ++ x ∷ [] → length xs ≡ k → HoldsEach xs P → P k x → HoldsEach ys P
+grown P xs ys x k more count each here =
+    subst (λ l. HoldsEach l P) (sym more) (holds_more P xs x each (subst (λ n. P n x) (sym count) here))
+
+pub holds_at : {X : Type 0} (P : ℕ → X → Type 0) (xs : List X) (k : ℕ) (x : X) → HoldsEach xs P → slice_get xs k ≡ Some x → P k x
+holds_at P xs k x each is = subst (λ o. IfSome o (P k)) is (each k)
+
+pub one_longer : {X : Type 0} (xs ys : List X) (x : X) (k : ℕ) → ys ≡ xs ++ x ∷ [] → length xs ≡ k → length ys ≡ k + 1
+one_longer xs ys x k more count = ap length more ∙ longer xs x ∙ ap (λ n. n + 1) count
+  where
+    longer : {X : Type 0} (xs : List X) (x : X) → length (xs ++ x ∷ []) ≡ length xs + 1
+    longer [] x = refl
+    longer (y ∷ ys) x = let rest = longer ys x in omega (arith, rest)

@@ -1,0 +1,21 @@
+use Rattle.std.proofs.Common.{◌≡◌, ◌∙◌, ap, sym, suc, List, ℕ}
+use Rattle.design.specs.Keys.{entry_in, netlist}
+use Rattle.design.specs.Netlist.{GateEntry}
+use Rattle.waveform.specs.Changes.{trace_below}
+use Rattle.rundiff.specs.Fronts.{named_state}
+use Rattle.rundiff.specs.Places.{blank_gate, gate_at}
+use Rattle.rundiff.proofs.ByPlace.{at_place}
+use Rattle.rundiff.proofs.EachPlace.{grown, one_longer}
+use Rattle.rundiff.proofs.old_lines.old_traces.Goals as goal
+
+pub loop-place-preserved : goal.loop-place-preserved
+loop-place-preserved g c =
+    let answer = g.S.Stepper.answer in let old = netlist c.args.old.now in let keyed = c.args.new.now in let new = netlist keyed in let place = c.loop-place.place in
+    let at : gate_at new place ≡ entry_in keyed.nets c.gate_at.result.now = at_place new.gates place blank_gate (entry_in keyed.nets c.gate_at.result.now) c.gate_at.ensures.named in
+    let named : c.as_str-name.result.now ≡ (gate_at new place).name = c.as_str-name.ensures ∙ c.name.ensures ∙ ap (λ (g : GateEntry). g.name) (sym at) in
+    record {
+      count = one_longer c.loop-place.traces.items c.push.new.self.items c.old_trace.result place c.in_ok-push.ensures.items c.loop-place.invariant.count;
+      each = grown (λ p trace. trace.now ≡ trace_below (named_state answer old (gate_at new p).name) (suc old.horizon))
+          c.loop-place.traces.items c.push.new.self.items c.old_trace.result place c.in_ok-push.ensures.items c.loop-place.invariant.count c.loop-place.invariant.each
+          (c.old_trace.ensures answer c.requires.run ∙ ap (λ (name : List ℕ). trace_below (named_state answer old name) (suc old.horizon)) named);
+    }

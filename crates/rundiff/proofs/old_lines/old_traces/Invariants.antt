@@ -1,0 +1,16 @@
+use Rattle.std.proofs.Common.{◌≡◌, suc, length}
+use Rattle.design.specs.Keys.{netlist}
+use Rattle.waveform.specs.Changes.{trace_below}
+use Rattle.rundiff.specs.Fronts.{named_state}
+use Rattle.rundiff.specs.OldLines.{HoldsEach}
+use Rattle.rundiff.specs.Places.{gate_at}
+use Rattle.rundiff.proofs.old_lines.old_traces.Given as goal
+
+-- those of the gates so far
+abbrev pub invariant-loop-place : goal.invariant-loop-place
+invariant-loop-place g l =
+    let old = netlist l.old in let new = netlist l.new in
+    record {
+      count : length l.traces.items ≡ l.place;
+      each : HoldsEach l.traces.items (λ p trace. trace.now ≡ trace_below (named_state g.S.Stepper.answer old (gate_at new p).name) (suc old.horizon));
+    }

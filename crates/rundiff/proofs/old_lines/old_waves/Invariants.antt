@@ -1,0 +1,17 @@
+use Rattle.std.proofs.Common.{◌≡◌, suc, length}
+use Rattle.design.specs.Connections.{to_net}
+use Rattle.design.specs.Keys.{netlist}
+use Rattle.waveform.specs.Changes.{wave_changes_below}
+use Rattle.rundiff.specs.Kept.{read_at}
+use Rattle.rundiff.specs.OldLines.{HoldsEach}
+use Rattle.rundiff.specs.Places.{net_at}
+use Rattle.rundiff.proofs.old_lines.old_waves.Given as goal
+
+-- those of the nets so far
+abbrev pub invariant-loop-place : goal.invariant-loop-place
+invariant-loop-place g l =
+    let old = netlist l.old in let new = netlist l.new in
+    record {
+      count : length l.waves.items ≡ l.place;
+      each : HoldsEach l.waves.items (λ p wave. wave.now ≡ wave_changes_below (read_at g.S.Stepper.answer old (to_net (net_at new p).name)) (suc old.horizon));
+    }

@@ -1,0 +1,42 @@
+-- What the old run has of the nets and gates of the new design, by their places there.
+use Rattle.std.specs.Prelude.{◌≡◌, ◌<◌, ℕ, suc, if◌then◌else◌, List, Option, Some, None, IfSome, length, slice_get}
+use Rattle.fourstate.specs.declared.value.Value.{Value}
+use Rattle.gatestep.specs.Step.{State, Evaluation}
+use Rattle.design.specs.Connections.{to_net}
+use Rattle.design.specs.Netlist.{GateEntry, Netlist}
+use Rattle.waveform.specs.Changes.{trace_below, wave_changes_below}
+use Rattle.scratch.specs.Run.{state_after}
+use Rattle.scratch.specs.declared.wiring.Input.{Input}
+use Rattle.scratch.specs.declared.wiring.Input.TheVariants.{At, Fixed}
+use Rattle.rundiff.specs.Dirty.{is_dirty, is_new}
+use Rattle.rundiff.specs.Fronts.{named_state}
+use Rattle.rundiff.specs.Kept.{read_at}
+use Rattle.rundiff.specs.Places.{gate_at, net_at}
+use Rattle.rundiff.specs.declared.old_lines.OldLines.{OldLines}
+
+-- this is so of each element and its place
+abbrev pub HoldsEach : {X : Type 0} → List X → (ℕ → X → Type 0) → Type 0
+HoldsEach xs P = (p : ℕ) → IfSome (slice_get xs p) (P p)
+
+-- where an input reads a net, there is a net at the place
+abbrev pub HasPlace : Netlist → Input → Type 0
+HasPlace new (At p) = p < length new.nets
+HasPlace new (Fixed v) = Unit {0}
+
+-- the lines of the old run: those of the nets and of the gates with the names of the new ones, and which gates are new
+pub record AreOldLines (answer : Evaluation → ℕ → State) (old new : Netlist) (lines : OldLines) : Type 0 where
+  pub wave_count : length lines.waves.items ≡ length new.nets
+  pub trace_count : length lines.traces.items ≡ length new.gates
+  pub other_count : length lines.others.items ≡ length new.gates
+  pub waves : HoldsEach lines.waves.items (λ p wave. wave.now ≡ wave_changes_below (read_at answer old (to_net (net_at new p).name)) (suc old.horizon))
+  pub traces : HoldsEach lines.traces.items (λ p trace. trace.now ≡ trace_below (named_state answer old (gate_at new p).name) (suc old.horizon))
+  pub others : HoldsEach lines.others.items (λ p other. other ≡ is_new old (gate_at new p))
+
+-- what an input of a gate of the new design reads in the old run
+abbrev pub former_value : (Evaluation → ℕ → State) → (old new : Netlist) → ℕ → Input → Value
+former_value answer old new t (At p) = read_at answer old (to_net (net_at new p).name) t
+former_value answer old new t (Fixed v) = v
+
+-- the state after t of a gate that is not dirty then
+abbrev pub known_at : (Evaluation → ℕ → State) → (old new : Netlist) → ℕ → GateEntry → Option State
+known_at answer old new t g = if is_dirty answer old new g t then None else Some (state_after answer new g t)

@@ -1,0 +1,210 @@
+//! What the old run has of the nets and gates of the new design, by their places there, so that no name is looked at again.
+
+ghost use Rattle.std.specs.Prelude.{◌≡◌, ◌<◌, ◌≤◌, ℕ, suc, false, [], ◌∷◌, All, IfOk, IfSome, length, map, slice_get};
+ghost use Rattle.gatestep.specs.Step.{Evaluation, initial};
+ghost use Rattle.design.specs.Connections.{to_net};
+ghost use Rattle.design.specs.Keys.{netlist};
+ghost use Rattle.waveform.specs.Changes.{trace_below, wave_changes_below};
+ghost use Rattle.scratch.specs.Kept.{cell_of};
+ghost use Rattle.scratch.specs.Run.{IsRun, state_before};
+ghost use Rattle.scratch.specs.Work.{task_at};
+ghost use Rattle.rundiff.specs.Dirty.{is_new};
+ghost use Rattle.rundiff.specs.Fronts.{named_state};
+ghost use Rattle.rundiff.specs.Kept.{read_at};
+ghost use Rattle.rundiff.specs.OldLines.{AreOldLines, HasPlace, HoldsEach, former_value, known_at};
+ghost use Rattle.rundiff.specs.Places.{gate_at, net_at};
+
+use crate::old::{old_trace, old_wave};
+use crate::same::{is_new_gate, same_values};
+use arrayvec::ArrayVec;
+use design::Design;
+use fourstate::{MAX_INPUTS, Value};
+use gatestep::{Driver, Stepper, Task};
+use scratch::{Cell, Input};
+use std::alloc::{AllocError, Global};
+use waveform::{Run, Sample, Trace, Wave, laws};
+
+/// The old run by the places of the new design.
+#[derive(Drop)]
+pub struct OldLines<'a> {
+    /// Of each net, the wave of the net of its name.
+    waves: Vec<&'a Wave>,
+    /// Of each gate, the trace of the gate of its name.
+    traces: Vec<&'a Trace>,
+    /// Of each gate, whether the old design has no such gate.
+    others: Vec<bool>,
+}
+
+impl<'a> OldLines<'a> {
+    /// The lines of the old run, and the blank ones where the old design has nothing of a name.
+    pub fn find<S: Stepper>(
+        alloc: Global,
+        old: &Design,
+        run: &'a Run,
+        new: &Design,
+        blank_wave: &'a Wave,
+        blank_trace: &'a Trace,
+    ) -> Result<OldLines<'a>, AllocError>
+        requires run { IsRun S.answer old.now run.now }
+        requires blank_wave { blank_wave.now ≡ (0, Value.Unknown) ∷ [] }
+        requires blank_trace { blank_trace.now ≡ (0, initial) ∷ [] }
+        ensures { IfOk result (AreOldLines S.answer (netlist old.now) (netlist new.now)) }
+    {
+        let waves = old_waves::<S>(alloc, old, run, new, blank_wave)?;
+        let traces = old_traces::<S>(alloc, old, run, new, blank_trace)?;
+        let others = other_gates(alloc, old, new)?;
+        Ok(OldLines {
+            waves,
+            traces,
+            others,
+        })
+    }
+
+    /// What an input of a gate of the new design reads in the old run.
+    fn value<S: Stepper>(&self, old: &Design, new: &Design, input: Input, t: u64) -> Value
+        requires lines { AreOldLines S.answer (netlist old.now) (netlist new.now) self.now }
+        requires place { HasPlace (netlist new.now) input }
+        requires within { t ≤ (netlist old.now).horizon }
+        ensures { result ≡ former_value S.answer (netlist old.now) (netlist new.now) t input }
+    {
+        let _old = old;
+        let _new = new;
+        laws::value_of_changes::<Value>();
+        match input {
+            Input::At(place) => self.waves[place].at(t),
+            Input::Fixed(value) => value,
+        }
+    }
+
+    /// What the inputs of a gate of the new design read in the old run.
+    fn inputs<S: Stepper>(
+        &self,
+        old: &Design,
+        new: &Design,
+        cell: &Cell,
+        t: u64,
+    ) -> ArrayVec<Value, MAX_INPUTS>
+        requires lines { AreOldLines S.answer (netlist old.now) (netlist new.now) self.now }
+        requires places { All (HasPlace (netlist new.now)) cell.now.inputs }
+        requires within { t ≤ (netlist old.now).horizon }
+        ensures { result.items ≡ map (former_value S.answer (netlist old.now) (netlist new.now) t) cell.now.inputs }
+    {
+        let mut values = ArrayVec::new();
+        for input in cell.inputs() {
+            values.push(self.value::<S>(old, new, *input, t));
+        }
+        values
+    }
+
+    /// The state before the moment `t`, in the old run, of the gate at a place, which the old design has.
+    fn state_before<S: Stepper>(&self, old: &Design, new: &Design, place: usize, t: u64) -> Driver
+        requires lines { AreOldLines S.answer (netlist old.now) (netlist new.now) self.now }
+        requires there { place < length (netlist new.now).gates }
+        requires within { t ≤ (netlist old.now).horizon }
+        requires known { is_new (netlist old.now) (gate_at (netlist new.now) place) ≡ false }
+        ensures { result ≡ state_before S.answer (netlist old.now) t (gate_at (netlist new.now) place) }
+    {
+        old.lawful();
+        let _design = new;
+        laws::value_of_changes::<Driver>();
+        if t == 0 {
+            return Driver::start();
+        }
+        self.traces[place].at(t - 1)
+    }
+
+    /// The state after the moment `t` of the gate at a place, where it is not dirty then; its task is given.
+    pub fn known_state<S: Stepper>(
+        &self,
+        old: &Design,
+        new: &Design,
+        cell: &Cell,
+        place: usize,
+        task: &Task,
+        t: u64,
+    ) -> Option<Driver>
+        requires lines { AreOldLines S.answer (netlist old.now) (netlist new.now) self.now }
+        requires there { place < length (netlist new.now).gates }
+        requires within { t ≤ (netlist old.now).horizon }
+        requires cell { cell.now ≡ cell_of (netlist new.now) (gate_at (netlist new.now) place) }
+        requires task { task.now ≡ task_at S.answer (netlist new.now) (gate_at (netlist new.now) place) t }
+        ensures { result ≡ known_at S.answer (netlist old.now) (netlist new.now) t (gate_at (netlist new.now) place) }
+    {
+        old.lawful();
+        new.lawful();
+        laws::value_of_changes::<Driver>();
+        if self.others[place] {
+            return None;
+        }
+        if !self
+            .state_before::<S>(old, new, place, t)
+            .is_same(task.state())
+        {
+            return None;
+        }
+        let inputs = self.inputs::<S>(old, new, cell, t);
+        if !same_values(inputs.as_slice(), task.inputs()) {
+            return None;
+        }
+        Some(self.traces[place].at(t))
+    }
+}
+
+/// Of each net of the new design, the wave of the net of its name.
+fn old_waves<'a, S: Stepper>(
+    alloc: Global,
+    old: &Design,
+    run: &'a Run,
+    new: &Design,
+    blank: &'a Wave,
+) -> Result<Vec<&'a Wave>, AllocError>
+    requires run { IsRun S.answer old.now run.now }
+    requires blank { blank.now ≡ (0, Value.Unknown) ∷ [] }
+    ensures count { IfOk result (λ waves. length waves.items ≡ length (netlist new.now).nets) }
+    ensures each { IfOk result (λ waves. HoldsEach waves.items (λ place wave.
+        wave.now ≡ wave_changes_below (read_at S.answer (netlist old.now) (to_net (net_at (netlist new.now) place).name)) (suc (netlist old.now).horizon))) }
+{
+    let mut waves = Vec::with_capacity(alloc, new.net_count())?;
+    for place in 0..new.net_count() {
+        let key = new.net_key_at(place);
+        let name = new.net_at(place).name().as_str();
+        waves.push(old_wave(old, run, key, name, blank))?;
+    }
+    Ok(waves)
+}
+
+/// Of each gate of the new design, the trace of the gate of its name.
+fn old_traces<'a, S: Stepper>(
+    alloc: Global,
+    old: &Design,
+    run: &'a Run,
+    new: &Design,
+    blank: &'a Trace,
+) -> Result<Vec<&'a Trace>, AllocError>
+    requires run { IsRun S.answer old.now run.now }
+    requires blank { blank.now ≡ (0, initial) ∷ [] }
+    ensures count { IfOk result (λ traces. length traces.items ≡ length (netlist new.now).gates) }
+    ensures each { IfOk result (λ traces. HoldsEach traces.items (λ place trace.
+        trace.now ≡ trace_below (named_state S.answer (netlist old.now) (gate_at (netlist new.now) place).name) (suc (netlist old.now).horizon))) }
+{
+    let mut traces = Vec::with_capacity(alloc, new.gate_count())?;
+    for place in 0..new.gate_count() {
+        let key = new.gate_key_at(place);
+        let name = new.gate_at(place).name().as_str();
+        traces.push(old_trace(old, run, key, name, blank))?;
+    }
+    Ok(traces)
+}
+
+/// Of each gate of the new design, whether the old design has no such gate.
+fn other_gates(alloc: Global, old: &Design, new: &Design) -> Result<Vec<bool>, AllocError>
+    ensures count { IfOk result (λ others. length others.items ≡ length (netlist new.now).gates) }
+    ensures each { IfOk result (λ others. HoldsEach others.items (λ place other. other ≡ is_new (netlist old.now) (gate_at (netlist new.now) place))) }
+{
+    let mut others = Vec::with_capacity(alloc, new.gate_count())?;
+    for place in 0..new.gate_count() {
+        let key = new.gate_key_at(place);
+        others.push(is_new_gate(old, new, key, new.gate_at(place)))?;
+    }
+    Ok(others)
+}

@@ -1,0 +1,38 @@
+use Rattle.std.proofs.Common.{◌≡◌, ◌+◌, ◌∙◌, arith}
+use Rattle.std.specs.Prelude.{◌-◌}
+use Rattle.design.specs.Keys.{netlist}
+use Rattle.scratch.specs.Run.{state_before}
+use Rattle.scratch.specs.Work.{is_stirred}
+use Rattle.scratch.proofs.Passing.{as_many_values}
+use Rattle.scratch.proofs.engine.Engine.settle.Goals as goal
+
+pub settle-requires-clause-gates : goal.settle-requires-clause-gates
+settle-requires-clause-gates g c = c.as_slice.ensures.value ∙ c.requires.stirred.gates
+
+pub settle-requires-clause-answers : goal.settle-requires-clause-answers
+settle-requires-clause-answers g c = c.as_slice-2.ensures.value ∙ c.requires.answers
+
+pub settle-requires-clause-beside : goal.settle-requires-clause-beside
+settle-requires-clause-beside g c =
+    let d = netlist c.args.design.now in let answer = g.S.Stepper.answer in
+    as_many_values (λ gate. is_stirred answer d gate c.args.t) (state_before answer d (c.args.t + 1)) d.gates c.as_slice.result.now c.as_slice-2.result.now
+    (settle-requires-clause-gates g c) (settle-requires-clause-answers g c)
+
+pub settle-requires-clause-events : goal.settle-requires-clause-events
+settle-requires-clause-events g c = rw c.as_slice.ensures.value c.requires.stirred.events
+
+pub returns : goal.returns
+returns g c =
+    let d = netlist c.args.design.now in let answer = g.S.Stepper.answer in let t = c.args.t in
+    let back : c.args.t + 1 - 1 ≡ c.args.t = omega arith in
+    record {
+      begun = omega arith;
+      states = c.in_ok-settle.ensures.states;
+      values = rw back c.requires.stirred.values;
+      waves = c.requires.stirred.waves;
+      traces = c.in_ok-settle.ensures.traces;
+      events = c.in_ok-settle.ensures.events;
+      points = c.requires.stirred.points;
+      no_early_event = c.in_ok-settle.ensures.early;
+      no_early_point = c.requires.stirred.no_early_point;
+    }
