@@ -1,11 +1,11 @@
 # The tasks of the repository; each works on a machine that has only the toolchain.
 
-.PHONY: all test try demo scripts faults mutants speed fmt
+.PHONY: all test try demo programs scripts faults mutants speed fmt
 
 all: try
 
-# CI: every proof from nothing, the mutants of must-fail/, the tests, the programs, the examples and the tests of the
-# Python package; it fails if no test ran, and says at its end where the processor's time went.
+# CI: every proof from nothing, a few mutants of each crate, the tests, the examples, and the tests of the programs and of
+# the Python package; it fails if no test ran, and says at its end where the processor's time went.
 test:
 	@tools/ci
 
@@ -16,6 +16,10 @@ try:
 # Builds the proved programs into bin/ and runs each example with them.
 demo:
 	@tools/demo
+
+# Runs the tests of bin/gatebench and bin/gaterace, after a demo; tools/program_tests runs one of them alone.
+programs:
+	@tools/program_tests
 
 # Runs the tests of the Python package with bin/gatebench, after a demo; tools/scripts runs one of them alone.
 scripts:

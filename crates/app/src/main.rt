@@ -11,8 +11,6 @@ mod numbers;
 mod refusal;
 mod session_run;
 mod start;
-#[cfg(test)]
-mod tests;
 
 use complaint::StartFault;
 use devices::Device;

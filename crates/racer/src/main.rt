@@ -14,8 +14,6 @@ mod refusal;
 mod script;
 mod start;
 mod take_turns;
-#[cfg(test)]
-mod tests;
 mod threads;
 
 use arguments::Args;

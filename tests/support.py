@@ -1,0 +1,54 @@
+"""What the tests of the programs share: a folder of their own, and a run of a program with what it printed and said."""
+import os
+import subprocess
+import tempfile
+import unittest
+from typing import Any, List, NamedTuple, Union
+
+# The longest design text, in bytes.
+MAX_TEXT = 4_194_304
+
+
+class Ended(NamedTuple):
+    """How a run ended: its status, what it printed, and what it said on standard error."""
+
+    status: int
+    printed: str
+    said: str
+
+
+class WithProgram(unittest.TestCase):
+    """A test in a folder of its own, with the program that the environment names by `variable`."""
+
+    variable = ""
+
+    def setUp(self) -> None:
+        self.program = os.environ[self.variable]
+        room = tempfile.TemporaryDirectory()
+        self.addCleanup(room.cleanup)
+        self.folder = room.name
+
+    def write(self, name: str, text: str) -> str:
+        """A file of the folder with this text; its name."""
+        with open(os.path.join(self.folder, name), "w", encoding="utf-8", newline="\n") as file:
+            file.write(text)
+        return name
+
+    def run_with(self, words: List[Union[str, bytes]], commands: str = "", **streams: Any) -> Ended:
+        """A run with these words and commands. Each of its three streams may be another one: a file, as `stdout=`."""
+        given = {"stdout": subprocess.PIPE, "stderr": subprocess.PIPE, **streams}
+        if "stdin" not in given:
+            given["input"] = commands.encode()
+        ran = subprocess.run([self.program, *words], cwd=self.folder, timeout=60, **given)
+        return Ended(ran.returncode, (ran.stdout or b"").decode(), (ran.stderr or b"").decode())
+
+    def help_text(self) -> str:
+        """What the program says of its use."""
+        return self.run_with(["--help"]).said
+
+    def check_refused_words(self, words: List[Union[str, bytes]], lines: str) -> None:
+        """They are refused with these lines on the word at fault, with the help behind them, and fit a screen."""
+        ended = self.run_with(words)
+        self.assertEqual(ended, Ended(2, "", lines + self.help_text()), words)
+        self.assertLessEqual(len(ended.said.splitlines()), 24)
+        self.assertLessEqual(max(len(it) for it in ended.said.splitlines()), 80)
