@@ -28,8 +28,8 @@ pub record AreOldLines (answer : Evaluation → ℕ → State) (old new : Netlis
   pub wave_count : length lines.waves.items ≡ length new.nets
   pub trace_count : length lines.traces.items ≡ length new.gates
   pub other_count : length lines.others.items ≡ length new.gates
-  pub waves : HoldsEach lines.waves.items (λ p wave. wave.now ≡ wave_changes_below (read_at answer old (to_net (net_at new p).name)) (suc old.horizon))
-  pub traces : HoldsEach lines.traces.items (λ p trace. trace.now ≡ trace_below (named_state answer old (gate_at new p).name) (suc old.horizon))
+  pub waves : HoldsEach lines.waves.items (λ p wave. wave ≡ wave_changes_below (read_at answer old (to_net (net_at new p).name)) (suc old.horizon))
+  pub traces : HoldsEach lines.traces.items (λ p trace. trace ≡ trace_below (named_state answer old (gate_at new p).name) (suc old.horizon))
   pub others : HoldsEach lines.others.items (λ p other. other ≡ is_new old (gate_at new p))
 
 -- what an input of a gate of the new design reads in the old run

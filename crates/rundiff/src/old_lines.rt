@@ -1,4 +1,5 @@
 //! What the old run has of the nets and gates of the new design, by their places there, so that no name is looked at again.
+//! The lines are read as time goes on, and each keeps what was found in it last: a reading leaves the same lines.
 
 ghost use Rattle.std.specs.Prelude.{◌≡◌, ◌<◌, ◌≤◌, ℕ, suc, false, [], ◌∷◌, All, IfOk, IfSome, length, map, slice_get};
 ghost use Rattle.gatestep.specs.Step.{Evaluation, initial};
@@ -22,15 +23,15 @@ use fourstate::{MAX_INPUTS, Value};
 use gatestep::{Driver, Stepper, Task};
 use scratch::{Cell, Input};
 use std::alloc::{AllocError, Global};
-use waveform::{Run, Sample, Trace, Wave, laws};
+use waveform::{CachedTimeline, Run, Sample, Trace, Wave, laws};
 
 /// The old run by the places of the new design.
 #[derive(Drop)]
 pub struct OldLines<'a> {
     /// Of each net, the wave of the net of its name.
-    waves: Vec<&'a Wave>,
+    waves: Vec<CachedTimeline<'a, Value>>,
     /// Of each gate, the trace of the gate of its name.
-    traces: Vec<&'a Trace>,
+    traces: Vec<CachedTimeline<'a, Driver>>,
     /// Of each gate, whether the old design has no such gate.
     others: Vec<bool>,
 }
@@ -61,11 +62,12 @@ impl<'a> OldLines<'a> {
     }
 
     /// What an input of a gate of the new design reads in the old run.
-    fn value<S: Stepper>(&self, old: &Design, new: &Design, input: Input, t: u64) -> Value
-        requires lines { AreOldLines S.answer (netlist old.now) (netlist new.now) self.now }
+    fn value<S: Stepper>(&mut self, old: &Design, new: &Design, input: Input, t: u64) -> Value
+        requires lines { AreOldLines S.answer (netlist old.now) (netlist new.now) self.old }
         requires place { HasPlace (netlist new.now) input }
         requires within { t ≤ (netlist old.now).horizon }
-        ensures { result ≡ former_value S.answer (netlist old.now) (netlist new.now) t input }
+        ensures value { result ≡ former_value S.answer (netlist old.now) (netlist new.now) t input }
+        ensures lines { AreOldLines S.answer (netlist old.now) (netlist new.now) self.new }
     {
         let _old = old;
         let _new = new;
@@ -78,16 +80,17 @@ impl<'a> OldLines<'a> {
 
     /// What the inputs of a gate of the new design read in the old run.
     fn inputs<S: Stepper>(
-        &self,
+        &mut self,
         old: &Design,
         new: &Design,
         cell: &Cell,
         t: u64,
     ) -> ArrayVec<Value, MAX_INPUTS>
-        requires lines { AreOldLines S.answer (netlist old.now) (netlist new.now) self.now }
+        requires lines { AreOldLines S.answer (netlist old.now) (netlist new.now) self.old }
         requires places { All (HasPlace (netlist new.now)) cell.now.inputs }
         requires within { t ≤ (netlist old.now).horizon }
-        ensures { result.items ≡ map (former_value S.answer (netlist old.now) (netlist new.now) t) cell.now.inputs }
+        ensures lines { AreOldLines S.answer (netlist old.now) (netlist new.now) self.new }
+        ensures values { result.items ≡ map (former_value S.answer (netlist old.now) (netlist new.now) t) cell.now.inputs }
     {
         let mut values = ArrayVec::new();
         for input in cell.inputs() {
@@ -97,12 +100,19 @@ impl<'a> OldLines<'a> {
     }
 
     /// The state before the moment `t`, in the old run, of the gate at a place, which the old design has.
-    fn state_before<S: Stepper>(&self, old: &Design, new: &Design, place: usize, t: u64) -> Driver
-        requires lines { AreOldLines S.answer (netlist old.now) (netlist new.now) self.now }
+    fn state_before<S: Stepper>(
+        &mut self,
+        old: &Design,
+        new: &Design,
+        place: usize,
+        t: u64,
+    ) -> Driver
+        requires lines { AreOldLines S.answer (netlist old.now) (netlist new.now) self.old }
         requires there { place < length (netlist new.now).gates }
         requires within { t ≤ (netlist old.now).horizon }
         requires known { is_new (netlist old.now) (gate_at (netlist new.now) place) ≡ false }
-        ensures { result ≡ state_before S.answer (netlist old.now) t (gate_at (netlist new.now) place) }
+        ensures lines { AreOldLines S.answer (netlist old.now) (netlist new.now) self.new }
+        ensures state { result ≡ state_before S.answer (netlist old.now) t (gate_at (netlist new.now) place) }
     {
         old.lawful();
         let _design = new;
@@ -115,7 +125,7 @@ impl<'a> OldLines<'a> {
 
     /// The state after the moment `t` of the gate at a place, where it is not dirty then; its task is given.
     pub fn known_state<S: Stepper>(
-        &self,
+        &mut self,
         old: &Design,
         new: &Design,
         cell: &Cell,
@@ -123,12 +133,13 @@ impl<'a> OldLines<'a> {
         task: &Task,
         t: u64,
     ) -> Option<Driver>
-        requires lines { AreOldLines S.answer (netlist old.now) (netlist new.now) self.now }
+        requires lines { AreOldLines S.answer (netlist old.now) (netlist new.now) self.old }
         requires there { place < length (netlist new.now).gates }
         requires within { t ≤ (netlist old.now).horizon }
         requires cell { cell.now ≡ cell_of (netlist new.now) (gate_at (netlist new.now) place) }
         requires task { task.now ≡ task_at S.answer (netlist new.now) (gate_at (netlist new.now) place) t }
-        ensures { result ≡ known_at S.answer (netlist old.now) (netlist new.now) t (gate_at (netlist new.now) place) }
+        ensures known { result ≡ known_at S.answer (netlist old.now) (netlist new.now) t (gate_at (netlist new.now) place) }
+        ensures lines { AreOldLines S.answer (netlist old.now) (netlist new.now) self.new }
     {
         old.lawful();
         new.lawful();
@@ -157,18 +168,18 @@ fn old_waves<'a, S: Stepper>(
     run: &'a Run,
     new: &Design,
     blank: &'a Wave,
-) -> Result<Vec<&'a Wave>, AllocError>
+) -> Result<Vec<CachedTimeline<'a, Value>>, AllocError>
     requires run { IsRun S.answer old.now run.now }
     requires blank { blank.now ≡ (0, Value.Unknown) ∷ [] }
     ensures count { IfOk result (λ waves. length waves.items ≡ length (netlist new.now).nets) }
     ensures each { IfOk result (λ waves. HoldsEach waves.items (λ place wave.
-        wave.now ≡ wave_changes_below (read_at S.answer (netlist old.now) (to_net (net_at (netlist new.now) place).name)) (suc (netlist old.now).horizon))) }
+        wave ≡ wave_changes_below (read_at S.answer (netlist old.now) (to_net (net_at (netlist new.now) place).name)) (suc (netlist old.now).horizon))) }
 {
     let mut waves = Vec::with_capacity(alloc, new.net_count())?;
     for place in 0..new.net_count() {
         let key = new.net_key_at(place);
         let name = new.net_at(place).name().as_str();
-        waves.push(old_wave(old, run, key, name, blank))?;
+        waves.push(CachedTimeline::new(old_wave(old, run, key, name, blank)))?;
     }
     Ok(waves)
 }
@@ -180,18 +191,18 @@ fn old_traces<'a, S: Stepper>(
     run: &'a Run,
     new: &Design,
     blank: &'a Trace,
-) -> Result<Vec<&'a Trace>, AllocError>
+) -> Result<Vec<CachedTimeline<'a, Driver>>, AllocError>
     requires run { IsRun S.answer old.now run.now }
     requires blank { blank.now ≡ (0, initial) ∷ [] }
     ensures count { IfOk result (λ traces. length traces.items ≡ length (netlist new.now).gates) }
     ensures each { IfOk result (λ traces. HoldsEach traces.items (λ place trace.
-        trace.now ≡ trace_below (named_state S.answer (netlist old.now) (gate_at (netlist new.now) place).name) (suc (netlist old.now).horizon))) }
+        trace ≡ trace_below (named_state S.answer (netlist old.now) (gate_at (netlist new.now) place).name) (suc (netlist old.now).horizon))) }
 {
     let mut traces = Vec::with_capacity(alloc, new.gate_count())?;
     for place in 0..new.gate_count() {
         let key = new.gate_key_at(place);
         let name = new.gate_at(place).name().as_str();
-        traces.push(old_trace(old, run, key, name, blank))?;
+        traces.push(CachedTimeline::new(old_trace(old, run, key, name, blank)))?;
     }
     Ok(traces)
 }

@@ -1,6 +1,7 @@
 //! Stored waves of nets and traces of drivers: functions of time, kept as the entries at which they change.
 #![tactic(auto)]
 
+mod cached;
 mod change;
 mod entries;
 mod entry;
@@ -13,6 +14,7 @@ mod timeline;
 mod trace;
 mod wave;
 
+pub use cached::CachedTimeline;
 pub use change::Change;
 pub use entry::TraceEntry;
 pub use patch::Patch;

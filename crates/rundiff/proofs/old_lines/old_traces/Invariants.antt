@@ -12,5 +12,5 @@ invariant-loop-place g l =
     let old = netlist l.old in let new = netlist l.new in
     record {
       count : length l.traces.items ≡ l.place;
-      each : HoldsEach l.traces.items (λ p trace. trace.now ≡ trace_below (named_state g.S.Stepper.answer old (gate_at new p).name) (suc old.horizon));
+      each : HoldsEach l.traces.items (λ p trace. trace ≡ trace_below (named_state g.S.Stepper.answer old (gate_at new p).name) (suc old.horizon));
     }

@@ -13,5 +13,5 @@ invariant-loop-place g l =
     let old = netlist l.old in let new = netlist l.new in
     record {
       count : length l.waves.items ≡ l.place;
-      each : HoldsEach l.waves.items (λ p wave. wave.now ≡ wave_changes_below (read_at g.S.Stepper.answer old (to_net (net_at new p).name)) (suc old.horizon));
+      each : HoldsEach l.waves.items (λ p wave. wave ≡ wave_changes_below (read_at g.S.Stepper.answer old (to_net (net_at new p).name)) (suc old.horizon));
     }

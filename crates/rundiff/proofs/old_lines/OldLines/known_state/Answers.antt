@@ -19,6 +19,7 @@ use Rattle.rundiff.proofs.Known.{known_gate}
 use Rattle.rundiff.proofs.Lists.{all_pass}
 use Rattle.rundiff.proofs.OneGate.{inputs_differ, new_decides}
 use Rattle.rundiff.proofs.ReadBefore.{all_placed, all_read}
+use Rattle.rundiff.proofs.Rereading.{with_trace}
 use Rattle.rundiff.proofs.Tasks.{old_settled}
 use Rattle.rundiff.proofs.old_lines.OldLines.known_state.Goals as goal
 
@@ -27,35 +28,36 @@ inputs-inputs-requires-clause-places g c =
     let new = netlist c.args.new.now in
     subst (λ (cell : CellRecord). All (HasPlace new) cell.inputs) (sym c.requires.cell) (all_placed new (gate_at new c.args.place).inputs)
 
-pub returns-then-not-same_values : goal.returns-then-not-same_values
-returns-then-not-same_values g c =
+pub returns-then-not-same_values-clause-known : goal.returns-then-not-same_values-clause-known
+returns-then-not-same_values-clause-known g c =
     let answer = g.S.Stepper.answer in let old = netlist c.args.old.now in let new = netlist c.args.new.now in let t = c.args.t in let gate = gate_at new c.args.place in
     let wired = all_pass (is_readable new) gate.inputs (c.lawful-2.ensures.design.wiring c.args.place blank_gate c.requires.there).inputs in
     let read : c.as_slice.result.now ≡ (task_at answer old gate t).inputs =
-    c.as_slice.ensures.value ∙ c.inputs-inputs.ensures ∙ ap (λ (cell : CellRecord). map (former_value answer old new t) cell.inputs) c.requires.cell ∙ all_read answer old new t gate.inputs wired in
+    c.as_slice.ensures.value ∙ c.inputs-inputs.ensures.values ∙ ap (λ (cell : CellRecord). map (former_value answer old new t) cell.inputs) c.requires.cell ∙ all_read answer old new t gate.inputs wired in
     ap (λ (b : Bool). cond b None (Some (state_after answer new gate t)))
-    (inputs_differ answer old new gate t c.requires.within c.state_before.result c.state.result (λ known. c.state_before.ensures)
+    (inputs_differ answer old new gate t c.requires.within c.state_before.result c.state.result (λ known. c.state_before.ensures.state)
     (c.state.ensures ∙ ap (λ (e : Evaluation). e.state) c.requires.task) (sym c.is_same.ensures ∙ c.if-not-is_same.false)
     c.as_slice.result.now c.inputs.result.now read (c.inputs.ensures ∙ ap (λ (e : Evaluation). e.inputs) c.requires.task) (sym c.same_values.ensures ∙ c.if-not-same_values.true))
 
-pub returns : goal.returns
-returns g c =
+pub returns-clause-known : goal.returns-clause-known
+returns-clause-known g c =
     let answer = g.S.Stepper.answer in let old = netlist c.args.old.now in let new = netlist c.args.new.now in let t = c.args.t in let p = c.args.place in let gate = gate_at new p in
     let wired = all_pass (is_readable new) gate.inputs (c.lawful-2.ensures.design.wiring p blank_gate c.requires.there).inputs in
     let read : c.as_slice.result.now ≡ (task_at answer old gate t).inputs =
-    c.as_slice.ensures.value ∙ c.inputs-inputs.ensures ∙ ap (λ (cell : CellRecord). map (former_value answer old new t) cell.inputs) c.requires.cell ∙ all_read answer old new t gate.inputs wired in
+    c.as_slice.ensures.value ∙ c.inputs-inputs.ensures.values ∙ ap (λ (cell : CellRecord). map (former_value answer old new t) cell.inputs) c.requires.cell ∙ all_read answer old new t gate.inputs wired in
     let low_gate : p < length c.args.self.now.others.items = let count = c.requires.lines.other_count in let there = c.requires.there in omega (arith, count, there) in
     let other : c.index.result.now ≡ is_new old gate =
     holds_at (λ p other. other ≡ is_new old (gate_at new p)) c.args.self.now.others.items p c.index.result.now c.requires.lines.others (read_get c.args.self.now.others.items p c.index.result.now low_gate c.index.ensures) in
     let known : is_new old gate ≡ false = sym other ∙ c.if-index.false in
     let clean : is_dirty answer old new gate t ≡ false =
-    sym (new_decides answer old new gate t c.requires.within c.state_before.result c.state.result (λ known. c.state_before.ensures)
+    sym (new_decides answer old new gate t c.requires.within c.state_before.result c.state.result (λ known. c.state_before.ensures.state)
     (c.state.ensures ∙ ap (λ (e : Evaluation). e.state) c.requires.task) (sym c.is_same.ensures ∙ c.if-not-is_same.false)
     c.as_slice.result.now c.inputs.result.now read (c.inputs.ensures ∙ ap (λ (e : Evaluation). e.inputs) c.requires.task) (sym c.same_values.ensures ∙ c.if-not-same_values.false)) ∙ known in
-    let low : p < length c.args.self.now.traces.items = let count = c.requires.lines.trace_count in let there = c.requires.there in omega (arith, count, there) in
-    let stored : c.index-2.result.now.now ≡ trace_below (named_state answer old gate.name) (suc old.horizon) =
-    holds_at (λ p trace. trace.now ≡ trace_below (named_state answer old (gate_at new p).name) (suc old.horizon)) c.args.self.now.traces.items p c.index-2.result.now c.requires.lines.traces
-    (read_get c.args.self.now.traces.items p c.index-2.result.now low c.index-2.ensures) in
+    let lines = c.inputs-inputs.new.self in let are = c.inputs-inputs.ensures.lines in
+    let low : p < length lines.traces.items = let count = are.trace_count in let there = c.requires.there in omega (arith, count, there) in
+    let stored : c.index_mut.result.now ≡ trace_below (named_state answer old gate.name) (suc old.horizon) =
+    holds_at (λ p trace. trace ≡ trace_below (named_state answer old (gate_at new p).name) (suc old.horizon)) lines.traces.items p c.index_mut.result.now are.traces
+    (read_get lines.traces.items p c.index_mut.result.now low c.index_mut.ensures.value) in
     let below : t < suc old.horizon = let h = c.requires.within in omega arith in
     let state : c.at.result ≡ state_after answer new gate t =
     c.at.ensures.value
@@ -64,3 +66,8 @@ returns g c =
     ∙ ap (λ o. option_map_or (λ h. state_after answer old h t) o initial) (known_gate old c.lawful.ensures.design gate known)
     ∙ clean_after answer old new gate t clean in
     ap (λ (s : State). Some s) state ∙ ap (λ (b : Bool). cond b None (Some (state_after answer new gate t))) (sym clean)
+
+pub returns-clause-lines : goal.returns-clause-lines
+returns-clause-lines g c =
+    with_trace g.S.Stepper.answer (netlist c.args.old.now) (netlist c.args.new.now) c.inputs-inputs.new.self c.args.place c.index_mut.result.now c.at.new.self c.index_mut.result.now
+    c.index_mut.ensures.value c.at.ensures.same c.inputs-inputs.ensures.lines
