@@ -26,7 +26,7 @@ use std::alloc::AllocError;
 /// Adds the task of the gate at a place where the gate is dirty at the moment `t`, and gives its state after it where it is
 /// not.
 fn weigh<S: Stepper>(
-    lines: &OldLines,
+    lines: &mut OldLines,
     old: &Design,
     new: &Design,
     wiring: &Wiring,
@@ -36,13 +36,14 @@ fn weigh<S: Stepper>(
     t: u64,
     tasks: &mut Vec<Task>,
 ) -> Result<Option<Driver>, AllocError>
-    requires lines { AreOldLines S.answer (netlist old.now) (netlist new.now) lines.now }
+    requires lines { AreOldLines S.answer (netlist old.now) (netlist new.now) lines.old }
     requires wired { IsWiring (netlist new.now) wiring.now }
     requires values { values.now ≡ map (λ n. value S.answer (netlist new.now) n t) (netlist new.now).nets }
     requires states { states.now ≡ map (state_before S.answer (netlist new.now) t) (netlist new.now).gates }
     requires ready { All (PendingFrom t) states.now }
     requires there { place < length (netlist new.now).gates }
     requires within { t ≤ (netlist old.now).horizon }
+    ensures lines { AreOldLines S.answer (netlist old.now) (netlist new.now) lines.new }
     ensures known { IfOk result (λ known. known ≡ known_at S.answer (netlist old.now) (netlist new.now) t (gate_at (netlist new.now) place)) }
     ensures tasks { OnOk result (tasks.new.items ≡ tasks.old.items ++ dirty_task S.answer (netlist old.now) (netlist new.now) t place) }
     ensures ready { OnOk result (All (IsReady t) tasks.old.items → All (IsReady t) tasks.new.items) }
@@ -58,7 +59,7 @@ fn weigh<S: Stepper>(
 
 /// Finds the tasks of the dirty gates among those at some places, and of the others the states after the moment `t`.
 fn weigh_all<S: Stepper>(
-    lines: &OldLines,
+    lines: &mut OldLines,
     old: &Design,
     new: &Design,
     wiring: &Wiring,
@@ -69,13 +70,14 @@ fn weigh_all<S: Stepper>(
     tasks: &mut Vec<Task>,
     known: &mut Vec<Option<Driver>>,
 ) -> Result<(), AllocError>
-    requires lines { AreOldLines S.answer (netlist old.now) (netlist new.now) lines.now }
+    requires lines { AreOldLines S.answer (netlist old.now) (netlist new.now) lines.old }
     requires wired { IsWiring (netlist new.now) wiring.now }
     requires values { values.now ≡ map (λ n. value S.answer (netlist new.now) n t) (netlist new.now).nets }
     requires states { states.now ≡ map (state_before S.answer (netlist new.now) t) (netlist new.now).gates }
     requires ready { All (PendingFrom t) states.now }
     requires there { All (λ place. place < length (netlist new.now).gates) gates.now }
     requires within { t ≤ (netlist old.now).horizon }
+    ensures lines { AreOldLines S.answer (netlist old.now) (netlist new.now) lines.new }
     ensures known { OnOk result (known.new.items ≡ map (λ place. known_at S.answer (netlist old.now) (netlist new.now) t (gate_at (netlist new.now) place)) gates.now) }
     ensures tasks { OnOk result (tasks.new.items ≡ flat_map (dirty_task S.answer (netlist old.now) (netlist new.now) t) gates.now) }
     ensures ready { OnOk result (All (IsReady t) tasks.new.items) }
@@ -114,7 +116,7 @@ fn weave(
 
 /// The answers of the gates that are stirred at the moment `t`, which are at these places: only the dirty ones are asked.
 pub fn ask_dirty<S: Stepper>(
-    lines: &OldLines,
+    lines: &mut OldLines,
     old: &Design,
     new: &Design,
     wiring: &Wiring,
@@ -128,13 +130,14 @@ pub fn ask_dirty<S: Stepper>(
     fresh: &mut Vec<Driver>,
     answers: &mut Vec<Driver>,
 ) -> Result<(), StepFault>
-    requires lines { AreOldLines S.answer (netlist old.now) (netlist new.now) lines.now }
+    requires lines { AreOldLines S.answer (netlist old.now) (netlist new.now) lines.old }
     requires wired { IsWiring (netlist new.now) wiring.now }
     requires values { values.now ≡ map (λ n. value S.answer (netlist new.now) n t) (netlist new.now).nets }
     requires states { states.now ≡ map (state_before S.answer (netlist new.now) t) (netlist new.now).gates }
     requires ready { All (PendingFrom t) states.now }
     requires gates { gates.now ≡ passing (λ g. is_stirred S.answer (netlist new.now) g t) 0 (netlist new.now).gates }
     requires within { t ≤ (netlist old.now).horizon }
+    ensures lines { AreOldLines S.answer (netlist old.now) (netlist new.now) lines.new }
     ensures answers { OnOk result (answers.new.items ≡ map (state_before S.answer (netlist new.now) (t + 1)) (stirred_at S.answer (netlist new.now) t)) }
     ensures asked { OnOk result (S.asked stepper.new ≡ S.asked stepper.old ++ rework_at S.answer (netlist old.now) (netlist new.now) t) }
     ensures part { OnErr result (HasGrownOrNot (S.asked stepper.old) (S.asked stepper.new) (rework_at S.answer (netlist old.now) (netlist new.now) t)) }

@@ -40,20 +40,21 @@ pub fn sweep<S: Stepper>(
 {
     let blank_wave = Timeline::open(alloc, Value::Unknown)?;
     let blank_trace = Timeline::open(alloc, Driver::start())?;
-    let lines = OldLines::find::<S>(alloc, old, run, new, &blank_wave, &blank_trace)?;
-    sweep_beside(alloc, &lines, old, new, stepper)
+    let mut lines = OldLines::find::<S>(alloc, old, run, new, &blank_wave, &blank_trace)?;
+    sweep_beside(alloc, &mut lines, old, new, stepper)
 }
 
 /// The run of the new design beside these lines of the old one.
 fn sweep_beside<S: Stepper>(
     alloc: Global,
-    lines: &OldLines,
+    lines: &mut OldLines,
     old: &Design,
     new: &Design,
     stepper: &mut S,
 ) -> Result<Run, StepFault>
-    requires lines { AreOldLines S.answer (netlist old.now) (netlist new.now) lines.now }
+    requires lines { AreOldLines S.answer (netlist old.now) (netlist new.now) lines.old }
     requires horizon { (netlist new.now).horizon ≤ (netlist old.now).horizon }
+    ensures lines { AreOldLines S.answer (netlist old.now) (netlist new.now) lines.new }
     ensures run { IfOk result (IsRun S.answer new.now) }
     ensures asked { OnOk result (S.asked stepper.new ≡ S.asked stepper.old
         ++ rework_below S.answer (netlist old.now) (netlist new.now) (suc (netlist new.now).horizon)) }
@@ -80,15 +81,16 @@ struct Room {
 /// What stands after moment 0.
 fn open_beside<S: Stepper>(
     alloc: Global,
-    lines: &OldLines,
+    lines: &mut OldLines,
     old: &Design,
     new: &Design,
     wiring: &Wiring,
     stepper: &mut S,
     room: &mut Room,
 ) -> Result<Engine, StepFault>
-    requires lines { AreOldLines S.answer (netlist old.now) (netlist new.now) lines.now }
+    requires lines { AreOldLines S.answer (netlist old.now) (netlist new.now) lines.old }
     requires wired { IsWiring (netlist new.now) wiring.now }
+    ensures lines { AreOldLines S.answer (netlist old.now) (netlist new.now) lines.new }
     ensures stands { IfOk result (λ engine. Stands S.answer (netlist new.now) engine 1) }
     ensures asked { OnOk result (S.asked stepper.new ≡ S.asked stepper.old ++ rework_at S.answer (netlist old.now) (netlist new.now) 0) }
     ensures part { OnErr result (HasGrownOrNot (S.asked stepper.old) (S.asked stepper.new) (rework_at S.answer (netlist old.now) (netlist new.now) 0)) }
@@ -117,7 +119,7 @@ fn open_beside<S: Stepper>(
 fn pass_beside<S: Stepper>(
     engine: &mut Engine,
     alloc: Global,
-    lines: &OldLines,
+    lines: &mut OldLines,
     old: &Design,
     new: &Design,
     wiring: &Wiring,
@@ -125,10 +127,11 @@ fn pass_beside<S: Stepper>(
     t: u64,
     room: &mut Room,
 ) -> Result<(), StepFault>
-    requires lines { AreOldLines S.answer (netlist old.now) (netlist new.now) lines.now }
+    requires lines { AreOldLines S.answer (netlist old.now) (netlist new.now) lines.old }
     requires wired { IsWiring (netlist new.now) wiring.now }
     requires stands { Stands S.answer (netlist new.now) engine.old t }
     requires within { t ≤ (netlist old.now).horizon }
+    ensures lines { AreOldLines S.answer (netlist old.now) (netlist new.now) lines.new }
     ensures stands { OnOk result (Stands S.answer (netlist new.now) engine.new (t + 1)) }
     ensures asked { OnOk result (S.asked stepper.new ≡ S.asked stepper.old ++ rework_at S.answer (netlist old.now) (netlist new.now) t) }
     ensures part { OnErr result (HasGrownOrNot (S.asked stepper.old) (S.asked stepper.new) (rework_at S.answer (netlist old.now) (netlist new.now) t)) }
@@ -157,7 +160,7 @@ fn pass_beside<S: Stepper>(
 /// The run of the new design by an engine of which moment 0 is done.
 fn sweep_on<S: Stepper>(
     alloc: Global,
-    lines: &OldLines,
+    lines: &mut OldLines,
     old: &Design,
     new: &Design,
     wiring: &Wiring,
@@ -165,10 +168,11 @@ fn sweep_on<S: Stepper>(
     stepper: &mut S,
     room: &mut Room,
 ) -> Result<Run, StepFault>
-    requires lines { AreOldLines S.answer (netlist old.now) (netlist new.now) lines.now }
+    requires lines { AreOldLines S.answer (netlist old.now) (netlist new.now) lines.old }
     requires wired { IsWiring (netlist new.now) wiring.now }
     requires stands { Stands S.answer (netlist new.now) engine 1 }
     requires horizon { (netlist new.now).horizon ≤ (netlist old.now).horizon }
+    ensures lines { AreOldLines S.answer (netlist old.now) (netlist new.now) lines.new }
     ensures run { IfOk result (IsRun S.answer new.now) }
     ensures asked { OnOk result ((was : List (Evaluation × ℕ)) → S.asked stepper.old ≡ was ++ rework_below S.answer (netlist old.now) (netlist new.now) 1 →
         S.asked stepper.new ≡ was ++ rework_below S.answer (netlist old.now) (netlist new.now) (suc (netlist new.now).horizon)) }

@@ -16,11 +16,11 @@ returns-clause-tasks g c =
     let task : c.task_at-task.result ≡ task_at answer new gate t = task_of answer new t c.args.place c.task_at-task.result c.requires.there c.task_at-task.ensures.task in
     elim c.if-is_none.branch [
       | then-is_none+in_ok-push w ↦
-          let dirty : is_dirty answer old new gate t ≡ true = dirty_by (is_dirty answer old new gate t) (state_after answer new gate t) c.known_state-known.result c.known_state-known.ensures (c.is_none.ensures ∙ ap not w.if-is_none.true) in
+          let dirty : is_dirty answer old new gate t ≡ true = dirty_by (is_dirty answer old new gate t) (state_after answer new gate t) c.known_state-known.result c.known_state-known.ensures.known (c.is_none.ensures ∙ ap not w.if-is_none.true) in
           ap (λ v. v.items) w.tasks-is ∙ w.in_ok-push.ensures.items
           ∙ ap (λ (e : Evaluation). c.args.tasks.now.items ++ e ∷ []) task ∙ ap (λ (b : Bool). c.args.tasks.now.items ++ cond b (task_at answer new gate t ∷ []) []) (sym dirty)
       | else-is_none w ↦
-          let clean : is_dirty answer old new gate t ≡ false = clean_by (is_dirty answer old new gate t) (state_after answer new gate t) c.known_state-known.result c.known_state-known.ensures (c.is_none.ensures ∙ ap not w.if-is_none.false) in
+          let clean : is_dirty answer old new gate t ≡ false = clean_by (is_dirty answer old new gate t) (state_after answer new gate t) c.known_state-known.result c.known_state-known.ensures.known (c.is_none.ensures ∙ ap not w.if-is_none.false) in
           ap (λ v. v.items) w.tasks-is ∙ sym (append-nil c.args.tasks.now.items)
           ∙ ap (λ (b : Bool). c.args.tasks.now.items ++ cond b (task_at answer new gate t ∷ []) []) (sym clean)
     ]

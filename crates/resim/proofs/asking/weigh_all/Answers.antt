@@ -13,4 +13,5 @@ loop-i-preserved g c =
       known = map_more (λ p. known_at answer old new t (gate_at new p)) gates i _ c.in_ok-state.state c.loop-i.known.items c.push.new.self.items c.loop-i-test.true c.in_ok-push.ensures.items c.in_ok-state.ensures.known c.loop-i.invariant.known;
       tasks = flat_more (dirty_task answer old new t) gates i _ c.loop-i.tasks.items c.weigh.new.tasks.items c.loop-i-test.true c.in_ok-state.ensures.tasks c.loop-i.invariant.tasks;
       ready = c.in_ok-state.ensures.ready c.loop-i.invariant.ready;
+      lines = c.weigh.ensures.lines;
     }

@@ -2,7 +2,7 @@ use Rattle.std.proofs.Common.{◌≡◌, map, take, All}
 use Rattle.std.specs.List.{flat_map}
 use Rattle.gatestep.specs.Tasks.{IsReady}
 use Rattle.design.specs.Keys.{netlist}
-use Rattle.rundiff.specs.OldLines.{known_at}
+use Rattle.rundiff.specs.OldLines.{AreOldLines, known_at}
 use Rattle.rundiff.specs.Places.{gate_at}
 use Rattle.resim.specs.Asking.{dirty_task}
 use Rattle.resim.proofs.asking.weigh_all.Given as goal
@@ -15,4 +15,5 @@ invariant-loop-i g l =
       known : l.known.items ≡ map (λ place. known_at answer old new l.t (gate_at new place)) gates;
       tasks : l.tasks.items ≡ flat_map (dirty_task answer old new l.t) gates;
       ready : All (IsReady l.t) l.tasks.items;
+      lines : AreOldLines answer old new l.lines;
     }

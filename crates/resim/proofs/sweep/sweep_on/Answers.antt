@@ -14,6 +14,7 @@ loop-t-init g c =
       stands = c.advance-t.ensures.stands;
       within = let is = c.horizon-horizon.ensures.horizon in let within = c.advance-t.ensures.within in omega arith;
       asked = λ was is. is ∙ ap (λ l. was ++ l) (sym (rework_idle answer old new 1 c.advance-t.result c.advance-t.ensures.from c.advance-t.ensures.quiet));
+      lines = c.requires.lines;
       losses = refl;
     }
 
@@ -36,6 +37,7 @@ loop-t-preserved g c =
       asked = λ was began.
           one_more answer old new was (g.S.Stepper.asked c.loop-t.stepper) (g.S.Stepper.asked c.pass_beside.new.stepper) t (c.loop-t.invariant.asked was began) c.in_ok-pass_beside.ensures.asked
           ∙ ap (λ l. was ++ l) (sym (rework_idle answer old new (suc t) next.result (rw add-one at next.ensures.from) (rw add-one at next.ensures.quiet)));
+      lines = c.pass_beside.ensures.lines;
       losses = grind (arith, common_steps);
     }
 
