@@ -6,6 +6,8 @@ mod benches;
 #[cfg(test)]
 mod bytes;
 #[cfg(test)]
+mod cached;
+#[cfg(test)]
 mod calls;
 #[cfg(test)]
 mod catalogs;

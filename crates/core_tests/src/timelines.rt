@@ -219,7 +219,7 @@ pub fn moving(value: Value, next: Value, time: u64) -> Driver
 }
 
 /// A driver of x that falls at 3 and rises at 12: the fall is stored with the first entry, the rise is scheduled at 7.
-fn fall_and_rise(rt: &impl Abort, alloc: Global) -> Trace {
+pub fn fall_and_rise(rt: &impl Abort, alloc: Global) -> Trace {
     let falling = moving(Value::Unknown, Value::Zero, 3);
     let mut trace = Trace::open(alloc, falling).expect(rt, "room");
     trace.push(3, standing(Value::Zero)).expect(rt, "room");
