@@ -56,7 +56,7 @@ class Words(Gatebench):
         self.assertEqual(self.delayed("b.v"), Ended(1, "", "line 1: 11 ZeroDelay\n"))
         for words, delay in {("--delay=3", "b.v"): 3, ("b.v", "--delay", "1"): 1, ("--delay=1000000", "b.v"): 1_000_000,
                              ("--horizon=4", "--delay", "03", "b.v"): 3}.items():  # fmt: skip
-            self.assertEqual(self.delayed(*words), Ended(0, f"ok 1\nok 2\n0 x\n{delay} 1\nok 2\nok 2\n"), words)
+            self.assertEqual(self.delayed(*words), Ended(0, f"ok 1\nok 2\n0 x\n{delay} 1\nok 2\n", ""), words)
 
     def test_the_number_of_workers_changes_no_byte(self) -> None:
         gates = "".join(f"not #1 g{place}(y{place}, a);\n" for place in range(4096))
