@@ -1,19 +1,52 @@
-//! Whether edits touched so many gates that a run beside the old one goes through the whole design.
+//! Whether edits touched so much that a run beside the old one goes through the whole design.
 
-use design::{Design, GateKey};
+use design::{Design, GateKey, NetKey};
 use edits::Touched;
+use std::alloc::{AllocError, Global};
 use waveform::Run;
 
 /// To look at a gate beside the old run takes about as long as to evaluate so many as from scratch (own).
 const LOOK: usize = 8;
 
-/// Whether gates that are touched, or read what these drive, are so many and were so busy in the old run that to go through all
-/// gates is less work than to look for what differs. The run is the same in either way.
-pub fn is_wide(run: &Run, new: &Design, touched: &Touched) -> bool {
-    are_many(new, touched) && are_busy(run, new, touched)
+/// A list that touches fewer nets than this is no stimulus of a whole design: it goes with what differs (own).
+const STIMULUS: usize = 64;
+
+/// Whether edits touched so much that to go through all gates is less work than to look for what differs: a good part of the
+/// inputs, or of the gates. The run is the same in either way.
+pub fn is_wide(
+    alloc: Global,
+    run: &Run,
+    new: &Design,
+    touched: &Touched,
+) -> Result<bool, AllocError> {
+    let is_stimulus = are_inputs_many(alloc, new, touched.nets.as_slice())?;
+    Ok(is_stimulus || are_many(new, touched) && are_busy(run, new, touched))
 }
 
-/// Whether these gates are a good part of all.
+/// Whether the inputs among these nets are a good part of all. Most gates drive a net of their own, so there are about as many
+/// inputs as there are more nets than gates.
+fn are_inputs_many(alloc: Global, new: &Design, nets: &[NetKey]) -> Result<bool, AllocError> {
+    if nets.len() < STIMULUS {
+        return Ok(false);
+    }
+    let mut inputs = Vec::with_capacity(alloc, nets.len())?;
+    for net in nets {
+        if is_input(new, *net) {
+            inputs.push(net.number())?;
+        }
+    }
+    inputs.sort_unstable();
+    inputs.dedup();
+    let all = new.net_count().saturating_sub(new.gate_count());
+    Ok(!inputs.is_empty() && inputs.len().saturating_mul(LOOK) >= all)
+}
+
+/// Whether the design has an input of this key.
+fn is_input(new: &Design, net: NetKey) -> bool {
+    new.net_place_of(net).is_some() && new.net_of(net).is_input()
+}
+
+/// Whether the touched gates and those that read what they drive are a good part of all.
 fn are_many(new: &Design, touched: &Touched) -> bool {
     let mut count = touched.gates.len();
     for gate in touched.gates.as_slice() {
