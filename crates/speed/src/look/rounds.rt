@@ -2,7 +2,7 @@
 
 ghost use Rattle.std.specs.Prelude.{◌≡◌};
 
-use crate::looks::{Times, times_of};
+use super::looks::{Times, times_of};
 use bench::Bench;
 use design::Design;
 use edits::Edit;

@@ -1,7 +1,8 @@
 //! Random edits of a circuit.
 
-use crate::circuit::{input_count, name_of, random_delay, random_pins};
-use crate::random::Random;
+use super::circuit::{input_count, random_delay, random_pins};
+use super::random::Random;
+use crate::built::name_of;
 use anyhow::Result;
 use edits::Edit;
 use fourstate::{DelayTimes, Value};

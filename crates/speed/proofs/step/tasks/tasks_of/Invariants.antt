@@ -1,6 +1,6 @@
 use Rattle.std.proofs.Common.{All}
 use Rattle.gatestep.specs.Tasks.{IsReady}
-use Rattle.step_speed.proofs.tasks_of.Given as goal
+use Rattle.speed.proofs.step.tasks.tasks_of.Given as goal
 
 -- all tasks so far are ready
 abbrev pub invariant-loop-n : goal.invariant-loop-n

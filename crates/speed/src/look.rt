@@ -2,18 +2,15 @@
 //! own look while an editor commits, and while it does not. Each line of the output is `GATES VIEWERS EDITS HALF MOST SLOW SECOND
 //! COMMITS`: how many edits each commit has (0: there are no commits); the nanoseconds that half of the looks took at most, and
 //! that 999 of 1,000 took at most, each of the viewer for which it is the most; how many looks took more than 2 microseconds; how
-//! many looks all viewers made in a second together; and how many commits there were. Without words it writes nothing.
-#![tactic(auto)]
+//! many looks all viewers made in a second together; and how many commits there were.
 
 mod circuit;
-mod clock;
 mod looks;
 mod rounds;
 
 use anyhow::{Result, bail};
 use circuit::{circuit, delays};
 use std::alloc::Global;
-use std::env;
 use std::sync::Wait;
 use std::thread::Threads;
 use std::time::Clock;
@@ -45,14 +42,18 @@ fn row<R: Threads + Wait + Clock + Print + Sync>(
     Ok(())
 }
 
-fn main(rt: HostRuntime) -> Result<()> {
-    for word in env::args(&rt)?.skip(1) {
+/// The times of looks at circuits of the sizes that the words say.
+pub fn run<R: Threads + Wait + Clock + Print + Sync + AllocGlobal>(
+    rt: &R,
+    words: &[String],
+) -> Result<()> {
+    for word in words {
         let Ok(gates) = word.as_str().parse::<usize>() else {
             bail!("a size is a number of gates");
         };
         for edits in EDITS {
             for viewers in VIEWERS {
-                row(&rt, rt.alloc(), gates, viewers, edits)?;
+                row(rt, rt.alloc(), gates, viewers, edits)?;
             }
         }
     }

@@ -1,8 +1,8 @@
 //! What is timed.
 
+use super::changes::{KINDS, Kind, points_in_order, random_edits};
+use super::circuit::circuit;
 use crate::built::{applied, built, built_on};
-use crate::changes::{KINDS, Kind, points_in_order, random_edits};
-use crate::circuit::circuit;
 use crate::clock::{now, since};
 use anyhow::{Result, bail};
 use design::Design;

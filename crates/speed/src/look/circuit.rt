@@ -1,10 +1,11 @@
 //! A circuit of so many gates: gates of two inputs, each behind its net, which read inputs and earlier nets; one input for 16
 //! gates, and four points of each.
 
-use anyhow::{Result, bail};
-use design::{Design, Name, NameHasher};
-use edits::{Edit, MAX_EDITS, Pin, Pins, Word, apply_all};
-use fourstate::{DelayTimes, GateKind, NetKind, TimeUnit, Value};
+use crate::built::{built, name_of};
+use anyhow::Result;
+use design::Design;
+use edits::{Edit, Pin, Pins, Word};
+use fourstate::{DelayTimes, GateKind, NetKind, Value};
 use std::alloc::Global;
 
 const KINDS: [GateKind; 4] = [GateKind::Nand, GateKind::Nor, GateKind::Xor, GateKind::And];
@@ -18,11 +19,6 @@ const GAP: usize = 25;
 /// The last moment of the run.
 const HORIZON: u64 = 100;
 
-fn word(alloc: Global, letter: &str, number: usize) -> Result<Word> {
-    let text = format!(in alloc; "{letter}{number}")?;
-    Ok(Word::new(alloc, text.as_str())?)
-}
-
 fn input_count(gates: usize) -> usize {
     gates / 16 + 4
 }
@@ -35,9 +31,9 @@ fn source(alloc: Global, inputs: usize, number: usize, pin: usize) -> Result<Wor
         .wrapping_add(pin.wrapping_mul(104_729))
         % all;
     if place < inputs {
-        word(alloc, "a", place)
+        name_of(alloc, "a", place)
     } else {
-        word(alloc, "n", place - inputs)
+        name_of(alloc, "n", place - inputs)
     }
 }
 
@@ -48,10 +44,10 @@ fn gate(alloc: Global, inputs: usize, number: usize) -> Result<Edit> {
         pins.push(Pin::Net(net))?;
     }
     Ok(Edit::AddGate {
-        name: word(alloc, "g", number)?,
+        name: name_of(alloc, "g", number)?,
         kind: KINDS[number % 4],
         delays: DelayTimes::uniform((number % 10) as u64 + 1),
-        output: word(alloc, "n", number)?,
+        output: name_of(alloc, "n", number)?,
         inputs: pins,
     })
 }
@@ -63,7 +59,7 @@ fn point(alloc: Global, input: usize, place: usize) -> Result<Edit> {
         Value::Zero
     };
     let time = (place.wrapping_mul(GAP).wrapping_add(input % GAP)) as u64;
-    let net = word(alloc, "a", input)?;
+    let net = name_of(alloc, "a", input)?;
     Ok(Edit::Stim { net, time, value })
 }
 
@@ -71,11 +67,11 @@ fn all_edits(alloc: Global, gates: usize) -> Result<Vec<Edit>> {
     let mut edits = Vec::new(alloc);
     let inputs = input_count(gates);
     for number in 0..inputs {
-        let name = word(alloc, "a", number)?;
+        let name = name_of(alloc, "a", number)?;
         edits.push(Edit::AddInput { name })?;
     }
     for number in 0..gates {
-        let name = word(alloc, "n", number)?;
+        let name = name_of(alloc, "n", number)?;
         let kind = NetKind::Wire;
         edits.push(Edit::AddNet { name, kind })?;
         let gate = gate(alloc, inputs, number)?;
@@ -91,15 +87,7 @@ fn all_edits(alloc: Global, gates: usize) -> Result<Vec<Edit>> {
 /// The circuit of so many gates.
 pub fn circuit(alloc: Global, gates: usize) -> Result<Design> {
     let edits = all_edits(alloc, gates)?;
-    let hasher = NameHasher::fixed();
-    let top = Name::new(alloc, "circuit")?;
-    let mut design = Design::empty(alloc, hasher, top, TimeUnit::default());
-    for part in edits.as_slice().chunks(MAX_EDITS) {
-        let Ok(next) = apply_all(alloc, &design, part) else {
-            bail!("an edit is refused");
-        };
-        design = next;
-    }
+    let design = built(alloc, edits.as_slice())?;
     Ok(design.set_horizon(HORIZON))
 }
 
@@ -108,7 +96,7 @@ pub fn delays(alloc: Global, gates: usize, count: usize, delay: u64) -> Result<V
     let mut edits = Vec::new(alloc);
     for place in 0..count {
         let number = place.wrapping_mul(937) % gates.max(1);
-        let name = word(alloc, "g", number)?;
+        let name = name_of(alloc, "g", number)?;
         let delays = DelayTimes::uniform(delay);
         edits.push(Edit::SetDelay { name, delays })?;
     }

@@ -1,28 +1,26 @@
 //! Times of designs: for each size that the words ask for, building a random design of so many gates by edits, cloning it
-//! and editing it, in lists of edits and one by one. Each line of the output is `SIZE WHAT NANOSECONDS`, in processor time of the thread. Without words it
-//! writes nothing.
-#![tactic(auto)]
+//! and editing it, in lists of edits and one by one. Each line of the output is `SIZE WHAT NANOSECONDS`, in processor time of the
+//! thread.
 
-mod built;
 mod changes;
 mod circuit;
-mod clock;
 mod random;
 mod rounds;
 
 use anyhow::{Result, bail};
 use changes::KINDS;
-use std::env;
+use std::time::CpuClock;
 
 /// The seed of every circuit, so that each run builds the same ones.
 const SEED: u64 = 1;
 
-fn main(rt: HostRuntime) -> Result<()> {
-    for word in env::args(&rt)?.skip(1) {
+/// The times of designs of the sizes that the words say.
+pub fn run<R: CpuClock + Print + AllocGlobal>(rt: &R, words: &[String]) -> Result<()> {
+    for word in words {
         let Ok(gates) = word.as_str().parse::<usize>() else {
             bail!("a size is a number of gates");
         };
-        let times = rounds::measured(&rt, gates, SEED)?;
+        let times = rounds::measured(rt, gates, SEED)?;
         println!(rt; "{gates} build {}", times.build)?;
         println!(rt; "{gates} clone {}", times.clone)?;
         for (kind, nanoseconds) in KINDS.iter().zip(times.listed) {

@@ -1,7 +1,8 @@
 //! A random circuit, as the edits that build it: inputs `a0`, `a1`, .., and gates `g0`, `g1`, .., where `g7` drives the
 //! net `n7`. A gate reads inputs and earlier nets.
 
-use crate::random::Random;
+use super::random::Random;
+use crate::built::name_of;
 use anyhow::{Result, bail};
 use edits::{Edit, Pin, Pins, Word};
 use fourstate::{DelayTimes, GateKind, NetKind};
@@ -24,12 +25,6 @@ const MAX_DELAY: usize = 10;
 /// How many inputs a circuit of so many gates has.
 pub fn input_count(gates: usize) -> usize {
     (gates / 16).saturating_add(4)
-}
-
-/// The name of a letter and a number.
-pub fn name_of(alloc: Global, letter: &str, number: usize) -> Result<Word> {
-    let text = format!(in alloc; "{letter}{number}")?;
-    Ok(Word::new(alloc, text.as_str())?)
 }
 
 /// The edits that build a circuit of so many gates.

@@ -1,74 +1,31 @@
 //! Times of steps: for each number of tasks that the words ask for, one step on the caller's thread, by a parallel map, and
 //! by pools of 1, 2 and 4 workers. Each line of the output is `TASKS WHO NANOSECONDS CALLER`: the time that passed, and the
-//! processor time of the caller's thread, each the least of all rounds. Without words it writes nothing.
-#![tactic(auto)]
+//! processor time of the caller's thread, each the least of all rounds.
 
-ghost use Rattle.std.specs.Prelude.{All, IfOk, ◌<◌, ◌≤◌};
+ghost use Rattle.std.specs.Prelude.{All, ◌<◌, ◌≤◌};
 ghost use Rattle.gatestep.specs.Tasks.{IsReady};
 ghost use Rattle.parstep.specs.declared.limits.TheConstants.{MAX_WORKERS};
 
+mod tasks;
+
+use crate::clock::nanoseconds;
 use anyhow::{Result, bail};
-use arrayvec::ArrayVec;
-use fourstate::{Delays, GateKind, Value, fits};
-use gatestep::{Driver, Serial, Stepper, Task};
+use gatestep::{Serial, Stepper, Task};
 use parstep::{Bulk, Pool, Quiet};
 use std::alloc::Global;
-use std::env;
 use std::sync::Wait;
 use std::thread::Threads;
-use std::time::{Clock, CpuClock, Duration, Instant};
+use std::time::{Clock, CpuClock, Instant};
+use tasks::tasks_of;
 
 /// How often a step is made.
 const ROUNDS: usize = 40;
-
-const KINDS: [GateKind; 4] = [GateKind::And, GateKind::Nor, GateKind::Xor, GateKind::Nand];
-
-const VALUES: [Value; 4] = [Value::Zero, Value::One, Value::Unknown, Value::One];
-
-/// A ready task that differs from its neighbours.
-fn task(n: usize) -> Result<Task>
-    ensures { IfOk result (λ task. IsReady 0 task) }
-{
-    let Some(delays) = Delays::new(2, 3) else {
-        bail!("no delays");
-    };
-    let kind = KINDS[(n / 3) % 4];
-    let mut inputs = ArrayVec::new();
-    for k in 0..2 {
-        if inputs.try_push(VALUES[(n / (k + 1)) % 4]).is_err() {
-            bail!("no room");
-        }
-    }
-    if !fits(kind, inputs.as_slice().len()) {
-        bail!("other inputs");
-    }
-    Ok(Task::new(kind, delays, Driver::start(), inputs))
-}
-
-/// So many ready tasks.
-fn tasks_of(alloc: Global, count: usize) -> Result<Vec<Task>>
-    ensures { IfOk result (λ tasks. All (IsReady 0) tasks.items) }
-{
-    let mut tasks = Vec::new(alloc);
-    for n in 0..count {
-        let task = task(n)?;
-        if tasks.push(task).is_err() {
-            bail!("out of memory");
-        }
-    }
-    Ok(tasks)
-}
 
 /// What one step takes, in nanoseconds.
 #[derive(Clone, Copy)]
 struct Time {
     passed: u64,
     caller: u64,
-}
-
-fn nanoseconds(time: Duration) -> u64 {
-    let seconds = time.as_secs().saturating_mul(1_000_000_000);
-    seconds.saturating_add(u64::from(time.subsec_nanos()))
 }
 
 /// One step, the least of all rounds.
@@ -116,8 +73,21 @@ fn by_pool<R: Threads + Wait + Clock + CpuClock + Copy + Drop + Send + 'static>(
     measured(&rt, alloc, &mut pool, tasks)
 }
 
-fn main(rt: HostRuntime) -> Result<()> {
-    for word in env::args(&rt)?.skip(1) {
+/// The times of steps of as many tasks as the words say.
+pub fn run<
+    R: Threads
+        + Wait
+        + Clock
+        + CpuClock
+        + Print
+        + AllocGlobal
+        + Copy
+        + Drop
+        + Send
+        + Sync
+        + 'static,
+>(rt: R, words: &[String]) -> Result<()> {
+    for word in words {
         let Ok(count) = word.as_str().parse::<usize>() else {
             bail!("a size is a number of tasks");
         };

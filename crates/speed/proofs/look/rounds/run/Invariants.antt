@@ -1,4 +1,4 @@
-use Rattle.look_speed.proofs.rounds.run.Given as goal
+use Rattle.speed.proofs.look.rounds.run.Given as goal
 
 abbrev pub ghosts-run_named-J-HubName : goal.ghosts-run_named-J-HubName
 ghosts-run_named-J-HubName g a = record { origin = a.parts.origin; book = a.parts.book }

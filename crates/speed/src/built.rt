@@ -2,9 +2,15 @@
 
 use anyhow::{Result, bail};
 use design::{Design, Name, NameHasher};
-use edits::{Edit, MAX_EDITS, apply_all};
+use edits::{Edit, MAX_EDITS, Word, apply_all};
 use fourstate::TimeUnit;
 use std::alloc::Global;
+
+/// The name of a letter and a number.
+pub fn name_of(alloc: Global, letter: &str, number: usize) -> Result<Word> {
+    let text = format!(in alloc; "{letter}{number}")?;
+    Ok(Word::new(alloc, text.as_str())?)
+}
 
 /// The design that edits build from an empty one.
 pub fn built(alloc: Global, edits: &[Edit]) -> Result<Design> {
@@ -15,11 +21,8 @@ pub fn built(alloc: Global, edits: &[Edit]) -> Result<Design> {
 /// The design that edits make of another, as many at a time as a list may have.
 pub fn built_on(alloc: Global, design: &Design, edits: &[Edit]) -> Result<Design> {
     let mut design = design.try_clone()?;
-    let mut rest = edits;
-    for _ in 0..=edits.len() / MAX_EDITS {
-        let (part, others) = rest.split_at(rest.len().min(MAX_EDITS));
+    for part in edits.chunks(MAX_EDITS) {
         design = applied(alloc, &design, part)?;
-        rest = others;
     }
     Ok(design)
 }
