@@ -1,5 +1,6 @@
 """What the tests of the programs share: a folder of their own, and a run of a program with what it printed and said."""
 import os
+import resource
 import subprocess
 import tempfile
 import unittest
@@ -41,6 +42,14 @@ class WithProgram(unittest.TestCase):
             given["input"] = commands.encode()
         ran = subprocess.run([self.program, *words], cwd=self.folder, timeout=60, **given)
         return Ended(ran.returncode, (ran.stdout or b"").decode(), (ran.stderr or b"").decode())
+
+    def run_within(self, memory: int, words: List[Union[str, bytes]], commands: str = "") -> Ended:
+        """A run that may have so many bytes of memory."""
+
+        def limit() -> None:
+            resource.setrlimit(resource.RLIMIT_AS, (memory, memory))
+
+        return self.run_with(words, commands, preexec_fn=limit)
 
     def help_text(self) -> str:
         """What the program says of its use."""

@@ -1,8 +1,6 @@
 """The program gatebench: what its words ask for, which words it refuses, and how it ends."""
 import os
-import resource
 import unittest
-from typing import Optional
 
 from .support import MAX_TEXT, Ended, WithProgram
 
@@ -151,17 +149,11 @@ class Ends(Gatebench):
             self.assertEqual(self.run_with(["d.v"], "stim a 0 0\n", stdout=full, stderr=full).status, 3)
             self.assertEqual(self.run_with(["--help"], stderr=full).status, 2)
 
-    def limited(self, bytes_of_memory: int, words: Optional[list] = None) -> Ended:
-        def limit() -> None:
-            resource.setrlimit(resource.RLIMIT_AS, (bytes_of_memory, bytes_of_memory))
-
-        return self.run_with(words or ["wide.v"], "quit\n", preexec_fn=limit)
-
     def test_a_design_for_which_there_is_no_memory(self) -> None:
         names = ", ".join(f"n{place}" for place in range(60_000))
         self.write("wide.v", f"module m;\nwire {names};\nendmodule\n")
-        self.assertEqual(self.limited(1 << 30), Ended(0, "ok 0\n", ""))
-        self.assertEqual(self.limited(1 << 24), Ended(3, "", "out of memory\n"))
+        self.assertEqual(self.run_within(1 << 30, ["wide.v"], "quit\n"), Ended(0, "ok 0\n", ""))
+        self.assertEqual(self.run_within(1 << 24, ["wide.v"], "quit\n"), Ended(3, "", "out of memory\n"))
 
 
 if __name__ == "__main__":

@@ -90,6 +90,12 @@ class Ends(Gaterace):
         with open("/dev/full", "wb") as full:
             self.assertEqual(self.run_with(["d.v", "s", "1", "1"], stdout=full), Ended(3, "", "write failed\n"))
 
+    def test_a_design_for_which_there_is_no_memory(self) -> None:
+        names = ", ".join(f"n{place}" for place in range(60_000))
+        self.write("wide.v", f"module m;\nwire {names};\nendmodule\n")
+        self.write("s", "")
+        self.assertEqual(self.run_within(1 << 24, ["wide.v", "s", "1", "1"]), Ended(3, "", "out of memory\n"))
+
     def test_files_that_can_not_be_read(self) -> None:
         self.write("d.v", BUFFER)
         for words in (["nobody.v", "s", "1", "1"], ["d.v", "nobody", "1", "1"]):
