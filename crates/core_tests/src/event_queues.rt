@@ -31,6 +31,25 @@ fn moments_in_order(rt: HostRuntime) {
     assert!(&rt; out.as_slice() == [2, 1, 0, 1].as_slice());
 }
 
+// Numbers that were noted while their moment was far come before those that are noted when it is near, and a moment that
+// lies before the last one taken is still a moment.
+#[test]
+fn a_far_moment_comes_near(rt: HostRuntime) {
+    let alloc = rt.alloc();
+    let mut queue = noted(&rt, alloc, &[(100, 1), (2, 5), (100, 3)]);
+    let mut out = Vec::new(alloc);
+    queue.take(2, &mut out).expect(&rt, "room");
+    queue.take(60, &mut out).expect(&rt, "room");
+    queue.add(alloc, 100, 2).expect(&rt, "room");
+    queue.add(alloc, 59, 4).expect(&rt, "room");
+    equal(&rt, "first", queue.first(), Some(59));
+    queue.take(59, &mut out).expect(&rt, "room");
+    equal(&rt, "first", queue.first(), Some(100));
+    queue.take(100, &mut out).expect(&rt, "room");
+    equal(&rt, "first", queue.first(), None);
+    assert!(&rt; out.as_slice() == [5, 4, 1, 3, 2].as_slice());
+}
+
 // What is taken is gone, and a moment at which nothing is noted gives nothing.
 #[test]
 fn a_moment_is_taken_once(rt: HostRuntime) {

@@ -36,7 +36,7 @@ same_moment_by : (t u : ℕ) (b : Bool) → nat_eq t u ≡ b → is_eq (nat_cmp 
 same_moment_by t u true e = ap is_eq (sym (nat_cmp_is t u Equal (grind (arith, nat_tests))))
 same_moment_by t u false e = grind (arith, nat_tests)
 
-same_moment : (t u : ℕ) → is_eq (nat_cmp t u) ≡ nat_eq t u
+pub same_moment : (t u : ℕ) → is_eq (nat_cmp t u) ≡ nat_eq t u
 same_moment t u = same_moment_by t u (nat_eq t u) refl
 
 -- the map with w for t

@@ -3,28 +3,28 @@
 ghost use Rattle.std.specs.Prelude.{◌≡◌, ◌≢◌, ◌<◌, ◌++◌, [], ℕ, IfSome, IfNone, OnOk, OnErr};
 ghost use Rattle.event_queue.specs.Noted.{AreSame, IsAdded, IsTaken, noted};
 
+use crate::appending::append_both;
+use crate::far::FarMoments;
+use crate::near::NearMoments;
 use std::alloc::{AllocError, Global};
-use std::collections::BTreeMap;
 use std::marker::Model;
 
 /// Numbers that are noted for moments, in time units: those of a moment in the order in which they were noted, one that was
 /// noted twice there twice. Contracts read it by `noted` alone.
 #[derive(Drop)]
 pub struct EventQueue {
-    moments: BTreeMap<u64, Vec<usize>>,
-    // Lists of moments that were taken, to be used again.
-    spare: Vec<Vec<usize>>,
+    // Numbers that were noted before their moment was near, and so before those in `near`.
+    far: FarMoments,
+    near: NearMoments,
 }
 
 impl Model for EventQueue {
-    ghost use Rattle.std.specs.Prelude.{ℕ, List, map};
-    ghost use Rattle.event_queue.specs.Noted.{IsFilled};
+    ghost use Rattle.std.specs.Prelude.{ℕ, List};
+    ghost use Rattle.event_queue.specs.Lists.{joined};
 
     ghost Value = { List (ℕ × List ℕ) };
 
-    ghost view = { λ a. map (λ e. (e.0, e.1.items)) a.moments.entries };
-
-    ghost invariant = { λ a. IsFilled (map (λ e. (e.0, e.1.items)) a.moments.entries) };
+    ghost view = { λ a. joined a.far a.near };
 }
 
 impl EventQueue {
@@ -33,8 +33,8 @@ impl EventQueue {
         ensures { (t : ℕ) → noted result t ≡ [] }
     {
         EventQueue {
-            moments: BTreeMap::new(alloc),
-            spare: Vec::new(alloc),
+            far: FarMoments::new(alloc),
+            near: NearMoments::new(alloc),
         }
     }
 
@@ -43,14 +43,10 @@ impl EventQueue {
         ensures ok { OnOk result (IsAdded t number self.old self.new) }
         ensures err { OnErr result (AreSame self.old self.new) }
     {
-        if let Some(numbers) = self.moments.get_mut(&t) {
-            numbers.push(number)?;
+        if self.near.add(alloc, t, number)? {
             return Ok(());
         }
-        let mut numbers = empty_list(alloc, &mut self.spare);
-        numbers.push(number)?;
-        self.moments.insert(t, numbers)?;
-        Ok(())
+        self.far.add(alloc, t, number)
     }
 
     /// The first moment for which a number is noted.
@@ -59,10 +55,13 @@ impl EventQueue {
         ensures least { IfSome result (λ t. (u : ℕ) → u < t → noted self.now u ≡ []) }
         ensures none { IfNone result ((u : ℕ) → noted self.now u ≡ []) }
     {
-        match self.moments.first_key_value() {
-            Some((t, _)) => Some(*t),
-            None => None,
-        }
+        let Some(near) = self.near.first() else {
+            return self.far.first();
+        };
+        let Some(far) = self.far.first() else {
+            return Some(near);
+        };
+        Some(near.min(far))
     }
 
     /// Moves the numbers of the moment `t` to the end of `out`. It fails where memory runs out, and then nothing has changed.
@@ -72,30 +71,9 @@ impl EventQueue {
         ensures err { OnErr result (AreSame self.old self.new) }
         ensures err_out { OnErr result (out.new.items ≡ out.old.items) }
     {
-        if let Some(numbers) = self.moments.get(&t) {
-            out.extend_from_slice(numbers.as_slice())?;
-        }
-        if let Some(numbers) = self.moments.remove(&t) {
-            keep(&mut self.spare, numbers);
-        }
+        append_both(out, self.far.numbers(t), self.near.numbers(t))?;
+        self.far.clear(t);
+        self.near.clear(t);
         Ok(())
     }
-}
-
-// An empty list, one that was used before if there is one.
-fn empty_list(alloc: Global, spare: &mut Vec<Vec<usize>>) -> Vec<usize>
-    ensures { result.items ≡ [] }
-{
-    match spare.pop() {
-        None => Vec::new(alloc),
-        Some(mut numbers) => {
-            numbers.clear();
-            numbers
-        }
-    }
-}
-
-// Keeps a list to be used again, if there is memory for it.
-fn keep(spare: &mut Vec<Vec<usize>>, numbers: Vec<usize>) {
-    let _kept = spare.push(numbers).is_ok();
 }

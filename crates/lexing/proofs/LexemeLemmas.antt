@@ -9,7 +9,7 @@ use Rattle.std.proofs.lemmas.List.Sums.{prefix_len-le-length}
 use Rattle.lexing.proofs.TestLemmas.{false_from, and_false, not_equal}
 use Rattle.lexing.proofs.WholeLemmas.{directive_local}
 use Rattle.lexing.proofs.WordLemmas.{rest_or}
-use Rattle.lexing.specs.Classes.{is_letter, is_digit, is_name_byte, is_number_byte, is_printed}
+use Rattle.lexing.specs.Classes.{is_letter, is_digit, is_name_byte, is_number_byte, is_printed, is_mark}
 use Rattle.lexing.specs.Constants.{begins_constant}
 use Rattle.std.specs.Option.{option_map}
 use Rattle.lexing.specs.Directives.{Reading, directive, is_whole, timescale_of}
@@ -396,6 +396,15 @@ single_found (b ∷ bs) some printed letter digit escape accent =
     longest_from b bs shape.Other 0 (omega arith) (one_byte b printed letter digit)
     (λ rival k more within. single_front rival b (take k bs) letter digit (some_taken k bs more within) (no_escaped b (take k bs) escape)
     (no_timescale b (take k bs) accent))
+
+mark_parts : (b : ℕ) → is_mark b ≡ true → (is_printed b ≡ true) × (is_letter b ≡ false) × (is_digit b ≡ false) × (b ≢ 92) × (b ≢ 96)
+unfolding is_mark
+mark_parts b h = grind (arith, nat_tests, common_steps)
+
+pub mark_found : (bytes : List ℕ) → 0 < length bytes → is_mark (get_or bytes 0 0) ≡ true → IsLongest bytes shape.Other 1
+mark_found bytes some h =
+    let parts = mark_parts (get_or bytes 0 0) h in
+    single_found bytes some parts.0 parts.1 parts.2 parts.3 parts.4
 
 -- a byte that begins no token
 

@@ -1,9 +1,15 @@
 -- The tokens of a text, one after another.
-use Rattle.std.proofs.Common.{◌≡◌, ◌≢◌, ◌+◌, ◌<◌, ◌≤◌, ℕ, List, [], ◌∷◌, ◌++◌, length, drop, refl, sym, arith, append_assoc, append-nil, length-drop}
+use Rattle.std.proofs.Common.{◌≡◌, ◌≢◌, ◌+◌, ◌<◌, ◌≤◌, ℕ, List, [], ◌∷◌, ◌++◌, length, drop, get_or, true, false, refl, sym, ap, ◌∙◌, arith, append_assoc, append-nil, length-drop}
 use Rattle.std.specs.List.{All}
+use Rattle.std.proofs.lemmas.List.{get_or-drop}
 use Rattle.std.proofs.lemmas.List.Elements.{All-push}
+use Rattle.std.proofs.lemmas.Bool.Decides.{nat_tests}
+use Rattle.std.proofs.lemmas.Grind.{common_steps}
+use Rattle.lexing.proofs.LexemeLemmas.{mark_found}
+use Rattle.lexing.proofs.TestLemmas.{not_equal}
+use Rattle.lexing.specs.Classes.{is_space, is_letter, is_mark, is_printed}
 use Rattle.lexing.specs.Lexemes.{IsLongest, IsLexeme}
-use Rattle.lexing.specs.Spaces.{white_space}
+use Rattle.lexing.specs.Spaces.{white_space, opening_of}
 use Rattle.lexing.specs.Texts.{Spells, at_end, at_white, at_unending, at_stray, at_token, token_at, IsInside}
 use Rattle.lexing.specs.declared.spaces.White.TheVariants as piece
 use Rattle.lexing.specs.declared.token.Shape.{Shape}
@@ -58,6 +64,58 @@ pub inside_more : (size from n : ℕ) (tokens all : List Token) (last : Token) (
     last ≡ token_at kind from (from + n) → 0 < n → from + n ≤ size → All (IsInside size) tokens → All (IsInside size) all
 inside_more size from n tokens all last kind whole made some within inside =
     rw (whole, made) (All-push (IsInside size) tokens (token_at kind from (from + n)) inside (record { some = omega arith; within = within }))
+
+-- one byte of white space, and tokens by their first byte
+
+white_at : (bytes : List ℕ) → 0 < length bytes → is_space (get_or bytes 0 0) ≡ true → piece.Takes 1 ≡ white_space bytes
+unfolding white_space opening_of
+white_at [] some h = absurd (omega arith)
+white_at (b ∷ bs) some h = rw h refl
+
+-- no white space begins with the byte
+abbrev OpensNone : ℕ → Type 0
+OpensNone b = (is_space b ≡ false) × (b ≢ 47) × (b ≢ 40)
+
+mark_opens_none : (b : ℕ) → is_mark b ≡ true → OpensNone b
+unfolding is_mark is_printed is_space
+mark_opens_none b h = (grind (arith, nat_tests, common_steps), grind (arith, nat_tests, common_steps), grind (arith, nat_tests, common_steps))
+
+letter_opens_none : (b : ℕ) → is_letter b ≡ true → OpensNone b
+unfolding is_letter is_space
+letter_opens_none b h = (grind (arith, nat_tests), grind (arith, nat_tests), grind (arith, nat_tests))
+
+no_white_at : (bytes : List ℕ) → 0 < length bytes → OpensNone (get_or bytes 0 0) → piece.Nothing ≡ white_space bytes
+unfolding white_space opening_of
+no_white_at [] some h = absurd (omega arith)
+no_white_at (b ∷ []) some h = rw h.0 refl
+no_white_at (b ∷ c ∷ rest) some h = rw (h.0, not_equal b 47 h.1, not_equal b 40 h.2) refl
+
+first_from : (text : List ℕ) (from : ℕ) → get_or (drop from text) 0 0 ≡ get_or text from 0
+first_from text from = get_or-drop from text 0 0 ∙ ap (λ k. get_or text k 0) (omega arith)
+
+pub past_space : (text : List ℕ) (from : ℕ) (tokens : List Token) → from < length text → is_space (get_or text from 0) ≡ true →
+    Completes text from tokens → Completes text (from + 1) tokens
+past_space text from tokens within h spelled =
+    let some : 0 < length (drop from text) = omega (arith, length-drop from text) in
+    past_white text from 1 tokens (white_at (drop from text) some (ap is_space (first_from text from) ∙ h)) spelled
+
+pub past_mark : (text : List ℕ) (from : ℕ) (tokens all : List Token) (last : Token) → all ≡ tokens ++ last ∷ [] →
+    last ≡ token_at shape.Other from (from + 1) → from < length text → is_mark (get_or text from 0) ≡ true →
+    Completes text from tokens → Completes text (from + 1) all
+past_mark text from tokens all last whole made within h spelled =
+    let some : 0 < length (drop from text) = omega (arith, length-drop from text) in
+    let first : is_mark (get_or (drop from text) 0 0) ≡ true = ap is_mark (first_from text from) ∙ h in
+    past_token text from 1 tokens all last shape.Other whole made (λ e. cc) (no_white_at (drop from text) some (mark_opens_none (get_or (drop from text) 0 0) first))
+    (mark_found (drop from text) some first) spelled
+
+pub past_name : (text : List ℕ) (from n : ℕ) (tokens all : List Token) (last : Token) → all ≡ tokens ++ last ∷ [] →
+    last ≡ token_at shape.Name from (from + n) → from < length text → is_letter (get_or text from 0) ≡ true →
+    IsLongest (drop from text) shape.Name n → Completes text from tokens → Completes text (from + n) all
+past_name text from n tokens all last whole made within h name spelled =
+    let some : 0 < length (drop from text) = omega (arith, length-drop from text) in
+    let first : is_letter (get_or (drop from text) 0 0) ≡ true = ap is_letter (first_from text from) ∙ h in
+    past_token text from n tokens all last shape.Name whole made (λ e. cc)
+    (no_white_at (drop from text) some (letter_opens_none (get_or (drop from text) 0 0) first)) name spelled
 
 -- some tokens that the rest of the text completes
 abbrev pub HasFront : List ℕ → ℕ → Type 0

@@ -3,15 +3,15 @@
 #![tactic(auto, using(std::proofs::lemmas::Bool::Decides::nat_tests), unfolding(crate::specs::Classes::is_space, crate::specs::Classes::is_letter, crate::specs::Classes::is_digit, crate::specs::Classes::is_name_byte, crate::specs::Classes::is_number_byte, crate::specs::Classes::is_printed, crate::specs::Classes::is_value_digit))]
 
 ghost use Rattle.std.specs.Prelude.{◌≡◌};
-ghost use Rattle.lexing.specs.Classes.{is_digit, is_letter, is_name_byte, is_number_byte, is_printed, is_space, is_value_digit};
+ghost use Rattle.lexing.specs.Classes.{is_digit, is_letter, is_mark, is_name_byte, is_number_byte, is_printed, is_space, is_value_digit};
 
-// What each byte is: `s` is white space, `a` a letter or `_`, `0` a digit, `$` itself, `.` any other byte that prints, and `?`
-// one that does not.
+// What each byte is: `s` is white space, `a` a letter or `_`, `0` a digit, `.` any other byte that prints, and `?` one that
+// does not. `(`, `/`, `\` and the grave accent, with which several things begin, stand for themselves.
 static CLASSES: [u8; 256] = *b"\
     ?????????ss?ss??????????????????\
-    s...$...........0000000000......\
-    .aaaaaaaaaaaaaaaaaaaaaaaaaa....a\
-    .aaaaaaaaaaaaaaaaaaaaaaaaaa....?\
+    s.......(....../0000000000......\
+    .aaaaaaaaaaaaaaaaaaaaaaaaaa.\\..a\
+    `aaaaaaaaaaaaaaaaaaaaaaaaaa....?\
     ????????????????????????????????\
     ????????????????????????????????\
     ????????????????????????????????\
@@ -50,6 +50,15 @@ pub fn is_digit(byte: u8) -> bool
     ensures { result ≡ is_digit byte }
 {
     CLASSES[byte as usize] == b'0'
+}
+
+/// Whether the byte is a token whatever stands behind it: one that prints, save letters, `_`, digits, `(`, `/`, `\` and the
+/// grave accent.
+#[inline(always)]
+pub fn is_mark(byte: u8) -> bool
+    ensures { result ≡ is_mark byte }
+{
+    CLASSES[byte as usize] == b'.'
 }
 
 /// Whether the byte may stand in a name: a letter, `_`, a digit or `$`.

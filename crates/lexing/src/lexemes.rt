@@ -2,7 +2,7 @@
 
 ghost use Rattle.std.specs.Prelude.{◌≡◌, ◌<◌, ◌≤◌, true, length, slice_index};
 ghost use Rattle.std.specs.List.{prefix_len};
-ghost use Rattle.lexing.specs.Classes.{is_digit, is_name_byte, is_number_byte, is_printed};
+ghost use Rattle.lexing.specs.Classes.{is_digit, is_letter, is_name_byte, is_number_byte, is_printed};
 ghost use Rattle.lexing.specs.Lexemes.{IsLexeme};
 
 use crate::classes::{is_digit, is_letter, is_name_byte, is_number_byte, is_printed};
@@ -44,6 +44,18 @@ fn printed_run(bytes: &[u8]) -> usize
     ensures within { result ≤ length bytes.now }
 {
     bytes.iter().take_while(|byte| is_printed(**byte)).count()
+}
+
+/// The length of the name in front of bytes that begin with a letter or `_`.
+#[inline(always)]
+pub fn name_length(bytes: &[u8]) -> usize
+    requires some { 0 < length bytes.now }
+    requires first { is_letter (slice_index bytes.now 0) ≡ true }
+    ensures value { IsLexeme bytes.now Shape.Name result }
+    ensures some { 0 < result }
+    ensures within { result ≤ length bytes.now }
+{
+    1 + name_run(&bytes[1..])
 }
 
 /// The longest token in front of bytes that begin with a digit.
@@ -120,7 +132,7 @@ pub fn first_lexeme(bytes: &[u8]) -> Lexeme
     if is_letter(first) {
         Lexeme {
             shape: Shape::Name,
-            length: 1 + name_run(&bytes[1..]),
+            length: name_length(bytes),
         }
     } else if is_digit(first) {
         number_lexeme(bytes)

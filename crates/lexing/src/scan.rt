@@ -4,7 +4,8 @@ ghost use Rattle.std.specs.Prelude.{◌≡◌, ◌≤◌, length, All, IfOk};
 ghost use Rattle.lexing.specs.Texts.{IsInside, Spells, token_at};
 ghost use Rattle.lexing.specs.declared.limits.TheConstants.{MAX_TEXT};
 
-use crate::lexemes::first_lexeme;
+use crate::classes::{is_letter, is_mark, is_space};
+use crate::lexemes::{first_lexeme, name_length};
 use crate::limits::MAX_TEXT;
 use crate::spaces::{White, white_space};
 use crate::token::{Shape, Token};
@@ -34,6 +35,22 @@ pub fn tokens(alloc: Global, text: &[u8]) -> Result<Vec<Token>, AllocError>
     let mut tokens = Vec::new(alloc);
     let mut position = 0;
     while position < text.len() {
+        let first = text[position];
+        if is_space(first) {
+            position += 1;
+            continue;
+        }
+        if is_mark(first) {
+            tokens.push(token_at(Shape::Other, position, position + 1))?;
+            position += 1;
+            continue;
+        }
+        if is_letter(first) {
+            let next = position + name_length(&text[position..]);
+            tokens.push(token_at(Shape::Name, position, next))?;
+            position = next;
+            continue;
+        }
         let rest = &text[position..];
         match white_space(rest) {
             White::Takes(length) => position += length,

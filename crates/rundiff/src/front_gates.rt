@@ -46,6 +46,7 @@ impl Front {
             old,
             run,
             new,
+            &self.fixed,
             self.gates.as_slice(),
             t,
             &mut out,

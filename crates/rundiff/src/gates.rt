@@ -1,7 +1,9 @@
 //! The held gates at one moment: tasks of those that are evaluated, and states of all others.
 
 ghost use Rattle.std.specs.Prelude.{◌≡◌, ◌<◌, ◌≤◌, ◌++◌, ℕ, suc, true, false, nat_eq, List, [], ◌∷◌, All, AllPairs, OnOk, length, map};
+ghost use Rattle.std.specs.BTreeSet.{contains};
 ghost use Rattle.std.specs.Option.{ForSome};
+ghost use Rattle.std.specs.Ordering.{nat_cmp};
 ghost use Rattle.rundiff.specs.PlaceMaps.{kept_at};
 ghost use Rattle.gatestep.specs.Step.{Evaluation, State, initial};
 ghost use Rattle.gatestep.specs.Tasks.{IsReady};
@@ -11,13 +13,15 @@ ghost use Rattle.waveform.specs.Entries.{CanStore};
 ghost use Rattle.waveform.specs.Timelines.{end_of};
 ghost use Rattle.scratch.specs.Run.{IsRun, state_after};
 ghost use Rattle.rundiff.specs.Fronts.{AreOutcomes, AreTraces, AreWaves, IsClean, IsOutcome, IsOwn, IsTrace, is_working};
-ghost use Rattle.rundiff.specs.Places.{gate_at, is_among};
+ghost use Rattle.rundiff.specs.Kept.{IsClosed};
+ghost use Rattle.rundiff.specs.Places.{gate_at, is_among, is_live};
 ghost use Rattle.scratch.specs.Work.{task_at};
 
 use crate::former::former_trace;
 use crate::looking::{Outcome, look};
 use crate::patches::put;
 use crate::place_map::PlaceMap;
+use crate::place_set::PlaceSet;
 use design::Design;
 use fourstate::Value;
 use gatestep::{Driver, Stepper, Task};
@@ -63,6 +67,7 @@ pub fn look_at<S: Stepper>(
     old: &Design,
     run: &Run,
     new: &Design,
+    fixed: &PlaceSet,
     held: &[usize],
     t: u64,
     out: &mut Outcomes,
@@ -72,6 +77,7 @@ pub fn look_at<S: Stepper>(
     requires there { (p : ℕ) → is_among held.now p ≡ true → p < length (netlist new.now).gates }
     requires within { t ≤ (netlist old.now).horizon }
     requires run { IsRun S.answer old.now run.now }
+    requires base { IsClosed (netlist old.now) (netlist new.now) (is_live (netlist new.now) (contains nat_cmp fixed.now)) }
     requires waves { AreWaves S.answer (netlist old.now) (netlist new.now) waves.now (suc t) }
     requires traces { AreTraces S.answer (netlist old.now) (netlist new.now) traces.now t }
     requires empty { AreOutcomes S.answer (netlist old.now) (netlist new.now) t [] out.old }
@@ -86,6 +92,7 @@ pub fn look_at<S: Stepper>(
             old,
             run,
             new,
+            fixed,
             *place,
             t,
         );

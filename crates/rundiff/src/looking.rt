@@ -1,19 +1,23 @@
 //! What comes of one gate at one moment: whether it is dirty, whether it is stirred, and its task or its state.
 
-ghost use Rattle.std.specs.Prelude.{◌≡◌, ◌<◌, ◌≤◌, ℕ, suc, [], ◌∷◌, Some, map, length};
+ghost use Rattle.std.specs.Prelude.{◌≡◌, ◌<◌, ◌≤◌, ℕ, suc, false, [], ◌∷◌, Some, map, length, slice_get};
+ghost use Rattle.std.specs.BTreeSet.{contains};
+ghost use Rattle.std.specs.Ordering.{nat_cmp};
 ghost use Rattle.gatestep.specs.Step.{initial};
 ghost use Rattle.gatestep.specs.Tasks.{PendingFrom};
 ghost use Rattle.design.specs.Keys.{IsConnected, entry_in, netlist};
 ghost use Rattle.design.specs.Netlist.{GateEntry, gate_named};
 ghost use Rattle.waveform.specs.Entries.{CanStore};
 ghost use Rattle.scratch.specs.Run.{IsRun, state_after, state_before};
-ghost use Rattle.rundiff.specs.Dirty.{is_dirty};
+ghost use Rattle.rundiff.specs.Dirty.{is_dirty, is_new};
 ghost use Rattle.rundiff.specs.Fronts.{AreTraces, AreWaves, IsOutcome};
-ghost use Rattle.rundiff.specs.Places.{gate_at};
+ghost use Rattle.rundiff.specs.Kept.{IsClosed};
+ghost use Rattle.rundiff.specs.Places.{gate_at, is_live};
 ghost use Rattle.scratch.specs.Work.{is_due, is_stirred, same_values, task_at};
 
 use crate::old::old_trace;
 use crate::place_map::PlaceMap;
+use crate::place_set::PlaceSet;
 use crate::reading::{gate_state, inputs_at, old_inputs_at};
 use crate::same::{is_new_gate, same_values};
 use design::{Design, Gate, GateKey};
@@ -73,7 +77,7 @@ fn old_state_before<S: Stepper>(
 }
 
 /// Whether a gate of the new design, which has this key, is dirty at the moment `t`; its state before it and its inputs at
-/// it are given.
+/// it are given, and whether edits may have touched it.
 fn is_dirty<S: Stepper>(
     blank_wave: &Wave,
     blank_trace: &Trace,
@@ -82,6 +86,7 @@ fn is_dirty<S: Stepper>(
     new: &Design,
     key: GateKey,
     gate: &Gate,
+    touched: bool,
     state: Driver,
     inputs: &[Value],
     t: u64,
@@ -90,6 +95,7 @@ fn is_dirty<S: Stepper>(
     requires blank_trace { blank_trace.now ≡ (0, initial) ∷ [] }
     requires connected { IsConnected new.now.nets gate.now }
     requires within { t ≤ (netlist old.now).horizon }
+    requires known { touched ≡ false → is_new (netlist old.now) (entry_in new.now.nets gate.now) ≡ false }
     requires run { IsRun S.answer old.now run.now }
     requires state { state ≡ (task_at S.answer (netlist new.now) (entry_in new.now.nets gate.now) t).state }
     requires inputs { inputs.now ≡ (task_at S.answer (netlist new.now) (entry_in new.now.nets gate.now) t).inputs }
@@ -104,7 +110,23 @@ fn is_dirty<S: Stepper>(
     if !same_values(former_inputs.as_slice(), inputs) {
         return true;
     }
-    is_new_gate(old, new, key, gate)
+    touched && is_new_gate(old, new, key, gate)
+}
+
+/// Whether edits touched the net that the gate at a place drives, or a gate that drives it; else the old design has the gate.
+fn is_touched(fixed: &PlaceSet, old: &Design, new: &Design, place: usize, gate: &Gate) -> bool
+    requires there { place < length (netlist new.now).gates }
+    requires gate { slice_get (netlist new.now).gates place ≡ Some (entry_in new.now.nets gate.now) }
+    requires base { IsClosed (netlist old.now) (netlist new.now) (is_live (netlist new.now) (contains nat_cmp fixed.now)) }
+    ensures { result ≡ false → is_new (netlist old.now) (entry_in new.now.nets gate.now) ≡ false }
+{
+    let _old = old;
+    let _place = place;
+    new.places_are_keys();
+    match new.net_place_of(gate.output()) {
+        Some(output) => fixed.contains(output),
+        None => true,
+    }
 }
 
 /// Whether a gate is stirred at the moment `t`; its state before it and its inputs at it are given.
@@ -157,6 +179,7 @@ pub fn look<S: Stepper>(
     old: &Design,
     run: &Run,
     new: &Design,
+    fixed: &PlaceSet,
     place: usize,
     t: u64,
 ) -> Outcome
@@ -165,6 +188,7 @@ pub fn look<S: Stepper>(
     requires there { place < length (netlist new.now).gates }
     requires within { t ≤ (netlist old.now).horizon }
     requires run { IsRun S.answer old.now run.now }
+    requires base { IsClosed (netlist old.now) (netlist new.now) (is_live (netlist new.now) (contains nat_cmp fixed.now)) }
     requires waves { AreWaves S.answer (netlist old.now) (netlist new.now) waves.now (suc t) }
     requires traces { AreTraces S.answer (netlist old.now) (netlist new.now) traces.now t }
     ensures { IsOutcome S.answer (netlist old.now) (netlist new.now) t place result }
@@ -175,6 +199,7 @@ pub fn look<S: Stepper>(
     let gate = new.gate_at(place);
     let state = gate_state::<S>(traces, blank_trace, old, run, new, place, t);
     let inputs = inputs_at::<S>(waves, blank_wave, old, run, new, gate, t, t);
+    let touched = is_touched(fixed, old, new, place, gate);
     if !is_dirty::<S>(
         blank_wave,
         blank_trace,
@@ -183,6 +208,7 @@ pub fn look<S: Stepper>(
         new,
         key,
         gate,
+        touched,
         state,
         inputs.as_slice(),
         t,

@@ -8,7 +8,7 @@ ghost use Rattle.design.specs.Keys.{netlist};
 ghost use Rattle.waveform.specs.Changes.{trace_below, wave_changes_below};
 ghost use Rattle.scratch.specs.Kept.{cell_of};
 ghost use Rattle.scratch.specs.Run.{IsRun, state_before};
-ghost use Rattle.scratch.specs.Work.{task_at};
+ghost use Rattle.scratch.specs.Work.{same_values, task_at};
 ghost use Rattle.rundiff.specs.Dirty.{is_new};
 ghost use Rattle.rundiff.specs.Fronts.{named_state};
 ghost use Rattle.rundiff.specs.Kept.{read_at};
@@ -16,10 +16,9 @@ ghost use Rattle.rundiff.specs.OldLines.{AreOldLines, HasPlace, HoldsEach, forme
 ghost use Rattle.rundiff.specs.Places.{gate_at, net_at};
 
 use crate::old::{old_trace, old_wave};
-use crate::same::{is_new_gate, same_values};
-use arrayvec::ArrayVec;
+use crate::same::is_new_gate;
 use design::Design;
-use fourstate::{MAX_INPUTS, Value};
+use fourstate::Value;
 use gatestep::{Driver, Stepper, Task};
 use scratch::{Cell, Input};
 use std::alloc::{AllocError, Global};
@@ -78,25 +77,32 @@ impl<'a> OldLines<'a> {
         }
     }
 
-    /// What the inputs of a gate of the new design read in the old run.
-    fn inputs<S: Stepper>(
+    /// Whether the inputs of a gate of the new design read these values in the old run.
+    fn are_read<S: Stepper>(
         &mut self,
         old: &Design,
         new: &Design,
         cell: &Cell,
+        values: &[Value],
         t: u64,
-    ) -> ArrayVec<Value, MAX_INPUTS>
+    ) -> bool
         requires lines { AreOldLines S.answer (netlist old.now) (netlist new.now) self.old }
         requires places { All (HasPlace (netlist new.now)) cell.now.inputs }
+        requires count { length values.now ≡ length cell.now.inputs }
         requires within { t ≤ (netlist old.now).horizon }
         ensures lines { AreOldLines S.answer (netlist old.now) (netlist new.now) self.new }
-        ensures values { result.items ≡ map (former_value S.answer (netlist old.now) (netlist new.now) t) cell.now.inputs }
+        ensures same { result ≡ same_values (map (former_value S.answer (netlist old.now) (netlist new.now) t) cell.now.inputs) values.now }
     {
-        let mut values = ArrayVec::new();
-        for input in cell.inputs() {
-            values.push(self.value::<S>(old, new, *input, t));
+        let inputs = cell.inputs();
+        for i in 0..inputs.len() {
+            let input = inputs[i];
+            let value = values[i];
+            let former = self.value::<S>(old, new, input, t);
+            if !former.is_same(value) {
+                return false;
+            }
         }
-        values
+        true
     }
 
     /// The state before the moment `t`, in the old run, of the gate at a place, which the old design has.
@@ -153,8 +159,7 @@ impl<'a> OldLines<'a> {
         {
             return None;
         }
-        let inputs = self.inputs::<S>(old, new, cell, t);
-        if !same_values(inputs.as_slice(), task.inputs()) {
+        if !self.are_read::<S>(old, new, cell, task.inputs(), t) {
             return None;
         }
         Some(self.traces[place].at(t))

@@ -1,10 +1,10 @@
 -- Places in a list of stored entries, each read through f as a moment and a value.
-use Rattle.std.proofs.Common.{◌≡◌, ℕ, zero, suc, ◌<◌, ◌≤◌, ◌∙◌, sym, ap, subst, Bool, true, false, not, Option, Some, List, [], ◌∷◌, map, length, take, drop, get_or, refl, arith, nat_le, nat_lt, ⊎_elim}
+use Rattle.std.proofs.Common.{◌≡◌, ℕ, zero, suc, ◌<◌, ◌≤◌, ◌-◌, ◌∙◌, sym, ap, subst, Bool, true, false, not, Option, Some, List, [], ◌∷◌, map, length, take, drop, get_or, refl, arith, nat_le, nat_lt, ⊎_elim}
 use Rattle.std.specs.Prelude.{slice_get}
 use Rattle.std.specs.List.{find}
 use Rattle.std.specs.List.Sorted.{IsPartitionPoint, IsNonDecreasingBy}
 use Rattle.std.proofs.lemmas.Bool.{cases_lt, lt-ltb, lt-leb, le-ltb, le-leb}
-use Rattle.std.proofs.lemmas.List.{get_or-map, length-map}
+use Rattle.std.proofs.lemmas.List.{get_or-map, get_or_read_under, length-map}
 use Rattle.waveform.specs.Timelines.{AreInTurn, entries_until, entries_after, first_after, next_to}
 use Rattle.waveform.proofs.Lists.{filter-map, filter-front, filter-back, find_is, find-and}
 use Rattle.waveform.proofs.Turns.{turns_later}
@@ -30,6 +30,22 @@ module _ {A B : Type 0} (f : B → ℕ × A) where
       (λ after. lt-ltb t (f x).0 after ∙ ap not (sym (lt-leb (f x).0 t after)))
       (λ until. le-ltb t (f x).0 until ∙ ap not (sym (le-leb (f x).0 t until)))
       (cases_lt t (f x).0)
+
+  -- where times don't fall, an entry at t or before and the next one after t, if there is one, tell how many are at t or before
+  pub point_between : (xs : List B) → IsNonDecreasingBy (λ x. (f x).0) xs → (n t : ℕ) → 0 < n → n ≤ length xs →
+      (x : B) → x ≡ get_or xs (n - 1) x → (f x).0 ≤ t →
+      ((d : B) → n < length xs → t < (f (get_or xs n d)).0) →
+      IsPartitionPoint (λ x. nat_le (f x).0 t ≡ true) (λ x. nat_le (f x).0 t ≡ false) xs n
+  point_between xs rise n t some within x read until after =
+      ( (λ k d from below.
+          let last : x ≡ get_or xs (n - 1) d = get_or_read_under xs (n - 1) (length xs) x d read (omega arith) refl in
+          let order : (f (get_or xs k d)).0 ≤ (f (get_or xs (n - 1) d)).0 = rise k (n - 1) d (omega arith) (omega arith) in
+          let low : (f (get_or xs (n - 1) d)).0 ≤ t = subst (λ y. (f y).0 ≤ t) last until in
+          le-leb (f (get_or xs k d)).0 t (omega arith))
+      , (λ k d from below.
+          let order : (f (get_or xs n d)).0 ≤ (f (get_or xs k d)).0 = rise n k d from below in
+          let high : t < (f (get_or xs n d)).0 = after d (omega arith) in
+          lt-leb (f (get_or xs k d)).0 t (omega arith)))
 
   -- where the entries before a place are those up to t, so they are as read
   pub front_is_until : (t : ℕ) (xs : List B) (i : ℕ) → i ≤ length xs → IsPartitionPoint (λ x. nat_le (f x).0 t ≡ true) (λ x. nat_le (f x).0 t ≡ false) xs i →

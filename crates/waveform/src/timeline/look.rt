@@ -1,11 +1,10 @@
 //! Looking a timeline up.
 
 ghost use Rattle.std.specs.Prelude.{◌≡◌};
-ghost use Rattle.waveform.specs.Timelines.{StandsBetween, value_by, first_after, last_before, next_to};
+ghost use Rattle.waveform.specs.Timelines.{value_by, first_after, last_before, next_to};
 
 use super::Timeline;
 use crate::entries::{count_until, entry_at, first_to, latest_entry, value_at};
-use crate::laws::value_between;
 use crate::sample::Sample;
 
 /// Look-ups by time. Those that find an entry find none where a value merely moves by itself: in a trace, none where an
@@ -25,18 +24,6 @@ impl<V: Sample> Timeline<V> {
     {
         let entries = self.entries.as_slice();
         entry_at::<V>(entries, count_until::<V>(entries, t))
-    }
-
-    /// A moment, in time units, up to which no entry changes the value that the function has at `t`.
-    pub(crate) fn end_of_value(&self, t: u64) -> u64
-        ensures { StandsBetween V.drift V.start self.now (value_by V.drift V.start self.now t) t result }
-    {
-        let _ = &self.entries;
-        value_between::<V>();
-        match self.next_after(t) {
-            Some((time, _)) => time,
-            None => u64::MAX,
-        }
     }
 
     /// The last entry before `t`: its moment, in time units, and its value.

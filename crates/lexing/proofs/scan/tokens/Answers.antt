@@ -1,7 +1,41 @@
-use Rattle.std.proofs.Common.{length, arith}
+use Rattle.std.proofs.Common.{◌+◌, ◌≤◌, ◌∙◌, length, sym, arith}
 use Rattle.std.proofs.lemmas.List.{take_rest}
-use Rattle.lexing.proofs.TextLemmas.{within_text, inside_more, past_white, to_unending, to_stray, past_token, to_end}
+use Rattle.lexing.proofs.TextLemmas.{within_text, inside_more, past_white, past_space, past_mark, past_name, to_unending, to_stray, past_token, to_end}
+use Rattle.lexing.specs.declared.token.Shape.TheVariants as shape
 use Rattle.lexing.proofs.scan.tokens.Goals as goal
+
+pub loop-position-preserved-then-is_space : goal.loop-position-preserved-then-is_space
+loop-position-preserved-then-is_space c = record {
+  within = omega (arith, c.loop-position-test.true);
+  spelled = past_space c.args.text.now c.loop-position.position c.loop-position.tokens.items c.loop-position-test.true
+      (sym c.is_space.ensures ∙ c.if-is_space.true) c.loop-position.invariant.spelled;
+  inside = c.loop-position.invariant.inside;
+}
+
+pub loop-position-preserved-then-is_mark : goal.loop-position-preserved-then-is_mark
+loop-position-preserved-then-is_mark c =
+    let within : c.loop-position.position + 1 ≤ length c.args.text.now = omega (arith, c.loop-position-test.true) in
+    record {
+      within = within;
+      spelled = past_mark c.args.text.now c.loop-position.position c.loop-position.tokens.items _ c.token_at.result c.in_ok-push.ensures.items
+          c.token_at.ensures c.loop-position-test.true (sym c.is_mark.ensures ∙ c.if-is_mark.true) c.loop-position.invariant.spelled;
+      inside = inside_more (length c.args.text.now) c.loop-position.position 1 c.loop-position.tokens.items _ c.token_at.result shape.Other
+          c.in_ok-push.ensures.items c.token_at.ensures (omega arith) within c.loop-position.invariant.inside;
+    }
+
+pub loop-position-preserved-then-is_letter : goal.loop-position-preserved-then-is_letter
+loop-position-preserved-then-is_letter c =
+    let known = rw take_rest at c.name_length.ensures in
+    let within = within_text c.args.text.now c.loop-position.position c.name_length.result known.within (omega (arith, c.loop-position-test.true)) in
+    record {
+      within = within;
+      spelled = past_name c.args.text.now c.loop-position.position c.name_length.result c.loop-position.tokens.items _
+          c.token_at-then-is_letter.result c.in_ok-push-2.ensures.items c.token_at-then-is_letter.ensures c.loop-position-test.true
+          (sym c.is_letter.ensures ∙ c.if-is_letter.true) known.value c.loop-position.invariant.spelled;
+      inside = inside_more (length c.args.text.now) c.loop-position.position c.name_length.result c.loop-position.tokens.items _
+          c.token_at-then-is_letter.result shape.Name c.in_ok-push-2.ensures.items c.token_at-then-is_letter.ensures known.some within
+          c.loop-position.invariant.inside;
+    }
 
 pub loop-position-preserved-in-Takes : goal.loop-position-preserved-in-Takes
 loop-position-preserved-in-Takes c =
@@ -15,8 +49,8 @@ loop-position-preserved-in-Takes c =
 
 pub returns-in-Unending-clause-spells : goal.returns-in-Unending-clause-spells
 returns-in-Unending-clause-spells c =
-    to_unending c.args.text.now c.loop-position.position c.loop-position.tokens.items _ c.token_at.result c.in_ok-push-in-Unending.ensures.items
-    c.token_at.ensures (rw take_rest at c.in-Unending.ensures.value) c.loop-position.invariant.spelled
+    to_unending c.args.text.now c.loop-position.position c.loop-position.tokens.items _ c.token_at-in-Unending.result c.in_ok-push-in-Unending.ensures.items
+    c.token_at-in-Unending.ensures (rw take_rest at c.in-Unending.ensures.value) c.loop-position.invariant.spelled
 
 pub returns-in-Stray-clause-spells : goal.returns-in-Stray-clause-spells
 returns-in-Stray-clause-spells c =

@@ -11,6 +11,13 @@ next_moment-next-requires-clause-front g c =
     let front = c.in_ok-front.front in
     front_at answer old new front 0 front.done c.in_ok-front.ensures.done (c.in_ok-front.ensures.front answer)
 
+pub returns-in_err-pass-clause-lost : goal.returns-in_err-pass-clause-lost
+returns-in_err-pass-clause-lost g c =
+    let before = c.loop-next.invariant.losses in
+    let lost = c.in_err-pass.ensures.lost in
+    let handed = c.from_residual-in_err-pass.ensures in
+    grind (arith, common_steps)
+
 pub returns-in_err-pass-clause-part : goal.returns-in_err-pass-clause-part
 returns-in_err-pass-clause-part g c =
     let answer = g.S.Stepper.answer in let old = netlist c.args.old.now in let new = netlist c.args.new.now in

@@ -2,7 +2,7 @@ use Rattle.std.proofs.Common.{◌≡◌, ◌+◌, ◌++◌, subst, suc, arith}
 use Rattle.design.specs.Keys.{netlist}
 use Rattle.scratch.specs.Stands.{Stands}
 use Rattle.scratch.specs.Work.{work_from}
-use Rattle.scratch.proofs.Asked.{err_on}
+use Rattle.scratch.proofs.Asked.{err_on, ok_on}
 use Rattle.scratch.proofs.Later.{stands_in}
 use Rattle.scratch.proofs.extending.extend.Goals as goal
 
@@ -12,6 +12,14 @@ run_on-requires-clause-stands g c =
     let h = (netlist former).horizon in
     let start : suc h ≡ c.horizon-start.result + 1 = let is = c.horizon-start.ensures.horizon in omega arith in
     subst (Stands answer (netlist design) engine) start (stands_in answer engine (suc h) former design c.requires.same c.in_ok-engine.ensures)
+
+pub returns-clause-asked : goal.returns-clause-asked
+returns-clause-asked g c =
+    let asked = g.S.Stepper.asked in let d = netlist c.args.design.now in
+    let start : c.horizon-start.result + 1 ≡ suc (netlist c.args.former.now).horizon = let is = c.horizon-start.ensures.horizon in omega arith in
+    ok_on c.run_on.result
+    (subst (λ n. asked c.run_on.new.stepper ≡ asked c.args.stepper.now ++ work_from g.S.Stepper.answer d n (suc d.horizon)) start)
+    c.run_on.ensures.asked
 
 pub returns-clause-part : goal.returns-clause-part
 returns-clause-part g c =

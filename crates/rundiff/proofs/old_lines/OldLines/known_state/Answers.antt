@@ -1,15 +1,19 @@
 use Rattle.std.proofs.Common.{◌≡◌, ◌∙◌, ◌<◌, ap, cond, sym, subst, suc, length, map, ℕ, List, Bool, false, Some, None, All, arith}
 use Rattle.std.specs.Option.{option_map_or}
+use Rattle.std.proofs.lemmas.List.{length-map}
+use Rattle.fourstate.specs.declared.value.Value.{Value}
 use Rattle.gatestep.specs.Step.{State, Evaluation, due, initial}
 use Rattle.design.specs.Keys.{netlist}
 use Rattle.design.specs.Netlist.{is_readable}
 use Rattle.waveform.specs.Changes.{trace_below}
 use Rattle.waveform.specs.Timelines.{value_by}
 use Rattle.scratch.specs.Cells.{CellRecord}
+use Rattle.scratch.specs.Kept.{input_of}
 use Rattle.scratch.specs.Run.{state_after}
 use Rattle.scratch.specs.Work.{task_at}
 use Rattle.rundiff.specs.Dirty.{is_dirty, is_new}
 use Rattle.rundiff.specs.Fronts.{named_state}
+use Rattle.rundiff.specs.Kept.{read_at}
 use Rattle.rundiff.specs.OldLines.{HasPlace, former_value}
 use Rattle.rundiff.specs.Places.{blank_gate, gate_at}
 use Rattle.rundiff.proofs.Clean.{clean_after}
@@ -23,28 +27,37 @@ use Rattle.rundiff.proofs.Rereading.{with_trace}
 use Rattle.rundiff.proofs.Tasks.{old_settled}
 use Rattle.rundiff.proofs.old_lines.OldLines.known_state.Goals as goal
 
-pub inputs-inputs-requires-clause-places : goal.inputs-inputs-requires-clause-places
-inputs-inputs-requires-clause-places g c =
+pub are_read-requires-clause-places : goal.are_read-requires-clause-places
+are_read-requires-clause-places g c =
     let new = netlist c.args.new.now in
     subst (λ (cell : CellRecord). All (HasPlace new) cell.inputs) (sym c.requires.cell) (all_placed new (gate_at new c.args.place).inputs)
 
-pub returns-then-not-same_values-clause-known : goal.returns-then-not-same_values-clause-known
-returns-then-not-same_values-clause-known g c =
+pub are_read-requires-clause-count : goal.are_read-requires-clause-count
+are_read-requires-clause-count g c =
+    let answer = g.S.Stepper.answer in let new = netlist c.args.new.now in let gate = gate_at new c.args.place in
+    ap (λ (vs : List Value). length vs) (c.inputs.ensures ∙ ap (λ (e : Evaluation). e.inputs) c.requires.task)
+    ∙ length-map gate.inputs (λ x. read_at answer new x c.args.t) ∙ sym (length-map gate.inputs (input_of new))
+    ∙ ap (λ (cell : CellRecord). length cell.inputs) (sym c.requires.cell)
+
+pub returns-then-not-are_read-clause-known : goal.returns-then-not-are_read-clause-known
+returns-then-not-are_read-clause-known g c =
     let answer = g.S.Stepper.answer in let old = netlist c.args.old.now in let new = netlist c.args.new.now in let t = c.args.t in let gate = gate_at new c.args.place in
     let wired = all_pass (is_readable new) gate.inputs (c.lawful-2.ensures.design.wiring c.args.place blank_gate c.requires.there).inputs in
-    let read : c.as_slice.result.now ≡ (task_at answer old gate t).inputs =
-    c.as_slice.ensures.value ∙ c.inputs-inputs.ensures.values ∙ ap (λ (cell : CellRecord). map (former_value answer old new t) cell.inputs) c.requires.cell ∙ all_read answer old new t gate.inputs wired in
+    let former = map (former_value answer old new t) c.args.cell.now.inputs in
+    let read : former ≡ (task_at answer old gate t).inputs =
+    ap (λ (cell : CellRecord). map (former_value answer old new t) cell.inputs) c.requires.cell ∙ all_read answer old new t gate.inputs wired in
     ap (λ (b : Bool). cond b None (Some (state_after answer new gate t)))
     (inputs_differ answer old new gate t c.requires.within c.state_before.result c.state.result (λ known. c.state_before.ensures.state)
     (c.state.ensures ∙ ap (λ (e : Evaluation). e.state) c.requires.task) (sym c.is_same.ensures ∙ c.if-not-is_same.false)
-    c.as_slice.result.now c.inputs.result.now read (c.inputs.ensures ∙ ap (λ (e : Evaluation). e.inputs) c.requires.task) (sym c.same_values.ensures ∙ c.if-not-same_values.true))
+    former c.inputs.result.now read (c.inputs.ensures ∙ ap (λ (e : Evaluation). e.inputs) c.requires.task) (sym c.are_read.ensures.same ∙ c.if-not-are_read.true))
 
 pub returns-clause-known : goal.returns-clause-known
 returns-clause-known g c =
     let answer = g.S.Stepper.answer in let old = netlist c.args.old.now in let new = netlist c.args.new.now in let t = c.args.t in let p = c.args.place in let gate = gate_at new p in
     let wired = all_pass (is_readable new) gate.inputs (c.lawful-2.ensures.design.wiring p blank_gate c.requires.there).inputs in
-    let read : c.as_slice.result.now ≡ (task_at answer old gate t).inputs =
-    c.as_slice.ensures.value ∙ c.inputs-inputs.ensures.values ∙ ap (λ (cell : CellRecord). map (former_value answer old new t) cell.inputs) c.requires.cell ∙ all_read answer old new t gate.inputs wired in
+    let former = map (former_value answer old new t) c.args.cell.now.inputs in
+    let read : former ≡ (task_at answer old gate t).inputs =
+    ap (λ (cell : CellRecord). map (former_value answer old new t) cell.inputs) c.requires.cell ∙ all_read answer old new t gate.inputs wired in
     let low_gate : p < length c.args.self.now.others.items = let count = c.requires.lines.other_count in let there = c.requires.there in omega (arith, count, there) in
     let other : c.index.result.now ≡ is_new old gate =
     holds_at (λ p other. other ≡ is_new old (gate_at new p)) c.args.self.now.others.items p c.index.result.now c.requires.lines.others (read_get c.args.self.now.others.items p c.index.result.now low_gate c.index.ensures) in
@@ -52,8 +65,8 @@ returns-clause-known g c =
     let clean : is_dirty answer old new gate t ≡ false =
     sym (new_decides answer old new gate t c.requires.within c.state_before.result c.state.result (λ known. c.state_before.ensures.state)
     (c.state.ensures ∙ ap (λ (e : Evaluation). e.state) c.requires.task) (sym c.is_same.ensures ∙ c.if-not-is_same.false)
-    c.as_slice.result.now c.inputs.result.now read (c.inputs.ensures ∙ ap (λ (e : Evaluation). e.inputs) c.requires.task) (sym c.same_values.ensures ∙ c.if-not-same_values.false)) ∙ known in
-    let lines = c.inputs-inputs.new.self in let are = c.inputs-inputs.ensures.lines in
+    former c.inputs.result.now read (c.inputs.ensures ∙ ap (λ (e : Evaluation). e.inputs) c.requires.task) (sym c.are_read.ensures.same ∙ c.if-not-are_read.false)) ∙ known in
+    let lines = c.are_read.new.self in let are = c.are_read.ensures.lines in
     let low : p < length lines.traces.items = let count = are.trace_count in let there = c.requires.there in omega (arith, count, there) in
     let stored : c.index_mut.result.now ≡ trace_below (named_state answer old gate.name) (suc old.horizon) =
     holds_at (λ p trace. trace ≡ trace_below (named_state answer old (gate_at new p).name) (suc old.horizon)) lines.traces.items p c.index_mut.result.now are.traces
@@ -69,5 +82,5 @@ returns-clause-known g c =
 
 pub returns-clause-lines : goal.returns-clause-lines
 returns-clause-lines g c =
-    with_trace g.S.Stepper.answer (netlist c.args.old.now) (netlist c.args.new.now) c.inputs-inputs.new.self c.args.place c.index_mut.result.now c.at.new.self c.index_mut.result.now
-    c.index_mut.ensures.value c.at.ensures.same c.inputs-inputs.ensures.lines
+    with_trace g.S.Stepper.answer (netlist c.args.old.now) (netlist c.args.new.now) c.are_read.new.self c.args.place c.index_mut.result.now c.at.new.self c.index_mut.result.now
+    c.index_mut.ensures.value c.at.ensures.same c.are_read.ensures.lines

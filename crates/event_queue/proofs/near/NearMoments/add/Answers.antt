@@ -1,0 +1,16 @@
+use Rattle.std.proofs.Common.{◌∙◌, ap, sym, subst, Some}
+use Rattle.std.specs.Prelude.{min}
+use Rattle.event_queue.specs.Lists.{IsFirst}
+use Rattle.event_queue.proofs.Changes.{first_added, first_same}
+use Rattle.event_queue.proofs.near.NearMoments.add.Goals as goal
+
+pub invariant_of-self : goal.invariant_of-self
+invariant_of-self c = first_same c.self.inside.row c.add.new.self c.self.inside.first c.in_err-add.ensures.err c.self.invariant
+
+pub invariant_of-self-then-not-branch : goal.invariant_of-self-then-not-branch
+invariant_of-self-then-not-branch c = first_same c.self.inside.row c.add.new.self c.self.inside.first (c.in_ok-add.ensures.same c.if-not-branch.true) c.self.invariant
+
+pub invariant_of-self-2 : goal.invariant_of-self-2
+invariant_of-self-2 c =
+    subst (λ f. IsFirst c.add.new.self (Some f)) (sym (c.min.ensures ∙ ap (λ f. min f c.args.t) c.unwrap_or.ensures))
+    (first_added c.self.inside.row c.add.new.self c.args.t c.args.number (c.in_ok-add.ensures.near c.if-not-branch.false) c.self.inside.first c.self.invariant)
