@@ -36,16 +36,17 @@ module _ {A B : Type 0} (f : B → ℕ × A) where
       (x : B) → x ≡ get_or xs (n - 1) x → (f x).0 ≤ t →
       ((d : B) → n < length xs → t < (f (get_or xs n d)).0) →
       IsPartitionPoint (λ x. nat_le (f x).0 t ≡ true) (λ x. nat_le (f x).0 t ≡ false) xs n
-  point_between xs rise n t some within x read until after =
-      ( (λ k d from below.
-          let last : x ≡ get_or xs (n - 1) d = get_or_read_under xs (n - 1) (length xs) x d read (omega arith) refl in
-          let order : (f (get_or xs k d)).0 ≤ (f (get_or xs (n - 1) d)).0 = rise k (n - 1) d (omega arith) (omega arith) in
-          let low : (f (get_or xs (n - 1) d)).0 ≤ t = subst (λ y. (f y).0 ≤ t) last until in
-          le-leb (f (get_or xs k d)).0 t (omega arith))
-      , (λ k d from below.
-          let order : (f (get_or xs n d)).0 ≤ (f (get_or xs k d)).0 = rise n k d from below in
-          let high : t < (f (get_or xs n d)).0 = after d (omega arith) in
-          lt-leb (f (get_or xs k d)).0 t (omega arith)))
+  point_between xs rise n t some within x read until after = (
+    (λ k d from below.
+        let last : x ≡ get_or xs (n - 1) d = get_or_read_under xs (n - 1) (length xs) x d read (omega arith) refl in
+        let order : (f (get_or xs k d)).0 ≤ (f (get_or xs (n - 1) d)).0 = rise k (n - 1) d (omega arith) (omega arith) in
+        let low : (f (get_or xs (n - 1) d)).0 ≤ t = subst (λ y. (f y).0 ≤ t) last until in
+        le-leb (f (get_or xs k d)).0 t (omega arith)),
+    (λ k d from below.
+        let order : (f (get_or xs n d)).0 ≤ (f (get_or xs k d)).0 = rise n k d from below in
+        let high : t < (f (get_or xs n d)).0 = after d (omega arith) in
+        lt-leb (f (get_or xs k d)).0 t (omega arith)),
+  )
 
   -- where the entries before a place are those up to t, so they are as read
   pub front_is_until : (t : ℕ) (xs : List B) (i : ℕ) → i ≤ length xs → IsPartitionPoint (λ x. nat_le (f x).0 t ≡ true) (λ x. nat_le (f x).0 t ≡ false) xs i →

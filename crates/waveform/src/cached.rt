@@ -62,11 +62,7 @@ impl<'a, V: Sample> CachedTimeline<'a, V> {
 
 /// The timeline of these entries with its value at `t`, and that value; probably `guess` entries lie at `t` or before.
 #[inline(never)]
-fn found<'a, V: Sample>(
-    entries: &'a [V::Entry],
-    guess: usize,
-    t: u64,
-) -> (CachedTimeline<'a, V>, V)
+fn found<'a, V: Sample>(entries: &'a [V::Entry], guess: usize, t: u64) -> (CachedTimeline<'a, V>, V)
     requires timeline { IsTimeline V.same V.drift (map V.stored entries.now) }
     requires stored { All (λ e. V.can_store e.0 e.1) (map V.stored entries.now) }
     ensures line { result.0 ≡ map V.stored entries.now }

@@ -27,7 +27,10 @@ invariant_of-cached g c =
     elim c.match-entry_at.branch [
       | in-Some w ↦ (subst (λ (o : Option (ℕ × g.row.V.Denot)). IfSome o (λ e. until ≤ e.0)) (sym (first ∙ w.in-Some.is)) (let same = w.until-is in omega arith))
       | in-None w ↦ (subst (λ (o : Option (ℕ × g.row.V.Denot)). IfSome o (λ e. until ≤ e.0)) (sym (first ∙ w.in-None.is)) (search rules))
-    ] in
-    (c.requires.timeline, c.requires.stored, (λ t from before.
-        c.value_between.ensures xs c.requires.timeline c.args.t t until from before next
-        ∙ ap (λ a. sample.drift a t) value))
+    ] in (
+      c.requires.timeline,
+      c.requires.stored,
+      (λ t from before.
+          c.value_between.ensures xs c.requires.timeline c.args.t t until from before next
+          ∙ ap (λ a. sample.drift a t) value),
+    )
