@@ -36,7 +36,7 @@ pub or_right : (a b : Bool) → b ≡ true → (a || b) ≡ true
 or_right true b h = refl
 or_right false b h = h
 
-or_assoc : (a b c : Bool) → ((a || b) || c) ≡ (a || (b || c))
+pub or_assoc : (a b c : Bool) → ((a || b) || c) ≡ (a || (b || c))
 or_assoc true b c = refl
 or_assoc false b c = refl
 
@@ -113,14 +113,6 @@ absent k a [] r h = refl
 absent k a (j ∷ ks) r h =
     let low = r.0 in
     ap (λ (b : Bool). b || has k ks) (nat_apart k j (omega arith)) ∙ absent k (suc j) ks r.1 (omega arith)
-
-rises : (a k : ℕ) (ks : List ℕ) → a ≤ k → IsStrictlySortedBy nat_cmp (k ∷ ks) → AreRising a (k ∷ ks)
-rises a k [] h s = (h, tt)
-rises a k (j ∷ js) h s = (h, rises (suc k) j js (below_from_sorted (k ∷ j ∷ js) 0 1 0 s (omega arith) (omega arith)) (sorted_tail nat_cmp k (j ∷ js) s))
-
-pub all_rise : (ks : List ℕ) → IsStrictlySortedBy nat_cmp ks → AreRising 0 ks
-all_rise [] s = tt
-all_rise (k ∷ ks) s = rises 0 k ks (omega arith) s
 
 pub rising_from : (a b : ℕ) (ks : List ℕ) → b ≤ a → AreRising a ks → AreRising b ks
 rising_from a b [] h r = tt

@@ -3,20 +3,12 @@ use Rattle.std.specs.Prelude.{◌≡◌, ◌≤◌, ◌-◌, Bool, false, true, 
 use Rattle.std.specs.List.{enumerate_from, filter, list_any}
 use Rattle.std.specs.Option.{option_map_or}
 use Rattle.fourstate.specs.Values.{same_value}
+pub use Rattle.bit_set.specs.Numbers.{AreRising, has}
 use Rattle.gatestep.specs.Step.{State, Evaluation}
 use Rattle.design.specs.Names.{same_name}
 use Rattle.design.specs.Netlist.{NetEntry, Netlist, has_point, reads}
 use Rattle.scratch.specs.Run.{value}
 use Rattle.scratch.specs.Work.{is_due}
-
--- a place is among places
-abbrev pub has : ℕ → List ℕ → Bool
-has k places = list_any (nat_eq k) places
-
--- places that rise, from a on
-abbrev pub AreRising : ℕ → List ℕ → Type 0
-AreRising a [] = Unit {0}
-AreRising a (k ∷ ks) = (a ≤ k) × AreRising (suc k) ks
 
 -- the places of the elements that pass a test, the first element at a
 abbrev pub passing : {X : Type 0} → (X → Bool) → ℕ → List X → List ℕ

@@ -17,6 +17,7 @@ use crate::resolving::resolve_nets;
 use crate::settling::settle;
 use crate::stirring::{add_readers, find_due, find_nets, put_in_order};
 use crate::wiring::Wiring;
+use bit_set::BitSet;
 use design::Design;
 use event_queue::EventQueue;
 use fourstate::Value;
@@ -43,6 +44,7 @@ pub struct Engine {
     listed: Vec<usize>,
     /// The gates that are stirred at the moment, in order.
     pub gates: Vec<usize>,
+    stirred: BitSet,
     nets: Vec<usize>,
     changed: Vec<usize>,
     driven: Vec<Value>,
@@ -107,6 +109,7 @@ impl Engine {
             points,
             listed: Vec::new(alloc),
             gates: Vec::new(alloc),
+            stirred: BitSet::new(alloc),
             nets: Vec::new(alloc),
             changed: Vec::new(alloc),
             driven: Vec::new(alloc),
@@ -210,7 +213,7 @@ impl Engine {
             &mut self.changed,
         )?;
         add_readers(wiring, self.changed.as_slice(), &mut self.gates)?;
-        put_in_order(&mut self.gates);
+        put_in_order(&mut self.gates, &mut self.stirred)?;
         Ok(())
     }
 

@@ -1,6 +1,7 @@
 //! The values of nets at a moment, from the states of the gates.
 
 ghost use Rattle.std.specs.Prelude.{◌≡◌, ◌<◌, ◌+◌, ◌-◌, ℕ, false, not, map, length, slice_get, unwrap_or, OnOk, IfOk, IfSome};
+ghost use Rattle.fourstate.specs.Nets.{net_of};
 ghost use Rattle.fourstate.specs.Values.{same_value};
 ghost use Rattle.waveform.specs.Changes.{wave_changes_below};
 ghost use Rattle.design.specs.Keys.{netlist};
@@ -11,7 +12,7 @@ ghost use Rattle.scratch.specs.Run.{state_before, value};
 
 use crate::wiring::Wiring;
 use design::Design;
-use fourstate::{Value, resolve};
+use fourstate::{NetKind, Value, resolve};
 use gatestep::{Driver, Stepper};
 use std::alloc::AllocError;
 use waveform::{Wave, laws};
@@ -43,6 +44,25 @@ fn gather_currents(
     Ok(())
 }
 
+/// What a net of this kind has at the moment `t` from the states of its drivers at some places. One driver alone gives what it
+/// drives.
+#[inline(always)]
+fn resolve_drivers(
+    kind: NetKind,
+    places: &[usize],
+    states: &[Driver],
+    t: u64,
+    driven: &mut Vec<Value>,
+) -> Result<Value, AllocError>
+    ensures { IfOk result (λ v. v ≡ net_of kind (values_at (currents_of states.now t) places.now)) }
+{
+    if places.len() == 1 {
+        return Ok(current_at(states, places[0], t));
+    }
+    gather_currents(states, places, t, driven)?;
+    Ok(resolve(kind, driven.as_slice()))
+}
+
 /// The value of the net at a place at the moment `t` from the states of the gates, those of its own drivers at `places`.
 fn resolved(
     design: &Design,
@@ -61,9 +81,7 @@ fn resolved(
         None => Ok(design.net_at(place).stimulus_at(t)),
         Some(kind) => {
             let places = wiring.drivers[place].as_slice();
-            gather_currents(states, places, t, driven)?;
-            let gathered = driven.as_slice();
-            Ok(resolve(kind, gathered))
+            resolve_drivers(kind, places, states, t, driven)
         }
     }
 }

@@ -2,6 +2,7 @@
 
 ghost use Rattle.std.specs.Prelude.{◌≡◌, ◌<◌, ◌≤◌, ◌+◌, ◌++◌, ◌||◌, [], ℕ, true, OnOk};
 ghost use Rattle.std.specs.List.{filter, list_any};
+ghost use Rattle.bit_set.specs.Words.{has_bit};
 ghost use Rattle.event_queue.specs.Noted.{IsTaken, noted};
 ghost use Rattle.design.specs.Keys.{netlist};
 ghost use Rattle.scratch.specs.Kept.{output_at, places_at};
@@ -9,6 +10,7 @@ ghost use Rattle.scratch.specs.Places.{Announces, AreRising, IsNotedWithin, Keep
 
 use crate::noting::note_next_point;
 use crate::wiring::Wiring;
+use bit_set::BitSet;
 use design::Design;
 use event_queue::EventQueue;
 use gatestep::Driver;
@@ -147,11 +149,22 @@ pub fn add_readers(
     Ok(())
 }
 
-/// The places in order, each once.
-pub fn put_in_order(places: &mut Vec<usize>)
-    ensures rising { AreRising 0 places.new.items }
-    ensures same { (k : ℕ) → has k places.new.items ≡ has k places.old.items }
+/// The places in order, each once. `room` is for their set.
+pub fn put_in_order(places: &mut Vec<usize>, room: &mut BitSet) -> Result<(), AllocError>
+    ensures rising { OnOk result (AreRising 0 places.new.items) }
+    ensures same { OnOk result ((k : ℕ) → has k places.new.items ≡ has k places.old.items) }
 {
-    places.sort_unstable();
-    places.dedup();
+    room.clear();
+    insert_all(places.as_slice(), room)?;
+    room.drain(places)
+}
+
+/// Adds the places to a set.
+fn insert_all(places: &[usize], set: &mut BitSet) -> Result<(), AllocError>
+    ensures { OnOk result ((k : ℕ) → has_bit set.new k ≡ (has_bit set.old k || has k places.now)) }
+{
+    for place in places {
+        set.insert(*place)?;
+    }
+    Ok(())
 }

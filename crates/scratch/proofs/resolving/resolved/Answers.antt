@@ -38,4 +38,4 @@ returns-in_ok-gather_currents-in-Some c =
     let places : c.as_slice-places.result.now ≡ driver_places d.gates n.name = c.as_slice-places.ensures ∙ drivers_at d drivers place n c.index-in-Some.result.now c.requires.wired.drivers it.1 beside in
     let currents = currents_of c.args.states.now c.args.t in
     if_there (slice_get d.nets place) n (λ n. c.resolve.result ≡ net_from currents c.args.t n (driver_places d.gates n.name)) it.1
-    (c.resolve.ensures ∙ ap (net_of c.in-Some.kind) (c.as_slice-gathered.ensures.value ∙ c.in_ok-gather_currents-in-Some.ensures ∙ ap (values_at currents) places) ∙ driven_is currents c.args.t n c.in-Some.kind (driver_places d.gates n.name) some)
+    (c.resolve_drivers.ensures ∙ ap (λ l. net_of c.in-Some.kind (values_at currents l)) places ∙ driven_is currents c.args.t n c.in-Some.kind (driver_places d.gates n.name) some)
