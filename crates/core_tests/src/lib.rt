@@ -4,6 +4,8 @@
 #[cfg(test)]
 mod benches;
 #[cfg(test)]
+mod bit_sets;
+#[cfg(test)]
 mod bytes;
 #[cfg(test)]
 mod cached;
