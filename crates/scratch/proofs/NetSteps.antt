@@ -1,11 +1,13 @@
 -- The values and waves of nets that change go on, the others stay.
-use Rattle.std.proofs.Common.{◌≡◌, ◌<◌, ◌∙◌, sym, ap, refl, Bool, true, false, not, ℕ, zero, suc, ◌+◌, ◌-◌, List, [], ◌∷◌, ◌++◌, map, Option, Some, None, slice_get, length, All, add-one, arith}
+use Rattle.std.proofs.Common.{◌≡◌, ◌<◌, ◌∙◌, sym, ap, refl, Bool, true, false, not, ℕ, zero, suc, ◌+◌, ◌-◌, List, [], ◌∷◌, ◌++◌, map, Option, Some, None, slice_get, length, All, add-one, arith, get_or, unwrap_or}
 use Rattle.std.specs.Option.{option_map_or, option_map}
 use Rattle.std.specs.Prelude.{◌||◌, if◌then◌else◌}
 use Rattle.std.proofs.Math.ListN.{set}
 use Rattle.std.proofs.lemmas.Option.{slice_get-map, slice_get_within}
 use Rattle.fourstate.specs.declared.net.NetKind.{NetKind}
+use Rattle.fourstate.specs.declared.net.NetKind.TheVariants.{Wire, Tri, Wand, Triand, Wor, Trior}
 use Rattle.fourstate.specs.declared.value.Value.{Value}
+use Rattle.fourstate.specs.declared.value.Value.TheVariants.{Zero, One, Unknown, HighZ}
 use Rattle.fourstate.specs.Nets.{net_of}
 use Rattle.fourstate.specs.Values.{same_value}
 use Rattle.gatestep.specs.Step.{State, Evaluation, due}
@@ -212,3 +214,42 @@ driven_by n kind a f false some = let same : kind ≡ n.kind = cc in ap f same
 
 pub driven_is : (currents : List Value) (t : ℕ) (n : NetEntry) (kind : NetKind) (places : List ℕ) → Some kind ≡ driven_kind n → net_of kind (values_at currents places) ≡ net_from currents t n places
 driven_is currents t n kind places some = driven_by n kind (stimulus n.points t) (λ k. net_of k (values_at currents places)) n.is_input some
+
+-- One driver alone gives a net what it drives, whatever the net's kind.
+
+wire_alone : (v : Value) → net_of Wire (v ∷ []) ≡ v
+wire_alone Zero = refl
+wire_alone One = refl
+wire_alone Unknown = refl
+wire_alone HighZ = refl
+
+wand_alone : (v : Value) → net_of Wand (v ∷ []) ≡ v
+wand_alone Zero = refl
+wand_alone One = refl
+wand_alone Unknown = refl
+wand_alone HighZ = refl
+
+wor_alone : (v : Value) → net_of Wor (v ∷ []) ≡ v
+wor_alone Zero = refl
+wor_alone One = refl
+wor_alone Unknown = refl
+wor_alone HighZ = refl
+
+pub one_driver : (kind : NetKind) (v : Value) → net_of kind (v ∷ []) ≡ v
+one_driver Wire v = wire_alone v
+one_driver Tri v = wire_alone v
+one_driver Wand v = wand_alone v
+one_driver Triand v = wand_alone v
+one_driver Wor v = wor_alone v
+one_driver Trior v = wor_alone v
+
+only_one : {X : Type 0} (xs : List X) (d : X) → length xs ≡ 1 → xs ≡ get_or xs 0 d ∷ []
+only_one [] d h = absurd (omega arith)
+only_one (x ∷ []) d h = refl
+only_one (x ∷ y ∷ xs) d h = absurd (omega arith)
+
+-- what the only place of some values has
+pub value_alone : (kind : NetKind) (values : List Value) (places : List ℕ) (v : Value) → length places ≡ 1 →
+    v ≡ unwrap_or (slice_get values (get_or places 0 0)) Unknown → v ≡ net_of kind (values_at values places)
+value_alone kind values places v one is =
+    is ∙ sym (one_driver kind (unwrap_or (slice_get values (get_or places 0 0)) Unknown)) ∙ ap (λ ps. net_of kind (values_at values ps)) (sym (only_one places 0 one))

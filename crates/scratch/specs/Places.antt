@@ -1,6 +1,6 @@
 -- Words for places in the order of the gates and of the nets. Where there is no gate or no net, nothing is so.
-use Rattle.std.specs.Prelude.{◌≡◌, ◌≤◌, ◌-◌, Bool, false, true, not, ℕ, suc, nat_eq, List, [], ◌∷◌, map, slice_get}
-use Rattle.std.specs.List.{enumerate_from, filter, list_any}
+use Rattle.std.specs.Prelude.{◌≡◌, ◌≤◌, ◌-◌, Bool, false, true, not, ℕ, nat_eq, List, map, slice_get}
+use Rattle.std.specs.List.{enumerate_from, filter}
 use Rattle.std.specs.Option.{option_map_or}
 use Rattle.fourstate.specs.Values.{same_value}
 pub use Rattle.bit_set.specs.Numbers.{AreRising, has}

@@ -81,7 +81,8 @@ fn resolved(
         None => Ok(design.net_at(place).stimulus_at(t)),
         Some(kind) => {
             let places = wiring.drivers[place].as_slice();
-            resolve_drivers(kind, places, states, t, driven)
+            let value = resolve_drivers(kind, places, states, t, driven)?;
+            Ok(value)
         }
     }
 }

@@ -156,7 +156,8 @@ pub fn put_in_order(places: &mut Vec<usize>, room: &mut BitSet) -> Result<(), Al
 {
     room.clear();
     insert_all(places.as_slice(), room)?;
-    room.drain(places)
+    room.drain(places)?;
+    Ok(())
 }
 
 /// Adds the places to a set.

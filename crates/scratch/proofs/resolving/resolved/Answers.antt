@@ -24,8 +24,8 @@ returns-in-None c =
     if_there (slice_get d.nets place) n (λ n. c.stimulus_at.result ≡ net_from (currents_of c.args.states.now c.args.t) c.args.t n (driver_places d.gates n.name)) c.net_at.ensures
     (c.stimulus_at.ensures ∙ stimulus_is (currents_of c.args.states.now c.args.t) c.args.t n (driver_places d.gates n.name) none)
 
-pub returns-in_ok-gather_currents-in-Some : goal.returns-in_ok-gather_currents-in-Some
-returns-in_ok-gather_currents-in-Some c =
+pub returns-in_ok-value-in-Some : goal.returns-in_ok-value-in-Some
+returns-in_ok-value-in-Some c =
     let d = netlist c.args.design.now in let place = c.args.place in
     let it = some_at d.nets place c.requires.there in let n = it.0 in
     let kinds = c.args.wiring.now.kinds.items in
@@ -37,5 +37,5 @@ returns-in_ok-gather_currents-in-Some c =
     let beside = slice_get_read drivers (length drivers) place c.index-in-Some.result.now refl in_drivers c.index-in-Some.ensures in
     let places : c.as_slice-places.result.now ≡ driver_places d.gates n.name = c.as_slice-places.ensures ∙ drivers_at d drivers place n c.index-in-Some.result.now c.requires.wired.drivers it.1 beside in
     let currents = currents_of c.args.states.now c.args.t in
-    if_there (slice_get d.nets place) n (λ n. c.resolve.result ≡ net_from currents c.args.t n (driver_places d.gates n.name)) it.1
-    (c.resolve_drivers.ensures ∙ ap (λ l. net_of c.in-Some.kind (values_at currents l)) places ∙ driven_is currents c.args.t n c.in-Some.kind (driver_places d.gates n.name) some)
+    if_there (slice_get d.nets place) n (λ n. c.in_ok-value-in-Some.value ≡ net_from currents c.args.t n (driver_places d.gates n.name)) it.1
+    (c.in_ok-value-in-Some.ensures ∙ ap (λ l. net_of c.in-Some.kind (values_at currents l)) places ∙ driven_is currents c.args.t n c.in-Some.kind (driver_places d.gates n.name) some)

@@ -1,4 +1,4 @@
-use Rattle.std.proofs.Common.{◌≡◌, ◌∙◌, sym, ap, Bool, get_or, take, nat_eq}
+use Rattle.std.proofs.Common.{◌∙◌, sym, ap, Bool, get_or, take, nat_eq}
 use Rattle.std.specs.Prelude.{◌||◌}
 use Rattle.bit_set.specs.Words.{has_bit}
 use Rattle.bit_set.proofs.Numbers.{has_next}

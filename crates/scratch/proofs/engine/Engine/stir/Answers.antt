@@ -36,8 +36,8 @@ returns g c =
     let due = due_is answer d t stands.begun states stands.states (noted c.args.self.now.events) ready stands.events due_gates is in
     let stirred : c.put_in_order.new.places.items ≡ passing (λ gate. is_stirred answer d gate t) 0 d.gates =
     looked answer d t stands.begun states stands.states c.lawful.ensures.design.distinct_nets (λ m. places_at c.args.wiring.now.readers.items m) c.requires.wired.readers
-    c.resolve_nets.new.changed.items c.in_ok-resolve_nets.ensures.changed due_gates c.put_in_order.new.places.items due c.put_in_order.ensures.rising
-    (λ k. c.put_in_order.ensures.same k ∙ c.in_ok-add_readers.ensures k
+    c.resolve_nets.new.changed.items c.in_ok-resolve_nets.ensures.changed due_gates c.put_in_order.new.places.items due c.in_ok-put_in_order.ensures.rising
+    (λ k. c.in_ok-put_in_order.ensures.same k ∙ c.in_ok-add_readers.ensures k
     ∙ ap (λ l. has k due_gates || list_any (λ m. has k (places_at c.args.wiring.now.readers.items m)) l) c.as_slice-5.ensures.value) in
     record {
       begun = stands.begun;
