@@ -48,11 +48,11 @@ fn weigh<S: Stepper>(
     ensures tasks { OnOk result (tasks.new.items ≡ tasks.old.items ++ dirty_task S.answer (netlist old.now) (netlist new.now) t place) }
     ensures ready { OnOk result (All (IsReady t) tasks.old.items → All (IsReady t) tasks.new.items) }
 {
-    let task = task_at::<S>(new, wiring, values, states, place, t);
     let cell = &wiring.cells[place];
-    let known = lines.known_state::<S>(old, new, cell, place, &task, t);
+    let state = states[place];
+    let known = lines.known_state::<S>(old, new, cell, place, state, values, t);
     if known.is_none() {
-        tasks.push(task)?;
+        tasks.push(task_at::<S>(new, wiring, values, states, place, t))?;
     }
     Ok(known)
 }

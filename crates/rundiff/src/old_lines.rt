@@ -6,7 +6,7 @@ ghost use Rattle.gatestep.specs.Step.{Evaluation, initial};
 ghost use Rattle.design.specs.Connections.{to_net};
 ghost use Rattle.design.specs.Keys.{netlist};
 ghost use Rattle.waveform.specs.Changes.{trace_below, wave_changes_below};
-ghost use Rattle.scratch.specs.Kept.{cell_of};
+ghost use Rattle.scratch.specs.Kept.{cell_of, evaluation_from, input_value};
 ghost use Rattle.scratch.specs.Run.{IsRun, state_before};
 ghost use Rattle.scratch.specs.Work.{same_values, task_at};
 ghost use Rattle.rundiff.specs.Dirty.{is_new};
@@ -19,8 +19,8 @@ use crate::old::{old_trace, old_wave};
 use crate::same::is_new_gate;
 use design::Design;
 use fourstate::Value;
-use gatestep::{Driver, Stepper, Task};
-use scratch::{Cell, Input};
+use gatestep::{Driver, Stepper};
+use scratch::{Cell, Input, read_input};
 use std::alloc::{AllocError, Global};
 use waveform::{CachedTimeline, Run, Sample, Trace, Wave, laws};
 
@@ -77,7 +77,7 @@ impl<'a> OldLines<'a> {
         }
     }
 
-    /// Whether the inputs of a gate of the new design read these values in the old run.
+    /// Whether the inputs of a gate of the new design read in the old run what they read where the nets have these values.
     fn are_read<S: Stepper>(
         &mut self,
         old: &Design,
@@ -88,15 +88,14 @@ impl<'a> OldLines<'a> {
     ) -> bool
         requires lines { AreOldLines S.answer (netlist old.now) (netlist new.now) self.old }
         requires places { All (HasPlace (netlist new.now)) cell.now.inputs }
-        requires count { length values.now ≡ length cell.now.inputs }
         requires within { t ≤ (netlist old.now).horizon }
         ensures lines { AreOldLines S.answer (netlist old.now) (netlist new.now) self.new }
-        ensures same { result ≡ same_values (map (former_value S.answer (netlist old.now) (netlist new.now) t) cell.now.inputs) values.now }
+        ensures same { result ≡ same_values (map (former_value S.answer (netlist old.now) (netlist new.now) t) cell.now.inputs) (map (input_value values.now) cell.now.inputs) }
     {
         let inputs = cell.inputs();
         for i in 0..inputs.len() {
             let input = inputs[i];
-            let value = values[i];
+            let value = read_input(values, input);
             let former = self.value::<S>(old, new, input, t);
             if !former.is_same(value) {
                 return false;
@@ -129,21 +128,23 @@ impl<'a> OldLines<'a> {
         self.traces[place].at(t - 1)
     }
 
-    /// The state after the moment `t` of the gate at a place, where it is not dirty then; its task is given.
+    /// The state after the moment `t` of the gate at a place, where it is not dirty then; given are its state before the moment
+    /// and the values of the nets at it.
     pub fn known_state<S: Stepper>(
         &mut self,
         old: &Design,
         new: &Design,
         cell: &Cell,
         place: usize,
-        task: &Task,
+        state: Driver,
+        values: &[Value],
         t: u64,
     ) -> Option<Driver>
         requires lines { AreOldLines S.answer (netlist old.now) (netlist new.now) self.old }
         requires there { place < length (netlist new.now).gates }
         requires within { t ≤ (netlist old.now).horizon }
         requires cell { cell.now ≡ cell_of (netlist new.now) (gate_at (netlist new.now) place) }
-        requires task { task.now ≡ task_at S.answer (netlist new.now) (gate_at (netlist new.now) place) t }
+        requires task { evaluation_from values.now cell.now state ≡ task_at S.answer (netlist new.now) (gate_at (netlist new.now) place) t }
         ensures known { result ≡ known_at S.answer (netlist old.now) (netlist new.now) t (gate_at (netlist new.now) place) }
         ensures lines { AreOldLines S.answer (netlist old.now) (netlist new.now) self.new }
     {
@@ -155,11 +156,11 @@ impl<'a> OldLines<'a> {
         }
         if !self
             .state_before::<S>(old, new, place, t)
-            .is_same(task.state())
+            .is_same(state)
         {
             return None;
         }
-        if !self.are_read::<S>(old, new, cell, task.inputs(), t) {
+        if !self.are_read::<S>(old, new, cell, values, t) {
             return None;
         }
         Some(self.traces[place].at(t))

@@ -9,6 +9,7 @@ pub mod Lists
 pub mod Moments
 pub mod NetSteps
 pub mod Notes
+pub mod OneTask
 pub mod Passing
 pub mod Places
 pub mod Readers

@@ -20,7 +20,7 @@ mod wiring;
 
 pub use engine::Engine;
 pub use extending::extend;
-pub use moment::task_at;
+pub use moment::{read_input, task_at};
 pub use opening::Opening;
 pub use run::simulate;
 pub use waves::{wave_at, wave_named};

@@ -202,9 +202,9 @@ fn find_values(
     Ok(())
 }
 
-/// The value that an input reads.
+/// The value that an input reads, where the nets have these values.
 #[inline(always)]
-fn read(values: &[Value], input: Input) -> Value
+pub fn read_input(values: &[Value], input: Input) -> Value
     ensures { result ≡ input_value values.now input }
 {
     match input {
@@ -219,7 +219,7 @@ pub fn task(cell: &Cell, state: Driver, values: &[Value]) -> Task
 {
     let mut read_values = ArrayVec::new();
     for input in cell.inputs() {
-        read_values.push(read(values, *input));
+        read_values.push(read_input(values, *input));
     }
     Task::new(cell.kind(), cell.delays(), state, read_values)
 }

@@ -8,7 +8,7 @@ use Rattle.design.specs.Netlist.{is_readable}
 use Rattle.waveform.specs.Changes.{trace_below}
 use Rattle.waveform.specs.Timelines.{value_by}
 use Rattle.scratch.specs.Cells.{CellRecord}
-use Rattle.scratch.specs.Kept.{input_of}
+use Rattle.scratch.specs.Kept.{input_value}
 use Rattle.scratch.specs.Run.{state_after}
 use Rattle.scratch.specs.Work.{task_at}
 use Rattle.rundiff.specs.Dirty.{is_dirty, is_new}
@@ -32,13 +32,6 @@ are_read-requires-clause-places g c =
     let new = netlist c.args.new.now in
     subst (λ (cell : CellRecord). All (HasPlace new) cell.inputs) (sym c.requires.cell) (all_placed new (gate_at new c.args.place).inputs)
 
-pub are_read-requires-clause-count : goal.are_read-requires-clause-count
-are_read-requires-clause-count g c =
-    let answer = g.S.Stepper.answer in let new = netlist c.args.new.now in let gate = gate_at new c.args.place in
-    ap (λ (vs : List Value). length vs) (c.inputs.ensures ∙ ap (λ (e : Evaluation). e.inputs) c.requires.task)
-    ∙ length-map gate.inputs (λ x. read_at answer new x c.args.t) ∙ sym (length-map gate.inputs (input_of new))
-    ∙ ap (λ (cell : CellRecord). length cell.inputs) (sym c.requires.cell)
-
 pub returns-then-not-are_read-clause-known : goal.returns-then-not-are_read-clause-known
 returns-then-not-are_read-clause-known g c =
     let answer = g.S.Stepper.answer in let old = netlist c.args.old.now in let new = netlist c.args.new.now in let t = c.args.t in let gate = gate_at new c.args.place in
@@ -47,9 +40,9 @@ returns-then-not-are_read-clause-known g c =
     let read : former ≡ (task_at answer old gate t).inputs =
     ap (λ (cell : CellRecord). map (former_value answer old new t) cell.inputs) c.requires.cell ∙ all_read answer old new t gate.inputs wired in
     ap (λ (b : Bool). cond b None (Some (state_after answer new gate t)))
-    (inputs_differ answer old new gate t c.requires.within c.state_before.result c.state.result (λ known. c.state_before.ensures.state)
-    (c.state.ensures ∙ ap (λ (e : Evaluation). e.state) c.requires.task) (sym c.is_same.ensures ∙ c.if-not-is_same.false)
-    former c.inputs.result.now read (c.inputs.ensures ∙ ap (λ (e : Evaluation). e.inputs) c.requires.task) (sym c.are_read.ensures.same ∙ c.if-not-are_read.true))
+    (inputs_differ answer old new gate t c.requires.within c.state_before.result c.args.state (λ known. c.state_before.ensures.state)
+    (ap (λ (e : Evaluation). e.state) c.requires.task) (sym c.is_same.ensures ∙ c.if-not-is_same.false)
+    former (map (input_value c.args.values.now) c.args.cell.now.inputs) read (ap (λ (e : Evaluation). e.inputs) c.requires.task) (sym c.are_read.ensures.same ∙ c.if-not-are_read.true))
 
 pub returns-clause-known : goal.returns-clause-known
 returns-clause-known g c =
@@ -63,9 +56,9 @@ returns-clause-known g c =
     holds_at (λ p other. other ≡ is_new old (gate_at new p)) c.args.self.now.others.items p c.index.result.now c.requires.lines.others (read_get c.args.self.now.others.items p c.index.result.now low_gate c.index.ensures) in
     let known : is_new old gate ≡ false = sym other ∙ c.if-index.false in
     let clean : is_dirty answer old new gate t ≡ false =
-    sym (new_decides answer old new gate t c.requires.within c.state_before.result c.state.result (λ known. c.state_before.ensures.state)
-    (c.state.ensures ∙ ap (λ (e : Evaluation). e.state) c.requires.task) (sym c.is_same.ensures ∙ c.if-not-is_same.false)
-    former c.inputs.result.now read (c.inputs.ensures ∙ ap (λ (e : Evaluation). e.inputs) c.requires.task) (sym c.are_read.ensures.same ∙ c.if-not-are_read.false)) ∙ known in
+    sym (new_decides answer old new gate t c.requires.within c.state_before.result c.args.state (λ known. c.state_before.ensures.state)
+    (ap (λ (e : Evaluation). e.state) c.requires.task) (sym c.is_same.ensures ∙ c.if-not-is_same.false)
+    former (map (input_value c.args.values.now) c.args.cell.now.inputs) read (ap (λ (e : Evaluation). e.inputs) c.requires.task) (sym c.are_read.ensures.same ∙ c.if-not-are_read.false)) ∙ known in
     let lines = c.are_read.new.self in let are = c.are_read.ensures.lines in
     let low : p < length lines.traces.items = let count = are.trace_count in let there = c.requires.there in omega (arith, count, there) in
     let stored : c.index_mut.result.now ≡ trace_below (named_state answer old gate.name) (suc old.horizon) =
