@@ -1,7 +1,5 @@
 use Rattle.std.proofs.Common.{◌≡◌, ◌∙◌, ◌<◌, ap, cond, sym, subst, suc, length, map, ℕ, List, Bool, false, Some, None, All, arith}
 use Rattle.std.specs.Option.{option_map_or}
-use Rattle.std.proofs.lemmas.List.{length-map}
-use Rattle.fourstate.specs.declared.value.Value.{Value}
 use Rattle.gatestep.specs.Step.{State, Evaluation, due, initial}
 use Rattle.design.specs.Keys.{netlist}
 use Rattle.design.specs.Netlist.{is_readable}
@@ -13,7 +11,6 @@ use Rattle.scratch.specs.Run.{state_after}
 use Rattle.scratch.specs.Work.{task_at}
 use Rattle.rundiff.specs.Dirty.{is_dirty, is_new}
 use Rattle.rundiff.specs.Fronts.{named_state}
-use Rattle.rundiff.specs.Kept.{read_at}
 use Rattle.rundiff.specs.OldLines.{HasPlace, former_value}
 use Rattle.rundiff.specs.Places.{blank_gate, gate_at}
 use Rattle.rundiff.proofs.Clean.{clean_after}
