@@ -6,9 +6,10 @@ use Rattle.std.proofs.Math.ListN.{set}
 use Rattle.std.specs.Prelude.{◌&&◌}
 use Rattle.event_queue.specs.Noted.{noted}
 use Rattle.fourstate.specs.declared.value.Value.{Value}
-use Rattle.gatestep.specs.Step.{State}
+use Rattle.gatestep.specs.Step.{State, due}
 use Rattle.waveform.specs.Changes.{trace_below}
 use Rattle.waveform.specs.Entries.{CanStore, same_state}
+use Rattle.waveform.specs.Timelines.{is_reached, pushed}
 use Rattle.design.specs.Keys.{netlist}
 use Rattle.design.specs.Netlist.{GateEntry}
 use Rattle.scratch.specs.Places.{AreRising, Covers, has, pends_at}
@@ -120,8 +121,9 @@ push_known-requires-clause-known g c =
     ap (λ l. slice_get l place) (sym c.requires.states)
     ∙ sym (is_old (take c.loop-i.i gates) (slice_get c.args.states.now.items) (slice_get (map (state_before answer d (c.args.t + 1)) d.gates)) (slice_get c.loop-i.states.items) c.loop-i.invariant.states place apart)
     ∙ slice_get_read c.loop-i.states.items (length c.loop-i.states.items) place c.index.result.now refl in_states c.index.ensures in
-    known answer d law.answer_pending c.reached_by_changes.ensures c.lawful.ensures.design.gates c.args.t place c.requires.begun c.index_mut-trace.result.now c.index.result.now c.index-answers-i.result was before
-    ∙ ap (same_state c.index-answers-i.result) (sym c.due-known.ensures)
+    subst (λ (s : State). is_reached same_state due c.index_mut-trace.result.now c.args.t s ≡ same_state s c.due-known.result) (sym c.answer.view_is)
+    (known answer d law.answer_pending c.reached_by_changes.ensures c.lawful.ensures.design.gates c.args.t place c.requires.begun c.index_mut-trace.result.now c.index.result.now c.index-answers-i.result was before
+    ∙ ap (same_state c.index-answers-i.result) (sym c.due-known.ensures))
 
 pub push_known-requires-clause-can : goal.push_known-requires-clause-can
 push_known-requires-clause-can g c =
@@ -133,7 +135,7 @@ push_known-requires-clause-can g c =
     let here = value_at_place (λ gate. is_stirred answer d gate c.args.t) (state_before answer d (c.args.t + 1)) d.gates gates c.args.answers.now c.requires.gates c.requires.answers
     c.loop-i.i place c.index-answers-i.result (slice_get-get_or gates c.loop-i.i 0 within) there in
     let next = map (state_before answer d (c.args.t + 1)) d.gates in
-    all_at (CanStore c.args.t) next place c.index-answers-i.result (storable answer d law.answer_pending law.answer_near c.lawful.ensures.design.gates c.args.t next refl) here
+    subst (CanStore c.args.t) (sym c.answer.view_is) (all_at (CanStore c.args.t) next place c.index-answers-i.result (storable answer d law.answer_pending law.answer_near c.lawful.ensures.design.gates c.args.t next refl) here)
 
 pub loop-i-preserved : goal.loop-i-preserved
 loop-i-preserved g c =
@@ -158,10 +160,12 @@ loop-i-preserved g c =
     let was : slice_get (map (λ gate. trace_below (state_after answer d gate) t) d.gates) place ≡ Some c.index_mut-trace.result.now =
     ap (λ l. slice_get l place) (sym c.requires.traces) ∙ sym (is_old done (slice_get c.args.traces.now.items) (slice_get next_traces) (slice_get c.loop-i.traces.items) c.loop-i.invariant.traces place apart) ∙ trace in
     let grows : slice_get next_traces place ≡ Some c.push_known.new.self =
-    next_trace answer d law.answer_pending c.push_to_changes.ensures are t place c.index_mut-trace.result.now s was here ∙ ap (λ x. Some x) (sym c.in_ok-push_known.ensures.ok) in
+    next_trace answer d law.answer_pending c.push_to_changes.ensures are t place c.index_mut-trace.result.now s was here
+    ∙ ap (λ x. Some x) (ap (pushed same_state due c.index_mut-trace.result.now t) (sym c.answer.view_is) ∙ sym c.in_ok-push_known.ensures.ok) in
     record {
-      states = subst (λ l. Between l (slice_get c.args.states.now.items) (slice_get next) (slice_get (set c.loop-i.states.items place s))) (sym more)
-          (write done c.args.states.now.items next c.loop-i.states.items c.loop-i.invariant.states place s here in_states);
+      states = subst (λ (x : State). Between (take (i + 1) gates) (slice_get c.args.states.now.items) (slice_get next) (slice_get (set c.loop-i.states.items place x))) (sym c.answer.view_is)
+          (subst (λ l. Between l (slice_get c.args.states.now.items) (slice_get next) (slice_get (set c.loop-i.states.items place s))) (sym more)
+          (write done c.args.states.now.items next c.loop-i.states.items c.loop-i.invariant.states place s here in_states));
       traces = subst (λ l. Between l (slice_get c.args.traces.now.items) (slice_get next_traces) (slice_get (set c.loop-i.traces.items place c.push_known.new.self))) (sym more)
           (write done c.args.traces.now.items next_traces c.loop-i.traces.items c.loop-i.invariant.traces place c.push_known.new.self grows in_traces);
       events = elim c.match-answer.branch [
@@ -188,7 +192,7 @@ loop-i-preserved g c =
             ap (λ q. noted q u) w.events-is ∙ elsewhere event.1 place c.loop-i.events w.add.new.self w.in_ok-add.ensures.ok u (nat_beyond event.1 u (omega arith)) ∙ c.loop-i.invariant.early u low
         | in_default w ↦ λ u low. ap (λ q. noted q u) w.events-is ∙ c.loop-i.invariant.early u low
       ];
-      as_many = length_set c.loop-i.states.items place s ∙ c.loop-i.invariant.as_many;
+      as_many = length_set c.loop-i.states.items place _ ∙ c.loop-i.invariant.as_many;
       as_many_traces = length_set c.loop-i.traces.items place c.push_known.new.self ∙ c.loop-i.invariant.as_many_traces;
     }
 
