@@ -154,10 +154,7 @@ impl<'a> OldLines<'a> {
         if self.others[place] {
             return None;
         }
-        if !self
-            .state_before::<S>(old, new, place, t)
-            .is_same(state)
-        {
+        if !self.state_before::<S>(old, new, place, t).is_same(state) {
             return None;
         }
         if !self.are_read::<S>(old, new, cell, values, t) {
