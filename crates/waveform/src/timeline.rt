@@ -8,7 +8,7 @@ mod follow;
 mod look;
 mod splice;
 
-use crate::entries::{count_until, last_entry, push_known, push_value};
+use crate::entries::{FIRST_ROOM, count_until, last_entry, push_known, push_value};
 use crate::sample::Sample;
 use std::alloc::{AllocError, Global};
 use std::marker::Model;
@@ -38,7 +38,7 @@ impl<V: Sample> Timeline<V> {
         requires { V.can_store 0 value }
         ensures { IfOk result (λ timeline. timeline ≡ (0, value) ∷ []) }
     {
-        let mut entries = Vec::with_capacity(alloc, 1)?;
+        let mut entries = Vec::with_capacity(alloc, FIRST_ROOM)?;
         entries.push(value.entry(0))?;
         Ok(Timeline { entries })
     }

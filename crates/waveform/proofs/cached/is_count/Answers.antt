@@ -1,4 +1,4 @@
-use Rattle.std.proofs.Common.{◌≡◌, ◌<◌, ◌≤◌, ◌∙◌, ℕ, sym, subst, None, length, get_or, refl, arith, nat_le}
+use Rattle.std.proofs.Common.{◌≡◌, ◌<◌, subst, None, length, refl, arith}
 use Rattle.std.proofs.lemmas.Bool.{ltb-true}
 use Rattle.std.proofs.lemmas.List.{get_or_read_under}
 use Rattle.waveform.proofs.Places.{point_between, times_rise}
