@@ -12,7 +12,7 @@ use std::alloc::{AllocError, Global};
 pub const FIRST_ROOM: usize = 4;
 
 /// For how many more entries there is to be room where there is none left, for each that there is.
-const GROWTH: usize = 3;
+const GROWTH: usize = 2;
 
 /// Makes room for one more entry, if there is none.
 #[inline(always)]
@@ -25,7 +25,7 @@ fn make_room<V: Sample>(entries: &mut Vec<V::Entry>) -> Result<(), AllocError>
     Ok(())
 }
 
-/// Makes the room of a timeline four times what it is: so it is moved half as often as by doubling.
+/// Makes the room of a timeline three times what it is: so it is moved more seldom than by doubling.
 fn grow<V: Sample>(entries: &mut Vec<V::Entry>) -> Result<(), AllocError>
     ensures { entries.new.items ≡ entries.old.items }
 {
