@@ -17,7 +17,7 @@ pub struct Survey {
 }
 
 impl Survey {
-    /// Looks at each value once.
+    /// Looks at each value once, in the same way whatever it is: a processor would often guess wrong which one comes.
     #[inline(always)]
     pub fn of(values: &[Value]) -> Survey
         ensures zero { result.zero ≡ occurs Value.Zero values.now }
@@ -34,15 +34,11 @@ impl Survey {
             odd: false,
         };
         for value in values {
-            match value {
-                Zero => survey.zero = true,
-                One => {
-                    survey.one = true;
-                    survey.odd = !survey.odd;
-                }
-                Unknown => survey.unknown = true,
-                HighZ => survey.high_z = true,
-            }
+            survey.zero |= *value == Zero;
+            survey.one |= *value == One;
+            survey.unknown |= *value == Unknown;
+            survey.high_z |= *value == HighZ;
+            survey.odd ^= *value == One;
         }
         survey
     }
