@@ -1,6 +1,6 @@
 //! The list.
 
-ghost use Rattle.std.specs.Prelude.{◌≡◌, ◌<◌, ◌/◌, ◌∷◌, [], ◌++◌, IfOk, OnErr, OnOk, length, slice_get, slice_set, take};
+ghost use Rattle.std.specs.Prelude.{◌≡◌, ◌<◌, ◌/◌, ◌∷◌, [], ◌++◌, IfOk, OnErr, OnOk, Some, length, slice_get, slice_set, take};
 ghost use Rattle.std.specs.Option.{option_copied};
 ghost use Rattle.chunked.specs.Chunks.{AreFull, row_in, rows_of};
 
@@ -88,13 +88,24 @@ impl<T: ExactClone> Chunked<T> {
         Ok(())
     }
 
+    /// Writes an element in place of another one, which it gives. It fails where memory runs out.
+    pub fn replace(&mut self, index: usize, item: T) -> Result<T, AllocError>
+        requires { index < length self.old }
+        ensures ok { OnOk result (self.new ≡ slice_set self.old index item) }
+        ensures former { IfOk result (λ former. slice_get self.old index ≡ Some former) }
+        ensures err { OnErr result (self.new ≡ self.old) }
+    {
+        let former = branch::replace(&mut self.branches[index / BRANCH], index % BRANCH, item)?;
+        Ok(former)
+    }
+
     /// Writes an element. It fails where memory runs out.
     pub fn set(&mut self, index: usize, item: T) -> Result<(), AllocError>
         requires { index < length self.old }
         ensures ok { OnOk result (self.new ≡ slice_set self.old index item) }
         ensures err { OnErr result (self.new ≡ self.old) }
     {
-        branch::set(&mut self.branches[index / BRANCH], index % BRANCH, item)?;
+        self.replace(index, item)?;
         Ok(())
     }
 

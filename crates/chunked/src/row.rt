@@ -1,6 +1,6 @@
 //! A row of chunks, which clones of it share.
 
-ghost use Rattle.std.specs.Prelude.{◌≡◌, ◌<◌, ◌/◌, ◌∷◌, [], ◌++◌, OnErr, OnOk, length, slice_get, slice_set, take};
+ghost use Rattle.std.specs.Prelude.{◌≡◌, ◌<◌, ◌/◌, ◌∷◌, [], ◌++◌, IfOk, OnErr, OnOk, Some, length, slice_get, slice_set, take};
 ghost use Rattle.std.specs.Option.{option_copied};
 ghost use Rattle.chunked.specs.Chunks.{AreFull, items_in, items_of};
 
@@ -73,14 +73,15 @@ impl<T: ExactClone> Row<T> {
         Ok(())
     }
 
-    /// Writes an element.
-    pub(crate) fn set(&mut self, index: usize, item: T) -> Result<(), AllocError>
+    /// Writes an element in place of another one, which it gives.
+    pub(crate) fn replace(&mut self, index: usize, item: T) -> Result<T, AllocError>
         requires { index < length self.old }
         ensures ok { OnOk result (self.new ≡ slice_set self.old index item) }
+        ensures former { IfOk result (λ former. slice_get self.old index ≡ Some former) }
         ensures err { OnErr result (self.new ≡ self.old) }
     {
-        chunk::set(&mut self.chunks[index / CHUNK], index % CHUNK, item)?;
-        Ok(())
+        let former = chunk::replace(&mut self.chunks[index / CHUNK], index % CHUNK, item)?;
+        Ok(former)
     }
 
     /// Keeps the first elements.

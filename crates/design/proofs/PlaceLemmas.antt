@@ -1,5 +1,5 @@
 -- Keys in the order of all keys: which stand before a place, and where the key of the place belongs in a list.
-use Rattle.std.proofs.Common.{◌≡◌, ◌≢◌, ℕ, zero, suc, ◌+◌, ◌<◌, ◌≤◌, Bool, true, false, cond, ◌==◌, ◌||◌, List, [], ◌∷◌, length, get_or, Option, Some, None, IsSome, IfSome, option_map, nat_lt, insert, sym, refl, ap, subst, ◌∙◌, arith}
+use Rattle.std.proofs.Common.{◌≡◌, ◌≢◌, ◌⊎◌, inl, inr, ℕ, zero, suc, ◌+◌, ◌-◌, ◌<◌, ◌≤◌, Bool, true, false, cond, ◌==◌, ◌||◌, List, [], ◌∷◌, length, get_or, Option, Some, None, IsSome, IfSome, option_map, nat_lt, insert, sym, refl, ap, subst, ◌∙◌, arith}
 use Rattle.std.proofs.lemmas.Bool.{both_ways, eq-eqb, eqb-true, le-ltb, lt-ltb, ne_eqb}
 use Rattle.std.specs.List.{AllWithin, filter, find, position_from}
 use Rattle.std.specs.List.Sorted.{IsPartitionPoint, IsPartitionedBy}
@@ -198,3 +198,29 @@ put_where {X} es list key n apart ordered there split within free = step (place_
     step : (o : Option ℕ) → place_of es key ≡ o → IfSome o (λ place. IsPartitionPoint (λ k. option_map_or (λ other. nat_lt other place) (place_of es k) false ≡ true) (λ k. option_map_or (λ other. nat_lt other place) (place_of es k) false ≡ false) list n) → insert list n key ≡ with_key_in (keys_of es) key list
     step None at h = absurd (placed es key there at)
     step (Some place) at h = put_in_order es list key place n apart ordered at h.0 h.1 within free
+
+-- The key that is the last of all stands behind the others: a list that does not end with it has only keys that stand before it.
+
+last_alone : {X : Type 0} (before : ℕ → Bool) (p : ℕ) (es : List (ℕ × X)) (key : ℕ) → length es ≡ p + 1 → Splits before p es → KeyAt p es key → Each (λ e. (before e.0 ≡ true) ⊎ (e.0 ≡ key)) es
+last_alone before p [] key long split at = absurd at
+last_alone before zero (e ∷ []) key long split at = (inr at, tt)
+last_alone before zero (e ∷ f ∷ es) key long split at = absurd (omega arith)
+last_alone before (suc p) (e ∷ es) key long split at = (inl split.0, last_alone before p es key (omega arith) split.1 at)
+
+pub ends_before : {X : Type 0} (es : List (ℕ × X)) (list : List ℕ) (key place : ℕ) → Apart (λ e. e.0) es → IsInOrder (keys_of es) list → place_of es key ≡ Some place → place + 1 ≡ length es →
+    (0 < length list → (d : ℕ) → get_or list (length list - 1) d ≢ key) →
+    IsPartitionPoint (λ k. option_map_or (λ other. nat_lt other place) (place_of es k) false ≡ true) (λ k. option_map_or (λ other. nat_lt other place) (place_of es k) false ≡ false) list (length list)
+ends_before {X} es list key place apart ordered at last other =
+    let before : ℕ → Bool = λ k. option_map_or (λ other. nat_lt other place) (place_of es k) false in
+    let P : ℕ → Type 0 = λ k. (before k ≡ true) ⊎ (k ≡ key) in
+    let all : Each P list = subst (Each P) (sym (ordered_is es list ordered)) (each_key P (λ e. contains list e.0) es (last_alone before place es key (omega (arith, last)) (splits es place apart) (key_at es place key at))) in
+    let parted = in_order_partitioned es list place apart ordered in (
+      λ i d low high. (
+          let end : P (get_or list (length list - 1) d) = each_at P list all (length list - 1) d (omega arith) in
+          elim end [
+            | inl on ↦ parted i (length list - 1) d (omega arith) (omega arith) on
+            | inr same ↦ absurd (other (omega arith) d same)
+          ]
+          ),
+      λ i d low high. absurd (omega arith),
+    )

@@ -55,11 +55,7 @@ fn take(lists: &mut Chunked<KeyList>, net: usize) -> Result<KeyList, AllocError>
     ensures others { OnOk result ((k : ℕ) → list_of lists.new k ≡ (if k == net then [] else list_of lists.old k)) }
 {
     grow(lists, net)?;
-    let Some(list) = lists.get(net) else {
-        unreachable!();
-    };
-    let list = list.clone()?;
-    lists.set(net, KeyList::new())?;
+    let list = lists.replace(net, KeyList::new())?;
     Ok(list)
 }
 

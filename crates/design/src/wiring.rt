@@ -1,6 +1,7 @@
 //! Where the key of a gate stands in the lists beside the nets.
 
-ghost use Rattle.std.specs.Prelude.{◌≡◌, ◌≤◌, ◌==◌, ℕ, true, false, IsSome, IfSome, IfOk, length};
+ghost use Rattle.std.specs.Prelude.{◌≡◌, ◌≢◌, ◌<◌, ◌≤◌, ◌-◌, ◌==◌, ℕ, true, false, IsSome, IfSome, IfOk, length};
+ghost use Rattle.std.specs.List.{slice_index_or};
 ghost use Rattle.std.specs.List.Sorted.{IsPartitionPoint};
 ghost use Rattle.catalog.specs.Catalog.{keys_of, place_of, record_at};
 ghost use Rattle.design.specs.Keys.{is_among, is_at};
@@ -73,7 +74,16 @@ pub fn add(
     Ok(lists)
 }
 
-/// How many keys of a list stand before this one in the order of the gates.
+/// Whether this is the last key of a list.
+fn ends_with(list: &[GateKey], key: GateKey) -> bool
+    ensures { result ≡ false → 0 < length list.now → (d : ℕ) → slice_index_or list.now (length list.now - 1) d ≢ key }
+{
+    let count = list.len();
+    count > 0 && list[count - 1] == key
+}
+
+/// How many keys of a list stand before this one in the order of the gates: all of them, where a gate was just added and the
+/// list has its key not yet.
 fn place_among(list: &[GateKey], gates: &Catalog<Gate>, key: GateKey) -> usize
     requires there { IsSome (record_at gates.now key) }
     requires ordered { IsInOrder (keys_of gates.now) list.now }
@@ -84,6 +94,9 @@ fn place_among(list: &[GateKey], gates: &Catalog<Gate>, key: GateKey) -> usize
     let Some(place) = gates.place(key.number) else {
         unreachable!();
     };
+    if gates.len() - place == 1 && !ends_with(list, key) {
+        return list.len();
+    }
     list.partition_point(|kept| stands_before(gates, *kept, place))
 }
 

@@ -1,9 +1,9 @@
-use Rattle.std.proofs.Common.{◌≡◌, Some, rules, sym}
+use Rattle.std.proofs.Common.{◌≡◌, ◌+◌, Some, length, rules, sym, arith}
 use Rattle.std.proofs.lemmas.List.Sorted.{IsPartitionPoint-from_clause}
 use Rattle.catalog.specs.Catalog.{place_of}
 use Rattle.design.specs.Kept.{stands_before}
 use Rattle.design.proofs.EntryLemmas.{keys_apart}
-use Rattle.design.proofs.PlaceLemmas.{in_order_partitioned, placed}
+use Rattle.design.proofs.PlaceLemmas.{ends_before, in_order_partitioned, placed}
 use Rattle.design.proofs.wiring.place_among.Goals as goal
 
 pub unreachable-requires : goal.unreachable-requires
@@ -16,3 +16,10 @@ returns-clause-split c =
     rw at
     (IsPartitionPoint-from_clause (stands_before gates c.in-Some.place) c.args.list.now _ c.partition_point.ensures.partitioned
     (in_order_partitioned gates c.args.list.now c.in-Some.place (keys_apart gates c.lawful.ensures.keys) c.requires.ordered) (λ a r f h. search rules))
+
+pub returns-then-not-ends_with-clause-split : goal.returns-then-not-ends_with-clause-split
+returns-then-not-ends_with-clause-split c =
+    let gates = c.args.gates.now in
+    let at : place_of gates c.args.key ≡ Some c.in-Some.place = rw (← c.key.view_is) (sym c.in-Some.ensures.place) in
+    let last : c.in-Some.place + 1 ≡ length gates = omega (arith, c.if-len-place-eq1.true, c.len.ensures) in
+    rw at (ends_before gates c.args.list.now c.args.key c.in-Some.place (keys_apart gates c.lawful.ensures.keys) c.requires.ordered at last (c.ends_with.ensures c.if-not-ends_with.true))
