@@ -1,12 +1,13 @@
 //! What has been read of a text so far.
 
-ghost use Rattle.std.specs.Prelude.{◌≡◌, [], false, OnOk};
+ghost use Rattle.std.specs.Prelude.{◌≡◌, [], false, IsSome, OnOk};
 ghost use Rattle.vtext.specs.Nets.{net_of, with_net};
 ghost use Rattle.vtext.specs.GateNames.{is_taken, with_taken};
 ghost use Rattle.vtext.specs.Notes.{finished};
 ghost use Rattle.vtext.specs.Readings.{unread, view};
 
 use crate::gate::{Gate, Terminal};
+use crate::hints::Hints;
 use crate::module::Module;
 use crate::module_instance::{ModuleInstance, PortConnection};
 use crate::net::Net;
@@ -25,6 +26,8 @@ pub struct Draft {
     /// The finished modules by name.
     pub modules: IndexMap<u32, Module>,
     pub module: ModuleDraft,
+    /// Where the nets of that module probably stand.
+    pub hints: Hints,
     pub declaration: Declaration,
     pub item: GateItem,
     pub instance: InstanceDraft,
@@ -120,6 +123,7 @@ impl Draft {
             unit: None,
             modules: IndexMap::new(alloc),
             module: ModuleDraft::new(alloc),
+            hints: Hints::new(alloc),
             declaration: Declaration {
                 direction: Direction::Input,
                 kind: None,
@@ -148,14 +152,30 @@ impl Draft {
     pub fn net(&self, name: u32) -> Option<Net>
         ensures { result ≡ net_of (view self.now).nets name }
     {
+        if let Some(net) = self.hinted_net(name) {
+            return Some(net);
+        }
         self.module.nets.get(&name).copied()
+    }
+
+    /// What is said of a net so far, where it stands at the place that is noted.
+    #[inline(always)]
+    fn hinted_net(&self, name: u32) -> Option<Net>
+        ensures { IsSome result → result ≡ net_of (view self.now).nets name }
+    {
+        let place = self.hints.get(name)?;
+        match self.module.nets.get_index(place) {
+            Some((key, net)) if *key == name => Some(*net),
+            _ => None,
+        }
     }
 
     /// Says this of a net.
     pub fn set_net(&mut self, name: u32, net: Net) -> Result<(), AllocError>
         ensures { OnOk result (view self.new ≡ record (view self.old) { nets = with_net (view self.old).nets name net }) }
     {
-        self.module.nets.insert(name, net)?;
+        let (place, _) = self.module.nets.insert_full(name, net)?;
+        self.hints.note(name, place)?;
         Ok(())
     }
 
@@ -186,8 +206,8 @@ impl Draft {
             instances,
             ..
         } = mem::replace(&mut self.module, ModuleDraft::new(alloc));
-        self.modules
-            .insert(name, Module::new(start, nets, gates, instances))?;
+        let module = Module::new(alloc, start, nets, gates, instances)?;
+        self.modules.insert(name, module)?;
         Ok(())
     }
 }

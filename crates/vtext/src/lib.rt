@@ -11,6 +11,7 @@ mod gate;
 mod gate_items;
 mod gate_names;
 mod headers;
+mod hints;
 mod indexes;
 mod instances;
 mod items;

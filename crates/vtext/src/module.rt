@@ -1,13 +1,15 @@
 //! Modules as they are read.
 
-ghost use Rattle.std.specs.Prelude.{◌≡◌, ◌<◌, IfSome, is_some, length, option_map, slice_get};
+ghost use Rattle.std.specs.Prelude.{◌≡◌, ◌<◌, IfOk, IfSome, IsSome, Some, is_some, length, option_map, slice_get};
 ghost use Rattle.vtext.specs.Modules.{ModuleEntry};
 ghost use Rattle.vtext.specs.Nets.{net_of, place_of};
 
 use crate::gate::Gate;
+use crate::hints::Hints;
 use crate::module_instance::ModuleInstance;
 use crate::net::Net;
 use indexmap::IndexMap;
+use std::alloc::{AllocError, Global};
 use std::marker::Model;
 
 /// A module: its nets by the numbers of their names, first the ports in the header's order, then the others by first
@@ -16,6 +18,7 @@ use std::marker::Model;
 pub struct Module {
     start: u32,
     nets: IndexMap<u32, Net>,
+    hints: Hints,
     gates: Vec<Gate>,
     instances: Vec<ModuleInstance>,
 }
@@ -31,19 +34,22 @@ impl Model for Module {
 impl Module {
     /// A module of these nets, gates and instances.
     pub fn new(
+        alloc: Global,
         start: u32,
         nets: IndexMap<u32, Net>,
         gates: Vec<Gate>,
         instances: Vec<ModuleInstance>,
-    ) -> Module
-        ensures { result ≡ record { start = start; nets = nets.entries; gates = gates.items; instances = instances.items } }
+    ) -> Result<Module, AllocError>
+        ensures { IfOk result (λ made. made ≡ record { start = start; nets = nets.entries; gates = gates.items; instances = instances.items }) }
     {
-        Module {
+        let hints = Hints::of(alloc, &nets)?;
+        Ok(Module {
             start,
             nets,
+            hints,
             gates,
             instances,
-        }
+        })
     }
 
     /// Where the word `module` begins in the text, from 0.
@@ -81,7 +87,25 @@ impl Module {
         ensures there { is_some result ≡ is_some (net_of self.now.nets name) }
         ensures net { IfSome result (λ place. slice_get self.now.nets place ≡ option_map (λ net. (name, net)) (net_of self.now.nets name)) }
     {
+        if let Some(place) = self.hinted_place(name) {
+            return Some(place);
+        }
         self.nets.get_index_of(&name)
+    }
+
+    /// The place of the net of this name, where it stands at the place that is noted.
+    #[inline(always)]
+    fn hinted_place(&self, name: u32) -> Option<usize>
+        ensures place { IfSome result (λ place. place_of self.now.nets name ≡ Some place) }
+        ensures net { IfSome result (λ place. slice_get self.now.nets place ≡ option_map (λ net. (name, net)) (net_of self.now.nets name)) }
+        ensures there { IsSome result → IsSome (net_of self.now.nets name) }
+    {
+        let place = self.hints.get(name)?;
+        let _ = self.nets.len();
+        match self.nets.get_index(place) {
+            Some((key, _)) if *key == name => Some(place),
+            _ => None,
+        }
     }
 
     /// The gates in order.
