@@ -20,7 +20,7 @@ use waveform::{Patch, Sample, Timeline, Trace, Wave, laws};
 fn forked<V: Sample>(rt: &impl Abort, alloc: Global, line: &Timeline<V>, t: u64) -> Timeline<V>
     ensures { end_of result ≤ suc t }
 {
-    line.fork(alloc, t).expect(rt, "room")
+    line.fork(alloc, t, 0).expect(rt, "room")
 }
 
 /// The timeline that follows another one from a moment to another.

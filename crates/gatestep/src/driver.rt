@@ -50,7 +50,22 @@ impl Driver {
                 cur: value,
                 pend: None,
             },
-            _ => self,
+            _ => self.anew(),
+        }
+    }
+
+    /// The same state, put together of its parts: a copy takes the unused bytes between them too, and a processor waits for
+    /// those.
+    #[inline(always)]
+    pub fn anew(self) -> Driver
+        ensures { result ≡ self }
+    {
+        Driver {
+            cur: self.cur,
+            pend: match self.pend {
+                Some((value, time)) => Some((value, time)),
+                None => None,
+            },
         }
     }
 }

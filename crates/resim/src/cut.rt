@@ -91,6 +91,6 @@ fn cut_line<V: Sample>(
     if last <= horizon {
         return Ok(None);
     }
-    let cut = line.fork(alloc, horizon)?;
+    let cut = line.fork(alloc, horizon, 0)?;
     Ok(Some(cut))
 }

@@ -41,7 +41,7 @@ pub fn rerun_level<S: Stepper>(
         × (S.asked stepper.new ≡ S.asked stepper.old ++ rework_below S.answer (netlist old.now) (netlist new.now) n)) }
     ensures lost { S.losses stepper.new ≡ S.losses stepper.old + (if loses_a_worker result then 1 else 0) }
 {
-    if is_wide(alloc, run, new, touched)? {
+    if is_wide(alloc, old, run, new, touched)? {
         sweep(alloc, old, run, new, stepper)
     } else {
         follow(alloc, old, run, new, touched, stepper)

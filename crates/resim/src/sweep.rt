@@ -112,7 +112,9 @@ fn open_beside<S: Stepper>(
         &mut room.fresh,
         &mut opening.answers,
     )?;
-    Ok(opening.settle::<S>(alloc, new)?)
+    let mut engine = opening.settle::<S>(alloc, new)?;
+    lines.make_room(&mut engine.waves, &mut engine.traces)?;
+    Ok(engine)
 }
 
 /// Goes through the moment `t`, before which all is done. After a fault what stands is not known.

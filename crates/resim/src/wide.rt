@@ -9,18 +9,22 @@ use waveform::Run;
 const LOOK: usize = 8;
 
 /// A list that touches fewer nets than this is no stimulus of a whole design: it goes with what differs (own).
-const STIMULUS: usize = 64;
+const STIMULUS: usize = 32;
 
 /// Whether edits touched so much that to go through all gates is less work than to look for what differs: a good part of the
-/// inputs, or of the gates. The run is the same in either way.
+/// inputs, not only late, or of the gates. The run is the same in either way.
 pub fn is_wide(
     alloc: Global,
+    old: &Design,
     run: &Run,
     new: &Design,
     touched: &Touched,
 ) -> Result<bool, AllocError> {
-    let is_stimulus = are_inputs_many(alloc, new, touched.nets.as_slice())?;
-    Ok(is_stimulus || are_many(new, touched) && are_busy(run, new, touched))
+    let nets = touched.nets.as_slice();
+    if are_inputs_many(alloc, new, nets)? && differ_early(old, new, nets) {
+        return Ok(true);
+    }
+    Ok(are_many(new, touched) && are_busy(run, new, touched))
 }
 
 /// Whether the inputs among these nets are a good part of all. Most gates drive a net of their own, so there are about as many
@@ -44,6 +48,44 @@ fn are_inputs_many(alloc: Global, new: &Design, nets: &[NetKey]) -> Result<bool,
 /// Whether the design has an input of this key.
 fn is_input(new: &Design, net: NetKey) -> bool {
     new.net_place_of(net).is_some() && new.net_of(net).is_input()
+}
+
+/// Whether the stimulus of one of these nets differs in the first half of the run. A run through all gates begins at moment 0,
+/// however late the difference.
+fn differ_early(old: &Design, new: &Design, nets: &[NetKey]) -> bool {
+    let middle = new.horizon() / 2;
+    for net in nets {
+        if differs_until(old, new, *net, middle) {
+            return true;
+        }
+    }
+    false
+}
+
+/// Whether the net of this key, which both designs have, is given another value by its stimulus up to the moment `end`.
+fn differs_until(old: &Design, new: &Design, net: NetKey, end: u64) -> bool {
+    if old.net_place_of(net).is_none() || new.net_place_of(net).is_none() {
+        return false;
+    }
+    let former = old.net_of(net);
+    let present = new.net_of(net);
+    let points = former.point_count().saturating_add(present.point_count());
+    let mut t = 0;
+    for _ in 0..points.saturating_add(1) {
+        if former.stimulus_at(t) != present.stimulus_at(t) {
+            return true;
+        }
+        t = next_of(former.next_point(t), present.next_point(t));
+        if t > end {
+            return false;
+        }
+    }
+    false
+}
+
+/// The earlier of two moments, of which each may be missing; the last one of all where both are.
+fn next_of(first: Option<u64>, second: Option<u64>) -> u64 {
+    first.unwrap_or(u64::MAX).min(second.unwrap_or(u64::MAX))
 }
 
 /// Whether the touched gates and those that read what they drive are a good part of all.

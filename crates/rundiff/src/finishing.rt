@@ -166,7 +166,7 @@ fn whole<V: Sample>(
     laws::same_changes::<V>();
     laws::cut_of_changes::<V>();
     match patch {
-        None => old.fork(alloc, end - 1),
+        None => old.fork(alloc, end - 1, 0),
         Some(patch) => patch.finish(old, end),
     }
 }

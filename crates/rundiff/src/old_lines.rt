@@ -1,7 +1,7 @@
 //! What the old run has of the nets and gates of the new design, by their places there, so that no name is looked at again.
 //! The lines are read as time goes on, and each keeps what was found in it last: a reading leaves the same lines.
 
-ghost use Rattle.std.specs.Prelude.{◌≡◌, ◌<◌, ◌≤◌, ℕ, suc, false, [], ◌∷◌, All, IfOk, IfSome, length, map, slice_get};
+ghost use Rattle.std.specs.Prelude.{◌≡◌, ◌<◌, ◌≤◌, ℕ, suc, false, [], ◌∷◌, All, IfOk, IfSome, OnOk, length, map, slice_get};
 ghost use Rattle.gatestep.specs.Step.{Evaluation, initial};
 ghost use Rattle.design.specs.Connections.{to_net};
 ghost use Rattle.design.specs.Keys.{netlist};
@@ -22,7 +22,10 @@ use fourstate::Value;
 use gatestep::{Driver, Stepper};
 use scratch::{Cell, Input, read_input};
 use std::alloc::{AllocError, Global};
-use waveform::{CachedTimeline, Run, Sample, Trace, Wave, laws};
+use waveform::{CachedTimeline, Run, Sample, Timeline, Trace, Wave, laws};
+
+/// One entry of so many is spare in the room that is made for a new line beside an old one (own).
+const SPARE: usize = 8;
 
 /// The old run by the places of the new design.
 #[derive(Drop)]
@@ -60,6 +63,21 @@ impl<'a> OldLines<'a> {
         })
     }
 
+    /// Makes room in the lines of a new run, which are by the same places, for about as many entries as those of the old one
+    /// have.
+    pub fn make_room(
+        &self,
+        waves: &mut Vec<Wave>,
+        traces: &mut Vec<Trace>,
+    ) -> Result<(), AllocError>
+        ensures waves { OnOk result (waves.new.items ≡ waves.old.items) }
+        ensures traces { OnOk result (traces.new.items ≡ traces.old.items) }
+    {
+        make_room_beside(self.waves.as_slice(), waves)?;
+        make_room_beside(self.traces.as_slice(), traces)?;
+        Ok(())
+    }
+
     /// What an input of a gate of the new design reads in the old run.
     fn value<S: Stepper>(&mut self, old: &Design, new: &Design, input: Input, t: u64) -> Value
         requires lines { AreOldLines S.answer (netlist old.now) (netlist new.now) self.old }
@@ -72,7 +90,7 @@ impl<'a> OldLines<'a> {
         let _new = new;
         laws::value_of_changes::<Value>();
         match input {
-            Input::At(place) => self.waves[place].at(t),
+            Input::At(place) => self.waves[place as usize].at(t),
             Input::Fixed(value) => value,
         }
     }
@@ -162,6 +180,23 @@ impl<'a> OldLines<'a> {
         }
         Some(self.traces[place].at(t))
     }
+}
+
+/// Makes room in each line for as many entries as the old one at its place has, and a few more.
+fn make_room_beside<V: Sample>(
+    olds: &[CachedTimeline<V>],
+    lines: &mut Vec<Timeline<V>>,
+) -> Result<(), AllocError>
+    ensures { OnOk result (lines.new.items ≡ lines.old.items) }
+{
+    for place in 0..lines.len() {
+        if place < olds.len() {
+            let count = olds[place].len();
+            let line = &mut lines[place];
+            line.make_room(count.saturating_add(count / SPARE))?;
+        }
+    }
+    Ok(())
 }
 
 /// Of each net of the new design, the wave of the net of its name.

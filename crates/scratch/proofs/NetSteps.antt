@@ -1,7 +1,7 @@
 -- The values and waves of nets that change go on, the others stay.
-use Rattle.std.proofs.Common.{◌≡◌, ◌<◌, ◌∙◌, sym, ap, refl, Bool, true, false, not, ℕ, zero, suc, ◌+◌, ◌-◌, List, [], ◌∷◌, ◌++◌, map, Option, Some, None, slice_get, length, All, add-one, arith, get_or, unwrap_or}
+use Rattle.std.proofs.Common.{◌≡◌, ◌<◌, ◌∙◌, sym, ap, refl, Bool, true, false, not, ℕ, zero, suc, ◌+◌, ◌-◌, List, [], ◌∷◌, ◌++◌, map, Option, Some, None, slice_get, length, All, add-one, arith, unwrap_or}
 use Rattle.std.specs.Option.{option_map_or, option_map}
-use Rattle.std.specs.Prelude.{◌||◌, if◌then◌else◌}
+use Rattle.std.specs.Prelude.{◌^◌, ◌||◌, nat_lt, if◌then◌else◌}
 use Rattle.std.proofs.Math.ListN.{set}
 use Rattle.std.proofs.lemmas.Option.{slice_get-map, slice_get_within}
 use Rattle.fourstate.specs.declared.net.NetKind.{NetKind}
@@ -18,7 +18,7 @@ use Rattle.waveform.specs.Entries.{standing}
 use Rattle.fourstate.specs.ValueLaws.{is_same, same_self}
 use Rattle.waveform.specs.Timelines.{is_reached, pushed}
 use Rattle.smallvec.specs.SmallVec.{SmallVec}
-use Rattle.scratch.specs.Kept.{currents_of, driven_kind, net_from, values_at}
+use Rattle.scratch.specs.Kept.{currents_of, driven_kind, lone_place, net_from, only_place, values_at}
 use Rattle.scratch.specs.Places.{changes_at, has}
 use Rattle.scratch.specs.Run.{state_before, value}
 use Rattle.scratch.proofs.Among.{has_more, nat_itself, or_false, or_true}
@@ -243,13 +243,19 @@ one_driver Triand v = wand_alone v
 one_driver Wor v = wor_alone v
 one_driver Trior v = wor_alone v
 
-only_one : {X : Type 0} (xs : List X) (d : X) → length xs ≡ 1 → xs ≡ get_or xs 0 d ∷ []
-only_one [] d h = absurd (omega arith)
-only_one (x ∷ []) d h = refl
-only_one (x ∷ y ∷ xs) d h = absurd (omega arith)
+-- the place that stands alone
+if_fit : (p k : ℕ) (fits : Bool) → (if fits then Some p else None) ≡ Some k → p ∷ [] ≡ k ∷ []
+if_fit p k true h = let same : p ≡ k = cc in ap (λ x. x ∷ []) same
+if_fit p k false h = cc
 
--- what the only place of some values has
-pub value_alone : (kind : NetKind) (values : List Value) (places : List ℕ) (v : Value) → length places ≡ 1 →
-    v ≡ unwrap_or (slice_get values (get_or places 0 0)) Unknown → v ≡ net_of kind (values_at values places)
-value_alone kind values places v one is =
-    is ∙ sym (one_driver kind (unwrap_or (slice_get values (get_or places 0 0)) Unknown)) ∙ ap (λ ps. net_of kind (values_at values ps)) (sym (only_one places 0 one))
+alone_is : (places : List ℕ) (k : ℕ) → only_place places ≡ Some k → places ≡ k ∷ []
+alone_is [] k h = cc
+alone_is (p ∷ []) k h = if_fit p k (nat_lt p (2 ^ 32)) h
+alone_is (p ∷ q ∷ ps) k h = cc
+
+pub lone_there : (lone : List (Option ℕ)) (drivers : List (SmallVec ℕ)) (p k : ℕ) (places : SmallVec ℕ) → lone ≡ map lone_place drivers →
+    slice_get drivers p ≡ Some places → slice_get lone p ≡ Some (Some k) → places.items ≡ k ∷ []
+lone_there lone drivers p k places are here there =
+    let both : Some (lone_place places) ≡ Some (Some k) = sym (ap (λ l. slice_get l p) are ∙ slice_get-map lone_place drivers p ∙ ap (option_map lone_place) here) ∙ there in
+    let one : lone_place places ≡ Some k = cc in
+    alone_is places.items k one

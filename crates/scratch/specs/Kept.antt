@@ -1,6 +1,6 @@
 -- One moment over what the simulator keeps: the state of each gate's driver in the order of the gates, the value of each
 -- net in the order of the nets, and places in these orders in place of names.
-use Rattle.std.specs.Prelude.{◌≡◌, Bool, true, false, ℕ, nat_eq, if◌then◌else◌, List, [], ◌∷◌, Option, Some, None, map, slice_get, unwrap_or}
+use Rattle.std.specs.Prelude.{◌≡◌, ◌^◌, Bool, true, false, ℕ, nat_eq, nat_lt, if◌then◌else◌, List, [], ◌∷◌, Option, Some, None, map, slice_get, unwrap_or}
 use Rattle.std.specs.List.{zip, position_from}
 use Rattle.std.specs.Option.{option_map_or}
 use Rattle.fourstate.specs.declared.value.Value.{Value}
@@ -45,6 +45,15 @@ is_at m (Fixed v) = false
 abbrev pub driven_kind : NetEntry → Option NetKind
 driven_kind n = if n.is_input then None else Some n.kind
 
+-- the place that stands alone in a list, if 32 bits can tell it
+abbrev pub only_place : List ℕ → Option ℕ
+only_place [] = None
+only_place (p ∷ []) = if nat_lt p (2 ^ 32) then Some p else None
+only_place (p ∷ q ∷ ps) = None
+
+abbrev pub lone_place : SmallVec ℕ → Option ℕ
+lone_place places = only_place places.items
+
 -- these are the connections of the design
 pub record IsWiring (d : Netlist) (w : Wiring) : Type 0 where
   pub cells : w.cells.items ≡ map (cell_of d) d.gates
@@ -52,6 +61,7 @@ pub record IsWiring (d : Netlist) (w : Wiring) : Type 0 where
   pub outputs : (k m : ℕ) → drives_at d k m ≡ true → has m (output_at w.outputs.items k) ≡ true
   pub readers : (k m : ℕ) → has k (places_at w.readers.items m) ≡ reads_at d k m
   pub kinds : w.kinds.items ≡ map driven_kind d.nets
+  pub lone_drivers : w.lone_drivers.items ≡ map lone_place w.drivers.items
 
 -- the values at some places
 abbrev pub values_at : List Value → List ℕ → List Value

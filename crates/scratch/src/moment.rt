@@ -208,7 +208,7 @@ pub fn read_input(values: &[Value], input: Input) -> Value
     ensures { result ≡ input_value values.now input }
 {
     match input {
-        Input::At(place) => value_at(values, place),
+        Input::At(place) => value_at(values, place as usize),
         Input::Fixed(value) => value,
     }
 }

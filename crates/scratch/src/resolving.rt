@@ -44,9 +44,7 @@ fn gather_currents(
     Ok(())
 }
 
-/// What a net of this kind has at the moment `t` from the states of its drivers at some places. One driver alone gives what it
-/// drives.
-#[inline(always)]
+/// What a net of this kind has at the moment `t` from the states of its drivers at some places.
 fn resolve_drivers(
     kind: NetKind,
     places: &[usize],
@@ -56,14 +54,11 @@ fn resolve_drivers(
 ) -> Result<Value, AllocError>
     ensures { IfOk result (λ v. v ≡ net_of kind (values_at (currents_of states.now t) places.now)) }
 {
-    if places.len() == 1 {
-        return Ok(current_at(states, places[0], t));
-    }
     gather_currents(states, places, t, driven)?;
     Ok(resolve(kind, driven.as_slice()))
 }
 
-/// The value of the net at a place at the moment `t` from the states of the gates, those of its own drivers at `places`.
+/// The value of the net at a place at the moment `t` from the states of the gates. One driver alone gives what it drives.
 fn resolved(
     design: &Design,
     wiring: &Wiring,
@@ -80,6 +75,9 @@ fn resolved(
     match wiring.kinds[place] {
         None => Ok(design.net_at(place).stimulus_at(t)),
         Some(kind) => {
+            if let Some(driver) = wiring.lone_drivers[place] {
+                return Ok(current_at(states, driver as usize, t));
+            }
             let places = wiring.drivers[place].as_slice();
             let value = resolve_drivers(kind, places, states, t, driven)?;
             Ok(value)

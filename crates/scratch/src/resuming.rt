@@ -17,6 +17,9 @@ use gatestep::{Driver, Stepper};
 use std::alloc::{AllocError, Global};
 use waveform::{Run, Sample, Timeline, Trace, Wave, laws};
 
+/// For how many entries more there is room in a line that goes on (own).
+const ROOM: usize = 8;
+
 /// What stands after the last moment of the run of a design. It shares nothing with the run.
 pub fn resume<S: Stepper>(alloc: Global, design: &Design, run: &Run) -> Result<Engine, AllocError>
     requires run { IsRun S.answer design.now run.now }
@@ -74,7 +77,7 @@ fn copy_waves<S: Stepper>(
     let mut waves = Vec::with_capacity(alloc, design.net_count())?;
     for place in 0..design.net_count() {
         let wave = wave_at(design, run, place);
-        waves.push(wave.fork(alloc, horizon)?)?;
+        waves.push(wave.fork(alloc, horizon, ROOM)?)?;
     }
     Ok(waves)
 }
@@ -93,7 +96,7 @@ fn copy_traces<S: Stepper>(
     let mut traces = Vec::with_capacity(alloc, design.gate_count())?;
     for place in 0..design.gate_count() {
         let trace = trace_at(design, run, place);
-        traces.push(trace.fork(alloc, horizon)?)?;
+        traces.push(trace.fork(alloc, horizon, ROOM)?)?;
     }
     Ok(traces)
 }

@@ -46,11 +46,11 @@ pub fn settle<S: Stepper>(
     laws::no_change::<Driver>();
     for i in 0..gates.len() {
         let place = gates[i];
-        let answer = &answers[i];
+        let answer = answers[i].anew();
         let known = states[place].due(t);
-        states[place] = *answer;
+        states[place] = answer;
         let trace = &mut traces[place];
-        trace.push_known(t, known, *answer)?;
+        trace.push_known(t, known, answer)?;
         if let Some((_, time)) = answer.pend {
             events.add(alloc, time, place)?;
         }

@@ -5,7 +5,7 @@ ghost use Rattle.std.specs.List.{list_any};
 ghost use Rattle.fourstate.specs.Gates.{takes_inputs};
 ghost use Rattle.design.specs.Keys.{IsConnected, IsThere, connection_in, entry_in, net_by_key, netlist};
 ghost use Rattle.design.specs.Places.{driver_places};
-ghost use Rattle.scratch.specs.Kept.{IsWiring, cell_of, driven_kind, input_of, is_at, output_at, places_at};
+ghost use Rattle.scratch.specs.Kept.{IsWiring, cell_of, driven_kind, input_of, is_at, lone_place, output_at, places_at};
 ghost use Rattle.scratch.specs.Places.{drives_at, has, reads_at};
 
 use design::{Design, Gate, Net, NetKey, Terminal};
@@ -24,7 +24,7 @@ const NEAR_PLACES: usize = 2;
 #[derive(Clone, Copy, Debug, PartialEq, Eq)]
 pub enum Input {
     /// The net at this place in the order of the nets.
-    At(usize),
+    At(u32),
     /// A constant.
     Fixed(Value),
 }
@@ -108,10 +108,11 @@ fn locate(design: &Design, terminal: Terminal) -> Input
     requires { IsThere design.now.nets terminal }
     ensures { result ≡ input_of (netlist design.now) (connection_in design.now.nets terminal) }
 {
+    design.lawful();
     design.places_are_keys();
     match terminal {
         Terminal::Net(net) => match design.net_place_of(net) {
-            Some(place) => Input::At(place),
+            Some(place) => Input::At(place as u32),
             None => unreachable!(),
         },
         Terminal::Constant(value) => Input::Fixed(value),
@@ -134,6 +135,8 @@ pub struct Wiring {
     pub readers: Vec<Places>,
     /// Of each net its kind, if drivers give its value.
     pub kinds: Vec<Option<NetKind>>,
+    /// Of each net the place of the gate that alone drives it, if there is one.
+    pub lone_drivers: Vec<Option<u32>>,
 }
 
 /// The connections of a design.
@@ -145,13 +148,36 @@ pub fn wire(alloc: Global, design: &Design) -> Result<Wiring, AllocError>
     let outputs = all_outputs(alloc, design)?;
     let readers = all_readers(alloc, design, cells.as_slice())?;
     let kinds = all_kinds(alloc, design)?;
+    let lone_drivers = all_lone_drivers(alloc, drivers.as_slice())?;
     Ok(Wiring {
         cells,
         drivers,
         outputs,
         readers,
         kinds,
+        lone_drivers,
     })
+}
+
+/// The place that stands alone in each of some lists.
+fn all_lone_drivers(alloc: Global, drivers: &[Places]) -> Result<Vec<Option<u32>>, AllocError>
+    ensures { IfOk result (λ lone. lone.items ≡ map lone_place drivers.now) }
+{
+    let mut lone = Vec::with_capacity(alloc, drivers.len())?;
+    for place in 0..drivers.len() {
+        lone.push(lone_place(&drivers[place]))?;
+    }
+    Ok(lone)
+}
+
+/// The place that stands alone in a list.
+fn lone_place(places: &Places) -> Option<u32>
+    ensures { result ≡ lone_place places.now }
+{
+    match places.as_slice() {
+        [place] => u32::try_from(*place).ok(),
+        _ => None,
+    }
 }
 
 /// The kind of each net whose value its drivers give.
@@ -237,6 +263,7 @@ fn add_reader(input: Input, place: usize, all: &mut Vec<Places>) -> Result<(), A
     ensures as_many { OnOk result (length all.new.items ≡ length all.old.items) }
 {
     if let Input::At(net) = input {
+        let net = net as usize;
         if net < all.len() {
             let places = &mut all[net];
             places.push(place)?;

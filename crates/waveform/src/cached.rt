@@ -45,6 +45,13 @@ impl<'a, V: Sample> CachedTimeline<'a, V> {
         cached
     }
 
+    /// How many entries the timeline has.
+    pub fn len(&self) -> usize
+        ensures { result ≡ length self.now }
+    {
+        self.entries.len()
+    }
+
     /// The value at `t`, in time units.
     #[inline(always)]
     pub fn at(&mut self, t: u64) -> V

@@ -11,6 +11,9 @@ use std::alloc::{AllocError, Global};
 /// How many entries a timeline that is opened has room for.
 pub const FIRST_ROOM: usize = 4;
 
+/// For how many entries there is to be room in a function that goes on from another one, beyond those that this one has.
+pub const SPARE_ROOM: usize = 2;
+
 /// For how many more entries there is to be room where there is none left, for each that there is.
 const GROWTH: usize = 2;
 

@@ -41,7 +41,7 @@ impl<V: Sample> Patch<V> {
         ensures made { IfOk result (λ patch. (f g : ℕ → V) (h : ℕ) → old.now ≡ changes_below V.same V.drift g h → t < h
             → ((u : ℕ) → u < suc t → f u ≡ g u) → IsMended V.same V.drift g f patch.line patch.since (suc t)) }
     {
-        let line = old.fork(alloc, t)?;
+        let line = old.fork(alloc, t, old.room_after(t))?;
         Ok(Patch { line, since: None })
     }
 
@@ -59,7 +59,7 @@ impl<V: Sample> Patch<V> {
             let line = Timeline::open(alloc, value)?;
             return Ok(Patch { line, since: None });
         }
-        let mut line = old.fork(alloc, t - 1)?;
+        let mut line = old.fork(alloc, t - 1, old.room_after(t))?;
         line.push(t, value)?;
         Ok(Patch { line, since: None })
     }

@@ -8,7 +8,7 @@ mod follow;
 mod look;
 mod splice;
 
-use crate::entries::{FIRST_ROOM, count_until, last_entry, push_known, push_value};
+use crate::entries::{FIRST_ROOM, SPARE_ROOM, count_until, last_entry, push_known, push_value};
 use crate::sample::Sample;
 use std::alloc::{AllocError, Global};
 use std::marker::Model;
@@ -70,6 +70,22 @@ impl<V: Sample> Timeline<V> {
     {
         push_known::<V>(&mut self.entries, t, known, value)?;
         Ok(())
+    }
+
+    /// Makes room for so many entries more, so that they are added without moving any. It fails where memory runs out, and
+    /// then nothing has changed.
+    pub fn make_room(&mut self, count: usize) -> Result<(), AllocError>
+        ensures { self.new ≡ self.old }
+    {
+        self.entries.reserve(count)?;
+        Ok(())
+    }
+
+    /// For how many entries there is to be room in a function that goes on from this one after `t`, in time units.
+    pub(crate) fn room_after(&self, t: u64) -> usize {
+        let entries = self.entries.as_slice();
+        let later = entries.len() - count_until::<V>(entries, t);
+        later.saturating_add(SPARE_ROOM)
     }
 
     /// Leaves out all entries after `t`, in time units. It takes no memory.

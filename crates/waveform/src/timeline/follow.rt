@@ -10,12 +10,15 @@ use crate::sample::Sample;
 use std::alloc::{AllocError, Global};
 
 impl<V: Sample> Timeline<V> {
-    /// The same function up to `t`, in time units, which after it changes by itself alone. It fails where memory runs out.
-    pub fn fork(&self, alloc: Global, t: u64) -> Result<Timeline<V>, AllocError>
+    /// The same function up to `t`, in time units, which after it changes by itself alone; there is room for so many entries
+    /// more. It fails where memory runs out.
+    pub fn fork(&self, alloc: Global, t: u64, room: usize) -> Result<Timeline<V>, AllocError>
         ensures entries { IfOk result (λ fork. fork ≡ entries_until self.now t) }
         ensures end { IfOk result (λ fork. end_of fork ≤ suc t) }
     {
-        let entries = Vec::from_slice(alloc, up_to::<V>(self.entries.as_slice(), t))?;
+        let former = up_to::<V>(self.entries.as_slice(), t);
+        let mut entries = Vec::with_capacity(alloc, former.len().saturating_add(room))?;
+        entries.extend_from_slice(former)?;
         Ok(Timeline { entries })
     }
 

@@ -121,7 +121,7 @@ push_known-requires-clause-known g c =
     ap (λ l. slice_get l place) (sym c.requires.states)
     ∙ sym (is_old (take c.loop-i.i gates) (slice_get c.args.states.now.items) (slice_get (map (state_before answer d (c.args.t + 1)) d.gates)) (slice_get c.loop-i.states.items) c.loop-i.invariant.states place apart)
     ∙ slice_get_read c.loop-i.states.items (length c.loop-i.states.items) place c.index.result.now refl in_states c.index.ensures in
-    subst (λ (s : State). is_reached same_state due c.index_mut-trace.result.now c.args.t s ≡ same_state s c.due-known.result) (sym c.answer.view_is)
+    subst (λ (s : State). is_reached same_state due c.index_mut-trace.result.now c.args.t s ≡ same_state s c.due-known.result) (sym c.anew-answer.ensures)
     (known answer d law.answer_pending c.reached_by_changes.ensures c.lawful.ensures.design.gates c.args.t place c.requires.begun c.index_mut-trace.result.now c.index.result.now c.index-answers-i.result was before
     ∙ ap (same_state c.index-answers-i.result) (sym c.due-known.ensures))
 
@@ -135,7 +135,7 @@ push_known-requires-clause-can g c =
     let here = value_at_place (λ gate. is_stirred answer d gate c.args.t) (state_before answer d (c.args.t + 1)) d.gates gates c.args.answers.now c.requires.gates c.requires.answers
     c.loop-i.i place c.index-answers-i.result (slice_get-get_or gates c.loop-i.i 0 within) there in
     let next = map (state_before answer d (c.args.t + 1)) d.gates in
-    subst (CanStore c.args.t) (sym c.answer.view_is) (all_at (CanStore c.args.t) next place c.index-answers-i.result (storable answer d law.answer_pending law.answer_near c.lawful.ensures.design.gates c.args.t next refl) here)
+    subst (CanStore c.args.t) (sym c.anew-answer.ensures) (all_at (CanStore c.args.t) next place c.index-answers-i.result (storable answer d law.answer_pending law.answer_near c.lawful.ensures.design.gates c.args.t next refl) here)
 
 pub loop-i-preserved : goal.loop-i-preserved
 loop-i-preserved g c =
@@ -161,9 +161,9 @@ loop-i-preserved g c =
     ap (λ l. slice_get l place) (sym c.requires.traces) ∙ sym (is_old done (slice_get c.args.traces.now.items) (slice_get next_traces) (slice_get c.loop-i.traces.items) c.loop-i.invariant.traces place apart) ∙ trace in
     let grows : slice_get next_traces place ≡ Some c.push_known.new.self =
     next_trace answer d law.answer_pending c.push_to_changes.ensures are t place c.index_mut-trace.result.now s was here
-    ∙ ap (λ x. Some x) (ap (pushed same_state due c.index_mut-trace.result.now t) (sym c.answer.view_is) ∙ sym c.in_ok-push_known.ensures.ok) in
+    ∙ ap (λ x. Some x) (ap (pushed same_state due c.index_mut-trace.result.now t) (sym c.anew-answer.ensures) ∙ sym c.in_ok-push_known.ensures.ok) in
     record {
-      states = subst (λ (x : State). Between (take (i + 1) gates) (slice_get c.args.states.now.items) (slice_get next) (slice_get (set c.loop-i.states.items place x))) (sym c.answer.view_is)
+      states = subst (λ (x : State). Between (take (i + 1) gates) (slice_get c.args.states.now.items) (slice_get next) (slice_get (set c.loop-i.states.items place x))) (sym c.anew-answer.ensures)
           (subst (λ l. Between l (slice_get c.args.states.now.items) (slice_get next) (slice_get (set c.loop-i.states.items place s))) (sym more)
           (write done c.args.states.now.items next c.loop-i.states.items c.loop-i.invariant.states place s here in_states));
       traces = subst (λ l. Between l (slice_get c.args.traces.now.items) (slice_get next_traces) (slice_get (set c.loop-i.traces.items place c.push_known.new.self))) (sym more)
@@ -171,11 +171,11 @@ loop-i-preserved g c =
       events = elim c.match-answer.branch [
         | in-Some+in_ok-add w ↦
             let event : Value × ℕ = (w.in-Some.field-0-0, w.in-Some.time) in
-            let pending : s.pending ≡ Some event = sym (ap (λ (x : State). x.pending) c.answer.view_is) ∙ w.in-Some.is in
+            let pending : s.pending ≡ Some event = sym (ap (λ (x : State). x.pending) (c.answer.view_is ∙ c.anew-answer.ensures)) ∙ w.in-Some.is in
             let old = c.loop-i.events in let new = w.add.new.self in let added = w.in_ok-add.ensures.ok in
             rw (w.events-is, more) (one_more next place s here done (t + 1) old new c.loop-i.invariant.events (keeps event.1 place old new added) (event_noted next place s here event pending old new added))
         | in_default w ↦
-            let pending : s.pending ≡ None = sym (ap (λ (x : State). x.pending) c.answer.view_is) ∙ w.in_default.is in
+            let pending : s.pending ≡ None = sym (ap (λ (x : State). x.pending) (c.answer.view_is ∙ c.anew-answer.ensures)) ∙ w.in_default.is in
             let old = c.loop-i.events in
             rw (w.events-is, more) (one_more next place s here done (t + 1) old old c.loop-i.invariant.events (λ k u h. h) (λ u h. absurd (none_here next place s here pending u h)))
       ];
@@ -186,7 +186,7 @@ loop-i-preserved g c =
       early = elim c.match-answer.branch [
         | in-Some+in_ok-add w ↦ λ u low.
             let event : Value × ℕ = (w.in-Some.field-0-0, w.in-Some.time) in
-            let pending : s.pending ≡ Some event = sym (ap (λ (x : State). x.pending) c.answer.view_is) ∙ w.in-Some.is in
+            let pending : s.pending ≡ Some event = sym (ap (λ (x : State). x.pending) (c.answer.view_is ∙ c.anew-answer.ensures)) ∙ w.in-Some.is in
             let can = all_at (CanStore t) next place s (storable answer d law.answer_pending law.answer_near are t next refl) here in
             let later : t < event.1 = (can event pending).0 in
             ap (λ q. noted q u) w.events-is ∙ elsewhere event.1 place c.loop-i.events w.add.new.self w.in_ok-add.ensures.ok u (nat_beyond event.1 u (omega arith)) ∙ c.loop-i.invariant.early u low
