@@ -22,7 +22,7 @@ use fourstate::Value;
 use gatestep::{Driver, Stepper};
 use scratch::{Cell, Input, read_input};
 use std::alloc::{AllocError, Global};
-use waveform::{CachedTimeline, Run, Sample, Timeline, Trace, Wave, laws};
+use waveform::{CachedTimeline, Lines, Run, Sample, Timeline, Trace, Wave, laws};
 
 /// One entry of so many is spare in the room that is made for a new line beside an old one (own).
 const SPARE: usize = 8;
@@ -67,11 +67,11 @@ impl<'a> OldLines<'a> {
     /// have.
     pub fn make_room(
         &self,
-        waves: &mut Vec<Wave>,
-        traces: &mut Vec<Trace>,
+        waves: &mut Lines<Value>,
+        traces: &mut Lines<Driver>,
     ) -> Result<(), AllocError>
-        ensures waves { OnOk result (waves.new.items ≡ waves.old.items) }
-        ensures traces { OnOk result (traces.new.items ≡ traces.old.items) }
+        ensures waves { OnOk result (waves.new ≡ waves.old) }
+        ensures traces { OnOk result (traces.new ≡ traces.old) }
     {
         make_room_beside(self.waves.as_slice(), waves)?;
         make_room_beside(self.traces.as_slice(), traces)?;
@@ -185,15 +185,14 @@ impl<'a> OldLines<'a> {
 /// Makes room in each line for as many entries as the old one at its place has, and a few more.
 fn make_room_beside<V: Sample>(
     olds: &[CachedTimeline<V>],
-    lines: &mut Vec<Timeline<V>>,
+    lines: &mut Lines<V>,
 ) -> Result<(), AllocError>
-    ensures { OnOk result (lines.new.items ≡ lines.old.items) }
+    ensures { OnOk result (lines.new ≡ lines.old) }
 {
     for place in 0..lines.len() {
         if place < olds.len() {
             let count = olds[place].len();
-            let line = &mut lines[place];
-            line.make_room(count.saturating_add(count / SPARE))?;
+            lines.make_room(place, count.saturating_add(count / SPARE))?;
         }
     }
     Ok(())

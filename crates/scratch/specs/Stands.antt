@@ -16,8 +16,8 @@ pub record Stands (answer : Evaluation → ℕ → State) (d : Netlist) (e : Eng
   pub begun : 0 < n
   pub states : e.states.items ≡ map (state_before answer d n) d.gates
   pub values : e.values.items ≡ map (λ x. value answer d x (n - 1)) d.nets
-  pub waves : e.waves.items ≡ map (λ x. wave_changes_below (value answer d x) n) d.nets
-  pub traces : e.traces.items ≡ map (λ g. trace_below (state_after answer d g) n) d.gates
+  pub waves : e.waves ≡ map (λ x. wave_changes_below (value answer d x) n) d.nets
+  pub traces : e.traces ≡ map (λ g. trace_below (state_after answer d g) n) d.gates
   pub events : Covers (pends_at e.states.items) (noted e.events) n
   pub points : Announces (point_at d.nets) (noted e.points) n
   pub no_early_event : (t : ℕ) → t < n → noted e.events t ≡ []
@@ -29,8 +29,8 @@ pub record IsStirred (answer : Evaluation → ℕ → State) (d : Netlist) (e : 
   pub states : e.states.items ≡ map (state_before answer d t) d.gates
   pub ready : All (PendingFrom t) e.states.items
   pub values : e.values.items ≡ map (λ x. value answer d x t) d.nets
-  pub waves : e.waves.items ≡ map (λ x. wave_changes_below (value answer d x) (t + 1)) d.nets
-  pub traces : e.traces.items ≡ map (λ g. trace_below (state_after answer d g) t) d.gates
+  pub waves : e.waves ≡ map (λ x. wave_changes_below (value answer d x) (t + 1)) d.nets
+  pub traces : e.traces ≡ map (λ g. trace_below (state_after answer d g) t) d.gates
   pub gates : e.gates.items ≡ passing (λ g. is_stirred answer d g t) 0 d.gates
   pub events : Covers (λ k u. not (has k e.gates.items) && pends_at e.states.items k u) (noted e.events) (t + 1)
   pub points : Announces (point_at d.nets) (noted e.points) (t + 1)

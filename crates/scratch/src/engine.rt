@@ -23,7 +23,7 @@ use event_queue::EventQueue;
 use fourstate::Value;
 use gatestep::{Driver, StepFault, Stepper, Task};
 use std::alloc::{AllocError, Global};
-use waveform::{Run, Trace, Wave, laws};
+use waveform::{Lines, Run, laws};
 
 /// What stands between two moments of a run, and what is to happen.
 #[derive(Drop)]
@@ -33,9 +33,9 @@ pub struct Engine {
     /// The value of each net, in the order of the nets.
     pub values: Vec<Value>,
     /// The waves so far, in the order of the nets.
-    pub waves: Vec<Wave>,
+    pub waves: Lines<Value>,
     /// The traces so far, in the order of the gates.
-    pub traces: Vec<Trace>,
+    pub traces: Lines<Driver>,
     /// Gates, at the moments of their pending events; also of events that were descheduled.
     pub events: EventQueue,
     /// Nets with stimulus points to come, each at the moment of its next one.
@@ -94,8 +94,8 @@ impl Engine {
     ) -> Engine
         ensures states { result.states ≡ states }
         ensures values { result.values ≡ values }
-        ensures waves { result.waves ≡ recording.waves }
-        ensures traces { result.traces ≡ recording.traces }
+        ensures waves { result.waves ≡ recording.waves.items }
+        ensures traces { result.traces ≡ recording.traces.items }
         ensures events { result.events ≡ events }
         ensures points { result.points ≡ points }
     {
@@ -103,8 +103,8 @@ impl Engine {
         Engine {
             states,
             values,
-            waves,
-            traces,
+            waves: Lines::new(alloc, waves),
+            traces: Lines::new(alloc, traces),
             events,
             points,
             listed: Vec::new(alloc),
@@ -279,8 +279,8 @@ impl Engine {
         ensures { IfOk result (IsRun S.answer design.now) }
     {
         let recording = Recording {
-            waves: self.waves,
-            traces: self.traces,
+            waves: self.waves.finish()?,
+            traces: self.traces.finish()?,
         };
         let run = recording.finish(alloc, design)?;
         Ok(run)

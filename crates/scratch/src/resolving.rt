@@ -15,7 +15,7 @@ use design::Design;
 use fourstate::{NetKind, Value, resolve};
 use gatestep::{Driver, Stepper};
 use std::alloc::AllocError;
-use waveform::{Wave, laws};
+use waveform::{Lines, laws};
 
 /// The current value at a place once due events have become current, x where there is none.
 #[inline(always)]
@@ -103,17 +103,17 @@ pub fn resolve_nets<S: Stepper>(
     t: u64,
     driven: &mut Vec<Value>,
     values: &mut Vec<Value>,
-    waves: &mut Vec<Wave>,
+    waves: &mut Lines<Value>,
     changed: &mut Vec<usize>,
 ) -> Result<(), AllocError>
     requires wired { IsWiring (netlist design.now) wiring.now }
     requires begun { 0 < t }
     requires states { states.now ≡ map (state_before S.answer (netlist design.now) t) (netlist design.now).gates }
     requires values { values.old.items ≡ map (λ n. value S.answer (netlist design.now) n (t - 1)) (netlist design.now).nets }
-    requires waves { waves.old.items ≡ map (λ n. wave_changes_below (value S.answer (netlist design.now) n) t) (netlist design.now).nets }
+    requires waves { waves.old ≡ map (λ n. wave_changes_below (value S.answer (netlist design.now) n) t) (netlist design.now).nets }
     requires others { (k : ℕ) → has k nets.now ≡ false → changes_at S.answer (netlist design.now) k t ≡ false }
     ensures values { OnOk result (values.new.items ≡ map (λ n. value S.answer (netlist design.now) n t) (netlist design.now).nets) }
-    ensures waves { OnOk result (waves.new.items ≡ map (λ n. wave_changes_below (value S.answer (netlist design.now) n) (t + 1)) (netlist design.now).nets) }
+    ensures waves { OnOk result (waves.new ≡ map (λ n. wave_changes_below (value S.answer (netlist design.now) n) (t + 1)) (netlist design.now).nets) }
     ensures changed { OnOk result ((k : ℕ) → has k changed.new.items ≡ changes_at S.answer (netlist design.now) k t) }
 {
     laws::push_to_changes::<Value>();
@@ -127,8 +127,7 @@ pub fn resolve_nets<S: Stepper>(
             let former = values[*place];
             if is_other(value, former) {
                 values[*place] = value;
-                let wave = &mut waves[*place];
-                wave.push_known(t, former, value)?;
+                waves.push_known(*place, t, former, value)?;
                 changed.push(*place)?;
             }
         }

@@ -12,7 +12,7 @@ use design::Design;
 use event_queue::EventQueue;
 use gatestep::{Driver, Stepper};
 use std::alloc::{AllocError, Global};
-use waveform::{Trace, laws};
+use waveform::{Lines, laws};
 
 /// Takes the answers of the stirred gates, which are at these places, for their states, and notes their events; the states of
 /// other gates stay.
@@ -23,7 +23,7 @@ pub fn settle<S: Stepper>(
     answers: &[Driver],
     t: u64,
     states: &mut Vec<Driver>,
-    traces: &mut Vec<Trace>,
+    traces: &mut Lines<Driver>,
     events: &mut EventQueue,
 ) -> Result<(), AllocError>
     requires begun { 0 < t }
@@ -31,11 +31,11 @@ pub fn settle<S: Stepper>(
     requires answers { answers.now ≡ map (state_before S.answer (netlist design.now) (t + 1)) (stirred_at S.answer (netlist design.now) t) }
     requires beside { length answers.now ≡ length gates.now }
     requires states { states.old.items ≡ map (state_before S.answer (netlist design.now) t) (netlist design.now).gates }
-    requires traces { traces.old.items ≡ map (λ g. trace_below (state_after S.answer (netlist design.now) g) t) (netlist design.now).gates }
+    requires traces { traces.old ≡ map (λ g. trace_below (state_after S.answer (netlist design.now) g) t) (netlist design.now).gates }
     requires events { Covers (λ k u. not (has k gates.now) && pends_at states.old.items k u) (noted events.old) (t + 1) }
     requires early { (u : ℕ) → u < t + 1 → noted events.old u ≡ [] }
     ensures states { OnOk result (states.new.items ≡ map (state_before S.answer (netlist design.now) (t + 1)) (netlist design.now).gates) }
-    ensures traces { OnOk result (traces.new.items ≡ map (λ g. trace_below (state_after S.answer (netlist design.now) g) (t + 1)) (netlist design.now).gates) }
+    ensures traces { OnOk result (traces.new ≡ map (λ g. trace_below (state_after S.answer (netlist design.now) g) (t + 1)) (netlist design.now).gates) }
     ensures events { OnOk result (Covers (pends_at states.new.items) (noted events.new) (t + 1)) }
     ensures early { OnOk result ((u : ℕ) → u < t + 1 → noted events.new u ≡ []) }
 {
@@ -49,8 +49,7 @@ pub fn settle<S: Stepper>(
         let answer = answers[i].anew();
         let known = states[place].due(t);
         states[place] = answer;
-        let trace = &mut traces[place];
-        trace.push_known(t, known, answer)?;
+        traces.push_known(place, t, known, answer)?;
         if let Some((_, time)) = answer.pend {
             events.add(alloc, time, place)?;
         }

@@ -5,6 +5,7 @@ pub mod Functions
 pub mod Gaps
 pub mod Joins
 pub mod Lists
+pub mod Noting
 pub mod Patching
 pub mod Places
 pub mod Pushes

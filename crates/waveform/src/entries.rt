@@ -1,7 +1,8 @@
 //! Entries of a timeline, one after another.
 
-ghost use Rattle.std.specs.Prelude.{◌≡◌, ◌-◌, ◌^◌, ◌<◌, ◌≤◌, map, take, drop, length, slice_get, All, Some, OnOk, OnErr, IfOk};
+ghost use Rattle.std.specs.Prelude.{◌≡◌, ◌-◌, ◌^◌, ◌<◌, ◌≤◌, ◌++◌, ◌∷◌, [], map, take, drop, length, slice_get, All, Some, OnOk, OnErr, IfOk};
 ghost use Rattle.std.specs.List.{find, last_or};
+ghost use Rattle.std.specs.Vec.{vec_capacity, vec_len};
 ghost use Rattle.waveform.specs.Timelines.{AreInTurn, IsTimeline, is_reached, pushed, latest, entries_before, entries_until, entries_after, value_by};
 ghost use Rattle.waveform.specs.Joins.{joined, spliced};
 
@@ -20,7 +21,8 @@ const GROWTH: usize = 2;
 /// Makes room for one more entry, if there is none.
 #[inline(always)]
 fn make_room<V: Sample>(entries: &mut Vec<V::Entry>) -> Result<(), AllocError>
-    ensures { entries.new.items ≡ entries.old.items }
+    ensures same { entries.new.items ≡ entries.old.items }
+    ensures room { OnOk result (vec_len entries.new < vec_capacity entries.new) }
 {
     if entries.len() == entries.capacity() {
         grow::<V>(entries)?;
@@ -30,9 +32,11 @@ fn make_room<V: Sample>(entries: &mut Vec<V::Entry>) -> Result<(), AllocError>
 
 /// Makes the room of a timeline three times what it is: so it is moved more seldom than by doubling.
 fn grow<V: Sample>(entries: &mut Vec<V::Entry>) -> Result<(), AllocError>
-    ensures { entries.new.items ≡ entries.old.items }
+    ensures same { entries.new.items ≡ entries.old.items }
+    ensures room { OnOk result (vec_len entries.new < vec_capacity entries.new) }
 {
-    entries.reserve(entries.len().saturating_mul(GROWTH))?;
+    let more = entries.len().saturating_mul(GROWTH);
+    entries.reserve(more.max(1))?;
     Ok(())
 }
 
@@ -59,29 +63,19 @@ pub fn push_value<V: Sample>(
     ensures err { OnErr result (entries.new.items ≡ entries.old.items) }
 {
     if !reaches::<V>(entries.as_slice(), t, value) {
-        make_room::<V>(entries)?;
-        entries.push(value.entry(t))?;
+        append::<V>(entries, value.entry(t))?;
     }
     Ok(())
 }
 
-/// Adds the value from `t` on, where it is not the one that the entries have become by then, which is `known`.
+/// Adds an entry.
 #[inline(always)]
-pub fn push_known<V: Sample>(
-    entries: &mut Vec<V::Entry>,
-    t: u64,
-    known: V,
-    value: V,
-) -> Result<(), AllocError>
-    requires can { V.can_store t value }
-    requires known { is_reached V.same V.drift (map V.stored entries.old.items) t value ≡ V.same value known }
-    ensures ok { OnOk result (map V.stored entries.new.items ≡ pushed V.same V.drift (map V.stored entries.old.items) t value) }
+pub fn append<V: Sample>(entries: &mut Vec<V::Entry>, entry: V::Entry) -> Result<(), AllocError>
+    ensures ok { OnOk result (map V.stored entries.new.items ≡ map V.stored entries.old.items ++ V.stored entry ∷ []) }
     ensures err { OnErr result (entries.new.items ≡ entries.old.items) }
 {
-    if !value.is_same(known) {
-        make_room::<V>(entries)?;
-        entries.push(value.entry(t))?;
-    }
+    make_room::<V>(entries)?;
+    entries.push_reserved(entry);
     Ok(())
 }
 

@@ -1,6 +1,6 @@
 //! Functions of time, kept as entries.
 
-ghost use Rattle.std.specs.Prelude.{◌≡◌, ◌<◌, ◌≤◌, ℕ, nat_lt, [], ◌∷◌, map, All, IfOk, OnOk, OnErr, Some, if◌then◌else◌};
+ghost use Rattle.std.specs.Prelude.{◌≡◌, ◌<◌, ◌≤◌, ℕ, nat_lt, false, [], ◌∷◌, ◌++◌, map, All, IfOk, OnOk, OnErr, Some, if◌then◌else◌};
 ghost use Rattle.std.specs.List.{last_or};
 ghost use Rattle.waveform.specs.Timelines.{IsTimeline, is_reached, pushed, value_by, entries_until};
 
@@ -8,7 +8,7 @@ mod follow;
 mod look;
 mod splice;
 
-use crate::entries::{FIRST_ROOM, SPARE_ROOM, count_until, last_entry, push_known, push_value};
+use crate::entries::{FIRST_ROOM, SPARE_ROOM, append, count_until, last_entry, push_value};
 use crate::sample::Sample;
 use std::alloc::{AllocError, Global};
 use std::marker::Model;
@@ -57,18 +57,17 @@ impl<V: Sample> Timeline<V> {
         Ok(())
     }
 
-    /// As `push`, for a caller that knows the value that the function has by itself at `t`: `known`. No entry is read.
+    /// Adds an entry, which lies after all others and whose value the function does not have by itself. It fails where memory
+    /// runs out, and then nothing has changed.
     #[inline(always)]
-    pub fn push_known(&mut self, t: u64, known: V, value: V) -> Result<(), AllocError>
-        requires later { All (λ entry. entry.0 < t) self.old }
-        requires can { V.can_store t value }
-        requires known { is_reached V.same V.drift self.old t value ≡ V.same value known }
-        ensures ok { OnOk result (self.new ≡ pushed V.same V.drift self.old t value) }
-        ensures value { OnOk result ((u : ℕ) → value_by V.drift V.start self.new u
-            ≡ (if nat_lt u t then value_by V.drift V.start self.old u else V.drift value u)) }
+    pub(crate) fn append(&mut self, entry: V::Entry) -> Result<(), AllocError>
+        requires later { All (λ e. e.0 < (V.stored entry).0) self.old }
+        requires can { V.can_store (V.stored entry).0 (V.stored entry).1 }
+        requires other { is_reached V.same V.drift self.old (V.stored entry).0 (V.stored entry).1 ≡ false }
+        ensures ok { OnOk result (self.new ≡ self.old ++ V.stored entry ∷ []) }
         ensures err { OnErr result (self.new ≡ self.old) }
     {
-        push_known::<V>(&mut self.entries, t, known, value)?;
+        append::<V>(&mut self.entries, entry)?;
         Ok(())
     }
 

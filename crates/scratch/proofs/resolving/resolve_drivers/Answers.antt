@@ -1,6 +1,5 @@
 use Rattle.std.proofs.Common.{◌∙◌, ap}
 use Rattle.fourstate.specs.Nets.{net_of}
-use Rattle.scratch.specs.Kept.{currents_of}
 use Rattle.scratch.proofs.resolving.resolve_drivers.Goals as goal
 
 pub returns : goal.returns

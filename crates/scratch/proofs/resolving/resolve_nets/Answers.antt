@@ -27,10 +27,10 @@ push_known-requires-clause-later g c =
     let in_values : place < length c.loop-place.values.items = rw part.as_many in_nets in
     let old = slice_get_read c.loop-place.values.items (length c.loop-place.values.items) place c.index-former.result.now refl in_values c.index-former.ensures in
     let other : not (same_value v c.index-former.result.now) ≡ true = sym c.is_other.ensures ∙ c.if-is_other.true in
-    let in_waves : place < length c.loop-place.waves.items = rw part.as_many_waves in_nets in
-    let wave = slice_get_read c.loop-place.waves.items (length c.loop-place.waves.items) place c.index_mut-wave.result.now refl in_waves c.index_mut-wave.ensures.value in
-    wave_early answer d t c.requires.begun c.no_change.ensures place done c.loop-place.values.items c.loop-place.waves.items c.loop-place.changed.items part n it.1 v c.index-former.result.now is old other
-    c.changes_lie_before.ensures c.index_mut-wave.result.now wave
+    let in_waves : place < length c.loop-place.waves = rw part.as_many_waves in_nets in
+    let wave = slice_get-get_or c.loop-place.waves place [] in_waves in
+    wave_early answer d t c.requires.begun c.no_change.ensures place done c.loop-place.values.items c.loop-place.waves c.loop-place.changed.items part n it.1 v c.index-former.result.now is old other
+    c.changes_lie_before.ensures (slice_index_or c.loop-place.waves place []) wave
 
 pub push_known-requires-clause-known : goal.push_known-requires-clause-known
 push_known-requires-clause-known g c =
@@ -44,10 +44,10 @@ push_known-requires-clause-known g c =
     let in_values : place < length c.loop-place.values.items = rw part.as_many in_nets in
     let old = slice_get_read c.loop-place.values.items (length c.loop-place.values.items) place c.index-former.result.now refl in_values c.index-former.ensures in
     let other : not (same_value v c.index-former.result.now) ≡ true = sym c.is_other.ensures ∙ c.if-is_other.true in
-    let in_waves : place < length c.loop-place.waves.items = rw part.as_many_waves in_nets in
-    let wave = slice_get_read c.loop-place.waves.items (length c.loop-place.waves.items) place c.index_mut-wave.result.now refl in_waves c.index_mut-wave.ensures.value in
-    wave_reached answer d t c.requires.begun c.no_change.ensures place done c.loop-place.values.items c.loop-place.waves.items c.loop-place.changed.items part n it.1 v c.index-former.result.now is old other
-    c.reached_by_changes.ensures c.index_mut-wave.result.now wave
+    let in_waves : place < length c.loop-place.waves = rw part.as_many_waves in_nets in
+    let wave = slice_get-get_or c.loop-place.waves place [] in_waves in
+    wave_reached answer d t c.requires.begun c.no_change.ensures place done c.loop-place.values.items c.loop-place.waves c.loop-place.changed.items part n it.1 v c.index-former.result.now is old other
+    c.reached_by_changes.ensures (slice_index_or c.loop-place.waves place []) wave
 
 pub loop-place-preserved : goal.loop-place-preserved
 loop-place-preserved g c =
@@ -55,7 +55,7 @@ loop-place-preserved g c =
     let part = c.loop-place.invariant in let nets = c.args.nets.now in let i = c.loop-place.place-index in let done = take i nets in
     let place = slice_index_or nets i 0 in
     let more : take (i + 1) nets ≡ done ++ place ∷ [] = take_next nets i place (slice_get-get_or nets i 0 c.loop-place-test.true) in
-    let vs = c.loop-place.values.items in let ws = c.loop-place.waves.items in let cs = c.loop-place.changed.items in
+    let vs = c.loop-place.values.items in let ws = c.loop-place.waves in let cs = c.loop-place.changed.items in
     let still = c.no_change.ensures in
     elim c.if-place-len.branch [
       | then-place-len+in_ok-value+then-is_other+in_ok-push_known+in_ok-push w ↦
@@ -67,9 +67,9 @@ loop-place-preserved g c =
           let old = slice_get_read vs (length vs) place w.index-former.result.now refl in_values w.index-former.ensures in
           let other : not (same_value v w.index-former.result.now) ≡ true = sym w.is_other.ensures ∙ w.if-is_other.true in
           let in_waves : place < length ws = rw part.as_many_waves in_nets in
-          let wave = slice_get_read ws (length ws) place w.index_mut-wave.result.now refl in_waves w.index_mut-wave.ensures.value in
-          rw (more, w.values-is, w.waves-is, w.changed-is, w.in_ok-push_known.ensures.ok, w.in_ok-push.ensures.items)
-          (went answer d t c.requires.begun still place done vs ws cs part n it.1 v w.index-former.result.now is old other c.push_to_changes.ensures w.index_mut-wave.result.now wave)
+          let wave = slice_get-get_or ws place [] in_waves in
+          rw (more, w.values-is, w.waves-is, w.changed-is, w.in_ok-push_known.ensures, w.in_ok-push.ensures.items)
+          (went answer d t c.requires.begun still place done vs ws cs part n it.1 v w.index-former.result.now is old other c.push_to_changes.ensures (slice_index_or ws place []) wave)
       | then-place-len+in_ok-value+else-is_other w ↦
           let in_nets : place < length d.nets = let low = w.if-place-len.true in let many = part.as_many in grind (arith, common_steps) in
           let it = some_at d.nets place in_nets in let n = it.0 in
@@ -97,5 +97,5 @@ pub returns-clause-waves : goal.returns-clause-waves
 returns-clause-waves g c =
     let answer = g.S.Stepper.answer in let d = netlist c.args.design.now in let t = c.args.t in
     let whole : take c.loop-place.place-index c.args.nets.now ≡ c.args.nets.now = take_all c.loop-place.place-index c.args.nets.now (let past = c.loop-place-test.false in omega arith) in
-    finish (take c.loop-place.place-index c.args.nets.now) (map (λ n. wave_changes_below (value answer d n) t) d.nets) (map (λ n. wave_changes_below (value answer d n) (t + 1)) d.nets) c.loop-place.waves.items c.loop-place.invariant.waves
+    finish (take c.loop-place.place-index c.args.nets.now) (map (λ n. wave_changes_below (value answer d n) t) d.nets) (map (λ n. wave_changes_below (value answer d n) (t + 1)) d.nets) c.loop-place.waves c.loop-place.invariant.waves
     (λ k off. same_wave_at answer d t c.requires.begun c.no_change.ensures k (c.requires.others k (ap (has k) (sym whole) ∙ off)))

@@ -30,8 +30,8 @@ returns g c =
           ap (λ v. v.items) c.new.ensures.values
           ∙ last_values answer d h is c.value_of_changes.ensures lines.waves.items c.in_ok-values.values.items c.in_ok-recording.ensures.waves
           (c.in_ok-values.ensures ∙ ap (map (λ line. value_by standing Unknown line h)) c.as_slice.ensures.value);
-      waves = ap (λ v. v.items) c.new.ensures.waves ∙ c.in_ok-recording.ensures.waves;
-      traces = ap (λ v. v.items) c.new.ensures.traces ∙ c.in_ok-recording.ensures.traces;
+      waves = c.new.ensures.waves ∙ c.in_ok-recording.ensures.waves;
+      traces = c.new.ensures.traces ∙ c.in_ok-recording.ensures.traces;
       events = λ k t from pends. ap (λ q. has k (noted q t)) c.new.ensures.events ∙ c.in_ok-events.ensures.covers k t (omega arith) (ap (λ l. pends_at l k t) there ∙ pends);
       points =
           let next : h + 1 ≡ suc d.horizon = omega arith in

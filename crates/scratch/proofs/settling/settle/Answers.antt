@@ -65,8 +65,8 @@ index_mut-requires g c =
     let in_states : place < length c.loop-i.states.items = rw (c.loop-i.invariant.as_many, ← length-map d.gates (state_before answer d (c.args.t + 1))) below in
     grind (arith, common_steps)
 
-pub index_mut-trace-requires : goal.index_mut-trace-requires
-index_mut-trace-requires g c =
+pub push_known-requires-clause-there : goal.push_known-requires-clause-there
+push_known-requires-clause-there g c =
     let answer = g.S.Stepper.answer in let d = netlist c.args.design.now in
     let gates = c.args.gates.now in let place = slice_index_or gates c.loop-i.i 0 in
     let within : c.loop-i.i < length gates = c.loop-i-test.true in
@@ -75,8 +75,8 @@ index_mut-trace-requires g c =
     let here = value_at_place (λ gate. is_stirred answer d gate c.args.t) (state_before answer d (c.args.t + 1)) d.gates gates c.args.answers.now c.requires.gates c.requires.answers
     c.loop-i.i place c.index-answers-i.result (slice_get-get_or gates c.loop-i.i 0 within) there in
     let below = slice_get_within (map (state_before answer d (c.args.t + 1)) d.gates) place c.index-answers-i.result here in
-    let in_traces : place < length c.loop-i.traces.items = rw (c.loop-i.invariant.as_many_traces, ← length-map d.gates (state_before answer d (c.args.t + 1))) below in
-    grind (arith, common_steps)
+    let in_traces : place < length c.loop-i.traces = rw (c.loop-i.invariant.as_many_traces, ← length-map d.gates (state_before answer d (c.args.t + 1))) below in
+    in_traces
 
 pub push_known-requires-clause-later : goal.push_known-requires-clause-later
 push_known-requires-clause-later g c =
@@ -89,14 +89,14 @@ push_known-requires-clause-later g c =
     let there = slice_get_read c.args.answers.now (length c.args.answers.now) c.loop-i.i c.index-answers-i.result refl beside c.index-answers-i.is in
     let here = value_at_place stirred (state_before answer d (c.args.t + 1)) d.gates gates c.args.answers.now c.requires.gates c.requires.answers c.loop-i.i place c.index-answers-i.result at there in
     let below = slice_get_within (map (state_before answer d (c.args.t + 1)) d.gates) place c.index-answers-i.result here in
-    let in_traces : place < length c.loop-i.traces.items = rw (c.loop-i.invariant.as_many_traces, ← length-map d.gates (state_before answer d (c.args.t + 1))) below in
-    let trace = slice_get_read c.loop-i.traces.items (length c.loop-i.traces.items) place c.index_mut-trace.result.now refl in_traces c.index_mut-trace.ensures.value in
+    let in_traces : place < length c.loop-i.traces = rw (c.loop-i.invariant.as_many_traces, ← length-map d.gates (state_before answer d (c.args.t + 1))) below in
+    let trace = slice_get-get_or c.loop-i.traces place [] in_traces in
     let rising : AreRising 0 gates = rw c.requires.gates (passing_rises stirred 0 d.gates) in
     let apart = once 0 gates c.loop-i.i place rising at in
-    let was : slice_get (map (λ gate. trace_below (state_after answer d gate) c.args.t) d.gates) place ≡ Some c.index_mut-trace.result.now =
+    let was : slice_get (map (λ gate. trace_below (state_after answer d gate) c.args.t) d.gates) place ≡ Some (slice_index_or c.loop-i.traces place []) =
     ap (λ l. slice_get l place) (sym c.requires.traces)
-    ∙ sym (is_old (take c.loop-i.i gates) (slice_get c.args.traces.now.items) (slice_get (map (λ gate. trace_below (state_after answer d gate) (c.args.t + 1)) d.gates)) (slice_get c.loop-i.traces.items) c.loop-i.invariant.traces place apart) ∙ trace in
-    all_at (All (λ e. e.0 < c.args.t)) (map (λ gate. trace_below (state_after answer d gate) c.args.t) d.gates) place c.index_mut-trace.result.now (traces_early answer d c.changes_lie_before.ensures c.args.t) was
+    ∙ sym (is_old (take c.loop-i.i gates) (slice_get c.args.traces.now) (slice_get (map (λ gate. trace_below (state_after answer d gate) (c.args.t + 1)) d.gates)) (slice_get c.loop-i.traces) c.loop-i.invariant.traces place apart) ∙ trace in
+    all_at (All (λ e. e.0 < c.args.t)) (map (λ gate. trace_below (state_after answer d gate) c.args.t) d.gates) place (slice_index_or c.loop-i.traces place []) (traces_early answer d c.changes_lie_before.ensures c.args.t) was
 
 pub push_known-requires-clause-known : goal.push_known-requires-clause-known
 push_known-requires-clause-known g c =
@@ -110,19 +110,19 @@ push_known-requires-clause-known g c =
     let here = value_at_place stirred (state_before answer d (c.args.t + 1)) d.gates gates c.args.answers.now c.requires.gates c.requires.answers c.loop-i.i place c.index-answers-i.result at there in
     let below = slice_get_within (map (state_before answer d (c.args.t + 1)) d.gates) place c.index-answers-i.result here in
     let in_states : place < length c.loop-i.states.items = rw (c.loop-i.invariant.as_many, ← length-map d.gates (state_before answer d (c.args.t + 1))) below in
-    let in_traces : place < length c.loop-i.traces.items = rw (c.loop-i.invariant.as_many_traces, ← length-map d.gates (state_before answer d (c.args.t + 1))) below in
-    let trace = slice_get_read c.loop-i.traces.items (length c.loop-i.traces.items) place c.index_mut-trace.result.now refl in_traces c.index_mut-trace.ensures.value in
+    let in_traces : place < length c.loop-i.traces = rw (c.loop-i.invariant.as_many_traces, ← length-map d.gates (state_before answer d (c.args.t + 1))) below in
+    let trace = slice_get-get_or c.loop-i.traces place [] in_traces in
     let rising : AreRising 0 gates = rw c.requires.gates (passing_rises stirred 0 d.gates) in
     let apart = once 0 gates c.loop-i.i place rising at in
-    let was : slice_get (map (λ gate. trace_below (state_after answer d gate) c.args.t) d.gates) place ≡ Some c.index_mut-trace.result.now =
+    let was : slice_get (map (λ gate. trace_below (state_after answer d gate) c.args.t) d.gates) place ≡ Some (slice_index_or c.loop-i.traces place []) =
     ap (λ l. slice_get l place) (sym c.requires.traces)
-    ∙ sym (is_old (take c.loop-i.i gates) (slice_get c.args.traces.now.items) (slice_get (map (λ gate. trace_below (state_after answer d gate) (c.args.t + 1)) d.gates)) (slice_get c.loop-i.traces.items) c.loop-i.invariant.traces place apart) ∙ trace in
+    ∙ sym (is_old (take c.loop-i.i gates) (slice_get c.args.traces.now) (slice_get (map (λ gate. trace_below (state_after answer d gate) (c.args.t + 1)) d.gates)) (slice_get c.loop-i.traces) c.loop-i.invariant.traces place apart) ∙ trace in
     let before : slice_get (map (state_before answer d c.args.t) d.gates) place ≡ Some c.index.result.now =
     ap (λ l. slice_get l place) (sym c.requires.states)
     ∙ sym (is_old (take c.loop-i.i gates) (slice_get c.args.states.now.items) (slice_get (map (state_before answer d (c.args.t + 1)) d.gates)) (slice_get c.loop-i.states.items) c.loop-i.invariant.states place apart)
     ∙ slice_get_read c.loop-i.states.items (length c.loop-i.states.items) place c.index.result.now refl in_states c.index.ensures in
-    subst (λ (s : State). is_reached same_state due c.index_mut-trace.result.now c.args.t s ≡ same_state s c.due-known.result) (sym c.anew-answer.ensures)
-    (known answer d law.answer_pending c.reached_by_changes.ensures c.lawful.ensures.design.gates c.args.t place c.requires.begun c.index_mut-trace.result.now c.index.result.now c.index-answers-i.result was before
+    subst (λ (s : State). is_reached same_state due (slice_index_or c.loop-i.traces place []) c.args.t s ≡ same_state s c.due-known.result) (sym c.anew-answer.ensures)
+    (known answer d law.answer_pending c.reached_by_changes.ensures c.lawful.ensures.design.gates c.args.t place c.requires.begun (slice_index_or c.loop-i.traces place []) c.index.result.now c.index-answers-i.result was before
     ∙ ap (same_state c.index-answers-i.result) (sym c.due-known.ensures))
 
 pub push_known-requires-clause-can : goal.push_known-requires-clause-can
@@ -155,19 +155,22 @@ loop-i-preserved g c =
     let apart = once 0 gates i place rising at in
     let in_gates = slice_get_within next place s here in
     let in_states : place < length c.loop-i.states.items = rw (c.loop-i.invariant.as_many, ← length-map d.gates (state_before answer d (t + 1))) in_gates in
-    let in_traces : place < length c.loop-i.traces.items = rw (c.loop-i.invariant.as_many_traces, ← length-map d.gates (state_before answer d (t + 1))) in_gates in
-    let trace = slice_get_read c.loop-i.traces.items (length c.loop-i.traces.items) place c.index_mut-trace.result.now refl in_traces c.index_mut-trace.ensures.value in
-    let was : slice_get (map (λ gate. trace_below (state_after answer d gate) t) d.gates) place ≡ Some c.index_mut-trace.result.now =
-    ap (λ l. slice_get l place) (sym c.requires.traces) ∙ sym (is_old done (slice_get c.args.traces.now.items) (slice_get next_traces) (slice_get c.loop-i.traces.items) c.loop-i.invariant.traces place apart) ∙ trace in
-    let grows : slice_get next_traces place ≡ Some c.push_known.new.self =
-    next_trace answer d law.answer_pending c.push_to_changes.ensures are t place c.index_mut-trace.result.now s was here
-    ∙ ap (λ x. Some x) (ap (pushed same_state due c.index_mut-trace.result.now t) (sym c.anew-answer.ensures) ∙ sym c.in_ok-push_known.ensures.ok) in
+    let in_traces : place < length c.loop-i.traces = rw (c.loop-i.invariant.as_many_traces, ← length-map d.gates (state_before answer d (t + 1))) in_gates in
+    let trace = slice_get-get_or c.loop-i.traces place [] in_traces in
+    let was : slice_get (map (λ gate. trace_below (state_after answer d gate) t) d.gates) place ≡ Some (slice_index_or c.loop-i.traces place []) =
+    ap (λ l. slice_get l place) (sym c.requires.traces) ∙ sym (is_old done (slice_get c.args.traces.now) (slice_get next_traces) (slice_get c.loop-i.traces) c.loop-i.invariant.traces place apart) ∙ trace in
+    let line = pushed same_state due (slice_index_or c.loop-i.traces place []) t c.anew-answer.result in
+    let grows : slice_get next_traces place ≡ Some line =
+    next_trace answer d law.answer_pending c.push_to_changes.ensures are t place (slice_index_or c.loop-i.traces place []) s was here
+    ∙ ap (λ x. Some (pushed same_state due (slice_index_or c.loop-i.traces place []) t x)) (sym c.anew-answer.ensures) in
+    let grown : c.push_known.new.self ≡ set c.loop-i.traces place line = c.in_ok-push_known.ensures in
     record {
       states = subst (λ (x : State). Between (take (i + 1) gates) (slice_get c.args.states.now.items) (slice_get next) (slice_get (set c.loop-i.states.items place x))) (sym c.anew-answer.ensures)
           (subst (λ l. Between l (slice_get c.args.states.now.items) (slice_get next) (slice_get (set c.loop-i.states.items place s))) (sym more)
           (write done c.args.states.now.items next c.loop-i.states.items c.loop-i.invariant.states place s here in_states));
-      traces = subst (λ l. Between l (slice_get c.args.traces.now.items) (slice_get next_traces) (slice_get (set c.loop-i.traces.items place c.push_known.new.self))) (sym more)
-          (write done c.args.traces.now.items next_traces c.loop-i.traces.items c.loop-i.invariant.traces place c.push_known.new.self grows in_traces);
+      traces = subst (λ l. Between l (slice_get c.args.traces.now) (slice_get next_traces) (slice_get c.push_known.new.self)) (sym more)
+          (subst (λ ts. Between (done ++ place ∷ []) (slice_get c.args.traces.now) (slice_get next_traces) (slice_get ts)) (sym grown)
+          (write done c.args.traces.now next_traces c.loop-i.traces c.loop-i.invariant.traces place line grows in_traces));
       events = elim c.match-answer.branch [
         | in-Some+in_ok-add w ↦
             let event : Value × ℕ = (w.in-Some.field-0-0, w.in-Some.time) in
@@ -193,7 +196,7 @@ loop-i-preserved g c =
         | in_default w ↦ λ u low. ap (λ q. noted q u) w.events-is ∙ c.loop-i.invariant.early u low
       ];
       as_many = length_set c.loop-i.states.items place _ ∙ c.loop-i.invariant.as_many;
-      as_many_traces = length_set c.loop-i.traces.items place c.push_known.new.self ∙ c.loop-i.invariant.as_many_traces;
+      as_many_traces = ap length grown ∙ length_set c.loop-i.traces place line ∙ c.loop-i.invariant.as_many_traces;
     }
 
 pub returns-clause-states : goal.returns-clause-states
@@ -207,7 +210,7 @@ pub returns-clause-traces : goal.returns-clause-traces
 returns-clause-traces g c =
     let law = g.met.S.Stepper in let answer = g.S.Stepper.answer in let d = netlist c.args.design.now in let t = c.args.t in
     let all : take c.loop-i.i c.args.gates.now ≡ c.args.gates.now = take_all c.loop-i.i c.args.gates.now (let past = c.loop-i-test.false in omega arith) in
-    finish (take c.loop-i.i c.args.gates.now) c.args.traces.now.items (map (λ gate. trace_below (state_after answer d gate) (t + 1)) d.gates) c.loop-i.traces.items c.loop-i.invariant.traces
+    finish (take c.loop-i.i c.args.gates.now) c.args.traces.now (map (λ gate. trace_below (state_after answer d gate) (t + 1)) d.gates) c.loop-i.traces c.loop-i.invariant.traces
     (λ k off. ap (λ l. slice_get l k) c.requires.traces ∙ other_traces answer d law.answer_current law.answer_stays c.no_change.ensures t c.requires.begun k (ap (has k) (sym c.requires.gates ∙ sym all) ∙ off))
 
 pub returns-clause-events : goal.returns-clause-events

@@ -16,10 +16,10 @@ invariant-loop-i g l =
     let next = map (state_before answer d (l.t + 1)) d.gates in
     record {
       states : Between (take l.i l.gates) (slice_get l.fn.states.items) (slice_get next) (slice_get l.states.items);
-      traces : Between (take l.i l.gates) (slice_get l.fn.traces.items) (slice_get (map (λ gate. trace_below (state_after answer d gate) (l.t + 1)) d.gates)) (slice_get l.traces.items);
+      traces : Between (take l.i l.gates) (slice_get l.fn.traces) (slice_get (map (λ gate. trace_below (state_after answer d gate) (l.t + 1)) d.gates)) (slice_get l.traces);
       events : Covers (λ k u. has k (take l.i l.gates) && pends_at next k u) (noted l.events) (l.t + 1);
       kept : Keeps (noted l.fn.events) (noted l.events);
       early : (u : ℕ) → u < l.t + 1 → noted l.events u ≡ [];
       as_many : length l.states.items ≡ length d.gates;
-      as_many_traces : length l.traces.items ≡ length d.gates;
+      as_many_traces : length l.traces ≡ length d.gates;
     }

@@ -1,0 +1,127 @@
+//! Timelines that grow together.
+
+ghost use Rattle.std.specs.Prelude.{◌≡◌, ◌<◌, ◌++◌, ◌∷◌, [], map, length, All, IfOk, OnOk, slice_index_or, slice_set};
+ghost use Rattle.waveform.specs.Notes.{AreNoted, MayBeNoted, noted, with_note, with_notes};
+ghost use Rattle.waveform.specs.Timelines.{is_reached, pushed};
+
+use crate::sample::Sample;
+use crate::timeline::Timeline;
+use std::alloc::{AllocError, Global};
+use std::marker::Model;
+
+/// How many entries are noted before they are written.
+const ROOM: usize = 4096;
+
+/// Timelines by place, which grow together: an entry is noted first, and many are written behind those of their timelines at
+/// a time (own). The timelines lie far apart, and a processor waits less where it writes one entry after another than where it
+/// does something else between two of them. Contracts see the timelines with all that is noted.
+#[derive(Drop)]
+pub struct Lines<V: Sample> {
+    lines: Vec<Timeline<V>>,
+    notes: Vec<(usize, V::Entry)>,
+}
+
+impl<V: Sample> Model for Lines<V> {
+    ghost use Rattle.std.specs.Prelude.{ℕ, List, map};
+    ghost use Rattle.waveform.specs.Notes.{AreNoted, noted, with_notes};
+
+    ghost Value = { List (List (ℕ × V)) };
+
+    ghost view = { λ a. with_notes a.lines.items (map (noted V.stored) a.notes.items) };
+
+    ghost invariant = { λ a. AreNoted V.same V.drift V.can_store a.lines.items (map (noted V.stored) a.notes.items) };
+}
+
+impl<V: Sample> Lines<V> {
+    /// These timelines, the first one at place 0.
+    pub fn new(alloc: Global, lines: Vec<Timeline<V>>) -> Lines<V>
+        ensures { result ≡ lines.items }
+    {
+        Lines {
+            lines,
+            notes: Vec::new(alloc),
+        }
+    }
+
+    /// How many timelines there are.
+    pub fn len(&self) -> usize
+        ensures { result ≡ length self.now }
+    {
+        self.lines.len()
+    }
+
+    /// Gives the function at a place this value from `t` on, in time units, a moment after all its entries, where it has the
+    /// value `known` by itself. It fails where memory runs out, and then what the timelines have is not known.
+    #[inline(always)]
+    pub fn push_known(&mut self, place: usize, t: u64, known: V, value: V) -> Result<(), AllocError>
+        requires there { place < length self.old }
+        requires later { All (λ entry. entry.0 < t) (slice_index_or self.old place []) }
+        requires can { V.can_store t value }
+        requires known { is_reached V.same V.drift (slice_index_or self.old place []) t value ≡ V.same value known }
+        ensures { OnOk result (self.new ≡ slice_set self.old place (pushed V.same V.drift (slice_index_or self.old place []) t value)) }
+    {
+        if !value.is_same(known) {
+            self.note(place, value.entry(t))?;
+        }
+        Ok(())
+    }
+
+    /// Notes an entry for the timeline at a place.
+    #[inline(always)]
+    fn note(&mut self, place: usize, entry: V::Entry) -> Result<(), AllocError>
+        requires { MayBeNoted V.same V.drift V.can_store self.old (place, V.stored entry) }
+        ensures { OnOk result (self.new ≡ with_note self.old (place, V.stored entry)) }
+    {
+        if self.notes.len() >= ROOM {
+            self.write()?;
+        }
+        self.notes.push((place, entry))?;
+        Ok(())
+    }
+
+    /// Writes what is noted.
+    fn write(&mut self) -> Result<(), AllocError>
+        ensures { OnOk result (self.new ≡ self.old) }
+    {
+        let written = write_notes::<V>(&mut self.lines, self.notes.as_slice());
+        self.notes.clear();
+        written
+    }
+
+    /// Makes room for so many entries more in the timeline at a place, if there is one. It fails where memory runs out, and
+    /// then nothing has changed.
+    pub fn make_room(&mut self, place: usize, count: usize) -> Result<(), AllocError>
+        ensures { self.new ≡ self.old }
+    {
+        match self.lines.get_mut(place) {
+            None => Ok(()),
+            Some(line) => line.make_room(count),
+        }
+    }
+
+    /// The timelines. It fails where memory runs out.
+    pub fn finish(self) -> Result<Vec<Timeline<V>>, AllocError>
+        ensures { IfOk result (λ lines. lines.items ≡ self) }
+    {
+        let Lines { lines, notes } = self;
+        let mut lines = lines;
+        write_notes::<V>(&mut lines, notes.as_slice())?;
+        Ok(lines)
+    }
+}
+
+/// Writes entries behind those of the timelines at their places.
+fn write_notes<V: Sample>(
+    lines: &mut Vec<Timeline<V>>,
+    notes: &[(usize, V::Entry)],
+) -> Result<(), AllocError>
+    requires { AreNoted V.same V.drift V.can_store lines.old.items (map (noted V.stored) notes.now) }
+    ensures { OnOk result (lines.new.items ≡ with_notes lines.old.items (map (noted V.stored) notes.now)) }
+{
+    for i in 0..notes.len() {
+        let note = notes[i];
+        let line = &mut lines[note.0];
+        line.append(note.1)?;
+    }
+    Ok(())
+}
