@@ -1,8 +1,8 @@
 //! Sets of numbers that are given back in rising order.
 #![tactic(auto)]
 
+mod bits;
 mod draining;
-mod ordering;
 mod set;
 
 pub use set::BitSet;
