@@ -1,5 +1,5 @@
 -- What occurs among inputs as a gate reads them, by what occurs among the inputs themselves.
-use Rattle.std.proofs.Common.{◌≡◌, ℕ, ◌+◌, ◌∙◌, sym, cond, ◌||◌, List, [], ◌∷◌, map, count_by, refl, ap, arith}
+use Rattle.std.proofs.Common.{◌≡◌, ℕ, ◌+◌, ◌∙◌, sym, cond, ◌||◌, List, [], ◌∷◌, Some, map, length, count_by, slice_get, refl, ap, arith}
 use Rattle.std.proofs.lemmas.List.Sums.{sum_by-cons}
 use Rattle.fourstate.specs.Values.{same_value, occurs, reading}
 use Rattle.fourstate.specs.declared.value.Value.{Value}
@@ -36,3 +36,15 @@ ones_read (Zero ∷ values) = ones_read values
 ones_read (One ∷ values) = sum_by-cons one_in One (map reading values) ∙ ap (λ n. 1 + n) (ones_read values) ∙ sym (sum_by-cons one_in One values)
 ones_read (Unknown ∷ values) = ones_read values
 ones_read (HighZ ∷ values) = ones_read values
+
+-- the one value of a list, and the two of a list
+pub one_value : (values : List Value) (v : Value) → length values ≡ 1 → slice_get values 0 ≡ Some v → values ≡ v ∷ []
+one_value [] v long first = cc
+one_value (w ∷ []) v long first = cc
+one_value (w ∷ x ∷ values) v long first = absurd (omega arith)
+
+pub two_values : (values : List Value) (v w : Value) → length values ≡ 2 → slice_get values 0 ≡ Some v → slice_get values 1 ≡ Some w → values ≡ v ∷ w ∷ []
+two_values [] v w long first second = cc
+two_values (x ∷ []) v w long first second = cc
+two_values (x ∷ y ∷ []) v w long first second = cc
+two_values (x ∷ y ∷ z ∷ values) v w long first second = absurd (omega arith)

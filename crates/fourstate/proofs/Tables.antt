@@ -1,5 +1,4 @@
 -- The laws of the tables.
-use Rattle.std.specs.Bool.{Decides}
 use Rattle.std.specs.Cmp.{IsEquivalence, decided, both_ways}
 use Rattle.std.proofs.Common.{◌≡◌, ◌≤◌, List, [], ◌∷◌, Some, map, refl, arith}
 use Rattle.std.proofs.lemmas.Map.Views.{list_any-from_Contains, Contains-from_any}
@@ -8,7 +7,7 @@ use Rattle.fourstate.specs.declared.delay_times.DelayTimes.{DelayTimes}
 use Rattle.fourstate.specs.Gates.{gate_of}
 use Rattle.fourstate.specs.Keywords.{gate_keyword, gate_kind_of, net_keyword, net_kind_of}
 use Rattle.fourstate.specs.Nets.{net_of}
-use Rattle.fourstate.specs.ValueLaws.{is_same, same_self}
+use Rattle.fourstate.specs.ValueLaws.{is_same, same_value_decides}
 use Rattle.fourstate.specs.Values.{AreSameSet, same_value, occurs, reading, inverse, symbol_of, value_of_symbol}
 use Rattle.fourstate.specs.declared.value.Value.{Value}
 use Rattle.fourstate.specs.declared.value.Value.TheVariants.{Zero, One, Unknown, HighZ}
@@ -16,10 +15,6 @@ use Rattle.fourstate.specs.declared.gate.GateKind.{GateKind}
 use Rattle.fourstate.specs.declared.gate.GateKind.TheVariants.{And, Nand, Or, Nor, Xor, Xnor, Buf, Not, Bufif1, Bufif0, Notif1, Notif0}
 use Rattle.fourstate.specs.declared.net.NetKind.{NetKind}
 use Rattle.fourstate.specs.declared.net.NetKind.TheVariants.{Wire, Tri, Wand, Triand, Wor, Trior}
-
--- `same_value` decides equality
-pub same_value_decides : (v w : Value) → Decides (same_value v w) (v ≡ w)
-same_value_decides v w = (is_same v w, λ e. rw e (same_self w))
 
 pub same_value_equivalence : IsEquivalence same_value
 same_value_equivalence = decided same_value same_value_decides

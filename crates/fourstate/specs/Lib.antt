@@ -4,5 +4,7 @@ pub mod GateLaws
 pub mod Gates
 pub mod Keywords
 pub mod Nets
+pub mod PlaneLaws
+pub mod Planes
 pub mod ValueLaws
 pub mod Values

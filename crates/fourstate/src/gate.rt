@@ -1,12 +1,12 @@
 //! Gates (IEEE 1364-2005, 7.2 to 7.4).
 
-ghost use Rattle.std.specs.Prelude.{◌≡◌, IsTrue, length, map};
+ghost use Rattle.std.specs.Prelude.{◌≡◌, ◌<◌, IsTrue, length, map};
 ghost use Rattle.fourstate.specs.Gates.{and_of, or_of, xor_of, controlled, gate_of, same_kind, takes_inputs};
 ghost use Rattle.fourstate.specs.Values.{reading};
 ghost use Rattle.fourstate.specs.Keywords.{gate_keyword, gate_kind_of};
 
+use crate::inputs::Inputs;
 use crate::limits::MAX_INPUTS;
-use crate::survey::Survey;
 use crate::value::Value;
 
 /// The kinds of gates.
@@ -100,7 +100,8 @@ pub fn fits(kind: GateKind, inputs: usize) -> bool
 /// What a gate gives for its inputs, a z among them acting as x. A three-state gate whose control is x or z gives x
 /// (own; IEEE 1364-2005, 7.4 writes L or H where the data is known).
 #[inline(always)]
-pub fn gate_value(kind: GateKind, inputs: &[Value]) -> Value
+#[tactic(auto, using(crate::proofs::Readings::one_value, crate::proofs::Readings::two_values))]
+pub fn gate_value(kind: GateKind, inputs: &Inputs) -> Value
     requires { IsTrue (takes_inputs kind (length inputs.now)) }
     ensures { result ≡ gate_of kind inputs.now }
 {
@@ -111,24 +112,24 @@ pub fn gate_value(kind: GateKind, inputs: &[Value]) -> Value
         GateKind::Nor => or_value(inputs).inverted(),
         GateKind::Xor => xor_value(inputs),
         GateKind::Xnor => xor_value(inputs).inverted(),
-        GateKind::Buf => inputs[0].as_input(),
-        GateKind::Not => inputs[0].inverted(),
-        GateKind::Bufif1 => controlled_value(Value::One, inputs[0].as_input(), inputs[1]),
-        GateKind::Bufif0 => controlled_value(Value::Zero, inputs[0].as_input(), inputs[1]),
-        GateKind::Notif1 => controlled_value(Value::One, inputs[0].inverted(), inputs[1]),
-        GateKind::Notif0 => controlled_value(Value::Zero, inputs[0].inverted(), inputs[1]),
+        GateKind::Buf => inputs.get(0).as_input(),
+        GateKind::Not => inputs.get(0).inverted(),
+        GateKind::Bufif1 => controlled_value(Value::One, inputs.get(0).as_input(), inputs.get(1)),
+        GateKind::Bufif0 => controlled_value(Value::Zero, inputs.get(0).as_input(), inputs.get(1)),
+        GateKind::Notif1 => controlled_value(Value::One, inputs.get(0).inverted(), inputs.get(1)),
+        GateKind::Notif0 => controlled_value(Value::Zero, inputs.get(0).inverted(), inputs.get(1)),
     }
 }
 
 #[inline(always)]
 #[tactic(auto, using(crate::proofs::Readings::zero_read, crate::proofs::Readings::unknown_read))]
-fn and_value(inputs: &[Value]) -> Value
+fn and_value(inputs: &Inputs) -> Value
+    requires { 0 < length inputs.now }
     ensures { result ≡ and_of (map reading inputs.now) }
 {
-    let seen = Survey::of(inputs);
-    if seen.zero {
+    if inputs.has_zero() {
         Value::Zero
-    } else if seen.unknown || seen.high_z {
+    } else if inputs.has_unknown() {
         Value::Unknown
     } else {
         Value::One
@@ -137,13 +138,12 @@ fn and_value(inputs: &[Value]) -> Value
 
 #[inline(always)]
 #[tactic(auto, using(crate::proofs::Readings::one_read, crate::proofs::Readings::unknown_read))]
-fn or_value(inputs: &[Value]) -> Value
+fn or_value(inputs: &Inputs) -> Value
     ensures { result ≡ or_of (map reading inputs.now) }
 {
-    let seen = Survey::of(inputs);
-    if seen.one {
+    if inputs.has_one() {
         Value::One
-    } else if seen.unknown || seen.high_z {
+    } else if inputs.has_unknown() {
         Value::Unknown
     } else {
         Value::Zero
@@ -152,13 +152,12 @@ fn or_value(inputs: &[Value]) -> Value
 
 #[inline(always)]
 #[tactic(auto, using(crate::proofs::Readings::ones_read, crate::proofs::Readings::unknown_read))]
-fn xor_value(inputs: &[Value]) -> Value
+fn xor_value(inputs: &Inputs) -> Value
     ensures { result ≡ xor_of (map reading inputs.now) }
 {
-    let seen = Survey::of(inputs);
-    if seen.unknown || seen.high_z {
+    if inputs.has_unknown() {
         Value::Unknown
-    } else if seen.odd {
+    } else if inputs.has_odd_ones() {
         Value::One
     } else {
         Value::Zero

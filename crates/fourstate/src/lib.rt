@@ -5,6 +5,7 @@
 mod delay_times;
 mod delays;
 mod gate;
+mod inputs;
 pub mod laws;
 mod limits;
 mod net;
@@ -15,6 +16,7 @@ mod value;
 pub use delay_times::DelayTimes;
 pub use delays::{Delays, delay};
 pub use gate::{GateKind, fits, gate_value};
+pub use inputs::Inputs;
 pub use limits::{MAX_DELAY, MAX_INPUTS, MAX_TIME};
 pub use net::{NetKind, resolve};
 pub use unit::{Magnitude, TimeUnit, Unit};

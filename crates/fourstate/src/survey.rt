@@ -1,19 +1,17 @@
-//! Which values are among many: all that a gate of many inputs or a net needs to know of them.
+//! Which values are among many: all that a net needs to know of them.
 
-ghost use Rattle.std.specs.Prelude.{◌≡◌, ◌==◌, ◌%◌, count_by};
-ghost use Rattle.fourstate.specs.Values.{same_value, occurs};
+ghost use Rattle.std.specs.Prelude.{◌≡◌};
+ghost use Rattle.fourstate.specs.Values.{occurs};
 
 use crate::value::Value;
-use crate::value::Value::{HighZ, One, Unknown, Zero};
+use crate::value::Value::{One, Unknown, Zero};
 
-/// Which values occur among some values, and whether the number of ones is odd.
+/// Which values other than z occur among some values.
 #[derive(Drop)]
 pub struct Survey {
     pub zero: bool,
     pub one: bool,
     pub unknown: bool,
-    pub high_z: bool,
-    pub odd: bool,
 }
 
 impl Survey {
@@ -23,22 +21,16 @@ impl Survey {
         ensures zero { result.zero ≡ occurs Value.Zero values.now }
         ensures one { result.one ≡ occurs Value.One values.now }
         ensures unknown { result.unknown ≡ occurs Value.Unknown values.now }
-        ensures high_z { result.high_z ≡ occurs Value.HighZ values.now }
-        ensures odd { result.odd ≡ (count_by (same_value Value.One) values.now % 2 == 1) }
     {
         let mut survey = Survey {
             zero: false,
             one: false,
             unknown: false,
-            high_z: false,
-            odd: false,
         };
         for value in values {
             survey.zero |= *value == Zero;
             survey.one |= *value == One;
             survey.unknown |= *value == Unknown;
-            survey.high_z |= *value == HighZ;
-            survey.odd ^= *value == One;
         }
         survey
     }

@@ -7,19 +7,17 @@ ghost use Rattle.gatestep.specs.Step.{advance};
 ghost use Rattle.gatestep.specs.Tasks.{IsTask, IsReady, PendingBefore, PendingFrom};
 
 use crate::driver::Driver;
-use arrayvec::ArrayVec;
-use fourstate::{Delays, GateKind, MAX_INPUTS, Value, delay, gate_value, laws};
-use std::alloc::AllocError;
+use fourstate::{Delays, GateKind, Inputs, delay, gate_value, laws};
 use std::marker::Model;
 
 /// What is asked of one gate at one moment: its kind and delays, its state before the moment, and its inputs at the
 /// moment. The type keeps that the inputs fit. It takes no memory.
-#[derive(Debug, Drop)]
+#[derive(Clone, Copy, Debug)]
 pub struct Task {
     kind: GateKind,
     delays: Delays,
     state: Driver,
-    inputs: ArrayVec<Value, MAX_INPUTS>,
+    inputs: Inputs,
 }
 
 impl Model for Task {
@@ -28,23 +26,20 @@ impl Model for Task {
 
     ghost Value = { Evaluation };
 
-    ghost view = { λ a. record { kind = a.kind; delays = a.delays; state = a.state; inputs = a.inputs.items } };
+    ghost view = { λ a. record { kind = a.kind; delays = a.delays; state = a.state; inputs = a.inputs } };
 
-    ghost invariant = { λ a. IsTask (record { kind = a.kind; delays = a.delays; state = a.state; inputs = a.inputs.items }) };
+    ghost invariant = { λ a. IsTask (record { kind = a.kind; delays = a.delays; state = a.state; inputs = a.inputs }) };
+
+    ghost inverse = { λ e. record { kind = e.kind; delays = e.delays; state = e.state; inputs = e.inputs } };
 }
 
 impl Task {
     /// The task of a gate of these inputs.
     #[inline(always)]
-    pub fn new(
-        kind: GateKind,
-        delays: Delays,
-        state: Driver,
-        inputs: ArrayVec<Value, MAX_INPUTS>,
-    ) -> Task
-        requires { IsTrue (takes_inputs kind (length inputs.items)) }
+    pub fn new(kind: GateKind, delays: Delays, state: Driver, inputs: Inputs) -> Task
+        requires { IsTrue (takes_inputs kind (length inputs)) }
         ensures task { IsTask result }
-        ensures value { result ≡ record { kind = kind; delays = delays; state = state; inputs = inputs.items } }
+        ensures value { result ≡ record { kind = kind; delays = delays; state = state; inputs = inputs } }
     {
         laws::delays_in_range(&delays);
         Task {
@@ -81,10 +76,10 @@ impl Task {
 
     /// The values of the gate's inputs at the moment.
     #[inline(always)]
-    pub fn inputs(&self) -> &[Value]
-        ensures { result.now ≡ self.now.inputs }
+    pub fn inputs(&self) -> Inputs
+        ensures { result ≡ self.now.inputs }
     {
-        self.inputs.as_slice()
+        self.inputs
     }
 
     /// What every task keeps. It does nothing.
@@ -92,28 +87,6 @@ impl Task {
         ensures { IsTask self.now }
     {
         let _inputs = &self.inputs;
-    }
-}
-
-/// It takes no memory, so a copy is never refused.
-impl Clone for Task {
-    ghost use Rattle.std.specs.Prelude.{◌≡◌, ⊤};
-
-    ghost is_clone = { λ old new. new ≡ old };
-
-    ghost is_infallible = { λ _. ⊤ };
-
-    fn clone(&self) -> Result<Task, AllocError> {
-        let mut inputs = ArrayVec::new();
-        match inputs.try_extend_from_slice(self.inputs.as_slice()) {
-            Ok(()) => Ok(Task {
-                kind: self.kind,
-                delays: self.delays,
-                state: self.state,
-                inputs,
-            }),
-            Err(_) => unreachable!(),
-        }
     }
 }
 
@@ -129,7 +102,7 @@ pub fn next(task: &Task, t: u64) -> Driver
     ensures near { PendingBefore (t + MAX_DELAY) task.now.state → PendingBefore (t + 1 + MAX_DELAY) result }
 {
     let state = task.state.due(t);
-    let value = gate_value(task.kind, task.inputs.as_slice());
+    let value = gate_value(task.kind, &task.inputs);
     match state.pend {
         Some((pending, _)) if pending == value => state,
         _ if value == state.cur => Driver {

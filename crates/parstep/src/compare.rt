@@ -2,7 +2,6 @@
 
 ghost use Rattle.std.specs.Prelude.{◌≡◌, IsTrue};
 
-use fourstate::Value;
 use gatestep::{Driver, Task};
 
 /// Whether two lists have the same tasks in the same order.
@@ -29,7 +28,7 @@ fn same_task(left: &Task, right: &Task) -> bool
     if !same_driver(left.state(), right.state()) {
         return false;
     }
-    same_values(left.inputs(), right.inputs())
+    left.inputs().is_same(right.inputs())
 }
 
 fn same_driver(left: Driver, right: Driver) -> bool
@@ -43,18 +42,4 @@ fn same_driver(left: Driver, right: Driver) -> bool
         (Some((value, t)), Some((other, u))) => value == other && t == u,
         _ => false,
     }
-}
-
-fn same_values(left: &[Value], right: &[Value]) -> bool
-    ensures { IsTrue result → left.now ≡ right.now }
-{
-    if left.len() != right.len() {
-        return false;
-    }
-    for place in 0..left.len() {
-        if left[place] != right[place] {
-            return false;
-        }
-    }
-    true
 }

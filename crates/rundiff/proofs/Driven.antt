@@ -1,5 +1,6 @@
 -- The value of a net from the states of its drivers, which are found by their keys.
-use Rattle.std.proofs.Common.{◌≡◌, ℕ, zero, suc, ◌+◌, ◌<◌, ◌≤◌, ◌∙◌, ap, sym, refl, subst, List, [], ◌∷◌, ◌++◌, Bool, false, cond, map, take, length, get_or, Option, Some, arith, add-one}
+use Rattle.std.proofs.Common.{◌≡◌, ℕ, zero, suc, ◌+◌, ◌-◌, ◌<◌, ◌≤◌, ◌∙◌, ap, sym, refl, subst, List, [], ◌∷◌, Bool, false, cond, map, drop, take, length, get_or, Option, Some, arith}
+use Rattle.std.proofs.lemmas.List.{drop_more}
 use Rattle.std.specs.Prelude.{slice_get, IsSome}
 use Rattle.std.specs.Option.{option_map, option_map_or}
 use Rattle.fourstate.specs.declared.value.Value.{Value}
@@ -25,14 +26,14 @@ take_whole [] (suc i) past = refl
 take_whole (x ∷ xs) zero past = absurd (omega arith)
 take_whole (x ∷ xs) (suc i) past = ap (λ l. x ∷ l) (take_whole xs i (omega arith))
 
--- one element more
-pub map_more : {X Y : Type 0} (f : X → Y) (xs : List X) (i : ℕ) (x : X) (y : Y) (ys : List Y) → slice_get xs i ≡ Some x → y ≡ f x → ys ≡ map f (take i xs) → ys ++ y ∷ [] ≡ map f (take (i + 1) xs)
-map_more {X} {Y} f xs i x y ys at same so_far = ap (λ (l : List Y). l ++ y ∷ []) so_far ∙ step xs i at
-  where
-    step : (xs : List X) (i : ℕ) → slice_get xs i ≡ Some x → map f (take i xs) ++ y ∷ [] ≡ map f (take (i + 1) xs)
-    step [] i at = absurd (cc)
-    step (w ∷ xs) zero at = let e : w ≡ x = cc in ap (λ (z : Y). z ∷ []) (same ∙ ap f (sym e))
-    step (w ∷ xs) (suc i) at = rw add-one (ap (λ (l : List Y). f w ∷ l) (rw add-one at (step xs i at)))
+-- one element more, before the others
+pub map_before : {X Y : Type 0} (f : X → Y) (xs : List X) (i : ℕ) (x : X) (y : Y) (ys : List Y) → 0 < i → i ≤ length xs → x ≡ get_or xs (i - 1) x → y ≡ f x → ys ≡ map f (drop i xs) → y ∷ ys ≡ map f (drop (i - 1) xs)
+map_before {X} {Y} f xs i x y ys some within at same so_far =
+    let back : i ≡ i - 1 + 1 = omega arith in
+    let rest : drop (i - 1) xs ≡ get_or xs (i - 1) x ∷ drop (i - 1 + 1) xs = drop_more xs (i - 1) x (omega arith) in
+    let first : y ≡ f (get_or xs (i - 1) x) = same ∙ ap f at in
+    let others : ys ≡ map f (drop (i - 1 + 1) xs) = so_far ∙ ap (λ (k : ℕ). map f (drop k xs)) back in
+    (λ j. first j ∷ others j) ∙ ap (map f) (sym rest)
 
 pub is_there : {X : Type 0} (o : Option X) (x : X) → o ≡ Some x → IsSome o
 is_there {X} o x is = subst (λ (o : Option X). IsSome o) (sym is) refl

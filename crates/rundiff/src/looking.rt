@@ -13,15 +13,15 @@ ghost use Rattle.rundiff.specs.Dirty.{is_dirty, is_new};
 ghost use Rattle.rundiff.specs.Fronts.{AreTraces, AreWaves, IsOutcome};
 ghost use Rattle.rundiff.specs.Kept.{IsClosed};
 ghost use Rattle.rundiff.specs.Places.{gate_at, is_live};
-ghost use Rattle.scratch.specs.Work.{is_due, is_stirred, same_values, task_at};
+ghost use Rattle.scratch.specs.Work.{is_due, is_stirred, task_at};
 
 use crate::old::old_trace;
 use crate::place_map::PlaceMap;
 use crate::place_set::PlaceSet;
 use crate::reading::{gate_state, inputs_at, old_inputs_at};
-use crate::same::{is_new_gate, same_values};
+use crate::same::is_new_gate;
 use design::{Design, Gate, GateKey};
-use fourstate::Value;
+use fourstate::{Inputs, Value};
 use gatestep::{Driver, Stepper, Task};
 use waveform::{Patch, Run, Sample, Trace, Wave, laws};
 
@@ -88,7 +88,7 @@ fn is_dirty<S: Stepper>(
     gate: &Gate,
     touched: bool,
     state: Driver,
-    inputs: &[Value],
+    inputs: Inputs,
     t: u64,
 ) -> bool
     requires blank_wave { blank_wave.now ≡ (0, Value.Unknown) ∷ [] }
@@ -98,7 +98,7 @@ fn is_dirty<S: Stepper>(
     requires known { touched ≡ false → is_new (netlist old.now) (entry_in new.now.nets gate.now) ≡ false }
     requires run { IsRun S.answer old.now run.now }
     requires state { state ≡ (task_at S.answer (netlist new.now) (entry_in new.now.nets gate.now) t).state }
-    requires inputs { inputs.now ≡ (task_at S.answer (netlist new.now) (entry_in new.now.nets gate.now) t).inputs }
+    requires inputs { inputs ≡ (task_at S.answer (netlist new.now) (entry_in new.now.nets gate.now) t).inputs }
     ensures { result ≡ is_dirty S.answer (netlist old.now) (netlist new.now) (entry_in new.now.nets gate.now) t }
 {
     old.lawful();
@@ -107,7 +107,7 @@ fn is_dirty<S: Stepper>(
         return true;
     }
     let former_inputs = old_inputs_at::<S>(blank_wave, old, run, new, gate, t);
-    if !same_values(former_inputs.as_slice(), inputs) {
+    if !former_inputs.is_same(inputs) {
         return true;
     }
     touched && is_new_gate(old, new, key, gate)
@@ -138,7 +138,7 @@ fn is_stirred<S: Stepper>(
     new: &Design,
     gate: &Gate,
     state: Driver,
-    inputs: &[Value],
+    inputs: Inputs,
     t: u64,
 ) -> bool
     requires blank { blank.now ≡ (0, Value.Unknown) ∷ [] }
@@ -147,7 +147,7 @@ fn is_stirred<S: Stepper>(
     requires run { IsRun S.answer old.now run.now }
     requires waves { AreWaves S.answer (netlist old.now) (netlist new.now) waves.now (suc t) }
     requires state { state ≡ (task_at S.answer (netlist new.now) (entry_in new.now.nets gate.now) t).state }
-    requires inputs { inputs.now ≡ (task_at S.answer (netlist new.now) (entry_in new.now.nets gate.now) t).inputs }
+    requires inputs { inputs ≡ (task_at S.answer (netlist new.now) (entry_in new.now.nets gate.now) t).inputs }
     ensures { result ≡ is_stirred S.answer (netlist new.now) (entry_in new.now.nets gate.now) t }
 {
     if t == 0 {
@@ -157,7 +157,7 @@ fn is_stirred<S: Stepper>(
         return true;
     }
     let before = inputs_at::<S>(waves, blank, old, run, new, gate, t - 1, t);
-    !same_values(inputs, before.as_slice())
+    !inputs.is_same(before)
 }
 
 /// Whether an event of the state is due at the moment `t`.
@@ -210,22 +210,12 @@ pub fn look<S: Stepper>(
         gate,
         touched,
         state,
-        inputs.as_slice(),
+        inputs,
         t,
     ) {
         return Outcome::Clean(old_state::<S>(blank_trace, old, run, key, gate.name().as_str(), t));
     }
-    if !is_stirred::<S>(
-        waves,
-        blank_wave,
-        old,
-        run,
-        new,
-        gate,
-        state,
-        inputs.as_slice(),
-        t,
-    ) {
+    if !is_stirred::<S>(waves, blank_wave, old, run, new, gate, state, inputs, t) {
         return Outcome::Resting(state);
     }
     Outcome::Working(Task::new(gate.kind(), gate.delays(), state, inputs))

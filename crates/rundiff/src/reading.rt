@@ -14,9 +14,8 @@ use crate::former::{former_trace, former_wave};
 use crate::old::old_wave;
 use crate::patches::value_at;
 use crate::place_map::PlaceMap;
-use arrayvec::ArrayVec;
 use design::{Design, Gate, Terminal};
-use fourstate::{MAX_INPUTS, Value, resolve};
+use fourstate::{Inputs, Value, resolve};
 use gatestep::{Driver, Stepper};
 use smallvec::SmallVec;
 use std::alloc::{AllocError, Global};
@@ -103,18 +102,22 @@ pub fn inputs_at<S: Stepper>(
     gate: &Gate,
     m: u64,
     t: u64,
-) -> ArrayVec<Value, MAX_INPUTS>
+) -> Inputs
     requires blank { blank.now ≡ (0, Value.Unknown) ∷ [] }
     requires connected { IsConnected new.now.nets gate.now }
     requires order { m ≤ t }
     requires within { t ≤ (netlist old.now).horizon }
     requires run { IsRun S.answer old.now run.now }
     requires waves { AreWaves S.answer (netlist old.now) (netlist new.now) waves.now (suc t) }
-    ensures { result.items ≡ map (λ terminal. read_at S.answer (netlist new.now) (connection_in new.now.nets terminal) m) gate.now.inputs }
+    ensures { result ≡ map (λ terminal. read_at S.answer (netlist new.now) (connection_in new.now.nets terminal) m) gate.now.inputs }
 {
-    let mut values = ArrayVec::new();
-    for terminal in gate.inputs() {
-        values.push(connection_value(waves, blank, old, run, new, *terminal, m));
+    let terminals = gate.inputs();
+    let mut values = Inputs::new();
+    let mut place = terminals.len();
+    while place > 0 {
+        place -= 1;
+        let terminal = terminals[place];
+        values.put_first(connection_value(waves, blank, old, run, new, terminal, m));
     }
     values
 }
@@ -127,16 +130,20 @@ pub fn old_inputs_at<S: Stepper>(
     new: &Design,
     gate: &Gate,
     m: u64,
-) -> ArrayVec<Value, MAX_INPUTS>
+) -> Inputs
     requires blank { blank.now ≡ (0, Value.Unknown) ∷ [] }
     requires connected { IsConnected new.now.nets gate.now }
     requires within { m ≤ (netlist old.now).horizon }
     requires run { IsRun S.answer old.now run.now }
-    ensures { result.items ≡ map (λ terminal. read_at S.answer (netlist old.now) (connection_in new.now.nets terminal) m) gate.now.inputs }
+    ensures { result ≡ map (λ terminal. read_at S.answer (netlist old.now) (connection_in new.now.nets terminal) m) gate.now.inputs }
 {
-    let mut values = ArrayVec::new();
-    for terminal in gate.inputs() {
-        values.push(old_connection_value(blank, old, run, new, *terminal, m));
+    let terminals = gate.inputs();
+    let mut values = Inputs::new();
+    let mut place = terminals.len();
+    while place > 0 {
+        place -= 1;
+        let terminal = terminals[place];
+        values.put_first(old_connection_value(blank, old, run, new, terminal, m));
     }
     values
 }

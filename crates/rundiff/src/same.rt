@@ -1,21 +1,12 @@
-//! Whether gates, and what they read, are the same.
+//! Whether gates, and what they are connected to, are the same.
 
 ghost use Rattle.std.specs.Prelude.{◌≡◌, map};
 ghost use Rattle.std.specs.Cmp.Lexicographic.{pointwise};
 ghost use Rattle.design.specs.Keys.{IsConnected, IsThere, connection_in, entry_in, netlist};
 ghost use Rattle.rundiff.specs.Dirty.{is_new, same_connection, same_gate};
-ghost use Rattle.scratch.specs.Work.{same_values};
 
 use crate::old::old_gate;
 use design::{Design, Gate, GateKey, Terminal};
-use fourstate::Value;
-
-/// Whether two lists have the same values.
-pub fn same_values(a: &[Value], b: &[Value]) -> bool
-    ensures { result ≡ same_values a.now b.now }
-{
-    a == b
-}
 
 /// Whether an input of a gate of the new design and one of the old design are connected to the same.
 fn same_connection(old: &Design, former: Terminal, new: &Design, terminal: Terminal) -> bool

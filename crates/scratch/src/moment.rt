@@ -13,9 +13,8 @@ ghost use Rattle.scratch.specs.Work.{HasGrownOrNot, task_at};
 ghost use Rattle.scratch.specs.Plain.{all_work_at};
 
 use crate::wiring::{Cell, Input, Wiring};
-use arrayvec::ArrayVec;
 use design::{Design, Net};
-use fourstate::{Value, resolve};
+use fourstate::{Inputs, Value, resolve};
 use gatestep::{Driver, StepFault, Stepper, Task};
 use std::alloc::{AllocError, Global};
 use std::mem::swap;
@@ -217,9 +216,12 @@ pub fn read_input(values: &[Value], input: Input) -> Value
 pub fn task(cell: &Cell, state: Driver, values: &[Value]) -> Task
     ensures { result ≡ evaluation_from values.now cell.now state }
 {
-    let mut read_values = ArrayVec::new();
-    for input in cell.inputs() {
-        read_values.push(read_input(values, *input));
+    let inputs = cell.inputs();
+    let mut read_values = Inputs::new();
+    let mut place = inputs.len();
+    while place > 0 {
+        place -= 1;
+        read_values.put_first(read_input(values, inputs[place]));
     }
     Task::new(cell.kind(), cell.delays(), state, read_values)
 }

@@ -16,5 +16,5 @@ returns g c =
     let gate = entry_in nets c.args.gate.now in
     let some : 0 < c.args.t = let h = c.if-t-eq0.false in omega arith in
     let none : is_due (state_before answer new c.args.t gate) c.args.t ≡ false = ap (λ (s : State). is_due s c.args.t) (sym c.requires.state) ∙ sym c.is_due.ensures ∙ c.if-is_due.false in
-    let before = c.as_slice.ensures.value ∙ c.inputs_at-before.ensures ∙ sym (map_twice (connection_in nets) (λ x. read_at answer new x (c.args.t - 1)) c.args.gate.now.inputs) in
-    ap not c.same_values.ensures ∙ stirred_is answer new gate c.args.t some none c.args.inputs.now c.as_slice.result.now c.requires.inputs before
+    let before = c.inputs_at-before.ensures ∙ sym (map_twice (connection_in nets) (λ x. read_at answer new x (c.args.t - 1)) c.args.gate.now.inputs) in
+    ap not c.is_same.ensures ∙ stirred_is answer new gate c.args.t some none c.args.inputs c.inputs_at-before.result c.requires.inputs before

@@ -23,7 +23,7 @@ use Rattle.rundiff.proofs.looking.look.Goals as goal
 pub is_dirty-requires-clause-inputs : goal.is_dirty-requires-clause-inputs
 is_dirty-requires-clause-inputs g c =
     let nets = c.args.new.now.nets in
-    c.as_slice.ensures.value ∙ c.inputs_at-inputs.ensures
+    c.inputs_at-inputs.ensures
     ∙ sym (map_twice (connection_in nets) (λ x. read_at g.S.Stepper.answer (netlist c.args.new.now) x c.args.t) c.gate_at-gate.result.now.inputs)
 
 pub is_stirred-requires-clause-state : goal.is_stirred-requires-clause-state
@@ -35,7 +35,7 @@ is_stirred-requires-clause-state g c =
 pub is_stirred-requires-clause-inputs : goal.is_stirred-requires-clause-inputs
 is_stirred-requires-clause-inputs g c =
     let nets = c.args.new.now.nets in
-    c.as_slice-2.ensures.value ∙ c.inputs_at-inputs.ensures
+    c.inputs_at-inputs.ensures
     ∙ sym (map_twice (connection_in nets) (λ x. read_at g.S.Stepper.answer (netlist c.args.new.now) x c.args.t) c.gate_at-gate.result.now.inputs)
 
 pub returns-then-not-is_dirty : goal.returns-then-not-is_dirty
@@ -79,7 +79,7 @@ new-requires g c =
     let gate = entry_in keyed.nets c.gate_at-gate.result.now in
     let at : gate_at new c.args.place ≡ gate = at_place new.gates c.args.place blank_gate gate c.gate_at-gate.ensures.named in
     let is : IsGate gate = subst IsGate at (c.lawful-2.ensures.design.gates c.args.place blank_gate c.requires.there) in
-    let many : length c.inputs_at-inputs.result.items ≡ length gate.inputs =
+    let many : length c.inputs_at-inputs.result ≡ length gate.inputs =
     ap (λ (vs : List Value). length vs) c.inputs_at-inputs.ensures
     ∙ length-map c.gate_at-gate.result.now.inputs (λ x. read_at g.S.Stepper.answer new (connection_in keyed.nets x) c.args.t) ∙ sym (length-map c.gate_at-gate.result.now.inputs (connection_in keyed.nets)) in
     rw (c.kind.ensures, many) is.inputs_fit
@@ -97,7 +97,7 @@ returns g c =
     ap (λ (h : GateEntry). is_dirty answer old new h c.args.t && is_stirred answer new h c.args.t) at
     ∙ ap (λ (b : Bool). b && is_stirred answer new gate c.args.t) dirty ∙ stirred in
     let state : c.gate_state-state.result ≡ state_before answer new c.args.t gate = c.gate_state-state.ensures.state ∙ ap (state_before answer new c.args.t) at in
-    let inputs : c.inputs_at-inputs.result.items ≡ (task_at answer new gate c.args.t).inputs =
+    let inputs : c.inputs_at-inputs.result ≡ (task_at answer new gate c.args.t).inputs =
     c.inputs_at-inputs.ensures ∙ sym (map_twice (connection_in keyed.nets) (λ x. read_at answer new x c.args.t) c.gate_at-gate.result.now.inputs) in
     let task : c.new.result ≡ task_at answer new gate c.args.t =
     c.new.ensures.value ∙ (λ i. record { kind = c.kind.ensures i; delays = c.delays.ensures i; state = state i; inputs = inputs i }) in

@@ -1,19 +1,17 @@
-use Rattle.std.proofs.Common.{◌≡◌, ◌∙◌, List, Some, suc, subst, arith}
-use Rattle.std.specs.Prelude.{slice_get}
-use Rattle.design.specs.declared.terminal.Terminal.{Terminal}
+use Rattle.std.proofs.Common.{◌∙◌, suc, arith}
 use Rattle.design.specs.Keys.{connection_in, netlist}
 use Rattle.rundiff.specs.Kept.{read_at}
-use Rattle.rundiff.proofs.Driven.{map_more, read_get}
+use Rattle.rundiff.proofs.Driven.{map_before}
 use Rattle.rundiff.proofs.reading.inputs_at.Goals as goal
 
-pub loop-terminal-preserved : goal.loop-terminal-preserved
-loop-terminal-preserved g c =
+pub loop-place-preserved : goal.loop-place-preserved
+loop-place-preserved g c =
     let answer = g.S.Stepper.answer in
-    let keyed = c.args.new.now in
-    let i = c.loop-terminal.terminal-index in
-    let x = c.terminal-item.result in
-    let read = read_get c.inputs-terminal-items.result.now i x c.loop-terminal-test.true c.terminal-item.is in
-    let at : slice_get c.args.gate.now.inputs i ≡ Some x = subst (λ (xs : List Terminal). slice_get xs i ≡ Some x) c.inputs-terminal-items.ensures.inputs read in
-    c.push.ensures.items
-    ∙ map_more (λ terminal. read_at answer (netlist c.args.new.now) (connection_in keyed.nets terminal) c.args.m) c.args.gate.now.inputs i x c.connection_value.result c.loop-terminal.values.items at
-    (c.connection_value.ensures answer (suc c.args.t) c.requires.run c.requires.waves (omega arith)) c.loop-terminal.invariant
+    record {
+      within = omega arith;
+      read =
+          c.put_first.ensures
+          ∙ map_before (λ terminal. read_at answer (netlist c.args.new.now) (connection_in c.args.new.now.nets terminal) c.args.m) c.inputs-terminals.result.now c.loop-place.place
+          c.index-terminals-place.result c.connection_value.result c.loop-place.values c.loop-place-test.true c.loop-place.invariant.within c.index-terminals-place.is
+          (c.connection_value.ensures answer (suc c.args.t) c.requires.run c.requires.waves (omega arith)) c.loop-place.invariant.read;
+    }

@@ -1,7 +1,10 @@
-use Rattle.std.proofs.Common.{◌≡◌, map, take}
+use Rattle.std.proofs.Common.{◌≡◌, ◌≤◌, drop, length, map}
 use Rattle.scratch.specs.Kept.{input_value}
 use Rattle.scratch.proofs.moment.task.Given as goal
 
--- the inputs read so far
-abbrev pub invariant-loop-input : goal.invariant-loop-input
-invariant-loop-input l = l.read_values.items ≡ map (input_value l.values) (take l.input-index l.cell.inputs)
+-- the inputs from the place on are read
+abbrev pub invariant-loop-place : goal.invariant-loop-place
+invariant-loop-place l = record { within : l.place ≤ length l.inputs; read : l.read_values ≡ map (input_value l.values) (drop l.place l.inputs) }
+
+abbrev pub decreases-loop-place : goal.decreases-loop-place
+decreases-loop-place l = l.place

@@ -1,6 +1,6 @@
-use Rattle.std.proofs.Common.{◌≡◌, ◌==◌, ◌%◌, count_by, take}
-use Rattle.fourstate.specs.Values.{same_value, occurs}
-use Rattle.fourstate.specs.declared.value.Value.TheVariants.{Zero, One, Unknown, HighZ}
+use Rattle.std.proofs.Common.{◌≡◌, take}
+use Rattle.fourstate.specs.Values.{occurs}
+use Rattle.fourstate.specs.declared.value.Value.TheVariants.{Zero, One, Unknown}
 use Rattle.fourstate.proofs.survey.Survey.of.Given as goal
 
 -- what the values so far show
@@ -11,6 +11,4 @@ invariant-loop-value l =
       zero : l.survey.zero ≡ occurs Zero seen;
       one : l.survey.one ≡ occurs One seen;
       unknown : l.survey.unknown ≡ occurs Unknown seen;
-      high_z : l.survey.high_z ≡ occurs HighZ seen;
-      odd : l.survey.odd ≡ (count_by (same_value One) seen % 2 == 1);
     }
