@@ -3,5 +3,6 @@
 mod counts;
 mod extended;
 mod keyed;
+mod long;
 mod random;
 mod small;
