@@ -170,13 +170,10 @@ fn high_bit(value: Value) -> u64
 fn value_of_bits(low: u64, high: u64) -> Value
     ensures { result ≡ value_of_bits low high }
 {
-    if high == 0 {
-        if low == 0 { Value::Zero } else { Value::One }
-    } else {
-        if low == 0 {
-            Value::Unknown
-        } else {
-            Value::HighZ
-        }
+    match (high != 0, low != 0) {
+        (false, false) => Value::Zero,
+        (false, true) => Value::One,
+        (true, false) => Value::Unknown,
+        (true, true) => Value::HighZ,
     }
 }
