@@ -4,7 +4,7 @@ use Rattle.std.specs.Prelude.{IfSome, nat_lt, slice_get, ◌==◌, ◌||◌}
 use Rattle.std.proofs.lemmas.Bool.Decides.{nat_tests}
 use Rattle.std.proofs.lemmas.List.Elements.{All-head, All-tail}
 use Rattle.std.proofs.lemmas.Option.{slice_get_within}
-use Rattle.rundiff.specs.PlaceMaps.{item_at, number_at, owned}
+use Rattle.rundiff.specs.PlaceMaps.{item_at, owned}
 use Rattle.rundiff.specs.Places.{is_among}
 use Rattle.rundiff.proofs.Steps.{same_place}
 
@@ -37,12 +37,6 @@ number_itself n = grind (arith, nat_tests)
 
 smaller : (k i : ℕ) → nat_eq k i ≡ false → k < i + 1 → k < i
 smaller k i off less = grind (arith, nat_tests)
-
-pub none_more : (numbers : List ℕ) (q : ℕ) → number_at (numbers ++ 0 ∷ []) q ≡ number_at numbers q
-none_more [] zero = refl
-none_more [] (suc q) = refl
-none_more (n ∷ numbers) zero = refl
-none_more (n ∷ numbers) (suc q) = none_more numbers q
 
 module _ {X : Type 0} where
   last_there : (items : List (ℕ × Option X)) (e : ℕ × Option X) → slice_get (items ++ e ∷ []) (length items) ≡ Some e

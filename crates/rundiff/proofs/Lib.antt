@@ -20,12 +20,13 @@ pub mod Known
 pub mod Leaving
 pub mod Lists
 pub mod LookedAt
-pub mod NetsDone
 pub mod NamedLines
+pub mod NetsDone
 pub mod Noted
 pub mod NotedMore
 pub mod OneGate
 pub mod Outcoming
+pub mod Pages
 pub mod Points
 pub mod Putting
 pub mod Quiet

@@ -1,11 +1,17 @@
 -- What places have.
-use Rattle.std.specs.Prelude.{◌==◌, ℕ, zero, suc, List, Option, Some, None, if◌then◌else◌, slice_get}
+use Rattle.std.specs.Prelude.{◌==◌, ◌/◌, ◌%◌, ℕ, zero, suc, List, [], map, Option, Some, None, if◌then◌else◌, slice_get, Vec}
+use Rattle.std.specs.Global.{Global}
 use Rattle.std.specs.List.{slice_index_or}
 use Rattle.rundiff.specs.declared.place_map.PlaceMap.{PlaceMap}
+use Rattle.rundiff.specs.declared.place_map.TheConstants.{PAGE}
+
+-- the numbers of a page; none where it is missing
+abbrev pub page_at : List (Vec ℕ Global) → ℕ → List ℕ
+page_at pages page = slice_index_or (map (λ numbers. numbers.items) pages) page []
 
 -- the number of a place's item, from 1 on; 0 is none
-abbrev pub number_at : List ℕ → ℕ → ℕ
-number_at numbers p = slice_index_or numbers p 0
+unfoldable pub number_at : List (Vec ℕ Global) → ℕ → ℕ
+number_at pages p = slice_index_or (page_at pages (p / PAGE)) (p % PAGE) 0
 
 module _ {X : Type 0} where
   -- what an item has for a place: nothing, where it belongs to another one
@@ -20,4 +26,4 @@ module _ {X : Type 0} where
 
   -- what a place has
   abbrev pub kept_at : PlaceMap X → ℕ → Option X
-  kept_at map p = item_at map.items.items p (number_at map.numbers.items p)
+  kept_at map p = item_at map.items.items p (number_at map.pages.items p)

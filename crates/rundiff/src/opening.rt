@@ -52,8 +52,8 @@ impl Front {
         let fixed = set_of(alloc, new.net_count(), found.as_slice())?;
         let inputs = note_all(alloc, &held)?;
         let nets = note_all(alloc, &live)?;
-        let waves = PlaceMap::new(alloc, new.net_count())?;
-        let traces = PlaceMap::new(alloc, new.gate_count())?;
+        let waves = PlaceMap::new(alloc);
+        let traces = PlaceMap::new(alloc);
         let events = EventQueue::new(alloc);
         Ok(Front {
             live,

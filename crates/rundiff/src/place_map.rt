@@ -1,30 +1,35 @@
 //! Values by place, for few of many places.
 
-ghost use Rattle.std.specs.Prelude.{◌≡◌, ◌<◌, ℕ, Some, None, true, false, nat_eq, length, All, IfOk, IfSome, OnOk, slice_get};
+ghost use Rattle.std.specs.Prelude.{◌≡◌, ◌<◌, ◌≤◌, ◌/◌, ◌%◌, ℕ, Some, None, true, false, nat_eq, length, All, IfSome, OnOk, slice_get, slice_index_or};
 ghost use Rattle.std.specs.Option.{option_copied};
-ghost use Rattle.rundiff.specs.PlaceMaps.{kept_at, number_at};
+ghost use Rattle.rundiff.specs.PlaceMaps.{kept_at, number_at, page_at};
+ghost use Rattle.rundiff.specs.declared.place_map.TheConstants.{PAGE};
 ghost use Rattle.rundiff.specs.Places.{is_among};
 
 use std::alloc::{AllocError, Global};
 
-/// Values at some of many places. What a place has is found by a number in a list of all places.
+/// How many places have their numbers in one page.
+const PAGE: usize = 256;
+
+/// Values at some of many places. What a place has is found by a number in a list of its page, which takes memory once one of
+/// its places has a value.
 #[derive(Drop)]
 pub struct PlaceMap<T: Drop> {
-    /// For each place the number of its item, counted from 1 on; 0 where it has none.
-    pub numbers: Vec<usize>,
+    /// Page by page, for each place the number of its item, counted from 1 on; 0 or missing where it has none.
+    pub pages: Vec<Vec<usize>>,
     /// The items, each with the place that it belongs to.
     pub items: Vec<(usize, Option<T>)>,
 }
 
 impl<T: Drop> PlaceMap<T> {
-    /// A map for so many places, with no value.
-    pub fn new(alloc: Global, count: usize) -> Result<PlaceMap<T>, AllocError>
-        ensures { IfOk result (λ map. (p : ℕ) → kept_at map p ≡ None) }
+    /// A map with no value.
+    pub fn new(alloc: Global) -> PlaceMap<T>
+        ensures { (p : ℕ) → kept_at result p ≡ None }
     {
-        Ok(PlaceMap {
-            numbers: vec![in alloc; 0; count]?,
+        PlaceMap {
+            pages: Vec::new(alloc),
             items: Vec::new(alloc),
-        })
+        }
     }
 
     /// The value at a place.
@@ -80,9 +85,9 @@ impl<T: Drop> PlaceMap<T> {
         ensures value { OnOk result (kept_at self.new place ≡ Some value) }
         ensures others { OnOk result ((q : ℕ) → nat_eq place q ≡ false → kept_at self.new q ≡ kept_at self.old q) }
     {
-        reach(&mut self.numbers, place)?;
+        reach(&mut self.pages, place)?;
         self.items.push((place, Some(value)))?;
-        set_number(&mut self.numbers, place, self.items.len());
+        set_number(&mut self.pages, place, self.items.len());
         Ok(())
     }
 
@@ -113,31 +118,67 @@ impl<T: Drop> PlaceMap<T> {
     /// The number of the item of a place.
     #[inline(always)]
     fn number_of(&self, place: usize) -> usize
-        ensures { result ≡ number_at self.now.numbers.items place }
+        ensures { result ≡ number_at self.now.pages.items place }
     {
-        match self.numbers.get(place) {
-            Some(number) => *number,
+        match self.pages.get(place / PAGE) {
+            Some(page) => number_in(page, place % PAGE),
             None => 0,
         }
     }
 }
 
-/// Adds places that have no item, until there is this one.
-fn reach(numbers: &mut Vec<usize>, place: usize) -> Result<(), AllocError>
-    ensures there { OnOk result (place < length numbers.new.items) }
-    ensures same { OnOk result ((q : ℕ) → number_at numbers.new.items q ≡ number_at numbers.old.items q) }
+/// The number at a place of a page.
+#[inline(always)]
+fn number_in(page: &Vec<usize>, place: usize) -> usize
+    ensures { result ≡ slice_index_or page.now.items place 0 }
 {
-    while numbers.len() <= place {
-        numbers.push(0)?;
+    match page.get(place) {
+        Some(number) => *number,
+        None => 0,
+    }
+}
+
+/// Makes the page of a place, if it is missing.
+fn reach(pages: &mut Vec<Vec<usize>>, place: usize) -> Result<(), AllocError>
+    ensures there { OnOk result (place % PAGE < length (page_at pages.new.items (place / PAGE))) }
+    ensures page { OnOk result (place / PAGE < length pages.new.items) }
+    ensures same { OnOk result ((q : ℕ) → number_at pages.new.items q ≡ number_at pages.old.items q) }
+{
+    reach_page(pages, place / PAGE)?;
+    fill_page(&mut pages[place / PAGE])?;
+    Ok(())
+}
+
+/// Adds pages without a number, until there is this one.
+fn reach_page(pages: &mut Vec<Vec<usize>>, page: usize) -> Result<(), AllocError>
+    ensures there { OnOk result (page < length pages.new.items) }
+    ensures same { OnOk result ((q : ℕ) → page_at pages.new.items q ≡ page_at pages.old.items q) }
+{
+    while pages.len() <= page {
+        let alloc = *pages.allocator();
+        pages.push(Vec::new(alloc))?;
+    }
+    Ok(())
+}
+
+/// Gives a page all its places.
+fn fill_page(page: &mut Vec<usize>) -> Result<(), AllocError>
+    ensures whole { OnOk result (PAGE ≤ length page.new.items) }
+    ensures same { OnOk result ((q : ℕ) → slice_index_or page.new.items q 0 ≡ slice_index_or page.old.items q 0) }
+{
+    if page.len() < PAGE {
+        page.resize(PAGE, 0)?;
     }
     Ok(())
 }
 
 /// Gives a place this number.
-fn set_number(numbers: &mut Vec<usize>, place: usize, number: usize)
-    requires there { place < length numbers.old.items }
-    ensures here { number_at numbers.new.items place ≡ number }
-    ensures others { (q : ℕ) → nat_eq place q ≡ false → number_at numbers.new.items q ≡ number_at numbers.old.items q }
+fn set_number(pages: &mut Vec<Vec<usize>>, place: usize, number: usize)
+    requires there { place % PAGE < length (page_at pages.old.items (place / PAGE)) }
+    requires page { place / PAGE < length pages.old.items }
+    ensures here { number_at pages.new.items place ≡ number }
+    ensures others { (q : ℕ) → nat_eq place q ≡ false → number_at pages.new.items q ≡ number_at pages.old.items q }
 {
-    numbers[place] = number;
+    let page = &mut pages[place / PAGE];
+    page[place % PAGE] = number;
 }

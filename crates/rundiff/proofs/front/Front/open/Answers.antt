@@ -50,8 +50,8 @@ returns-clause-front c = λ answer.
     ∙ or_first (is_among c.as_slice.result.now p) (contains nat_cmp c.in_ok-live.live p) (ap (λ (l : List ℕ). is_among l p) c.as_slice.ensures.value ∙ among) in
     let fixed = contains nat_cmp c.in_ok-fixed.fixed in
     let fixed_is : (p : ℕ) → fixed p ≡ is_among places p = λ p. c.in_ok-fixed.ensures p ∙ ap (λ (l : List ℕ). is_among l p) c.as_slice-2.ensures.value in
-    let no_wave = c.in_ok-waves.ensures in
-    let no_trace = c.in_ok-traces.ensures in
+    let no_wave = c.new-waves.ensures in
+    let no_trace = c.new-traces.ensures in
     record {
       drivers = c.in_ok-hold.ensures.drivers;
       base =

@@ -15,4 +15,4 @@ loop-i-preserved g c =
 pub returns-clause-kept : goal.returns-clause-kept
 returns-clause-kept g c = λ p low off.
     let past = c.loop-i-test.false in
-    none_kept c.args.self.now.items.items c.loop-i.places.items c.args.count (λ k less. c.loop-i.invariant.added k (omega (arith, less, past))) p low off (number_at c.args.self.now.numbers.items p)
+    none_kept c.args.self.now.items.items c.loop-i.places.items c.args.count (λ k less. c.loop-i.invariant.added k (omega (arith, less, past))) p low off (number_at c.args.self.now.pages.items p)
