@@ -2,7 +2,8 @@
 
 use crate::compare::equal;
 use fourstate::{
-    DelayTimes, Delays, GateKind, MAX_INPUTS, NetKind, Value, delay, fits, gate_value, resolve,
+    DelayTimes, Delays, GateKind, Inputs, MAX_INPUTS, NetKind, Value, delay, fits, gate_value,
+    resolve,
 };
 use std::process::Abort;
 
@@ -16,7 +17,7 @@ fn check_gate(rt: &impl Abort, kind: GateKind, table: Table) {
     assert!(rt; fits(kind, 2));
     for (row, first) in table.iter().zip(ORDER.iter()) {
         for (symbol, second) in row.iter().zip(ORDER.iter()) {
-            let value = gate_value(kind, &[*first, *second]);
+            let value = gate_value(kind, &Inputs::of(&[*first, *second]));
             equal(rt, (kind, first, second), value.symbol(), *symbol);
         }
     }
@@ -70,13 +71,13 @@ fn gates_of_one_input(rt: HostRuntime) {
         equal(
             &rt,
             *input,
-            gate_value(GateKind::Buf, &[*input]).symbol(),
+            gate_value(GateKind::Buf, &Inputs::of(&[*input])).symbol(),
             same,
         );
         equal(
             &rt,
             *input,
-            gate_value(GateKind::Not, &[*input]).symbol(),
+            gate_value(GateKind::Not, &Inputs::of(&[*input])).symbol(),
             inverted,
         );
     }
@@ -103,7 +104,30 @@ const MORE: [(GateKind, &[Value], Value); 6] = [
 fn more_than_two_inputs(rt: HostRuntime) {
     for (kind, inputs, value) in MORE {
         assert!(rt; fits(kind, inputs.len()));
-        equal(&rt, (kind, inputs), gate_value(kind, inputs), value);
+        equal(
+            &rt,
+            (kind, inputs),
+            gate_value(kind, &Inputs::of(inputs)),
+            value,
+        );
+    }
+}
+
+// A 0 behind the others has a bit in neither word.
+#[test]
+fn inputs_are_told_apart(rt: HostRuntime) {
+    let mut inputs = Inputs::new();
+    inputs.put_first(Value::HighZ);
+    inputs.put_first(Value::One);
+    equal(&rt, "number", inputs.len(), 2);
+    for (values, is_same) in [
+        ([Value::One, Value::HighZ].as_slice(), true),
+        ([Value::HighZ, Value::One].as_slice(), false),
+        ([Value::One, Value::Unknown].as_slice(), false),
+        ([Value::One, Value::HighZ, Value::Zero].as_slice(), false),
+    ] {
+        assert!(rt; values.len() <= MAX_INPUTS);
+        equal(&rt, values, inputs.is_same(Inputs::of(values)), is_same);
     }
 }
 

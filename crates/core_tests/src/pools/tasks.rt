@@ -4,8 +4,7 @@ ghost use Rattle.std.specs.Prelude.{All};
 ghost use Rattle.gatestep.specs.Tasks.{IsReady, PendingFrom};
 
 use crate::dice::Dice;
-use arrayvec::ArrayVec;
-use fourstate::{Delays, GateKind, Value, fits};
+use fourstate::{Delays, GateKind, Inputs, Value, fits};
 use gatestep::{Driver, Task};
 use std::alloc::Global;
 use std::process::Abort;
@@ -48,11 +47,8 @@ fn task(rt: &impl Abort, dice: &mut Dice) -> Task
 {
     let kind = KINDS[dice.below(6) as usize];
     let delays = Delays::new(1 + dice.below(9), 1 + dice.below(9)).expect(rt, "lawful delays");
-    let mut inputs = ArrayVec::new();
-    for _ in 0..2 {
-        assert!(rt; inputs.try_push(value(dice)).is_ok());
-    }
-    assert!(rt; fits(kind, inputs.as_slice().len()));
+    let inputs = Inputs::of(&[value(dice), value(dice)]);
+    assert!(rt; fits(kind, inputs.len()));
     Task::new(kind, delays, state(dice), inputs)
 }
 

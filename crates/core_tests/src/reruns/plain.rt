@@ -3,7 +3,7 @@
 
 use arrayvec::ArrayVec;
 use design::{Design, Gate, Terminal};
-use fourstate::{MAX_INPUTS, MAX_TIME, Value, resolve};
+use fourstate::{Inputs, MAX_INPUTS, MAX_TIME, Value, resolve};
 use gatestep::{Driver, Task, next};
 use std::alloc::Global;
 use std::process::Abort;
@@ -105,7 +105,8 @@ fn after(
         assert!(rt; t <= due);
     }
     assert!(rt; read.len() == gate.inputs().len());
-    let task = Task::new(gate.kind(), gate.delays(), state, read);
+    let inputs = Inputs::of(read.as_slice());
+    let task = Task::new(gate.kind(), gate.delays(), state, inputs);
     next(&task, t)
 }
 

@@ -4,8 +4,7 @@ ghost use Rattle.std.specs.Prelude.{All, IfOk};
 ghost use Rattle.gatestep.specs.Tasks.{IsReady};
 
 use anyhow::{Result, bail};
-use arrayvec::ArrayVec;
-use fourstate::{Delays, GateKind, Value, fits};
+use fourstate::{Delays, GateKind, Inputs, Value, fits};
 use gatestep::{Driver, Task};
 use std::alloc::Global;
 
@@ -21,13 +20,8 @@ fn task(n: usize) -> Result<Task>
         bail!("no delays");
     };
     let kind = KINDS[(n / 3) % 4];
-    let mut inputs = ArrayVec::new();
-    for k in 0..2 {
-        if inputs.try_push(VALUES[(n / (k + 1)) % 4]).is_err() {
-            bail!("no room");
-        }
-    }
-    if !fits(kind, inputs.as_slice().len()) {
+    let inputs = Inputs::of(&[VALUES[n % 4], VALUES[(n / 2) % 4]]);
+    if !fits(kind, inputs.len()) {
         bail!("other inputs");
     }
     Ok(Task::new(kind, delays, Driver::start(), inputs))
