@@ -22,7 +22,7 @@ use fourstate::Value;
 use gatestep::{Driver, Stepper};
 use scratch::{Cell, Input, read_input};
 use std::alloc::{AllocError, Global};
-use waveform::{CachedTimeline, Lines, Run, Sample, Timeline, Trace, Wave, laws};
+use waveform::{CachedTimeline, Lines, Run, Sample, Trace, Wave, laws};
 
 /// One entry of so many is spare in the room that is made for a new line beside an old one (own).
 const SPARE: usize = 8;
