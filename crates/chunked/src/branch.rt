@@ -2,7 +2,9 @@
 
 ghost use Rattle.std.specs.Prelude.{◌≡◌, ◌<◌, ◌∷◌, [], ◌++◌, IfOk, OnErr, OnOk, Some, length, slice_get, slice_set, take};
 ghost use Rattle.std.specs.Option.{option_copied};
+ghost use Rattle.std.specs.Borrow.{sem};
 ghost use Rattle.chunked.specs.Chunks.{row_in};
+ghost use Rattle.chunked.specs.Lending.{lends_in_branch};
 
 use crate::exact::ExactClone;
 use crate::row::Row;
@@ -20,6 +22,19 @@ pub(crate) fn get<T: Drop>(branch: &Branch<T>, index: usize) -> Option<&T>
     ensures { option_copied result ≡ slice_get (row_in branch.now) index }
 {
     branch.get(index)
+}
+
+/// The element at an index, to be written in place.
+pub(crate) fn get_mut<T: ExactClone>(
+    branch: &mut Branch<T>,
+    index: usize,
+) -> Result<&mut T, AllocError>
+    requires { index < length (row_in branch.old) }
+    ensures* writes_back { sem 𝓛 (lends_in_branch T.row branch.entry index result) }
+    ensures value { IfOk result (λ item. slice_get (row_in branch.old) index ≡ Some item.now) }
+{
+    let item = Arc::make_mut(branch)?.get_mut(index)?;
+    Ok(item)
 }
 
 /// Adds an element.

@@ -2,7 +2,9 @@
 
 ghost use Rattle.std.specs.Prelude.{◌≡◌, ◌<◌, ◌∷◌, [], ◌++◌, IfOk, OnErr, OnOk, length, slice_get, slice_set, Some, take};
 ghost use Rattle.std.specs.Option.{option_copied};
+ghost use Rattle.std.specs.Borrow.{sem};
 ghost use Rattle.chunked.specs.Chunks.{items_in};
+ghost use Rattle.chunked.specs.Lending.{lends_in_chunk};
 
 use crate::exact::ExactClone;
 use std::alloc::{AllocError, Global};
@@ -33,6 +35,19 @@ pub(crate) fn get<T: Drop>(chunk: &Chunk<T>, index: usize) -> Option<&T>
     ensures { option_copied result ≡ slice_get (items_in chunk.now) index }
 {
     chunk.get(index)
+}
+
+/// The element at an index, to be written in place.
+pub(crate) fn get_mut<T: ExactClone>(
+    chunk: &mut Chunk<T>,
+    index: usize,
+) -> Result<&mut T, AllocError>
+    requires { index < length (items_in chunk.old) }
+    ensures* writes_back { sem 𝓛 (lends_in_chunk T.row chunk.entry index result) }
+    ensures value { IfOk result (λ item. slice_get (items_in chunk.old) index ≡ Some item.now) }
+{
+    let items = Arc::make_mut(chunk)?;
+    Ok(&mut items[index])
 }
 
 /// Adds an element.

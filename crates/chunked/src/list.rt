@@ -75,6 +75,19 @@ impl<T: Drop> Chunked<T> {
 }
 
 impl<T: ExactClone> Chunked<T> {
+    ghost use Rattle.std.specs.Borrow.{sem};
+    ghost use Rattle.chunked.specs.Lending.{lends_in_list};
+
+    /// The element at an index, to be written in place. It fails where memory runs out.
+    pub fn get_mut(&mut self, index: usize) -> Result<&mut T, AllocError>
+        requires { index < length self.old }
+        ensures* writes_back { sem 𝓛 (lends_in_list T.row self.entry index result) }
+        ensures value { IfOk result (λ item. slice_get self.old index ≡ Some item.now) }
+    {
+        let item = branch::get_mut(&mut self.branches[index / BRANCH], index % BRANCH)?;
+        Ok(item)
+    }
+
     /// Adds an element. It fails where memory runs out.
     pub fn push(&mut self, item: T) -> Result<(), AllocError>
         ensures ok { OnOk result (self.new ≡ self.old ++ item ∷ []) }
@@ -105,7 +118,7 @@ impl<T: ExactClone> Chunked<T> {
         ensures ok { OnOk result (self.new ≡ slice_set self.old index item) }
         ensures err { OnErr result (self.new ≡ self.old) }
     {
-        self.replace(index, item)?;
+        *self.get_mut(index)? = item;
         Ok(())
     }
 

@@ -60,6 +60,19 @@ impl<T: Drop> Row<T> {
 }
 
 impl<T: ExactClone> Row<T> {
+    ghost use Rattle.std.specs.Borrow.{sem};
+    ghost use Rattle.chunked.specs.Lending.{lends_in_row};
+
+    /// The element at an index, to be written in place.
+    pub(crate) fn get_mut(&mut self, index: usize) -> Result<&mut T, AllocError>
+        requires { index < length self.old }
+        ensures* writes_back { sem 𝓛 (lends_in_row T.row self.entry index result) }
+        ensures value { IfOk result (λ item. slice_get self.old index ≡ Some item.now) }
+    {
+        let item = chunk::get_mut(&mut self.chunks[index / CHUNK], index % CHUNK)?;
+        Ok(item)
+    }
+
     /// Adds an element.
     pub(crate) fn push(&mut self, item: T) -> Result<(), AllocError>
         ensures ok { OnOk result (self.new ≡ self.old ++ item ∷ []) }
