@@ -3,6 +3,7 @@ pub mod ChangeLemmas
 pub mod ConnectionLemmas
 pub mod DesignLemmas
 pub mod EntryLemmas
+pub mod FewLemmas
 pub mod GateLemmas
 pub mod LookLemmas
 pub mod NameLemmas

@@ -1,6 +1,6 @@
 //! A list of gate keys for each net.
 
-ghost use Rattle.std.specs.Prelude.{◌≡◌, ◌≤◌, ◌<◌, ◌==◌, ℕ, [], if◌then◌else◌, insert, IfOk, OnOk, length};
+ghost use Rattle.std.specs.Prelude.{◌≡◌, ◌≤◌, ◌<◌, ◌==◌, ℕ, insert, IfOk, OnOk, length};
 ghost use Rattle.design.specs.Lists.{AreChanged, list_of, without_key};
 
 use crate::key::{GateKey, NetKey};
@@ -28,9 +28,9 @@ pub fn insert(
     requires { at ≤ length (list_of lists net) }
     ensures { IfOk result (λ new. AreChanged (λ k. k == net) (λ list. insert list at key) lists new) }
 {
-    let list = take(&mut lists, net.number)?;
-    let list = list.insert(lists.allocator(), at, key)?;
-    lists.set(net.number, list)?;
+    let alloc = lists.allocator();
+    grow(&mut lists, net.number)?;
+    lists.get_mut(net.number)?.insert(alloc, at, key)?;
     Ok(lists)
 }
 
@@ -42,21 +42,9 @@ pub fn remove(
 ) -> Result<Chunked<KeyList>, AllocError>
     ensures { IfOk result (λ new. AreChanged (λ k. k == net) (λ list. without_key list key) lists new) }
 {
-    let list = take(&mut lists, net.number)?;
-    let list = list.remove(key)?;
-    lists.set(net.number, list)?;
+    grow(&mut lists, net.number)?;
+    lists.get_mut(net.number)?.remove(key)?;
     Ok(lists)
-}
-
-/// Takes the list of a net out, so that it is changed where it is, unless a copy shares it.
-fn take(lists: &mut Chunked<KeyList>, net: usize) -> Result<KeyList, AllocError>
-    ensures list { IfOk result (λ list. list ≡ list_of lists.old net) }
-    ensures there { OnOk result (net < length lists.new) }
-    ensures others { OnOk result ((k : ℕ) → list_of lists.new k ≡ (if k == net then [] else list_of lists.old k)) }
-{
-    grow(lists, net)?;
-    let list = lists.replace(net, KeyList::new())?;
-    Ok(list)
 }
 
 /// Adds empty lists until the net has one.

@@ -1,11 +1,12 @@
 //! A few gate keys, which stand in the value itself.
 
-ghost use Rattle.std.specs.Prelude.{◌≡◌, ◌≤◌, ◌<◌, ◌+◌, [], ◌∷◌, ◌++◌, insert, length};
+ghost use Rattle.std.specs.Prelude.{◌≡◌, ◌≤◌, ◌<◌, [], ◌∷◌, ◌++◌, insert, length};
 ghost use Rattle.design.specs.Lists.{without_key};
 
 use crate::key::GateKey;
 use std::alloc::AllocError;
 use std::marker::Model;
+use std::mem;
 
 /// How many keys may stand in the value (own).
 pub(crate) const FEW: usize = 4;
@@ -47,39 +48,26 @@ impl Few {
         &self.keys[..self.count]
     }
 
-    /// The keys with one put before that at `at`.
-    pub fn with(&self, at: usize, key: GateKey) -> Few
-        requires at { at ≤ length self.now }
-        requires room { length self.now < FEW }
-        ensures { result ≡ insert self.now at key }
+    /// Puts a key before that at `at`.
+    pub fn insert(&mut self, at: usize, key: GateKey)
+        requires at { at ≤ length self.old }
+        requires room { length self.old < FEW }
+        ensures { self.new ≡ insert self.old at key }
     {
-        let (front, back) = self.as_slice().split_at(at);
-        let mut few = Few::new();
-        few.extend(front);
-        few.push(key);
-        few.extend(back);
-        few
+        self.keys.copy_within(at..self.count, at + 1);
+        self.keys[at] = key;
+        self.count += 1;
     }
 
-    /// The keys without one.
-    pub fn without(&self, key: GateKey) -> Few
-        ensures { result ≡ without_key self.now key }
+    /// Takes a key out.
+    pub fn remove(&mut self, key: GateKey)
+        ensures { self.new ≡ without_key self.old key }
     {
-        let mut few = Few::new();
-        for kept in self.as_slice() {
+        let former = mem::replace(self, Few::new());
+        for kept in former.as_slice() {
             if *kept != key {
-                few.push(*kept);
+                self.push(*kept);
             }
-        }
-        few
-    }
-
-    fn extend(&mut self, keys: &[GateKey])
-        requires { length self.old + length keys.now ≤ FEW }
-        ensures { self.new ≡ self.old ++ keys.now }
-    {
-        for key in keys {
-            self.push(*key);
         }
     }
 

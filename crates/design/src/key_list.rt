@@ -1,6 +1,6 @@
 //! A list of gate keys.
 
-ghost use Rattle.std.specs.Prelude.{◌≡◌, ◌≤◌, ◌<◌, [], insert, IfOk, OnOk, length};
+ghost use Rattle.std.specs.Prelude.{◌≡◌, ◌≤◌, ◌<◌, [], insert, IfOk, OnErr, OnOk, length};
 ghost use Rattle.std.specs.Arc.{arc_value};
 ghost use Rattle.design.specs.Lists.{without_key};
 
@@ -54,67 +54,65 @@ impl KeyList {
         }
     }
 
-    /// The list with a key put before that at `at`. It fails where memory runs out.
-    pub fn insert(self, alloc: Global, at: usize, key: GateKey) -> Result<KeyList, AllocError>
-        requires { at ≤ length self }
-        ensures { IfOk result (λ list. list ≡ insert self at key) }
+    /// Puts a key before that at `at`. It fails where memory runs out.
+    pub fn insert(&mut self, alloc: Global, at: usize, key: GateKey) -> Result<(), AllocError>
+        requires { at ≤ length self.old }
+        ensures ok { OnOk result (self.new ≡ insert self.old at key) }
+        ensures err { OnErr result (self.new ≡ self.old) }
     {
-        match self.keys {
-            Keys::Here(few) => insert_here(alloc, &few, at, key),
-            Keys::Shared(mut keys) => {
-                insert_shared(&mut keys, at, key)?;
-                Ok(KeyList {
-                    keys: Keys::Shared(keys),
-                })
+        match &mut self.keys {
+            Keys::Here(few) => {
+                if few.as_slice().len() < FEW {
+                    few.insert(at, key);
+                } else {
+                    self.keys = Keys::Shared(shared_with(alloc, few.as_slice(), at, key)?);
+                }
             }
+            Keys::Shared(keys) => insert_shared(keys, at, key)?,
         }
+        Ok(())
     }
 
-    /// The list without a key. It fails where memory runs out.
-    pub fn remove(self, key: GateKey) -> Result<KeyList, AllocError>
-        ensures { IfOk result (λ list. list ≡ without_key self key) }
+    /// Takes a key out. It fails where memory runs out.
+    pub fn remove(&mut self, key: GateKey) -> Result<(), AllocError>
+        ensures ok { OnOk result (self.new ≡ without_key self.old key) }
+        ensures err { OnErr result (self.new ≡ self.old) }
     {
-        match self.keys {
-            Keys::Here(few) => Ok(KeyList {
-                keys: Keys::Here(few.without(key)),
-            }),
-            Keys::Shared(mut keys) => {
-                remove_shared(&mut keys, key)?;
-                Ok(KeyList {
-                    keys: Keys::Shared(keys),
-                })
-            }
+        match &mut self.keys {
+            Keys::Here(few) => few.remove(key),
+            Keys::Shared(keys) => remove_shared(keys, key)?,
         }
+        Ok(())
     }
 }
 
-fn insert_here(alloc: Global, few: &Few, at: usize, key: GateKey) -> Result<KeyList, AllocError>
-    requires { at ≤ length few.now }
-    ensures { IfOk result (λ list. list ≡ insert few.now at key) }
+/// The keys with one put before that at `at`, to be shared.
+fn shared_with(
+    alloc: Global,
+    keys: &[GateKey],
+    at: usize,
+    key: GateKey,
+) -> Result<Arc<Vec<GateKey>>, AllocError>
+    requires { at ≤ length keys.now }
+    ensures { IfOk result (λ shared. (arc_value shared).items ≡ insert keys.now at key) }
 {
-    if few.as_slice().len() < FEW {
-        return Ok(KeyList {
-            keys: Keys::Here(few.with(at, key)),
-        });
-    }
-    let mut keys = Vec::from_slice(alloc, few.as_slice())?;
+    let mut keys = Vec::from_slice(alloc, keys)?;
     keys.insert(at, key)?;
-    let keys = Arc::new(alloc, keys)?;
-    Ok(KeyList {
-        keys: Keys::Shared(keys),
-    })
+    Ok(Arc::new(alloc, keys)?)
 }
 
 fn insert_shared(keys: &mut Arc<Vec<GateKey>>, at: usize, key: GateKey) -> Result<(), AllocError>
     requires { at ≤ length (arc_value keys.old).items }
-    ensures { OnOk result ((arc_value keys.new).items ≡ insert (arc_value keys.old).items at key) }
+    ensures ok { OnOk result ((arc_value keys.new).items ≡ insert (arc_value keys.old).items at key) }
+    ensures err { OnErr result ((arc_value keys.new).items ≡ (arc_value keys.old).items) }
 {
     Arc::make_mut(keys)?.insert(at, key)?;
     Ok(())
 }
 
 fn remove_shared(keys: &mut Arc<Vec<GateKey>>, key: GateKey) -> Result<(), AllocError>
-    ensures { OnOk result ((arc_value keys.new).items ≡ without_key (arc_value keys.old).items key) }
+    ensures ok { OnOk result ((arc_value keys.new).items ≡ without_key (arc_value keys.old).items key) }
+    ensures err { OnErr result ((arc_value keys.new).items ≡ (arc_value keys.old).items) }
 {
     take_out(Arc::make_mut(keys)?, key);
     Ok(())
