@@ -1,6 +1,6 @@
 //! One branch of a list: its row is copied before a write where it has other owners.
 
-ghost use Rattle.std.specs.Prelude.{◌≡◌, ◌<◌, ◌∷◌, [], ◌++◌, IfOk, OnErr, OnOk, Some, length, slice_get, slice_set, take};
+ghost use Rattle.std.specs.Prelude.{◌≡◌, ◌<◌, ◌∷◌, [], ◌++◌, IfOk, OnErr, OnOk, Some, length, slice_get, take};
 ghost use Rattle.std.specs.Option.{option_copied};
 ghost use Rattle.std.specs.Borrow.{sem};
 ghost use Rattle.chunked.specs.Chunks.{row_in};
@@ -44,21 +44,6 @@ pub(crate) fn push<T: ExactClone>(branch: &mut Branch<T>, item: T) -> Result<(),
 {
     Arc::make_mut(branch)?.push(item)?;
     Ok(())
-}
-
-/// Writes an element in place of another one, which it gives.
-pub(crate) fn replace<T: ExactClone>(
-    branch: &mut Branch<T>,
-    index: usize,
-    item: T,
-) -> Result<T, AllocError>
-    requires { index < length (row_in branch.old) }
-    ensures ok { OnOk result (row_in branch.new ≡ slice_set (row_in branch.old) index item) }
-    ensures former { IfOk result (λ former. slice_get (row_in branch.old) index ≡ Some former) }
-    ensures err { OnErr result (row_in branch.new ≡ row_in branch.old) }
-{
-    let former = Arc::make_mut(branch)?.replace(index, item)?;
-    Ok(former)
 }
 
 /// Keeps the first elements.

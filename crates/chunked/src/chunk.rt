@@ -1,6 +1,6 @@
 //! One chunk of a list: it is copied before a write where it has other owners.
 
-ghost use Rattle.std.specs.Prelude.{◌≡◌, ◌<◌, ◌∷◌, [], ◌++◌, IfOk, OnErr, OnOk, length, slice_get, slice_set, Some, take};
+ghost use Rattle.std.specs.Prelude.{◌≡◌, ◌<◌, ◌∷◌, [], ◌++◌, IfOk, OnErr, OnOk, length, slice_get, Some, take};
 ghost use Rattle.std.specs.Option.{option_copied};
 ghost use Rattle.std.specs.Borrow.{sem};
 ghost use Rattle.chunked.specs.Chunks.{items_in};
@@ -8,7 +8,6 @@ ghost use Rattle.chunked.specs.Lending.{lends_in_chunk};
 
 use crate::exact::ExactClone;
 use std::alloc::{AllocError, Global};
-use std::mem;
 use std::sync::Arc;
 
 /// How many elements a chunk has, but for the last one, which may have fewer (own).
@@ -57,22 +56,6 @@ pub(crate) fn push<T: ExactClone>(chunk: &mut Chunk<T>, item: T) -> Result<(), A
 {
     Arc::make_mut(chunk)?.push(item)?;
     Ok(())
-}
-
-/// Writes an element in place of another one, which it gives.
-pub(crate) fn replace<T: ExactClone>(
-    chunk: &mut Chunk<T>,
-    index: usize,
-    item: T,
-) -> Result<T, AllocError>
-    requires { index < length (items_in chunk.old) }
-    ensures ok { OnOk result (items_in chunk.new ≡ slice_set (items_in chunk.old) index item) }
-    ensures former { IfOk result (λ former. slice_get (items_in chunk.old) index ≡ Some former) }
-    ensures err { OnErr result (items_in chunk.new ≡ items_in chunk.old) }
-{
-    let items = Arc::make_mut(chunk)?;
-    let former = mem::replace(&mut items[index], item);
-    Ok(former)
 }
 
 /// Keeps the first elements.

@@ -2,6 +2,7 @@
 
 ghost use Rattle.std.specs.Prelude.{◌≡◌, ◌<◌, ◌/◌, ◌∷◌, [], ◌++◌, IfOk, OnErr, OnOk, Some, length, slice_get, slice_set, take};
 ghost use Rattle.std.specs.Option.{option_copied};
+ghost use Rattle.std.specs.Borrow.{sem};
 ghost use Rattle.chunked.specs.Chunks.{AreFull, row_in, rows_of};
 
 use crate::branch::{self, BRANCH, Branch};
@@ -75,7 +76,6 @@ impl<T: Drop> Chunked<T> {
 }
 
 impl<T: ExactClone> Chunked<T> {
-    ghost use Rattle.std.specs.Borrow.{sem};
     ghost use Rattle.chunked.specs.Lending.{lends_in_list};
 
     /// The element at an index, to be written in place. It fails where memory runs out.
@@ -99,17 +99,6 @@ impl<T: ExactClone> Chunked<T> {
         branch::push(&mut self.branches[at], item)?;
         self.len = more;
         Ok(())
-    }
-
-    /// Writes an element in place of another one, which it gives. It fails where memory runs out.
-    pub fn replace(&mut self, index: usize, item: T) -> Result<T, AllocError>
-        requires { index < length self.old }
-        ensures ok { OnOk result (self.new ≡ slice_set self.old index item) }
-        ensures former { IfOk result (λ former. slice_get self.old index ≡ Some former) }
-        ensures err { OnErr result (self.new ≡ self.old) }
-    {
-        let former = branch::replace(&mut self.branches[index / BRANCH], index % BRANCH, item)?;
-        Ok(former)
     }
 
     /// Writes an element. It fails where memory runs out.

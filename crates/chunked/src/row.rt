@@ -1,7 +1,8 @@
 //! A row of chunks, which clones of it share.
 
-ghost use Rattle.std.specs.Prelude.{◌≡◌, ◌<◌, ◌/◌, ◌∷◌, [], ◌++◌, IfOk, OnErr, OnOk, Some, length, slice_get, slice_set, take};
+ghost use Rattle.std.specs.Prelude.{◌≡◌, ◌<◌, ◌/◌, ◌∷◌, [], ◌++◌, IfOk, OnErr, OnOk, Some, length, slice_get, take};
 ghost use Rattle.std.specs.Option.{option_copied};
+ghost use Rattle.std.specs.Borrow.{sem};
 ghost use Rattle.chunked.specs.Chunks.{AreFull, items_in, items_of};
 
 use crate::chunk::{self, CHUNK, Chunk};
@@ -60,7 +61,6 @@ impl<T: Drop> Row<T> {
 }
 
 impl<T: ExactClone> Row<T> {
-    ghost use Rattle.std.specs.Borrow.{sem};
     ghost use Rattle.chunked.specs.Lending.{lends_in_row};
 
     /// The element at an index, to be written in place.
@@ -84,17 +84,6 @@ impl<T: ExactClone> Row<T> {
         chunk::push(&mut self.chunks[at], item)?;
         self.len = more;
         Ok(())
-    }
-
-    /// Writes an element in place of another one, which it gives.
-    pub(crate) fn replace(&mut self, index: usize, item: T) -> Result<T, AllocError>
-        requires { index < length self.old }
-        ensures ok { OnOk result (self.new ≡ slice_set self.old index item) }
-        ensures former { IfOk result (λ former. slice_get self.old index ≡ Some former) }
-        ensures err { OnErr result (self.new ≡ self.old) }
-    {
-        let former = chunk::replace(&mut self.chunks[index / CHUNK], index % CHUNK, item)?;
-        Ok(former)
     }
 
     /// Keeps the first elements.
