@@ -1,3 +1,4 @@
+pub mod Chains
 pub mod Drifts
 pub mod Ends
 pub mod Follows
@@ -9,6 +10,8 @@ pub mod Noting
 pub mod Patching
 pub mod Places
 pub mod Pushes
+pub mod Remaining
 pub mod Splices
 pub mod Turns
 pub mod Unique
+pub mod Written

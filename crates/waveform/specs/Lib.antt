@@ -1,6 +1,7 @@
 pub mod Changes
 pub mod Entries
 pub mod Joins
+pub mod Links
 pub mod Notes
 pub mod Patches
 pub mod Runs

@@ -14,6 +14,7 @@ mod table;
 mod timeline;
 mod trace;
 mod wave;
+mod writing;
 
 pub use cached::CachedTimeline;
 pub use change::Change;

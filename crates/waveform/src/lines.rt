@@ -6,15 +6,16 @@ ghost use Rattle.waveform.specs.Timelines.{is_reached, pushed};
 
 use crate::sample::Sample;
 use crate::timeline::Timeline;
+use crate::writing::write_notes;
 use std::alloc::{AllocError, Global};
 use std::marker::Model;
 
 /// How many entries are noted before they are written.
-const ROOM: usize = 4096;
+const ROOM: usize = 32_768;
 
 /// Timelines by place, which grow together: an entry is noted first, and many are written behind those of their timelines at
-/// a time (own). The timelines lie far apart, and a processor waits less where it writes one entry after another than where it
-/// does something else between two of them. Contracts see the timelines with all that is noted.
+/// a time, timeline by timeline (own). The timelines lie far apart, and so a processor waits once for each, and not for each
+/// entry. Contracts see the timelines with all that is noted.
 #[derive(Drop)]
 pub struct Lines<V: Sample> {
     lines: Vec<Timeline<V>>,
@@ -108,20 +109,4 @@ impl<V: Sample> Lines<V> {
         write_notes::<V>(&mut lines, notes.as_slice())?;
         Ok(lines)
     }
-}
-
-/// Writes entries behind those of the timelines at their places.
-fn write_notes<V: Sample>(
-    lines: &mut Vec<Timeline<V>>,
-    notes: &[(usize, V::Entry)],
-) -> Result<(), AllocError>
-    requires { AreNoted V.same V.drift V.can_store lines.old.items (map (noted V.stored) notes.now) }
-    ensures { OnOk result (lines.new.items ≡ with_notes lines.old.items (map (noted V.stored) notes.now)) }
-{
-    for i in 0..notes.len() {
-        let note = notes[i];
-        let line = &mut lines[note.0];
-        line.append(note.1)?;
-    }
-    Ok(())
 }

@@ -1,6 +1,6 @@
 use Rattle.std.proofs.Common.{◌≡◌, map, drop}
 use Rattle.waveform.specs.Notes.{AreNoted, noted, with_notes}
-use Rattle.waveform.proofs.lines.write_notes.Given as goal
+use Rattle.waveform.proofs.writing.write_one_by_one.Given as goal
 
 -- what is left of the notes may be written, and then all are
 abbrev pub invariant-loop-i : goal.invariant-loop-i
