@@ -1,4 +1,5 @@
 pub mod NameLemmas
+pub mod RecentLemmas
 pub mod GateLemmas
 pub mod WalkLemmas
 pub mod FindLemmas
@@ -31,6 +32,7 @@ pub mod KeywordLemmas
 pub mod NamedBytes
 pub mod GoodWords
 pub mod SpellingLemmas
+pub mod SameBytes
 pub mod IndexLemmas
 pub mod InsertLemmas
 pub mod SoundGateLemmas

@@ -28,6 +28,7 @@ mod nets;
 mod parser_state;
 mod range;
 mod read;
+mod recent;
 mod spelling;
 mod table;
 mod terminals;

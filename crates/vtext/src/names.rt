@@ -1,9 +1,10 @@
 //! The table of names.
 
-ghost use Rattle.std.specs.Prelude.{◌≡◌, ◌≤◌, ◌^◌, [], IfOk, OnOk, OnErr, Some, length};
+ghost use Rattle.std.specs.Prelude.{◌≡◌, ◌≤◌, ◌^◌, [], IfOk, IfSome, OnOk, OnErr, Some, length};
 ghost use Rattle.vtext.specs.Names.{name_at, number_of, with_name};
 
-use crate::spelling::Spelling;
+use crate::recent::Recent;
+use crate::spelling::{Spelling, fingerprint, is_same};
 use design::NameHasher;
 use indexmap::IndexSet;
 use std::alloc::{AllocError, Global};
@@ -14,6 +15,7 @@ use std::marker::Model;
 #[derive(Drop)]
 pub struct Names<'a> {
     texts: IndexSet<Spelling<'a>, NameHasher>,
+    recent: Recent,
 }
 
 impl<'a> Model for Names<'a> {
@@ -33,6 +35,7 @@ impl<'a> Names<'a> {
     {
         Names {
             texts: IndexSet::with_hasher(alloc, hasher),
+            recent: Recent::new(alloc),
         }
     }
 
@@ -69,9 +72,39 @@ impl<'a> Names<'a> {
         ensures number { IfOk result (λ number. number_of self.new name.now ≡ Some number) }
         ensures err { OnErr result (self.new ≡ self.old) }
     {
-        if self.texts.len() > u32::MAX as usize {
+        let fingerprint = fingerprint(name);
+        if let Some(number) = self.recent_number(fingerprint, name) {
+            return Ok(number);
+        }
+        let number = self.insert(name)?;
+        self.recent.note(fingerprint, number);
+        Ok(number)
+    }
+
+    /// The number of a name, where it is the one that is noted for its fingerprint.
+    #[inline(always)]
+    fn recent_number(&self, fingerprint: u64, name: &[u8]) -> Option<u32>
+        ensures { IfSome result (λ number. number_of self.now name.now ≡ Some number) }
+    {
+        let noted = self.recent.get(fingerprint)?;
+        let _ = self.texts.len();
+        match self.texts.get_index(noted as usize) {
+            Some(text) if is_same(text.bytes, name) => Some(noted),
+            _ => None,
+        }
+    }
+
+    /// Adds a name where it is new, and answers its number: it is looked for by its hash.
+    fn insert(&mut self, name: &'a [u8]) -> Result<u32, AllocError>
+        ensures ok { OnOk result (self.new ≡ with_name self.old name.now) }
+        ensures number { IfOk result (λ number. number_of self.new name.now ≡ Some number) }
+        ensures err { OnErr result (self.new ≡ self.old) }
+    {
+        let count = self.texts.len();
+        if count > u32::MAX as usize {
             return Err(AllocError);
         }
+        self.recent.make_room(count)?;
         let (place, _) = self.texts.insert_full(Spelling { bytes: name })?;
         Ok(place as u32)
     }

@@ -1,6 +1,7 @@
 //! The bytes of a name as a key.
 
 ghost use Rattle.std.specs.Prelude.{◌≡◌, ◌+◌, ◌≤◌, true, length};
+ghost use Rattle.std.specs.Str.{bytes_eq};
 ghost use Rattle.vtext.specs.Spellings.{four, is_short, packed};
 
 use std::hash::{Hash, Hasher};
@@ -9,6 +10,10 @@ use std::hash::{Hash, Hasher};
 const WORD: usize = 8;
 /// The fewest: those that are read at once.
 const HALF: usize = 4;
+/// An odd number that carries each bit of a word into the upper ones of the product: 2^64 by the golden ratio (own).
+const SPREAD: u64 = 0x9E37_79B9_7F4A_7C15;
+/// How far the last bytes of a long name are turned before they meet the first ones (own).
+const TURN: u32 = 29;
 
 /// The bytes of a name. A hasher is given a short name as one number, and any other one at once.
 #[derive(Clone, Copy, Debug, PartialEq, Eq)]
@@ -39,6 +44,70 @@ fn packed(bytes: &[u8]) -> u64
 {
     let last = bytes.len() - HALF;
     four(bytes, 0) | four(bytes, last) << (8 * last)
+}
+
+/// Whether short names of one length are the same.
+fn is_same_short(a: &[u8], b: &[u8]) -> bool
+    requires short { is_short a.now ≡ true }
+    requires length { length a.now ≡ length b.now }
+    ensures { result ≡ bytes_eq a.now b.now }
+{
+    if four(a, 0) != four(b, 0) {
+        return false;
+    }
+    let last = a.len() - HALF;
+    four(a, last) == four(b, last)
+}
+
+/// Whether two names are the same. Most are short.
+#[inline(always)]
+pub fn is_same(a: &[u8], b: &[u8]) -> bool
+    ensures { result ≡ bytes_eq a.now b.now }
+{
+    if a.len() != b.len() {
+        return false;
+    }
+    if is_short(a) {
+        return is_same_short(a, b);
+    }
+    a == b
+}
+
+/// The eight bytes at a place as a number, the first one lowest.
+fn eight(bytes: &[u8], at: usize) -> u64
+    requires { at + 8 ≤ length bytes.now }
+{
+    four(bytes, at) | four(bytes, at + HALF) << 32
+}
+
+/// Fewer than four bytes as a number.
+fn few(bytes: &[u8]) -> u64 {
+    let mut bits = 0;
+    for byte in bytes {
+        bits = bits << 8 | u64::from(*byte);
+    }
+    bits
+}
+
+/// The first eight bytes and the last eight as a number, with how many there are.
+fn ends(bytes: &[u8]) -> u64
+    requires { 8 ≤ length bytes.now }
+{
+    let last = eight(bytes, bytes.len() - WORD);
+    eight(bytes, 0) ^ last.rotate_left(TURN) ^ bytes.len() as u64
+}
+
+/// A number of the bytes that few other names share. Its upper bits tell the most.
+#[inline(always)]
+pub fn fingerprint(bytes: &[u8]) -> u64 {
+    let bits = if is_short(bytes) {
+        packed(bytes)
+    } else if bytes.len() < WORD {
+        few(bytes)
+    } else {
+        ends(bytes)
+    };
+    bits.wrapping_mul(SPREAD)
 }
 
 impl<'a> Hash for Spelling<'a> {
