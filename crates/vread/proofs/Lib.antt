@@ -4,6 +4,7 @@ pub mod FaultLemmas
 pub mod FitLemmas
 pub mod GateLemmas
 pub mod GrowLemmas
+pub mod KeyLemmas
 pub mod LengthLemmas
 pub mod Lists
 pub mod NameLemmas

@@ -8,6 +8,7 @@ mod late;
 pub mod laws;
 mod lengths;
 mod names;
+mod net_keys;
 mod nets;
 mod new_nets;
 mod reading;

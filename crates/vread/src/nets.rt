@@ -1,17 +1,15 @@
-//! The nets of a design, from those of its scopes, and their keys.
+//! The nets of a design, from those of its scopes.
 
-ghost use Rattle.std.specs.Prelude.{◌≡◌, ◌<◌, ◌++◌, ◌∷◌, [], true, false, IfOk, IsSome, IsTrue, Some, flat_map, length, slice_get};
-ghost use Rattle.design.specs.Keys.{name_of as net_name, net_by_key, netlist};
+ghost use Rattle.std.specs.Prelude.{◌≡◌, ◌<◌, ◌++◌, ◌∷◌, [], false, true, IfOk, IsTrue, flat_map, length};
+ghost use Rattle.design.specs.Keys.{netlist};
 ghost use Rattle.design.specs.declared.limits.TheConstants.{MAX_NETS};
 ghost use Rattle.design.specs.Names.{is_name};
 ghost use Rattle.design.specs.Netlist.{has_net, new_net, with_net};
-ghost use Rattle.vtext.specs.Bits.{bit_bytes};
-ghost use Rattle.vtext.specs.Names.{name_at};
-ghost use Rattle.vread.specs.Parts.{AreFitNets, bits_nets, kept_nets, net_at, node_nets, run_net, run_nets, slot_nets};
+ghost use Rattle.vread.specs.Parts.{AreFitNets, kept_nets};
 
 use crate::new_nets::{NewNet, nets_of};
-use design::{Design, Name, NetKey};
-use elaboration::{NetRun, Scope};
+use design::{Design, Name};
+use elaboration::Scope;
 use fourstate::NetKind;
 use std::alloc::{AllocError, Global};
 use vtext::Names;
@@ -68,14 +66,4 @@ fn with_input(design: Design, name: Name, kind: NetKind) -> Result<Design, Alloc
         NetKind::Wire => Ok(design),
         _ => design.set_net_kind(key, kind),
     }
-}
-
-/// The key of a net of the design.
-pub fn key_of(design: &Design, run: NetRun) -> NetKey
-    requires there { IsSome (slice_get (netlist design.now).nets run.place) }
-    ensures net { net_by_key design.now result ≡ slice_get (netlist design.now).nets run.place }
-    ensures name { net_name design.now.nets result ≡ net_at (netlist design.now).nets run.place }
-    ensures there { IsSome (net_by_key design.now result) }
-{
-    design.net_key_at(run.place)
 }

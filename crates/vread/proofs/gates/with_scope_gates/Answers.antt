@@ -1,5 +1,6 @@
 use Rattle.std.proofs.Common.{◌≡◌, ◌+◌, ◌<◌, ◌++◌, ◌∷◌, [], ℕ, List, All, length, map, drop, get_or, sym, ap, subst, ◌∙◌, arith}
 use Rattle.std.proofs.lemmas.List.{at_drop_all, at_drop_more}
+use Rattle.catalog.specs.Catalog.{keys_of}
 use Rattle.design.specs.Keys.{netlist}
 use Rattle.design.specs.Netlist as netlists
 use Rattle.vtext.specs.Modules.{GateEntry, ModuleEntry}
@@ -32,6 +33,7 @@ with_gate-requires c =
     let all : List netlists.GateEntry = first.gates ++ map f items in
     let distinct_all : AreDistinctGates all = subst (λ (gs : List GateEntry). AreDistinctGates (first.gates ++ map f gs)) (sym items_are) c.requires.distinct in
     record {
+      keys = c.requires.keys ∙ ap (λ (ns : List (ℕ × netlists.NetEntry)). keys_of ns) (sym c.loop-gate.invariant.nets);
       fit = subst (λ (ns : List netlists.NetEntry). IsFitGate names ns scope gate) (sym same) fit_here;
       distinct = subst (λ (ns : List netlists.NetEntry). AreDistinctGates (made.gates ++ kept_gate names ns scope gate ∷ [])) (sym same)
           (gates_part made.gates (f gate ∷ []) (map f (drop (i + 1) items)) all (next f items i gate made.gates all within c.gate-item.is c.loop-gate.invariant.all) distinct_all);
@@ -52,8 +54,9 @@ loop-gate-preserved c =
     let same : before.nets ≡ first.nets = same_nets first before c.loop-gate.invariant.others in
     let all : List netlists.GateEntry = first.gates ++ map f items in
     let made : now ≡ record before { gates = before.gates ++ (f gate ∷ []) } =
-    c.in_ok-made.ensures ∙ ap (λ (ns : List netlists.NetEntry). record before { gates = before.gates ++ kept_gate names ns scope gate ∷ [] }) same in
+    c.in_ok-made.ensures.gates ∙ ap (λ (ns : List netlists.NetEntry). record before { gates = before.gates ++ kept_gate names ns scope gate ∷ [] }) same in
     record {
+      nets = c.in_ok-made.ensures.nets ∙ c.loop-gate.invariant.nets;
       all = gates_more first before now (f gate ∷ []) (map f (drop (i + 1) items)) all made (next f items i gate before.gates all within c.gate-item.is c.loop-gate.invariant.all);
       others = gates_others first before c.loop-gate.invariant.others now (f gate ∷ []) made;
     }
@@ -67,7 +70,10 @@ returns c =
     let items = c.gates-gate-items.result.now in
     let f : GateEntry → netlists.GateEntry = kept_gate names first.nets scope in
     let items_are : items ≡ scope.entry.gates = c.gates-gate-items.ensures ∙ ap (λ (m : ModuleEntry). m.gates) c.«module».ensures in
-    gates_end first made c.loop-gate.invariant.others (first.gates ++ kept_gates names first.nets scope)
-    (ap (λ (l : List netlists.GateEntry). made.gates ++ l) (sym (at_drop_all (map f) items c.loop-gate.gate-index (omega (arith, c.loop-gate-test.false))))
-    ∙ c.loop-gate.invariant.all
-    ∙ ap (λ (gs : List GateEntry). first.gates ++ map f gs) items_are)
+    record {
+      gates = gates_end first made c.loop-gate.invariant.others (first.gates ++ kept_gates names first.nets scope)
+          (ap (λ (l : List netlists.GateEntry). made.gates ++ l) (sym (at_drop_all (map f) items c.loop-gate.gate-index (omega (arith, c.loop-gate-test.false))))
+          ∙ c.loop-gate.invariant.all
+          ∙ ap (λ (gs : List GateEntry). first.gates ++ map f gs) items_are);
+      nets = c.loop-gate.invariant.nets;
+    }
