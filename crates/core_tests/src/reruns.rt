@@ -3,6 +3,7 @@
 pub mod counting;
 mod definition;
 mod horizons;
+mod many_points;
 pub mod plain;
 pub mod random;
 mod rows;
