@@ -11,7 +11,7 @@ use std::alloc::{AllocError, Global};
 use std::marker::Model;
 
 /// How many entries are noted before they are written.
-const ROOM: usize = 32_768;
+const ROOM: usize = 131_072;
 
 /// Timelines by place, which grow together: an entry is noted first, and many are written behind those of their timelines at
 /// a time, timeline by timeline (own). The timelines lie far apart, and so a processor waits once for each, and not for each
