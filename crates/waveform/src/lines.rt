@@ -10,8 +10,13 @@ use crate::writing::write_notes;
 use std::alloc::{AllocError, Global};
 use std::marker::Model;
 
-/// How many entries are noted before they are written.
-const ROOM: usize = 131_072;
+/// How many entries are noted for a timeline, taken together, before they are written: so many that each gets some, and no more
+/// than a processor keeps near.
+const NOTES_TO_A_LINE: usize = 8;
+/// How many are noted at least.
+const FEWEST_NOTES: usize = 4_096;
+/// How many are noted at most.
+const MOST_NOTES: usize = 131_072;
 
 /// Timelines by place, which grow together: an entry is noted first, and many are written behind those of their timelines at
 /// a time, timeline by timeline (own). The timelines lie far apart, and so a processor waits once for each, and not for each
@@ -73,7 +78,7 @@ impl<V: Sample> Lines<V> {
         requires { MayBeNoted V.same V.drift V.can_store self.old (place, V.stored entry) }
         ensures { OnOk result (self.new ≡ with_note self.old (place, V.stored entry)) }
     {
-        if self.notes.len() >= ROOM {
+        if self.notes.len() >= room(self.lines.len()) {
             self.write()?;
         }
         self.notes.push((place, entry))?;
@@ -109,4 +114,11 @@ impl<V: Sample> Lines<V> {
         write_notes::<V>(&mut lines, notes.as_slice())?;
         Ok(lines)
     }
+}
+
+/// How many entries are noted for so many timelines before they are written.
+#[inline(always)]
+fn room(lines: usize) -> usize {
+    let room = lines.saturating_mul(NOTES_TO_A_LINE);
+    room.clamp(FEWEST_NOTES, MOST_NOTES)
 }

@@ -10,6 +10,8 @@ use std::alloc::{AllocError, Global};
 
 /// How many timelines there are to each note, or more, where so few entries are noted that they are written one by one.
 const LINES_TO_A_NOTE: usize = 4;
+/// Fewer timelines than this stay near a processor by themselves.
+const FEW_LINES: usize = 4_096;
 
 /// The notes of each place, in order, by their numbers (own). The first note has number 1, and 0 stands for none. A number
 /// has 32 bits, so that all of them stay in a processor's cache.
@@ -30,7 +32,8 @@ pub fn write_notes<V: Sample>(
     requires { AreNoted V.same V.drift V.can_store lines.old.items (map (noted V.stored) notes.now) }
     ensures { OnOk result (lines.new.items ≡ with_notes lines.old.items (map (noted V.stored) notes.now)) }
 {
-    if notes.len() <= lines.len() / LINES_TO_A_NOTE || notes.len() > u32::MAX as usize {
+    let are_few = lines.len() < FEW_LINES || notes.len() <= lines.len() / LINES_TO_A_NOTE;
+    if are_few || notes.len() > u32::MAX as usize {
         write_one_by_one::<V>(lines, notes)
     } else {
         write_by_line::<V>(lines, notes)
