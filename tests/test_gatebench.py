@@ -67,6 +67,17 @@ class Words(Gatebench):
         for workers in ("2", "4", "63", "64", "0064"):
             self.assertEqual(self.run_with(["inverters.v", "--horizon=10", "--workers", workers], commands), alone, workers)
 
+    def test_each_change_of_many_nets(self) -> None:
+        """The changes of so many nets are kept together for a while, and then written net by net."""
+        gates = "".join(f"not #1 g{place}(y{place}, a);\n" for place in range(4200))
+        self.write("many.v", f"module m(input a);\n{gates}endmodule\n")
+        points = "".join(f"stim a {moment} {moment % 2}\n" for moment in range(40))
+        waves = "wave y0\nwave y2100\nwave y4199\n"
+        changes = "".join(f"{moment + 1} {1 - moment % 2}\n" for moment in range(40))
+        ended = self.run_with(["many.v", "--horizon", "40"], f"begin\n{points}commit\n{waves}")
+        self.assertEqual((ended.status, ended.said), (0, ""))
+        self.assertTrue(ended.printed.endswith("ok 1\n" + 3 * f"0 x\n{changes}ok 1\n"))
+
 
 class RefusedWords(Gatebench):
     def test_each_is_named(self) -> None:

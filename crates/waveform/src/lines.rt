@@ -6,17 +6,9 @@ ghost use Rattle.waveform.specs.Timelines.{is_reached, pushed};
 
 use crate::sample::Sample;
 use crate::timeline::Timeline;
-use crate::writing::write_notes;
+use crate::writing::{room, write_notes};
 use std::alloc::{AllocError, Global};
 use std::marker::Model;
-
-/// How many entries are noted for a timeline, taken together, before they are written: so many that each gets some, and no more
-/// than a processor keeps near.
-const NOTES_TO_A_LINE: usize = 8;
-/// How many are noted at least.
-const FEWEST_NOTES: usize = 4_096;
-/// How many are noted at most.
-const MOST_NOTES: usize = 131_072;
 
 /// Timelines by place, which grow together: an entry is noted first, and many are written behind those of their timelines at
 /// a time, timeline by timeline (own). The timelines lie far apart, and so a processor waits once for each, and not for each
@@ -114,11 +106,4 @@ impl<V: Sample> Lines<V> {
         write_notes::<V>(&mut lines, notes.as_slice())?;
         Ok(lines)
     }
-}
-
-/// How many entries are noted for so many timelines before they are written.
-#[inline(always)]
-fn room(lines: usize) -> usize {
-    let room = lines.saturating_mul(NOTES_TO_A_LINE);
-    room.clamp(FEWEST_NOTES, MOST_NOTES)
 }

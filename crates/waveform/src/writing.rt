@@ -12,6 +12,12 @@ use std::alloc::{AllocError, Global};
 const LINES_TO_A_NOTE: usize = 4;
 /// Fewer timelines than this stay near a processor by themselves.
 const FEW_LINES: usize = 4_096;
+/// How many entries are noted for these before they are written.
+const NOTES_OF_FEW_LINES: usize = 4_096;
+/// How many are noted for each of more timelines, taken together.
+const NOTES_TO_A_LINE: usize = 8;
+/// How many are noted at most.
+const MOST_NOTES: usize = 131_072;
 
 /// The notes of each place, in order, by their numbers (own). The first note has number 1, and 0 stands for none. A number
 /// has 32 bits, so that all of them stay in a processor's cache.
@@ -21,6 +27,16 @@ struct Links {
     first: Vec<u32>,
     /// The number of the next note of the same place, by note.
     next: Vec<u32>,
+}
+
+/// How many entries are noted for so many timelines before they are written (own).
+#[inline(always)]
+pub fn room(lines: usize) -> usize {
+    if lines < FEW_LINES {
+        NOTES_OF_FEW_LINES
+    } else {
+        lines.saturating_mul(NOTES_TO_A_LINE).min(MOST_NOTES)
+    }
 }
 
 /// Writes entries behind those of the timelines at their places. It fails where memory runs out, and then what the timelines
