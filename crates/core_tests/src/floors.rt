@@ -11,10 +11,7 @@ fn driver(value: Value, t: u64) -> Driver {
     if value == Unknown {
         return Driver::start();
     }
-    Driver {
-        cur: Unknown,
-        pend: Some((value, t)),
-    }
+    Driver::waiting(Unknown, value, t)
 }
 
 /// A call of a floor, and its reply.

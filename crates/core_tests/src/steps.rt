@@ -48,7 +48,7 @@ fn follow(
 {
     let mut state = Driver::start();
     for t in 0..horizon + 1 {
-        equal(rt, (kind, t), state.due(t).cur, held(wanted, t));
+        equal(rt, (kind, t), state.due(t).current(), held(wanted, t));
         state = match second {
             None => next(&task(rt, kind, delays, state, &[held(first, t)]), t),
             Some(second) => {
@@ -71,7 +71,7 @@ fn follow_loop(
 {
     let mut state = Driver::start();
     for t in 0..horizon + 1 {
-        let output = state.due(t).cur;
+        let output = state.due(t).current();
         equal(rt, (kind, t), output, held(wanted, t));
         state = match first {
             None => next(&task(rt, kind, (1, 1), state, &[output]), t),
@@ -139,28 +139,43 @@ fn a_pending_event_keeps_its_time(rt: HostRuntime) {
 #[test]
 fn states_and_faults(rt: HostRuntime) {
     let start = Driver::start();
-    equal(&rt, "value at the start", start.cur, Unknown);
-    equal(&rt, "pending at the start", start.pend, None);
-    let waiting = Driver {
-        cur: Unknown,
-        pend: Some((One, 7)),
-    };
+    equal(&rt, "value at the start", start.current(), Unknown);
+    equal(&rt, "pending at the start", start.pending(), None);
+    let waiting = Driver::waiting(Unknown, One, 7);
     equal(&rt, "due at 6", waiting.due(6), waiting);
-    equal(&rt, "value at 7", waiting.due(7).cur, One);
-    equal(&rt, "pending at 7", waiting.due(7).pend, None);
+    equal(&rt, "value at 7", waiting.due(7).current(), One);
+    equal(&rt, "pending at 7", waiting.due(7).pending(), None);
+    for (other, is_same) in [
+        (Driver::waiting(Unknown, One, 7), true),
+        (Driver::waiting(Unknown, One, 8), false),
+        (Driver::waiting(Unknown, Zero, 7), false),
+        (Driver::waiting(Zero, One, 7), false),
+        (Driver::steady(Unknown), false),
+    ] {
+        equal(&rt, other, waiting.is_same(other), is_same);
+        equal(&rt, other, waiting == other, is_same);
+    }
     equal(&rt, "OutOfMemory", StepFault::OutOfMemory as u8, 1);
     equal(&rt, "WorkerLost", StepFault::WorkerLost as u8, 2);
 }
 
-const WAITING: Driver = Driver {
-    cur: Zero,
-    pend: Some((One, 9)),
-};
+/// A state of 0 that becomes 1 at 9.
+fn waiting() -> Driver
+    ensures { result ≡ record { current = Zero; pending = Some (One, 9) } }
+{
+    Driver::waiting(Zero, One, 9)
+}
 
 /// Three gates at one moment: one waits for its event, one gets one, one has its value.
 fn step_three<S: Stepper>(rt: &impl Abort, alloc: Global, stepper: &mut S) {
     let tasks = [
-        task(rt, GateKind::Buf, (3, 4), WAITING, &[One]),
+        task(
+            rt,
+            GateKind::Buf,
+            (3, 4),
+            Driver::waiting(Zero, One, 9),
+            &[One],
+        ),
         task(rt, GateKind::Not, (3, 4), Driver::start(), &[One]),
         task(rt, GateKind::Buf, (3, 4), Driver::start(), &[Unknown]),
     ];
@@ -168,8 +183,8 @@ fn step_three<S: Stepper>(rt: &impl Abort, alloc: Global, stepper: &mut S) {
     equal(rt, "step", stepper.step(&tasks, 5, &mut answers), Ok(()));
     drop(tasks);
     assert!(rt; answers.len() == 3);
-    equal(rt, "first answer", answers[0].pend, Some((One, 9)));
-    equal(rt, "second answer", answers[1].pend, Some((Zero, 9)));
+    equal(rt, "first answer", answers[0].pending(), Some((One, 9)));
+    equal(rt, "second answer", answers[1].pending(), Some((Zero, 9)));
     equal(rt, "third answer", answers[2], Driver::start());
     drop(answers);
 }
@@ -182,14 +197,14 @@ fn serial_answers_in_order(rt: HostRuntime) {
 fn check_parts(rt: &impl Abort, task: &Task) {
     equal(rt, "kind", task.kind(), GateKind::Nand);
     equal(rt, "delays", Some(task.delays()), Delays::new(3, 4));
-    equal(rt, "state", task.state(), WAITING);
+    equal(rt, "state", task.state(), waiting());
     let inputs = Inputs::of(&[One, Unknown]);
     equal(rt, "inputs", task.inputs().is_same(inputs), true);
 }
 
 #[test]
 fn a_task_is_read_and_copied(rt: HostRuntime) {
-    let task = task(&rt, GateKind::Nand, (3, 4), WAITING, &[One, Unknown]);
+    let task = task(&rt, GateKind::Nand, (3, 4), waiting(), &[One, Unknown]);
     task.lawful();
     let copy = task;
     check_parts(&rt, &task);

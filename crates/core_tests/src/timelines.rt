@@ -201,10 +201,7 @@ fn waves_are_spliced_over_changes_of_their_own(rt: HostRuntime) {
 pub fn standing(value: Value) -> Driver
     ensures { result ≡ record { current = value; pending = None } }
 {
-    Driver {
-        cur: value,
-        pend: None,
-    }
+    Driver::steady(value)
 }
 
 /// The state of a driver that has this value, and becomes the other one at `time`.
@@ -212,10 +209,7 @@ pub fn moving(value: Value, next: Value, time: u64) -> Driver
     requires { next ≢ value }
     ensures { result ≡ record { current = value; pending = Some (next, time) } }
 {
-    Driver {
-        cur: value,
-        pend: Some((next, time)),
-    }
+    Driver::waiting(value, next, time)
 }
 
 /// A driver of x that falls at 3 and rises at 12: the fall is stored with the first entry, the rise is scheduled at 7.
@@ -309,7 +303,7 @@ fn value_under(run: &Run, key: usize) -> Option<Value> {
 
 /// What the driver whose trace stands under a key gives at 13.
 fn driven_under(run: &Run, key: usize) -> Option<Value> {
-    Some(run.trace(key)?.at(13).cur)
+    Some(run.trace(key)?.at(13).current())
 }
 
 fn check_whole(rt: &impl Abort, run: &Run) {

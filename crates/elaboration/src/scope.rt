@@ -1,6 +1,7 @@
 //! A scope of a design.
 
 ghost use Rattle.std.specs.Prelude.{◌≡◌, slice_get};
+ghost use Rattle.vtext.specs.declared.gate.Terminal.TheVariants.{Bit};
 ghost use Rattle.elaboration.specs.Numbered.{ref_at, ref_for, slot_for};
 
 use crate::node::{NodeRef, Slot};
@@ -56,20 +57,28 @@ impl<'a> Scope<'a> {
     }
 
     /// What a terminal in the module is.
+    #[inline(always)]
     pub fn node(&self, terminal: Terminal) -> NodeRef
         ensures { result ≡ ref_at self.now terminal }
     {
         match terminal {
             Terminal::Constant(value) => NodeRef::Tied(value),
             Terminal::Net(name) => self.node_of(name),
-            Terminal::Bit(name, index) => {
-                let range = range_of(self.module(), name);
-                self.node_of(name).bit(range, index)
-            }
+            Terminal::Bit(name, index) => self.bit_of(name, index),
         }
     }
 
+    /// What the bit of an index is, of the vector of this name.
+    #[inline(never)]
+    fn bit_of(&self, name: u32, index: u16) -> NodeRef
+        ensures { result ≡ ref_at self.now (Bit name index) }
+    {
+        let range = range_of(self.module(), name);
+        self.node_of(name).bit(range, index)
+    }
+
     /// What the net of this name is.
+    #[inline(always)]
     fn node_of(&self, name: u32) -> NodeRef
         ensures { result ≡ ref_for self.now name }
     {
@@ -79,6 +88,7 @@ impl<'a> Scope<'a> {
         }
     }
 
+    #[inline(always)]
     fn slot_of(&self, name: u32) -> Option<Slot>
         ensures { result ≡ slot_for name self.now.entry.nets self.now.slots }
     {
@@ -86,6 +96,7 @@ impl<'a> Scope<'a> {
         self.slot_at(place)
     }
 
+    #[inline(always)]
     fn slot_at(&self, place: usize) -> Option<Slot>
         ensures { result ≡ slice_get self.now.slots place }
     {

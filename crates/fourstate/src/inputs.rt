@@ -149,12 +149,13 @@ impl Inputs {
     }
 }
 
-/// The bit of the low word that writes a value, found without a branch: a processor would often guess wrong which one comes.
+/// The bit of the low word that writes a value, from its number and so without a branch: a processor would often guess wrong
+/// which one comes.
 #[inline(always)]
 fn low_bit(value: Value) -> u64
     ensures { result ≡ low_bit value }
 {
-    u64::from((value == Value::One) | (value == Value::HighZ))
+    (value as u64) % 2
 }
 
 /// The bit of the high word that writes a value.
@@ -162,7 +163,7 @@ fn low_bit(value: Value) -> u64
 fn high_bit(value: Value) -> u64
     ensures { result ≡ high_bit value }
 {
-    u64::from((value == Value::Unknown) | (value == Value::HighZ))
+    (value as u64) / 2
 }
 
 /// The value that a bit of each word writes.

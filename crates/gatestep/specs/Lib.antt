@@ -1,3 +1,4 @@
+pub mod Drivers
 pub mod Faults
 pub mod Record
 pub mod Step

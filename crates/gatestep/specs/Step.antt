@@ -1,6 +1,6 @@
 -- One gate at one moment: its driver's state, and how an evaluation changes it (IEEE 1364-2005, 6.1.3 and 11; the rule
 -- for a pending event, and that due events come first, are this project's).
-use Rattle.std.specs.Prelude.{Bool, false, ℕ, ◌+◌, nat_le, if◌then◌else◌, List, Option, Some, None}
+use Rattle.std.specs.Prelude.{Bool, true, false, ℕ, ◌+◌, ◌==◌, ◌&&◌, nat_le, if◌then◌else◌, List, Option, Some, None}
 use Rattle.fourstate.specs.declared.value.Value.{Value}
 use Rattle.fourstate.specs.declared.value.Value.TheVariants.{Unknown}
 use Rattle.fourstate.specs.declared.gate.GateKind.{GateKind}
@@ -22,6 +22,16 @@ initial = record { current = Unknown; pending = None }
 abbrev pub is_pending : Value → Option (Value × ℕ) → Bool
 is_pending v None = false
 is_pending v (Some event) = same_value v event.0
+
+-- two pending events are the same, of value and time
+abbrev pub same_pending : Option (Value × ℕ) → Option (Value × ℕ) → Bool
+same_pending None None = true
+same_pending (Some d) (Some e) = same_value d.0 e.0 && d.1 == e.1
+same_pending _ _ = false
+
+-- two states are the same
+abbrev pub same_state : State → State → Bool
+same_state s r = same_value s.current r.current && same_pending s.pending r.pending
 
 -- the state of this current value and pending event, once the event is current if it is due at t or before
 abbrev pub due_of : Value → Option (Value × ℕ) → ℕ → State

@@ -103,15 +103,13 @@ pub fn next(task: &Task, t: u64) -> Driver
 {
     let state = task.state.due(t);
     let value = gate_value(task.kind, &task.inputs);
-    match state.pend {
+    match state.pending() {
         Some((pending, _)) if pending == value => state,
-        _ if value == state.cur => Driver {
-            cur: state.cur,
-            pend: None,
-        },
-        _ => Driver {
-            cur: state.cur,
-            pend: Some((value, t + u64::from(delay(&task.delays, value)))),
-        },
+        _ if value == state.current() => Driver::steady(value),
+        _ => Driver::waiting(
+            state.current(),
+            value,
+            t + u64::from(delay(&task.delays, value)),
+        ),
     }
 }

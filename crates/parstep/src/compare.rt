@@ -34,10 +34,10 @@ fn same_task(left: &Task, right: &Task) -> bool
 fn same_driver(left: Driver, right: Driver) -> bool
     ensures { IsTrue result → left ≡ right }
 {
-    if left.cur != right.cur {
+    if left.current() != right.current() {
         return false;
     }
-    match (left.pend, right.pend) {
+    match (left.pending(), right.pending()) {
         (None, None) => true,
         (Some((value, t)), Some((other, u))) => value == other && t == u,
         _ => false,

@@ -104,7 +104,7 @@ fn weave(
     let mut next = 0;
     for i in 0..known.len() {
         match known[i] {
-            Some(state) => out.push(state.anew())?,
+            Some(state) => out.push(state)?,
             None => {
                 out.push(fresh.get(next).copied().unwrap_or(Driver::start()))?;
                 next += 1;

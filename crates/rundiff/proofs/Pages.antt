@@ -34,6 +34,10 @@ pub number_is : (pages : List (Vec ℕ Global)) (q : ℕ) → number_at pages q 
 unfolding number_at
 number_is pages q = refl
 
+-- where the pages have the same numbers, the places do
+pub same_pages : (old new : List (Vec ℕ Global)) → ((q : ℕ) → page_at new q ≡ page_at old q) → (q : ℕ) → number_at new q ≡ number_at old q
+same_pages old new same q = number_is new q ∙ ap (λ row. get_or row (q % PAGE) 0) (same (q / PAGE)) ∙ sym (number_is old q)
+
 -- a page that is read
 pub page_is : (pages : List (Vec ℕ Global)) (i : ℕ) (page : Vec ℕ Global) → i < length pages → page ≡ get_or pages i page → page.items ≡ page_at pages i
 page_is [] i page there is = absurd (omega arith)
@@ -78,3 +82,22 @@ pub no_page : (pages : List (Vec ℕ Global)) (i k : ℕ) → length pages ≤ i
 no_page [] i k past = refl
 no_page (p ∷ pages) zero k past = absurd (omega arith)
 no_page (p ∷ pages) (suc i) k past = no_page pages i k (omega arith)
+
+-- a place with a number has room for it
+pub numbered : (pages : List (Vec ℕ Global)) (p : ℕ) → 0 < number_at pages p → (p % PAGE < length (page_at pages (p / PAGE))) × (p / PAGE < length pages)
+numbered pages p some =
+    let row = page_at pages (p / PAGE) in
+    let is = number_is pages p in (
+      elim (cases_lt (p % PAGE) (length row)) [
+        | inl low ↦ low
+        | inr high ↦ absurd (let none = get_or-eq_default row 0 high in omega (arith, some, is, none))
+      ],
+      elim (cases_lt (p / PAGE) (length pages)) [
+        | inl low ↦ low
+        | inr high ↦ absurd (let none = no_page pages (p / PAGE) (p % PAGE) high in omega (arith, some, is, none))
+      ],
+    )
+
+-- without pages no place has a number
+pub no_number : (p : ℕ) → number_at [] p ≡ 0
+no_number p = number_is [] p ∙ sym (no_page [] (p / PAGE) (p % PAGE) (omega arith))

@@ -164,7 +164,7 @@ fn is_stirred<S: Stepper>(
 fn is_due(state: Driver, t: u64) -> bool
     ensures { result ≡ is_due state t }
 {
-    match state.pend {
+    match state.pending() {
         Some((_, due)) => due <= t,
         None => false,
     }

@@ -90,7 +90,7 @@ pub fn note_event(
     ensures kept { OnOk result (Keeps (noted queue.old) (noted queue.new)) }
     ensures early { OnOk result ((u : ℕ) → u ≤ t → noted queue.new u ≡ noted queue.old u) }
 {
-    if let Some((_, moment)) = state.pend {
+    if let Some((_, moment)) = state.pending() {
         queue.add(alloc, moment, place)?;
     }
     Ok(())

@@ -46,10 +46,10 @@ impl Front {
         let found = touched_places(alloc, new, touched)?;
         let blank_wave = Timeline::open(alloc, Value::Unknown)?;
         let blank_trace = Timeline::open(alloc, Driver::start())?;
-        let mut live = PlaceSet::new(alloc, new.net_count())?;
-        let mut held = PlaceSet::new(alloc, new.gate_count())?;
+        let mut live = PlaceSet::new(alloc);
+        let mut held = PlaceSet::new(alloc);
         hold(&mut live, &mut held, new, found.as_slice())?;
-        let fixed = set_of(alloc, new.net_count(), found.as_slice())?;
+        let fixed = set_of(alloc, found.as_slice())?;
         let inputs = note_all(alloc, &held)?;
         let nets = note_all(alloc, &live)?;
         let waves = PlaceMap::new(alloc);
@@ -74,11 +74,11 @@ impl Front {
     }
 }
 
-/// The set of these places, of so many.
-fn set_of(alloc: Global, count: usize, places: &[usize]) -> Result<PlaceSet, AllocError>
+/// The set of these places.
+fn set_of(alloc: Global, places: &[usize]) -> Result<PlaceSet, AllocError>
     ensures { IfOk result (λ set. (p : ℕ) → contains nat_cmp set p ≡ is_among places.now p) }
 {
-    let mut set = PlaceSet::new(alloc, count)?;
+    let mut set = PlaceSet::new(alloc);
     for place in places {
         set.insert(*place)?;
     }

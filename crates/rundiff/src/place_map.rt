@@ -37,7 +37,7 @@ impl<T: Drop> PlaceMap<T> {
     pub fn get(&self, place: usize) -> Option<&T>
         ensures value { option_copied result ≡ kept_at self.now place }
     {
-        let number = self.number_of(place);
+        let number = number_of(&self.pages, place);
         if number == 0 {
             return None;
         }
@@ -53,7 +53,7 @@ impl<T: Drop> PlaceMap<T> {
         ensures gone { kept_at self.new place ≡ None }
         ensures others { (q : ℕ) → nat_eq place q ≡ false → kept_at self.new q ≡ kept_at self.old q }
     {
-        let number = self.number_of(place);
+        let number = number_of(&self.pages, place);
         if number == 0 {
             return None;
         }
@@ -68,7 +68,7 @@ impl<T: Drop> PlaceMap<T> {
         ensures value { OnOk result (kept_at self.new place ≡ Some value) }
         ensures others { OnOk result ((q : ℕ) → nat_eq place q ≡ false → kept_at self.new q ≡ kept_at self.old q) }
     {
-        let number = self.number_of(place);
+        let number = number_of(&self.pages, place);
         if number > 0 {
             if let Some(item) = self.items.get_mut(number - 1) {
                 if item.0 == place {
@@ -114,16 +114,16 @@ impl<T: Drop> PlaceMap<T> {
             _ => Ok(()),
         }
     }
+}
 
-    /// The number of the item of a place.
-    #[inline(always)]
-    fn number_of(&self, place: usize) -> usize
-        ensures { result ≡ number_at self.now.pages.items place }
-    {
-        match self.pages.get(place / PAGE) {
-            Some(page) => number_in(page, place % PAGE),
-            None => 0,
-        }
+/// The number of a place; 0 where it has none.
+#[inline(always)]
+pub fn number_of(pages: &Vec<Vec<usize>>, place: usize) -> usize
+    ensures { result ≡ number_at pages.now.items place }
+{
+    match pages.get(place / PAGE) {
+        Some(page) => number_in(page, place % PAGE),
+        None => 0,
     }
 }
 
@@ -138,11 +138,11 @@ fn number_in(page: &Vec<usize>, place: usize) -> usize
     }
 }
 
-/// Makes the page of a place, if it is missing.
-fn reach(pages: &mut Vec<Vec<usize>>, place: usize) -> Result<(), AllocError>
+/// Makes the page of a place, if it is missing. It fails where memory runs out; the numbers stay.
+pub fn reach(pages: &mut Vec<Vec<usize>>, place: usize) -> Result<(), AllocError>
     ensures there { OnOk result (place % PAGE < length (page_at pages.new.items (place / PAGE))) }
     ensures page { OnOk result (place / PAGE < length pages.new.items) }
-    ensures same { OnOk result ((q : ℕ) → number_at pages.new.items q ≡ number_at pages.old.items q) }
+    ensures same { (q : ℕ) → number_at pages.new.items q ≡ number_at pages.old.items q }
 {
     reach_page(pages, place / PAGE)?;
     fill_page(&mut pages[place / PAGE])?;
@@ -152,7 +152,7 @@ fn reach(pages: &mut Vec<Vec<usize>>, place: usize) -> Result<(), AllocError>
 /// Adds pages without a number, until there is this one.
 fn reach_page(pages: &mut Vec<Vec<usize>>, page: usize) -> Result<(), AllocError>
     ensures there { OnOk result (page < length pages.new.items) }
-    ensures same { OnOk result ((q : ℕ) → page_at pages.new.items q ≡ page_at pages.old.items q) }
+    ensures same { (q : ℕ) → page_at pages.new.items q ≡ page_at pages.old.items q }
 {
     while pages.len() <= page {
         let alloc = *pages.allocator();
@@ -164,7 +164,7 @@ fn reach_page(pages: &mut Vec<Vec<usize>>, page: usize) -> Result<(), AllocError
 /// Gives a page all its places.
 fn fill_page(page: &mut Vec<usize>) -> Result<(), AllocError>
     ensures whole { OnOk result (PAGE ≤ length page.new.items) }
-    ensures same { OnOk result ((q : ℕ) → slice_index_or page.new.items q 0 ≡ slice_index_or page.old.items q 0) }
+    ensures same { (q : ℕ) → slice_index_or page.new.items q 0 ≡ slice_index_or page.old.items q 0 }
 {
     if page.len() < PAGE {
         page.resize(PAGE, 0)?;
@@ -173,7 +173,7 @@ fn fill_page(page: &mut Vec<usize>) -> Result<(), AllocError>
 }
 
 /// Gives a place this number.
-fn set_number(pages: &mut Vec<Vec<usize>>, place: usize, number: usize)
+pub fn set_number(pages: &mut Vec<Vec<usize>>, place: usize, number: usize)
     requires there { place % PAGE < length (page_at pages.old.items (place / PAGE)) }
     requires page { place / PAGE < length pages.old.items }
     ensures here { number_at pages.new.items place ≡ number }

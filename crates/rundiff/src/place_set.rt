@@ -1,41 +1,45 @@
 //! Sets of places.
 
-ghost use Rattle.std.specs.Prelude.{◌≡◌, ◌==◌, ◌||◌, ℕ, true, false, Bool, IfOk, OnOk};
+ghost use Rattle.std.specs.Prelude.{◌≡◌, ◌==◌, ◌||◌, ℕ, true, false, Bool, OnOk};
 ghost use Rattle.std.specs.BTreeSet.{Updates, contains};
 ghost use Rattle.std.specs.Ordering.{nat_cmp};
 
+use crate::place_map::{number_of, reach, set_number};
 use std::alloc::{AllocError, Global};
 use std::collections::BTreeSet;
 use std::marker::Model;
 
-/// A set of places, of which contracts see the places in order. Whether a place is in it is found by a list of all places.
+/// A set of places, of which contracts see the places in order. Whether a place is in it is found by a mark, without a search;
+/// the marks take memory for the pages that have some.
 #[derive(Drop)]
 pub struct PlaceSet {
-    flags: Vec<bool>,
+    // Page by page, for each place 1 where it is in the set, and else 0.
+    marks: Vec<Vec<usize>>,
     places: BTreeSet<usize>,
 }
 
 impl Model for PlaceSet {
-    ghost use Rattle.std.specs.Prelude.{◌≡◌, ℕ, false, slice_index_or};
+    ghost use Rattle.std.specs.Prelude.{◌≡◌, ℕ, nat_lt};
     ghost use Rattle.std.specs.BTreeSet.{BTreeSet, contains};
     ghost use Rattle.std.specs.Ordering.{nat_cmp};
+    ghost use Rattle.rundiff.specs.PlaceMaps.{number_at};
 
     ghost Value = { BTreeSet ℕ };
 
     ghost view = { λ a. a.places };
 
-    ghost invariant = { λ a. (p : ℕ) → slice_index_or a.flags.items p false ≡ contains nat_cmp a.places p };
+    ghost invariant = { λ a. (p : ℕ) → nat_lt 0 (number_at a.marks.items p) ≡ contains nat_cmp a.places p };
 }
 
 impl PlaceSet {
-    /// A set for so many places, with none.
-    pub fn new(alloc: Global, count: usize) -> Result<PlaceSet, AllocError>
-        ensures { IfOk result (λ set. (p : ℕ) → contains nat_cmp set p ≡ false) }
+    /// A set with no place.
+    pub fn new(alloc: Global) -> PlaceSet
+        ensures { (p : ℕ) → contains nat_cmp result p ≡ false }
     {
-        Ok(PlaceSet {
-            flags: vec![in alloc; false; count]?,
+        PlaceSet {
+            marks: Vec::new(alloc),
             places: BTreeSet::new(alloc),
-        })
+        }
     }
 
     /// Whether a place is in the set.
@@ -43,24 +47,16 @@ impl PlaceSet {
     pub fn contains(&self, place: usize) -> bool
         ensures { result ≡ contains nat_cmp self.now place }
     {
-        match self.flags.get(place) {
-            Some(flag) => *flag,
-            None => false,
-        }
+        number_of(&self.marks, place) > 0
     }
 
     /// Adds a place. It fails where memory runs out.
     pub fn insert(&mut self, place: usize) -> Result<(), AllocError>
         ensures updates { OnOk result (Updates nat_cmp self.old self.new place true) }
     {
-        let Some(count) = place.checked_add(1) else {
-            return Err(AllocError);
-        };
-        if self.flags.len() < count {
-            self.flags.resize(count, false)?;
-        }
+        reach(&mut self.marks, place)?;
         self.places.insert(place)?;
-        self.flags[place] = true;
+        set_number(&mut self.marks, place, 1);
         Ok(())
     }
 
@@ -69,8 +65,8 @@ impl PlaceSet {
         ensures updates { Updates nat_cmp self.old self.new place false }
     {
         self.places.remove(&place);
-        if let Some(flag) = self.flags.get_mut(place) {
-            *flag = false;
+        if number_of(&self.marks, place) > 0 {
+            set_number(&mut self.marks, place, 0);
         }
     }
 

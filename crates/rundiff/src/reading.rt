@@ -205,7 +205,7 @@ pub fn driven_value<S: Stepper>(
             unreachable!();
         };
         let state = gate_state::<S>(traces, blank, old, run, new, gate, t);
-        values.push(state.due(t).cur)?;
+        values.push(state.due(t).current())?;
     }
     Ok(resolve(net.kind(), values.as_slice()))
 }

@@ -1,7 +1,7 @@
 -- The values and waves of nets that change go on, the others stay.
 use Rattle.std.proofs.Common.{◌≡◌, ◌<◌, ◌∙◌, sym, ap, refl, Bool, true, false, not, ℕ, zero, suc, ◌+◌, ◌-◌, List, [], ◌∷◌, ◌++◌, map, Option, Some, None, slice_get, length, All, add-one, arith}
 use Rattle.std.specs.Option.{option_map_or, option_map}
-use Rattle.std.specs.Prelude.{◌^◌, ◌||◌, nat_lt, if◌then◌else◌}
+use Rattle.std.specs.Prelude.{◌||◌, if◌then◌else◌}
 use Rattle.std.proofs.Math.ListN.{set}
 use Rattle.std.proofs.lemmas.Option.{slice_get-map, slice_get_within}
 use Rattle.fourstate.specs.declared.net.NetKind.{NetKind}
@@ -244,13 +244,9 @@ one_driver Wor v = wor_alone v
 one_driver Trior v = wor_alone v
 
 -- the place that stands alone
-if_fit : (p k : ℕ) (fits : Bool) → (if fits then Some p else None) ≡ Some k → p ∷ [] ≡ k ∷ []
-if_fit p k true h = let same : p ≡ k = cc in ap (λ x. x ∷ []) same
-if_fit p k false h = cc
-
 alone_is : (places : List ℕ) (k : ℕ) → only_place places ≡ Some k → places ≡ k ∷ []
 alone_is [] k h = cc
-alone_is (p ∷ []) k h = if_fit p k (nat_lt p (2 ^ 32)) h
+alone_is (p ∷ []) k h = let same : p ≡ k = cc in ap (λ x. x ∷ []) same
 alone_is (p ∷ q ∷ ps) k h = cc
 
 pub lone_there : (lone : List (Option ℕ)) (drivers : List (SmallVec ℕ)) (p k : ℕ) (places : SmallVec ℕ) → lone ≡ map lone_place drivers →

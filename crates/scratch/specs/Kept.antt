@@ -1,6 +1,6 @@
 -- One moment over what the simulator keeps: the state of each gate's driver in the order of the gates, the value of each
 -- net in the order of the nets, and places in these orders in place of names.
-use Rattle.std.specs.Prelude.{◌≡◌, ◌^◌, Bool, true, false, ℕ, nat_eq, nat_lt, if◌then◌else◌, List, [], ◌∷◌, Option, Some, None, map, slice_get, unwrap_or}
+use Rattle.std.specs.Prelude.{◌≡◌, Bool, true, false, ℕ, nat_eq, if◌then◌else◌, List, [], ◌∷◌, Option, Some, None, map, slice_get, unwrap_or}
 use Rattle.std.specs.List.{zip, position_from}
 use Rattle.std.specs.Option.{option_map_or}
 use Rattle.fourstate.specs.declared.value.Value.{Value}
@@ -45,10 +45,10 @@ is_at m (Fixed v) = false
 abbrev pub driven_kind : NetEntry → Option NetKind
 driven_kind n = if n.is_input then None else Some n.kind
 
--- the place that stands alone in a list, if 32 bits can tell it
+-- the place that stands alone in a list
 abbrev pub only_place : List ℕ → Option ℕ
 only_place [] = None
-only_place (p ∷ []) = if nat_lt p (2 ^ 32) then Some p else None
+only_place (p ∷ []) = Some p
 only_place (p ∷ q ∷ ps) = None
 
 abbrev pub lone_place : SmallVec ℕ → Option ℕ

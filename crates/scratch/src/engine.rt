@@ -15,7 +15,7 @@ use crate::opening::Opening;
 use crate::recording::Recording;
 use crate::resolving::resolve_nets;
 use crate::settling::settle;
-use crate::stirring::{add_readers, find_due, find_nets, put_in_order};
+use crate::stirring::{add_readers, find_due, find_nets};
 use crate::wiring::Wiring;
 use bit_set::BitSet;
 use design::Design;
@@ -212,8 +212,12 @@ impl Engine {
             &mut self.waves,
             &mut self.changed,
         )?;
-        add_readers(wiring, self.changed.as_slice(), &mut self.gates)?;
-        put_in_order(&mut self.gates, &mut self.stirred)?;
+        add_readers(
+            wiring,
+            self.changed.as_slice(),
+            &mut self.gates,
+            &mut self.stirred,
+        )?;
         Ok(())
     }
 

@@ -139,7 +139,7 @@ fn find_currents(states: &[Driver], t: u64, out: &mut Vec<Value>) -> Result<(), 
 {
     out.clear();
     for state in states {
-        out.push(state.due(t).cur)?;
+        out.push(state.due(t).current())?;
     }
     Ok(())
 }
@@ -153,12 +153,12 @@ fn value_at(values: &[Value], place: usize) -> Value
 }
 
 /// The values at some places.
-fn gather(values: &[Value], places: &[usize], out: &mut Vec<Value>) -> Result<(), AllocError>
+fn gather(values: &[Value], places: &[u32], out: &mut Vec<Value>) -> Result<(), AllocError>
     ensures { OnOk result (out.new.items ≡ values_at values.now places.now) }
 {
     out.clear();
     for place in places {
-        out.push(value_at(values, *place))?;
+        out.push(value_at(values, *place as usize))?;
     }
     Ok(())
 }
@@ -166,7 +166,7 @@ fn gather(values: &[Value], places: &[usize], out: &mut Vec<Value>) -> Result<()
 /// The value of a net at the moment `t` from the current values of the drivers, those of its own at these places.
 fn net_value(
     net: &Net,
-    places: &[usize],
+    places: &[u32],
     currents: &[Value],
     t: u64,
     driven: &mut Vec<Value>,

@@ -19,7 +19,7 @@ pub fn list_events(alloc: Global, states: &[Driver]) -> Result<EventQueue, Alloc
     let mut events = EventQueue::new(alloc);
     for place in 0..states.len() {
         let state = states[place];
-        if let Some((_, t)) = state.pend {
+        if let Some((_, t)) = state.pending() {
             events.add(alloc, t, place)?;
         }
     }

@@ -23,7 +23,7 @@ fn current_at(states: &[Driver], place: usize, t: u64) -> Value
     ensures { result ≡ unwrap_or (slice_get (currents_of states.now t) place) Value.Unknown }
 {
     match states.get(place) {
-        Some(state) => state.due(t).cur,
+        Some(state) => state.due(t).current(),
         None => Value::Unknown,
     }
 }
@@ -31,7 +31,7 @@ fn current_at(states: &[Driver], place: usize, t: u64) -> Value
 /// The current values at some places.
 fn gather_currents(
     states: &[Driver],
-    places: &[usize],
+    places: &[u32],
     t: u64,
     out: &mut Vec<Value>,
 ) -> Result<(), AllocError>
@@ -39,7 +39,7 @@ fn gather_currents(
 {
     out.clear();
     for place in places {
-        out.push(current_at(states, *place, t))?;
+        out.push(current_at(states, *place as usize, t))?;
     }
     Ok(())
 }
@@ -47,7 +47,7 @@ fn gather_currents(
 /// What a net of this kind has at the moment `t` from the states of its drivers at some places.
 fn resolve_drivers(
     kind: NetKind,
-    places: &[usize],
+    places: &[u32],
     states: &[Driver],
     t: u64,
     driven: &mut Vec<Value>,

@@ -46,11 +46,11 @@ pub fn settle<S: Stepper>(
     laws::no_change::<Driver>();
     for i in 0..gates.len() {
         let place = gates[i];
-        let answer = answers[i].anew();
+        let answer = answers[i];
         let known = states[place].due(t);
         states[place] = answer;
         traces.push_known(place, t, known, answer)?;
-        if let Some((_, time)) = answer.pend {
+        if let Some((_, time)) = answer.pending() {
             events.add(alloc, time, place)?;
         }
     }

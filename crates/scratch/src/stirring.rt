@@ -23,7 +23,7 @@ fn is_due_there(states: &[Driver], place: usize, t: u64) -> bool
 {
     match states.get(place) {
         None => false,
-        Some(state) => match state.pend {
+        Some(state) => match state.pending() {
             None => false,
             Some((_, time)) => time <= t,
         },
@@ -110,7 +110,7 @@ fn add_output(wiring: &Wiring, gate: usize, nets: &mut Vec<usize>) -> Result<(),
     ensures { OnOk result (nets.new.items ≡ nets.old.items ++ output_at wiring.now.outputs.items gate) }
 {
     if let Some(net) = wiring.outputs.get(gate) {
-        nets.push(*net)?;
+        nets.push(*net as usize)?;
     }
     Ok(())
 }
@@ -125,38 +125,34 @@ fn add_outputs(wiring: &Wiring, gates: &[usize], nets: &mut Vec<usize>) -> Resul
     Ok(())
 }
 
-/// Adds the gates that read a net.
-fn add_readers_of(wiring: &Wiring, net: usize, gates: &mut Vec<usize>) -> Result<(), AllocError>
-    ensures { OnOk result (gates.new.items ≡ gates.old.items ++ places_at wiring.now.readers.items net) }
+/// Adds the gates that read a net to a set.
+fn insert_readers_of(wiring: &Wiring, net: usize, set: &mut BitSet) -> Result<(), AllocError>
+    ensures { OnOk result ((k : ℕ) → has_bit set.new k ≡ (has_bit set.old k || has k (places_at wiring.now.readers.items net))) }
 {
     if let Some(readers) = wiring.readers.get(net) {
-        gates.extend_from_slice(readers.as_slice())?;
+        insert_readers(readers.as_slice(), set)?;
     }
     Ok(())
 }
 
-/// Adds the gates that read some nets.
-pub fn add_readers(
-    wiring: &Wiring,
-    nets: &[usize],
-    gates: &mut Vec<usize>,
-) -> Result<(), AllocError>
-    ensures { OnOk result ((k : ℕ) → has k gates.new.items ≡ (has k gates.old.items || list_any (λ m. has k (places_at wiring.now.readers.items m)) nets.now)) }
+/// Adds places to a set.
+#[inline(always)]
+fn insert_readers(readers: &[u32], set: &mut BitSet) -> Result<(), AllocError>
+    ensures { OnOk result ((k : ℕ) → has_bit set.new k ≡ (has_bit set.old k || has k readers.now)) }
+{
+    for place in readers {
+        set.insert(*place as usize)?;
+    }
+    Ok(())
+}
+
+/// Adds the gates that read some nets to a set.
+fn insert_all_readers(wiring: &Wiring, nets: &[usize], set: &mut BitSet) -> Result<(), AllocError>
+    ensures { OnOk result ((k : ℕ) → has_bit set.new k ≡ (has_bit set.old k || list_any (λ m. has k (places_at wiring.now.readers.items m)) nets.now)) }
 {
     for net in nets {
-        add_readers_of(wiring, *net, gates)?;
+        insert_readers_of(wiring, *net, set)?;
     }
-    Ok(())
-}
-
-/// The places in order, each once. `room` is for their set.
-pub fn put_in_order(places: &mut Vec<usize>, room: &mut BitSet) -> Result<(), AllocError>
-    ensures rising { OnOk result (AreRising 0 places.new.items) }
-    ensures same { OnOk result ((k : ℕ) → has k places.new.items ≡ has k places.old.items) }
-{
-    room.clear();
-    insert_all(places.as_slice(), room)?;
-    room.drain(places)?;
     Ok(())
 }
 
@@ -167,5 +163,22 @@ fn insert_all(places: &[usize], set: &mut BitSet) -> Result<(), AllocError>
     for place in places {
         set.insert(*place)?;
     }
+    Ok(())
+}
+
+/// Adds the gates that read some nets, and puts all in order, each once. `room` is for their set.
+pub fn add_readers(
+    wiring: &Wiring,
+    nets: &[usize],
+    gates: &mut Vec<usize>,
+    room: &mut BitSet,
+) -> Result<(), AllocError>
+    ensures rising { OnOk result (AreRising 0 gates.new.items) }
+    ensures all { OnOk result ((k : ℕ) → has k gates.new.items ≡ (has k gates.old.items || list_any (λ m. has k (places_at wiring.now.readers.items m)) nets.now)) }
+{
+    room.clear();
+    insert_all(gates.as_slice(), room)?;
+    insert_all_readers(wiring, nets, room)?;
+    room.drain(gates)?;
     Ok(())
 }

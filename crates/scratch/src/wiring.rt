@@ -17,8 +17,8 @@ use std::marker::Model;
 /// As many inputs of a gate lie beside it, and need no allocation.
 const NEAR_INPUTS: usize = 4;
 
-/// As many drivers or readers of a net lie beside it, and need no allocation.
-const NEAR_PLACES: usize = 2;
+/// As many drivers or readers of a net lie beside it, and need no allocation: they take the room that a pointer to others does.
+const NEAR_PLACES: usize = 4;
 
 /// Where an input of a gate gets its value from.
 #[derive(Clone, Copy, Debug, PartialEq, Eq)]
@@ -120,7 +120,7 @@ fn locate(design: &Design, terminal: Terminal) -> Input
 }
 
 /// Places in the order of the gates.
-pub type Places = SmallVec<usize, NEAR_PLACES>;
+pub type Places = SmallVec<u32, NEAR_PLACES>;
 
 /// The connections of a design, in the order of its gates and of its nets.
 #[derive(Drop)]
@@ -130,7 +130,7 @@ pub struct Wiring {
     /// Of each net, the places of the gates that drive it, in order.
     pub drivers: Vec<Places>,
     /// Of each gate, the place of the net that it drives.
-    pub outputs: Vec<usize>,
+    pub outputs: Vec<u32>,
     /// Of each net, the places of the gates that read it, in order; of one that reads it twice, twice.
     pub readers: Vec<Places>,
     /// Of each net its kind, if drivers give its value.
@@ -175,7 +175,7 @@ fn lone_place(places: &Places) -> Option<u32>
     ensures { result ≡ lone_place places.now }
 {
     match places.as_slice() {
-        [place] => u32::try_from(*place).ok(),
+        [place] => Some(*place),
         _ => None,
     }
 }
@@ -229,6 +229,7 @@ fn drivers_of(alloc: Global, design: &Design, net: NetKey) -> Result<Places, All
     requires { IsSome (net_by_key design.now net) }
     ensures { IfOk result (λ places. IfSome (net_by_key design.now net) (λ n. places.items ≡ driver_places (netlist design.now).gates n.name)) }
 {
+    design.lawful();
     design.places_are_keys();
     let drivers = design.drivers(net);
     let mut places = SmallVec::with_capacity(alloc, drivers.len())?;
@@ -236,13 +237,13 @@ fn drivers_of(alloc: Global, design: &Design, net: NetKey) -> Result<Places, All
         let Some(place) = design.gate_place_of(*driver) else {
             unreachable!();
         };
-        places.push(place)?;
+        places.push(place as u32)?;
     }
     Ok(places)
 }
 
 /// The place of the net that each gate drives.
-fn all_outputs(alloc: Global, design: &Design) -> Result<Vec<usize>, AllocError>
+fn all_outputs(alloc: Global, design: &Design) -> Result<Vec<u32>, AllocError>
     ensures { IfOk result (λ all. (k m : ℕ) → drives_at (netlist design.now) k m ≡ true → has m (output_at all.items k) ≡ true) }
 {
     design.lawful();
@@ -252,13 +253,13 @@ fn all_outputs(alloc: Global, design: &Design) -> Result<Vec<usize>, AllocError>
         let Some(net) = design.net_place_of(design.gate_at(place).output()) else {
             unreachable!();
         };
-        all.push(net)?;
+        all.push(net as u32)?;
     }
     Ok(all)
 }
 
 /// Adds a place to the readers of the net that an input reads.
-fn add_reader(input: Input, place: usize, all: &mut Vec<Places>) -> Result<(), AllocError>
+fn add_reader(input: Input, place: u32, all: &mut Vec<Places>) -> Result<(), AllocError>
     ensures readers { OnOk result ((k m : ℕ) → m < length all.old.items → has k (places_at all.new.items m) ≡ (has k (places_at all.old.items m) || (nat_eq k place && is_at m input))) }
     ensures as_many { OnOk result (length all.new.items ≡ length all.old.items) }
 {
@@ -273,7 +274,7 @@ fn add_reader(input: Input, place: usize, all: &mut Vec<Places>) -> Result<(), A
 }
 
 /// Adds a place to the readers of each net that some inputs read.
-fn add_readers(inputs: &[Input], place: usize, all: &mut Vec<Places>) -> Result<(), AllocError>
+fn add_readers(inputs: &[Input], place: u32, all: &mut Vec<Places>) -> Result<(), AllocError>
     ensures readers { OnOk result ((k m : ℕ) → m < length all.old.items → has k (places_at all.new.items m) ≡ (has k (places_at all.old.items m) || (nat_eq k place && list_any (is_at m) inputs.now))) }
     ensures as_many { OnOk result (length all.new.items ≡ length all.old.items) }
 {
@@ -304,7 +305,7 @@ fn all_readers(alloc: Global, design: &Design, cells: &[Cell]) -> Result<Vec<Pla
     let mut all = empty_lists(alloc, design.net_count())?;
     for place in 0..cells.len() {
         let cell = &cells[place];
-        add_readers(cell.inputs(), place, &mut all)?;
+        add_readers(cell.inputs(), place as u32, &mut all)?;
     }
     Ok(all)
 }

@@ -6,7 +6,6 @@ use Rattle.std.specs.Option.{option_map_or}
 use Rattle.fourstate.specs.Delays.{AreDelays}
 use Rattle.fourstate.specs.Gates.{takes_inputs}
 use Rattle.fourstate.specs.declared.net.NetKind.{NetKind}
-use Rattle.catalog.specs.Catalog.{keys_of}
 use Rattle.design.specs.declared.limits.TheConstants.{MAX_GATES, MAX_NAME, MAX_NETS}
 use Rattle.design.specs.Connections.{Connection, to_net, to_constant}
 use Rattle.design.specs.Names.{is_name}
@@ -195,7 +194,3 @@ module _ (names : List (List ℕ)) (flat : List netlist.NetEntry) (scope : Place
 pub record AreDistinctGates (gates : List netlist.GateEntry) : Type 0 where
   pub distinct : AllPairs (λ a b. a.name ≢ b.name) gates
   pub room : length gates ≤ MAX_GATES
-
--- the keys of the nets, by place
-abbrev pub AreNetKeys : List (ℕ × netlist.NetEntry) → List ℕ → Type 0
-AreNetKeys nets keys = keys ≡ keys_of nets

@@ -11,7 +11,6 @@ ghost use Rattle.vtext.specs.Sound.{IsSoundModule};
 use crate::gates::with_gates;
 use crate::late::scopes_fault;
 use crate::names::name_from;
-use crate::net_keys::net_keys;
 use crate::nets::with_nets;
 use design::laws::parts_are_names;
 use design::{Design, NameHasher};
@@ -69,8 +68,7 @@ fn design_from(
     let name = name_from(alloc, names.text(elaboration.top()))?;
     let design = Design::empty(alloc, hasher, name, unit_of(modules.unit()));
     let design = with_nets(alloc, design, names, scopes, elaboration.net_count())?;
-    let keys = net_keys(alloc, &design)?;
-    with_gates(alloc, design, keys.as_slice(), names, scopes)
+    with_gates(alloc, design, names, scopes)
 }
 
 /// The unit of a design: that of its text's directives, 1 ns without one (own).

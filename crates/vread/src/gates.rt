@@ -7,7 +7,7 @@ ghost use Rattle.design.specs.Keys.{IsThere, connection_in, entry_in, name_of, n
 ghost use Rattle.design.specs.Names.{is_name};
 ghost use Rattle.elaboration.specs.Numbered.{ref_at};
 ghost use Rattle.vtext.specs.GateNames.{gate_bytes};
-ghost use Rattle.vread.specs.Parts.{AreDistinctGates, AreFitGates, AreNetKeys, IsDrivable, IsFitGate, IsReadable, connection_of, driven, kept_gate, kept_gates, output_of};
+ghost use Rattle.vread.specs.Parts.{AreDistinctGates, AreFitGates, IsDrivable, IsFitGate, IsReadable, connection_of, driven, kept_gate, kept_gates, output_of};
 
 use crate::names::name_in;
 use crate::net_keys::key_of;
@@ -21,18 +21,16 @@ use vtext::{InstanceName, Names, gate_name};
 pub fn with_gates(
     alloc: Global,
     design: Design,
-    keys: &[NetKey],
     names: &Names,
     scopes: &[Scope],
 ) -> Result<Design, AllocError>
-    requires keys { AreNetKeys design.nets keys.now }
     requires fit { All (AreFitGates names.now (netlist design).nets) scopes.now }
     requires distinct { AreDistinctGates ((netlist design).gates ++ flat_map (kept_gates names.now (netlist design).nets) scopes.now) }
     ensures { IfOk result (λ made. netlist made ≡ record (netlist design) { gates = (netlist design).gates ++ flat_map (kept_gates names.now (netlist design).nets) scopes.now }) }
 {
     let mut made = design;
     for scope in scopes {
-        made = with_scope_gates(alloc, made, keys, names, scope)?;
+        made = with_scope_gates(alloc, made, names, scope)?;
     }
     Ok(made)
 }
@@ -41,60 +39,38 @@ pub fn with_gates(
 fn with_scope_gates(
     alloc: Global,
     design: Design,
-    keys: &[NetKey],
     names: &Names,
     scope: &Scope,
 ) -> Result<Design, AllocError>
-    requires keys { AreNetKeys design.nets keys.now }
     requires fit { AreFitGates names.now (netlist design).nets scope.now }
     requires distinct { AreDistinctGates ((netlist design).gates ++ kept_gates names.now (netlist design).nets scope.now) }
-    ensures gates { IfOk result (λ made. netlist made ≡ record (netlist design) { gates = (netlist design).gates ++ kept_gates names.now (netlist design).nets scope.now }) }
-    ensures nets { IfOk result (λ made. made.nets ≡ design.nets) }
+    ensures { IfOk result (λ made. netlist made ≡ record (netlist design) { gates = (netlist design).gates ++ kept_gates names.now (netlist design).nets scope.now }) }
 {
     let mut made = design;
     for gate in scope.module().gates() {
-        made = with_gate(alloc, made, keys, names, scope, gate)?;
+        let kept = gate_of(alloc, &made, names, scope, gate)?;
+        let (design, _key) = made.add_gate(kept)?;
+        made = design;
     }
     Ok(made)
 }
 
-/// The design with a gate more.
-fn with_gate(
-    alloc: Global,
-    design: Design,
-    keys: &[NetKey],
-    names: &Names,
-    scope: &Scope,
-    gate: &vtext::Gate,
-) -> Result<Design, AllocError>
-    requires keys { AreNetKeys design.nets keys.now }
-    requires fit { IsFitGate names.now (netlist design).nets scope.now gate.now }
-    requires distinct { AreDistinctGates ((netlist design).gates ++ kept_gate names.now (netlist design).nets scope.now gate.now ∷ []) }
-    ensures gates { IfOk result (λ made. netlist made ≡ record (netlist design) { gates = (netlist design).gates ++ kept_gate names.now (netlist design).nets scope.now gate.now ∷ [] }) }
-    ensures nets { IfOk result (λ made. made.nets ≡ design.nets) }
-{
-    let made = gate_of(alloc, &design, keys, names, scope, gate)?;
-    let (design, _key) = design.add_gate(made)?;
-    Ok(design)
-}
-
 /// A gate of a scope as one of a design that has its nets.
+#[inline(never)]
 fn gate_of(
     alloc: Global,
     design: &Design,
-    keys: &[NetKey],
     names: &Names,
     scope: &Scope,
     gate: &vtext::Gate,
 ) -> Result<Gate, AllocError>
-    requires keys { AreNetKeys design.now.nets keys.now }
-    requires fit { IsFitGate names.now (netlist design.now).nets scope.now gate.now }
+    requires { IsFitGate names.now (netlist design.now).nets scope.now gate.now }
     ensures entry { IfOk result (λ made. entry_in design.now.nets made ≡ kept_gate names.now (netlist design.now).nets scope.now gate.now) }
     ensures connected { IfOk result (Keys.IsConnected design.now.nets) }
 {
     let name = name_of_gate(alloc, names, scope, gate)?;
-    let inputs = connections(alloc, design, keys, scope, gate.inputs())?;
-    let output = output_of(design, keys, scope.node(gate.output()));
+    let inputs = connections(alloc, design, scope, gate.inputs())?;
+    let output = output_of(design, scope.node(gate.output()));
     let delays = delays_of(gate);
     Ok(Gate::new(name, gate.kind(), delays, output, inputs))
 }
@@ -127,14 +103,13 @@ fn delays_of(gate: &vtext::Gate) -> Delays
 }
 
 /// The key of the net that a gate drives.
-fn output_of(design: &Design, keys: &[NetKey], node: NodeRef) -> NetKey
-    requires keys { AreNetKeys design.now.nets keys.now }
-    requires drivable { IsDrivable (netlist design.now).nets node }
+fn output_of(design: &Design, node: NodeRef) -> NetKey
+    requires { IsDrivable (netlist design.now).nets node }
     ensures net { IsSomeAnd (net_by_key design.now result) (λ net. net.is_input ≡ false) }
     ensures name { name_of design.now.nets result ≡ output_of (netlist design.now).nets node }
 {
     match node {
-        NodeRef::Nets(run) => key_of(design, keys, run),
+        NodeRef::Nets(run) => key_of(design, run),
         NodeRef::Tied(_) => unreachable!(),
     }
 }
@@ -143,32 +118,29 @@ fn output_of(design: &Design, keys: &[NetKey], node: NodeRef) -> NetKey
 fn connections(
     alloc: Global,
     design: &Design,
-    keys: &[NetKey],
     scope: &Scope,
     inputs: &[vtext::Terminal],
 ) -> Result<Inputs, AllocError>
-    requires keys { AreNetKeys design.now.nets keys.now }
-    requires readable { All (λ input. IsReadable (netlist design.now).nets (ref_at scope.now input)) inputs.now }
+    requires { All (λ input. IsReadable (netlist design.now).nets (ref_at scope.now input)) inputs.now }
     ensures named { IfOk result (λ made. map (connection_in design.now.nets) made.items ≡ map (λ input. connection_of (netlist design.now).nets (ref_at scope.now input)) inputs.now) }
     ensures there { IfOk result (λ made. All (IsThere design.now.nets) made.items) }
     ensures count { IfOk result (λ made. length made.items ≡ length inputs.now) }
 {
     let mut made = Inputs::with_capacity(alloc, inputs.len())?;
     for input in inputs {
-        let connection = connection(design, keys, scope.node(*input));
+        let connection = connection(design, scope.node(*input));
         made.push(connection)?;
     }
     Ok(made)
 }
 
-fn connection(design: &Design, keys: &[NetKey], node: NodeRef) -> Terminal
-    requires keys { AreNetKeys design.now.nets keys.now }
-    requires readable { IsReadable (netlist design.now).nets node }
+fn connection(design: &Design, node: NodeRef) -> Terminal
+    requires { IsReadable (netlist design.now).nets node }
     ensures named { connection_in design.now.nets result ≡ connection_of (netlist design.now).nets node }
     ensures there { IsThere design.now.nets result }
 {
     match node {
-        NodeRef::Nets(run) => Terminal::Net(key_of(design, keys, run)),
+        NodeRef::Nets(run) => Terminal::Net(key_of(design, run)),
         NodeRef::Tied(value) => Terminal::Constant(value),
     }
 }

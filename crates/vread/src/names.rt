@@ -7,10 +7,13 @@ ghost use Rattle.vtext.specs.Bits.{bit_bytes};
 use design::Name;
 use design::laws::names_print;
 use itoa::Buffer;
+use smallvec::SmallVec;
 use std::alloc::{AllocError, Global};
 
 /// How many bytes an index has at most, with its brackets.
 const MOST_BRACKETED: usize = 7;
+/// How many bytes of a name below the top are joined without memory being asked for (own).
+const INLINE_BYTES: usize = 64;
 
 /// The name that these bytes are.
 pub fn name_from(alloc: Global, bytes: &[u8]) -> Result<Name, AllocError>
@@ -41,7 +44,7 @@ pub fn name_in(alloc: Global, path: &[u8], name: &[u8]) -> Result<Name, AllocErr
     if path.is_empty() {
         return name_from(alloc, name);
     }
-    let mut bytes = Vec::with_capacity(alloc, path.len() + name.len())?;
+    let mut bytes = SmallVec::<u8, INLINE_BYTES>::new(alloc);
     bytes.extend_from_slice(path)?;
     bytes.extend_from_slice(name)?;
     name_from(alloc, bytes.as_slice())

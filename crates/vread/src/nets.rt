@@ -36,22 +36,14 @@ fn with_all(design: Design, nets: Vec<NewNet>) -> Result<Design, AllocError>
 {
     let mut made = design;
     for net in nets {
-        made = with_net(made, net)?;
+        if net.is_input {
+            made = with_input(made, net.name, net.kind)?;
+        } else {
+            let (design, _key) = made.add_net(net.name, net.kind)?;
+            made = design;
+        }
     }
     Ok(made)
-}
-
-/// The design with a net more.
-fn with_net(design: Design, net: NewNet) -> Result<Design, AllocError>
-    requires { AreFitNets ((netlist design).nets ++ net ∷ []) }
-    ensures { IfOk result (λ made. netlist made ≡ with_net (netlist design) net) }
-{
-    if net.is_input {
-        with_input(design, net.name, net.kind)
-    } else {
-        let (design, _key) = design.add_net(net.name, net.kind)?;
-        Ok(design)
-    }
 }
 
 /// The design with an input more.

@@ -2,7 +2,7 @@ pub mod NameLemmas
 pub mod RecentLemmas
 pub mod GateLemmas
 pub mod WalkLemmas
-pub mod FindLemmas
+pub mod UnitLemmas
 pub mod ReadLemmas
 pub mod WalkLaws
 pub mod MarkLemmas

@@ -1,5 +1,5 @@
 -- What the tokens of a text say to the grammar.
-use Rattle.std.specs.Prelude.{ℕ, ◌+◌, ◌==◌, Bool, true, false, if◌then◌else◌, List, [], Option, Some, map, drop, slice_index}
+use Rattle.std.specs.Prelude.{ℕ, ◌+◌, ◌==◌, Bool, true, false, if◌then◌else◌, List, [], Option, Some, map, drop, slice_index, unwrap_or}
 use Rattle.std.specs.List.{find, fold}
 use Rattle.std.specs.Option.{option_and_then}
 use Rattle.lexing.specs.Constants.{constant_of}
@@ -69,6 +69,10 @@ is_timescale kind = false
 -- the unit of the first directive of a text
 abbrev pub first_unit : List ℕ → List Token → Option TimeUnit
 first_unit text tokens = option_and_then (unit_at text) (find (λ (token : Token). is_timescale token.shape) tokens)
+
+-- the unit of the first directive so far, with one more token, if that is one
+abbrev pub with_directive : List ℕ → Option (Option TimeUnit) → Token → Option (Option TimeUnit)
+with_directive text first token = if is_timescale token.shape then Some (unwrap_or first (unit_at text token)) else first
 
 -- a directive whose unit is that of the first one; another unit is refused (own)
 abbrev pub directive_word : Option TimeUnit → Option TimeUnit → Word

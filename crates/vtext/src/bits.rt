@@ -26,6 +26,7 @@ pub struct BitName {
 }
 
 /// Where the last opening bracket is.
+#[inline(never)]
 fn last_open(bytes: &[u8]) -> Option<usize>
     ensures place { result ≡ last_open bytes.now }
     ensures within { IfSome result (λ place. place < length bytes.now) }
@@ -79,6 +80,7 @@ impl<'a> Names<'a> {
     }
 
     /// The bit that a name is of, whose last opening bracket is at this place.
+    #[inline(never)]
     fn bit_at(&self, name: u32, bytes: &[u8], place: usize) -> Option<BitName>
         requires { place < length bytes.now }
         ensures { result ≡ bit_at self.now name bytes.now place }
@@ -87,6 +89,7 @@ impl<'a> Names<'a> {
     }
 
     /// The bit that a name is of, if the vector's name is one of the text.
+    #[inline(always)]
     pub fn bit(&self, name: u32) -> Option<BitName>
         ensures { result ≡ bit_of self.now name (name_at self.now name) }
     {

@@ -266,12 +266,19 @@ impl Draft {
         }
     }
 
-    /// Why a net declaration refuses a name.
-    pub fn net_cause(&self, names: &Names, bits: &[BitName], name: u32) -> Option<Cause>
-        requires { bits.now ≡ bit_names names.now }
+    /// Why a net declaration refuses a name, of which this was said.
+    pub fn net_cause(
+        &self,
+        names: &Names,
+        bits: &[BitName],
+        name: u32,
+        said: Option<Net>,
+    ) -> Option<Cause>
+        requires bits { bits.now ≡ bit_names names.now }
+        requires said { said ≡ net_of (view self.now).nets name }
         ensures { result ≡ net_cause names.now (view self.now) name }
     {
-        let net = self.net(name).unwrap_or(Net::BLANK);
+        let net = said.unwrap_or(Net::BLANK);
         match declared_again(net) {
             Some(cause) => Some(cause),
             None => self.declared_cause(names, bits, name, net),

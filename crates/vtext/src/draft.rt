@@ -149,12 +149,21 @@ impl Draft {
     }
 
     /// What is said of a net so far.
+    #[inline(always)]
     pub fn net(&self, name: u32) -> Option<Net>
         ensures { result ≡ net_of (view self.now).nets name }
     {
         if let Some(net) = self.hinted_net(name) {
             return Some(net);
         }
+        self.found_net(name)
+    }
+
+    /// What is said of a net so far: it is looked for by its hash.
+    #[inline(never)]
+    fn found_net(&self, name: u32) -> Option<Net>
+        ensures { result ≡ net_of (view self.now).nets name }
+    {
         self.module.nets.get(&name).copied()
     }
 

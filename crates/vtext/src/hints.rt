@@ -39,6 +39,7 @@ impl Hints {
         };
         let span = last.saturating_sub(first) as usize;
         if span / SPREAD < nets.len() {
+            hints.make_room(span)?;
             for (place, name) in nets.keys().enumerate() {
                 hints.note(*name, place)?;
             }
@@ -61,9 +62,17 @@ impl Hints {
         };
         let at = name.saturating_sub(self.first) as usize;
         if self.places.len() <= at {
-            self.places.resize(at + 1, 0)?;
+            self.make_room(at.saturating_mul(2))?;
         }
-        self.places[at] = place;
+        if let Some(noted) = self.places.get_mut(at) {
+            *noted = place;
+        }
+        Ok(())
+    }
+
+    /// Has places for so many numbers behind the first one.
+    fn make_room(&mut self, span: usize) -> Result<(), AllocError> {
+        self.places.resize(span.saturating_add(1), 0)?;
         Ok(())
     }
 }

@@ -156,10 +156,11 @@ impl Draft {
     {
         match word {
             Word::Name(name) => {
-                if let Some(cause) = self.net_cause(names, bits, name) {
+                let said = self.net(name);
+                if let Some(cause) = self.net_cause(names, bits, name, said) {
                     return Ok(Turn::Refused(cause));
                 }
-                self.declare_net(name)?;
+                self.declare_net(name, said)?;
                 Ok(Turn::To(ParserState::NetNext))
             }
             Word::Misnamed => Ok(Turn::Refused(Cause::BadName)),

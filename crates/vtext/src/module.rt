@@ -82,6 +82,7 @@ impl Module {
     }
 
     /// The place of the net of this name, by its number, in the module's order; none where there is no such net.
+    #[inline(always)]
     pub fn net_place(&self, name: u32) -> Option<usize>
         ensures place { result ≡ place_of self.now.nets name }
         ensures there { is_some result ≡ is_some (net_of self.now.nets name) }

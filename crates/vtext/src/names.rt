@@ -39,6 +39,13 @@ impl<'a> Names<'a> {
         }
     }
 
+    /// Makes room for so many more names.
+    pub fn reserve(&mut self, count: usize) -> Result<(), AllocError>
+        ensures { self.new ≡ self.old }
+    {
+        self.texts.reserve(count)
+    }
+
     /// The number of a name; none of one that is not there.
     #[tactic(auto, using(crate::proofs::NameLemmas::texts_found))]
     pub fn find(&self, name: &[u8]) -> Option<u32>

@@ -44,11 +44,12 @@ impl Draft {
         self.set_net(name, net)
     }
 
-    /// A net declaration names a net.
-    pub fn declare_net(&mut self, name: u32) -> Result<(), AllocError>
+    /// A net declaration names a net of which this was said.
+    pub fn declare_net(&mut self, name: u32, said: Option<Net>) -> Result<(), AllocError>
+        requires { said ≡ net_of (view self.old).nets name }
         ensures { OnOk result (view self.new ≡ declare_net (view self.old) name) }
     {
-        let mut net = self.net(name).unwrap_or(Net::BLANK);
+        let mut net = said.unwrap_or(Net::BLANK);
         net.kind = self.declaration.kind;
         net.range = self.declaration.range;
         self.set_net(name, net)

@@ -1,6 +1,6 @@
 //! The table of names, with what each says as a word.
 
-ghost use Rattle.std.specs.Prelude.{◌≡◌, [], IfOk, OnOk, Some};
+ghost use Rattle.std.specs.Prelude.{◌≡◌, [], IfOk, None, OnOk, Some};
 ghost use Rattle.vtext.specs.Keywords.{meanings_of, name_word, plain_word};
 ghost use Rattle.vtext.specs.Names.{number_of, with_name};
 
@@ -8,6 +8,7 @@ use crate::keywords::{name_word, plain_word};
 use crate::names::Names;
 use crate::word::Word;
 use design::NameHasher;
+use fourstate::TimeUnit;
 use std::alloc::{AllocError, Global};
 
 /// The names of a text so far, and what each says where it is not escaped, by its number.
@@ -15,6 +16,8 @@ use std::alloc::{AllocError, Global};
 pub struct Table<'a> {
     pub names: Names<'a>,
     pub meanings: Vec<Word>,
+    /// The unit of the text's first directive, once there was one.
+    pub directive: Option<Option<TimeUnit>>,
 }
 
 impl<'a> Table<'a> {
@@ -22,10 +25,12 @@ impl<'a> Table<'a> {
     pub fn new(alloc: Global, hasher: NameHasher) -> Table<'a>
         ensures names { result.names ≡ [] }
         ensures meanings { result.meanings.items ≡ [] }
+        ensures directive { result.directive ≡ None }
     {
         Table {
             names: Names::new(alloc, hasher),
             meanings: Vec::new(alloc),
+            directive: None,
         }
     }
 
@@ -34,6 +39,7 @@ impl<'a> Table<'a> {
         requires { self.old.meanings.items ≡ meanings_of self.old.names }
         ensures names { OnOk result (self.new.names ≡ with_name self.old.names name.now) }
         ensures meanings { OnOk result (self.new.meanings.items ≡ meanings_of self.new.names) }
+        ensures directive { self.new.directive ≡ self.old.directive }
         ensures number { IfOk result (λ number. number_of self.new.names name.now ≡ Some number) }
     {
         let number = self.names.add(name)?;
@@ -48,6 +54,7 @@ impl<'a> Table<'a> {
         requires { self.old.meanings.items ≡ meanings_of self.old.names }
         ensures names { OnOk result (self.new.names ≡ with_name self.old.names name.now) }
         ensures meanings { OnOk result (self.new.meanings.items ≡ meanings_of self.new.names) }
+        ensures directive { self.new.directive ≡ self.old.directive }
         ensures word { IfOk result (λ word. word ≡ plain_word self.new.names name.now) }
     {
         let number = self.number(name)?;
@@ -59,6 +66,7 @@ impl<'a> Table<'a> {
         requires { self.old.meanings.items ≡ meanings_of self.old.names }
         ensures names { OnOk result (self.new.names ≡ with_name self.old.names name.now) }
         ensures meanings { OnOk result (self.new.meanings.items ≡ meanings_of self.new.names) }
+        ensures directive { self.new.directive ≡ self.old.directive }
         ensures word { IfOk result (λ word. word ≡ name_word self.new.names name.now) }
     {
         let number = self.number(name)?;

@@ -1,12 +1,12 @@
 //! Time units of directives.
 
-ghost use Rattle.std.specs.Prelude.{◌≡◌, ◌≤◌, All, length};
+ghost use Rattle.std.specs.Prelude.{◌≡◌, ◌≤◌, length};
 ghost use Rattle.lexing.specs.Texts.{IsInside};
-ghost use Rattle.vtext.specs.Words.{directive_word, first_unit, is_timescale, magnitude_power, power_of, same_unit, unit_at, unit_power};
+ghost use Rattle.vtext.specs.Words.{directive_word, magnitude_power, power_of, same_unit, unit_at, unit_power};
 
 use crate::word::Word;
 use fourstate::{Magnitude, TimeUnit, Unit};
-use lexing::{Shape, Token, timescale};
+use lexing::{Token, timescale};
 
 fn magnitude_power(magnitude: Magnitude) -> u8
     ensures value { result ≡ magnitude_power magnitude }
@@ -67,26 +67,4 @@ pub fn unit_at(text: &[u8], token: Token) -> Option<TimeUnit>
     ensures { result ≡ unit_at text.now token }
 {
     timescale(&text[token.start as usize..])
-}
-
-fn is_timescale(token: Token) -> bool
-    ensures { result ≡ is_timescale token.shape }
-{
-    match token.shape {
-        Shape::Timescale => true,
-        _ => false,
-    }
-}
-
-/// The unit of the first directive of a text.
-pub fn first_unit(text: &[u8], tokens: &[Token]) -> Option<TimeUnit>
-    requires { All (IsInside (length text.now)) tokens.now }
-    ensures { result ≡ first_unit text.now tokens.now }
-{
-    for token in tokens {
-        if is_timescale(*token) {
-            return unit_at(text, *token);
-        }
-    }
-    None
 }

@@ -12,7 +12,7 @@ use crate::draft::Draft;
 use crate::names::Names;
 use crate::parser_state::ParserState;
 use crate::turn::Turn;
-use crate::word::{Placed, Word};
+use crate::word::Placed;
 use std::alloc::{AllocError, Global};
 
 /// Why a list of words was refused.
@@ -34,16 +34,6 @@ impl From<AllocError> for Refusal {
     }
 }
 
-/// The word at a place.
-fn word_at(words: &[Placed], place: usize) -> Option<Word>
-    ensures { result ≡ word_at words.now place }
-{
-    match words.get(place) {
-        Some(next) => Some(next.word),
-        None => None,
-    }
-}
-
 /// What a list of words says, or its first fault.
 pub fn walk(
     alloc: Global,
@@ -59,7 +49,6 @@ pub fn walk(
     let mut draft = Draft::new(alloc);
     let mut state = ParserState::Outside;
     for i in 0..words.len() {
-        let after = word_at(words, i + 1);
         match draft.turn(
             alloc,
             default,
@@ -67,7 +56,8 @@ pub fn walk(
             bits.as_slice(),
             state,
             words[i],
-            after,
+            words,
+            i + 1,
         )? {
             Turn::To(to) => state = to,
             Turn::Refused(cause) => return Err(Refusal::Fault(i, cause)),

@@ -1,33 +1,45 @@
 //! What the tokens of a text say to the grammar.
 
-ghost use Rattle.std.specs.Prelude.{◌≡◌, All, IfOk, OnOk, length};
+ghost use Rattle.std.specs.Prelude.{◌≡◌, All, IfOk, None, OnOk, Some, length, unwrap_or};
 ghost use Rattle.lexing.specs.Texts.{IsInside};
 ghost use Rattle.vtext.specs.Keywords.{meanings_of};
-ghost use Rattle.vtext.specs.Words.{names_of, with_token, word_of, words_of};
+ghost use Rattle.vtext.specs.Words.{directive_word, names_of, unit_at, with_directive, with_token, word_of, words_of};
 
 use crate::keywords::mark;
 use crate::names::Names;
 use crate::table::Table;
-use crate::units::{directive_word, first_unit, unit_at};
+use crate::units::{directive_word, unit_at};
 use crate::word::{Placed, Word};
 use design::NameHasher;
-use fourstate::TimeUnit;
 use lexing::{Shape, Token, constant_value, number_value};
 use std::alloc::{AllocError, Global};
 
+/// For how many tokens there probably is a new name (own).
+const TOKENS_FOR_A_NAME: usize = 8;
+
 impl<'a> Table<'a> {
+    /// What a directive says.
+    fn directive_word(&mut self, text: &[u8], token: Token) -> Word
+        requires { IsInside (length text.now) token }
+        ensures names { self.new.names ≡ self.old.names }
+        ensures meanings { self.new.meanings.items ≡ self.old.meanings.items }
+        ensures directive { self.new.directive ≡ Some (unwrap_or self.old.directive (unit_at text.now token)) }
+        ensures word { result ≡ directive_word (unwrap_or self.new.directive None) (unit_at text.now token) }
+    {
+        let unit = unit_at(text, token);
+        let first = self.directive.unwrap_or(unit);
+        self.directive = Some(first);
+        directive_word(first, unit)
+    }
+
     /// What a token says; its name is then in the table, if it has one.
-    fn word(
-        &mut self,
-        first: Option<TimeUnit>,
-        text: &'a [u8],
-        token: Token,
-    ) -> Result<Placed, AllocError>
+    fn word(&mut self, text: &'a [u8], token: Token) -> Result<Placed, AllocError>
         requires inside { IsInside (length text.now) token }
         requires meanings { self.old.meanings.items ≡ meanings_of self.old.names }
         ensures names { OnOk result (self.new.names ≡ with_token text.now self.old.names token) }
         ensures meanings { OnOk result (self.new.meanings.items ≡ meanings_of self.new.names) }
-        ensures word { IfOk result (λ word. word ≡ word_of self.new.names first text.now token) }
+        ensures directive { OnOk result (self.new.directive ≡ with_directive text.now self.old.directive token) }
+        ensures word { IfOk result (λ word. word ≡ word_of self.new.names (unwrap_or self.new.directive None) text.now token) }
     {
         let bytes = token.bytes(text);
         let word = match token.shape {
@@ -35,7 +47,7 @@ impl<'a> Table<'a> {
             Shape::Escaped => self.name_word(token.name(text))?,
             Shape::Number => Word::Number(number_value(bytes)),
             Shape::Constant => Word::Literal(constant_value(bytes)),
-            Shape::Timescale => directive_word(first, unit_at(text, token)),
+            Shape::Timescale => self.directive_word(text, token),
             Shape::Other => mark(bytes[0]),
             Shape::Unending => Word::Broken,
             Shape::Stray => Word::Stray,
@@ -58,11 +70,11 @@ pub fn words<'a>(
     ensures names { IfOk result (λ said. said.0 ≡ names_of text.now tokens.now) }
     ensures words { IfOk result (λ said. said.1.items ≡ words_of text.now tokens.now) }
 {
-    let first = first_unit(text, tokens);
     let mut table = Table::new(alloc, hasher);
+    table.names.reserve(tokens.len() / TOKENS_FOR_A_NAME)?;
     let mut words = Vec::with_capacity(alloc, tokens.len())?;
     for token in tokens {
-        words.push(table.word(first, text, *token)?)?;
+        words.push(table.word(text, *token)?)?;
     }
     Ok((table.names, words))
 }

@@ -46,17 +46,17 @@ impl TraceEntry {
         requires { CanStore time state }
         ensures { result ≡ (time, state) }
     {
-        match state.pend {
+        match state.pending() {
             None => TraceEntry {
                 time,
                 after: 0,
-                current: state.cur,
+                current: state.current(),
                 pending: None,
             },
             Some((value, due)) => TraceEntry {
                 time,
                 after: (due - time) as u32,
-                current: state.cur,
+                current: state.current(),
                 pending: Some(value),
             },
         }
@@ -75,12 +75,11 @@ impl TraceEntry {
     pub fn state(&self) -> Driver
         ensures { result ≡ self.now.1 }
     {
-        Driver {
-            cur: self.current,
-            pend: match self.pending {
-                None => None,
-                Some(value) => Some((value, self.time + u64::from(self.after))),
-            },
+        match self.pending {
+            None => Driver::steady(self.current),
+            Some(value) => {
+                Driver::waiting(self.current, value, self.time + u64::from(self.after))
+            }
         }
     }
 }

@@ -52,7 +52,7 @@ impl Sample for Driver {
 
     #[inline(always)]
     fn is_same(self, other: Driver) -> bool {
-        self == other
+        self.is_same(other)
     }
 
     ghost same_is_equal = { is_same_state };

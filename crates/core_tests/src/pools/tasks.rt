@@ -34,12 +34,9 @@ fn state(dice: &mut Dice) -> Driver
     let cur = value(dice);
     let next = value(dice);
     if next == cur {
-        return Driver { cur, pend: None };
+        return Driver::steady(cur);
     }
-    Driver {
-        cur,
-        pend: Some((next, MOMENT + dice.below(5))),
-    }
+    Driver::waiting(cur, next, MOMENT + dice.below(5))
 }
 
 fn task(rt: &impl Abort, dice: &mut Dice) -> Task

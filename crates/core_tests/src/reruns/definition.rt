@@ -102,7 +102,7 @@ fn is_stirred(rt: &impl Abort, new: Side<'_>, place: usize, t: u64) -> bool {
         return true;
     }
     let (before, now) = (row_at(rt, new.rows, t - 1), row_at(rt, new.rows, t));
-    let is_due = match state(rt, now, place).pend {
+    let is_due = match state(rt, now, place).pending() {
         None => false,
         Some((_, due)) => due <= t,
     };

@@ -42,7 +42,7 @@ fn net_value(
         assert!(rt; place < design.gate_count());
         let gate = design.gate_at(place);
         if design.name_of(gate.output()).as_str() == net.name().as_str() {
-            let value = states[place].due(t).cur;
+            let value = states[place].due(t).current();
             driven.push(value).expect(rt, "one value more");
         }
     }
@@ -101,7 +101,7 @@ fn after(
     t: u64,
 ) -> Driver {
     assert!(rt; t <= MAX_TIME);
-    if let Some((_, due)) = state.pend {
+    if let Some((_, due)) = state.pending() {
         assert!(rt; t <= due);
     }
     assert!(rt; read.len() == gate.inputs().len());

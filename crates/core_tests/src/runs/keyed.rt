@@ -29,14 +29,8 @@ const WHOLE: [&str; 7] = [
 fn check_trace(rt: &impl Abort, design: &Design, run: &Run) {
     let gate = design.gate("g").expect(rt, "the inverter");
     let trace = run.trace(gate.number()).expect(rt, "its trace");
-    let rising = Driver {
-        cur: Unknown,
-        pend: Some((One, 2)),
-    };
-    let risen = Driver {
-        cur: One,
-        pend: None,
-    };
+    let rising = Driver::waiting(Unknown, One, 2);
+    let risen = Driver::steady(One);
     equal(rt, "number of entries", trace.entries().len(), 1);
     equal(rt, "at 1", trace.at(1), rising);
     equal(rt, "at 2", trace.at(2), risen);

@@ -31,10 +31,10 @@ pub loop-place-preserved : goal.loop-place-preserved
 loop-place-preserved c =
     let states = c.args.states.now in let place = c.loop-place.place in let s = c.index-states-place.result in
     let at = slice_get_read states (length states) place s refl c.loop-place-test.true c.index-states-place.is in
-    elim c.match-state.branch [
+    elim c.match-pending.branch [
       | in-Some+in_ok-add w ↦
           let event : Value × ℕ = (w.in-Some.field-0-0, w.in-Some.t) in
-          let pending : s.pending ≡ Some event = sym (ap (λ (x : State). x.pending) c.state.view_is) ∙ w.in-Some.is in
+          let pending : s.pending ≡ Some event = sym c.pending.ensures ∙ w.in-Some.is in
           record {
             covers = rw w.events-is (λ k u low h. some_by states place s at c.loop-place.events w.add.new.self c.loop-place.invariant.covers event pending w.in_ok-add.ensures.ok k u h (search arith));
             early = λ n all u low.
@@ -42,7 +42,7 @@ loop-place-preserved c =
                 ap (λ q. noted q u) w.events-is ∙ elsewhere event.1 place c.loop-place.events w.add.new.self w.in_ok-add.ensures.ok u (nat_beyond event.1 u (omega arith)) ∙ c.loop-place.invariant.early n all u low;
           }
       | in_default w ↦
-          let pending : s.pending ≡ None = sym (ap (λ (x : State). x.pending) c.state.view_is) ∙ w.in_default.is in
+          let pending : s.pending ≡ None = sym c.pending.ensures ∙ w.in_default.is in
           record {
             covers = rw w.events-is (λ k u low h. none_by states place s at c.loop-place.events c.loop-place.invariant.covers pending k u h (search arith));
             early = λ n all u low. ap (λ q. noted q u) w.events-is ∙ c.loop-place.invariant.early n all u low;

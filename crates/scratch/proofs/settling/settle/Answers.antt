@@ -6,10 +6,10 @@ use Rattle.std.proofs.Math.ListN.{set}
 use Rattle.std.specs.Prelude.{◌&&◌}
 use Rattle.event_queue.specs.Noted.{noted}
 use Rattle.fourstate.specs.declared.value.Value.{Value}
-use Rattle.gatestep.specs.Step.{State, due}
+use Rattle.gatestep.specs.Step.{due}
 use Rattle.waveform.specs.Changes.{trace_below}
 use Rattle.waveform.specs.Entries.{CanStore, same_state}
-use Rattle.waveform.specs.Timelines.{is_reached, pushed}
+use Rattle.waveform.specs.Timelines.{pushed}
 use Rattle.design.specs.Keys.{netlist}
 use Rattle.design.specs.Netlist.{GateEntry}
 use Rattle.scratch.specs.Places.{AreRising, Covers, has, pends_at}
@@ -121,9 +121,8 @@ push_known-requires-clause-known g c =
     ap (λ l. slice_get l place) (sym c.requires.states)
     ∙ sym (is_old (take c.loop-i.i gates) (slice_get c.args.states.now.items) (slice_get (map (state_before answer d (c.args.t + 1)) d.gates)) (slice_get c.loop-i.states.items) c.loop-i.invariant.states place apart)
     ∙ slice_get_read c.loop-i.states.items (length c.loop-i.states.items) place c.index.result.now refl in_states c.index.ensures in
-    subst (λ (s : State). is_reached same_state due (slice_index_or c.loop-i.traces place []) c.args.t s ≡ same_state s c.due-known.result) (sym c.anew-answer.ensures)
-    (known answer d law.answer_pending c.reached_by_changes.ensures c.lawful.ensures.design.gates c.args.t place c.requires.begun (slice_index_or c.loop-i.traces place []) c.index.result.now c.index-answers-i.result was before
-    ∙ ap (same_state c.index-answers-i.result) (sym c.due-known.ensures))
+    known answer d law.answer_pending c.reached_by_changes.ensures c.lawful.ensures.design.gates c.args.t place c.requires.begun (slice_index_or c.loop-i.traces place []) c.index.result.now c.index-answers-i.result was before
+    ∙ ap (same_state c.index-answers-i.result) (sym c.due-known.ensures)
 
 pub push_known-requires-clause-can : goal.push_known-requires-clause-can
 push_known-requires-clause-can g c =
@@ -135,7 +134,7 @@ push_known-requires-clause-can g c =
     let here = value_at_place (λ gate. is_stirred answer d gate c.args.t) (state_before answer d (c.args.t + 1)) d.gates gates c.args.answers.now c.requires.gates c.requires.answers
     c.loop-i.i place c.index-answers-i.result (slice_get-get_or gates c.loop-i.i 0 within) there in
     let next = map (state_before answer d (c.args.t + 1)) d.gates in
-    subst (CanStore c.args.t) (sym c.anew-answer.ensures) (all_at (CanStore c.args.t) next place c.index-answers-i.result (storable answer d law.answer_pending law.answer_near c.lawful.ensures.design.gates c.args.t next refl) here)
+    all_at (CanStore c.args.t) next place c.index-answers-i.result (storable answer d law.answer_pending law.answer_near c.lawful.ensures.design.gates c.args.t next refl) here
 
 pub loop-i-preserved : goal.loop-i-preserved
 loop-i-preserved g c =
@@ -159,37 +158,35 @@ loop-i-preserved g c =
     let trace = slice_get-get_or c.loop-i.traces place [] in_traces in
     let was : slice_get (map (λ gate. trace_below (state_after answer d gate) t) d.gates) place ≡ Some (slice_index_or c.loop-i.traces place []) =
     ap (λ l. slice_get l place) (sym c.requires.traces) ∙ sym (is_old done (slice_get c.args.traces.now) (slice_get next_traces) (slice_get c.loop-i.traces) c.loop-i.invariant.traces place apart) ∙ trace in
-    let line = pushed same_state due (slice_index_or c.loop-i.traces place []) t c.anew-answer.result in
+    let line = pushed same_state due (slice_index_or c.loop-i.traces place []) t s in
     let grows : slice_get next_traces place ≡ Some line =
-    next_trace answer d law.answer_pending c.push_to_changes.ensures are t place (slice_index_or c.loop-i.traces place []) s was here
-    ∙ ap (λ x. Some (pushed same_state due (slice_index_or c.loop-i.traces place []) t x)) (sym c.anew-answer.ensures) in
+    next_trace answer d law.answer_pending c.push_to_changes.ensures are t place (slice_index_or c.loop-i.traces place []) s was here in
     let grown : c.push_known.new.self ≡ set c.loop-i.traces place line = c.in_ok-push_known.ensures in
     record {
-      states = subst (λ (x : State). Between (take (i + 1) gates) (slice_get c.args.states.now.items) (slice_get next) (slice_get (set c.loop-i.states.items place x))) (sym c.anew-answer.ensures)
-          (subst (λ l. Between l (slice_get c.args.states.now.items) (slice_get next) (slice_get (set c.loop-i.states.items place s))) (sym more)
-          (write done c.args.states.now.items next c.loop-i.states.items c.loop-i.invariant.states place s here in_states));
+      states = subst (λ l. Between l (slice_get c.args.states.now.items) (slice_get next) (slice_get (set c.loop-i.states.items place s))) (sym more)
+          (write done c.args.states.now.items next c.loop-i.states.items c.loop-i.invariant.states place s here in_states);
       traces = subst (λ l. Between l (slice_get c.args.traces.now) (slice_get next_traces) (slice_get c.push_known.new.self)) (sym more)
           (subst (λ ts. Between (done ++ place ∷ []) (slice_get c.args.traces.now) (slice_get next_traces) (slice_get ts)) (sym grown)
           (write done c.args.traces.now next_traces c.loop-i.traces c.loop-i.invariant.traces place line grows in_traces));
-      events = elim c.match-answer.branch [
+      events = elim c.match-pending.branch [
         | in-Some+in_ok-add w ↦
             let event : Value × ℕ = (w.in-Some.field-0-0, w.in-Some.time) in
-            let pending : s.pending ≡ Some event = sym (ap (λ (x : State). x.pending) (c.answer.view_is ∙ c.anew-answer.ensures)) ∙ w.in-Some.is in
+            let pending : s.pending ≡ Some event = sym c.pending.ensures ∙ w.in-Some.is in
             let old = c.loop-i.events in let new = w.add.new.self in let added = w.in_ok-add.ensures.ok in
             rw (w.events-is, more) (one_more next place s here done (t + 1) old new c.loop-i.invariant.events (keeps event.1 place old new added) (event_noted next place s here event pending old new added))
         | in_default w ↦
-            let pending : s.pending ≡ None = sym (ap (λ (x : State). x.pending) (c.answer.view_is ∙ c.anew-answer.ensures)) ∙ w.in_default.is in
+            let pending : s.pending ≡ None = sym c.pending.ensures ∙ w.in_default.is in
             let old = c.loop-i.events in
             rw (w.events-is, more) (one_more next place s here done (t + 1) old old c.loop-i.invariant.events (λ k u h. h) (λ u h. absurd (none_here next place s here pending u h)))
       ];
-      kept = elim c.match-answer.branch [
+      kept = elim c.match-pending.branch [
         | in-Some+in_ok-add w ↦ λ k u h. ap (λ q. has k (noted q u)) w.events-is ∙ keeps w.in-Some.time place c.loop-i.events w.add.new.self w.in_ok-add.ensures.ok k u (c.loop-i.invariant.kept k u h)
         | in_default w ↦ λ k u h. ap (λ q. has k (noted q u)) w.events-is ∙ c.loop-i.invariant.kept k u h
       ];
-      early = elim c.match-answer.branch [
+      early = elim c.match-pending.branch [
         | in-Some+in_ok-add w ↦ λ u low.
             let event : Value × ℕ = (w.in-Some.field-0-0, w.in-Some.time) in
-            let pending : s.pending ≡ Some event = sym (ap (λ (x : State). x.pending) (c.answer.view_is ∙ c.anew-answer.ensures)) ∙ w.in-Some.is in
+            let pending : s.pending ≡ Some event = sym c.pending.ensures ∙ w.in-Some.is in
             let can = all_at (CanStore t) next place s (storable answer d law.answer_pending law.answer_near are t next refl) here in
             let later : t < event.1 = (can event pending).0 in
             ap (λ q. noted q u) w.events-is ∙ elsewhere event.1 place c.loop-i.events w.add.new.self w.in_ok-add.ensures.ok u (nat_beyond event.1 u (omega arith)) ∙ c.loop-i.invariant.early u low

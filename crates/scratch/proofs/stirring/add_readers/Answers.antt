@@ -1,9 +1,12 @@
-use Rattle.std.proofs.lemmas.Option.{slice_get-get_or}
+use Rattle.std.proofs.Common.{◌∙◌, ap, Bool}
+use Rattle.std.specs.Prelude.{◌||◌}
+use Rattle.std.specs.List.{list_any}
 use Rattle.scratch.specs.Kept.{places_at}
-use Rattle.scratch.proofs.Among.{members_more}
+use Rattle.scratch.specs.Places.{has}
 use Rattle.scratch.proofs.stirring.add_readers.Goals as goal
 
-pub loop-net-preserved : goal.loop-net-preserved
-loop-net-preserved c = λ k.
-    members_more k (places_at c.args.wiring.now.readers.items) c.args.nets.now c.loop-net.net-index _ c.args.gates.now.items c.loop-net.gates.items c.add_readers_of.new.gates.items
-    (slice_get-get_or c.args.nets.now c.loop-net.net-index 0 c.loop-net-test.true) c.in_ok-add_readers_of.ensures (c.loop-net.invariant k)
+pub returns-clause-all : goal.returns-clause-all
+returns-clause-all c = λ k.
+    (let read = list_any (λ m. has k (places_at c.args.wiring.now.readers.items m)) c.args.nets.now in
+    c.in_ok-drain.ensures.all k ∙ c.in_ok-insert_all_readers.ensures k ∙ ap (λ (b : Bool). b || read) (c.in_ok-insert_all.ensures k)
+    ∙ ap (λ (b : Bool). (b || has k c.as_slice.result.now) || read) (c.clear.ensures k) ∙ ap (λ l. has k l || read) c.as_slice.ensures.value)

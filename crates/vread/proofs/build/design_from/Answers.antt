@@ -54,7 +54,6 @@ with_gates-requires c =
     c.in_ok-name.ensures ∙ c.text.ensures ∙ ap (λ (ns : List (List ℕ)). name_at ns c.top.result) c.names-names.ensures ∙ ap (name_at list.names) c.top.ensures in
     let unit : c.unit_of.result ≡ unit_of list.unit = c.unit_of.ensures ∙ ap unit_of c.unit.ensures in
     record {
-      keys = c.as_slice.ensures.value ∙ c.in_ok-keys.ensures;
       fit = gates_fit text list design is laws c.requires.faultless c.names-names.result.now c.scopes-scopes.result.now c.in_ok-name.name c.unit_of.result (netlist c.empty-design.result) (netlist c.in_ok-design.design)
           c.names-names.ensures c.scopes-scopes.ensures named unit c.empty-design.ensures.by_name c.in_ok-design.ensures;
       distinct = gates_distinct text list design is laws c.requires.faultless c.names-names.result.now c.scopes-scopes.result.now c.in_ok-name.name c.unit_of.result (netlist c.empty-design.result) (netlist c.in_ok-design.design)

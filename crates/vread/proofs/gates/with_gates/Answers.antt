@@ -1,7 +1,6 @@
 use Rattle.std.proofs.Common.{◌≡◌, ◌+◌, ◌<◌, ◌++◌, ℕ, List, length, drop, get_or, sym, ap, subst, ◌∙◌, arith}
 use Rattle.std.specs.Prelude.{flat_map}
 use Rattle.std.proofs.lemmas.List.{at_drop_all, at_drop_more}
-use Rattle.catalog.specs.Catalog.{keys_of}
 use Rattle.design.specs.Keys.{netlist}
 use Rattle.design.specs.Netlist as netlists
 use Rattle.elaboration.specs.Numbered.{PlacedScope}
@@ -32,7 +31,6 @@ with_scope_gates-requires c =
     let all : List netlists.GateEntry = first.gates ++ flat_map f scopes in
     let fit_here : AreFitGates names first.nets scope = subst (λ (s : PlacedScope). AreFitGates names first.nets s) (sym c.scope-item.is) (c.requires.fit i scope within) in
     record {
-      keys = c.requires.keys ∙ ap (λ (ns : List (ℕ × netlists.NetEntry)). keys_of ns) (sym c.loop-scope.invariant.nets);
       fit = subst (λ (ns : List netlists.NetEntry). AreFitGates names ns scope) (sym same) fit_here;
       distinct = subst (λ (ns : List netlists.NetEntry). AreDistinctGates (made.gates ++ kept_gates names ns scope)) (sym same)
           (gates_part made.gates (f scope) (flat_map f (drop (i + 1) scopes)) all (next f scopes i scope made.gates all within c.scope-item.is c.loop-scope.invariant.all) c.requires.distinct);
@@ -52,9 +50,8 @@ loop-scope-preserved c =
     let same : before.nets ≡ first.nets = same_nets first before c.loop-scope.invariant.others in
     let all : List netlists.GateEntry = first.gates ++ flat_map f scopes in
     let made : now ≡ record before { gates = before.gates ++ f scope } =
-    c.in_ok-made.ensures.gates ∙ ap (λ (ns : List netlists.NetEntry). record before { gates = before.gates ++ kept_gates names ns scope }) same in
+    c.in_ok-made.ensures ∙ ap (λ (ns : List netlists.NetEntry). record before { gates = before.gates ++ kept_gates names ns scope }) same in
     record {
-      nets = c.in_ok-made.ensures.nets ∙ c.loop-scope.invariant.nets;
       all = gates_more first before now (f scope) (flat_map f (drop (i + 1) scopes)) all made (next f scopes i scope before.gates all within c.scope-item.is c.loop-scope.invariant.all);
       others = gates_others first before c.loop-scope.invariant.others now (f scope) made;
     }

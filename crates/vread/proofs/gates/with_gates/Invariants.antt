@@ -8,6 +8,5 @@ abbrev pub invariant-loop-scope : goal.invariant-loop-scope
 invariant-loop-scope l = record {
   all : (netlist l.made).gates ++ flat_map (kept_gates l.names (netlist l.fn.design).nets) (drop l.scope-index l.scopes)
       ≡ (netlist l.fn.design).gates ++ flat_map (kept_gates l.names (netlist l.fn.design).nets) l.scopes;
-  nets : l.made.nets ≡ l.fn.design.nets;
   others : netlist l.made ≡ record (netlist l.fn.design) { gates = (netlist l.made).gates };
 }

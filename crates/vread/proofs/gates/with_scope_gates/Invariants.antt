@@ -7,6 +7,5 @@ abbrev pub invariant-loop-gate : goal.invariant-loop-gate
 invariant-loop-gate l = record {
   all : (netlist l.made).gates ++ map (kept_gate l.names (netlist l.fn.design).nets l.scope) (drop l.gate-index l.gate-items)
       ≡ (netlist l.fn.design).gates ++ map (kept_gate l.names (netlist l.fn.design).nets l.scope) l.gate-items;
-  nets : l.made.nets ≡ l.fn.design.nets;
   others : netlist l.made ≡ record (netlist l.fn.design) { gates = (netlist l.made).gates };
 }

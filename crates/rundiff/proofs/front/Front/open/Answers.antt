@@ -35,9 +35,9 @@ off_on b off on = absurd (cc)
 pub hold-requires-clause-drivers : goal.hold-requires-clause-drivers
 hold-requires-clause-drivers c =
     record {
-      nets = λ p on. absurd (off_on _ (c.in_ok-live.ensures p) on);
-      gates = λ p on. absurd (off_on _ (c.in_ok-held.ensures p) on);
-      drivers = λ p low. c.in_ok-held.ensures p ∙ sym (none_live (contains nat_cmp c.in_ok-live.live) c.in_ok-live.ensures _);
+      nets = λ p on. absurd (off_on _ (c.new-live.ensures p) on);
+      gates = λ p on. absurd (off_on _ (c.new-held.ensures p) on);
+      drivers = λ p low. c.new-held.ensures p ∙ sym (none_live (contains nat_cmp c.new-live.result) c.new-live.ensures _);
     }
 
 pub returns-clause-front : goal.returns-clause-front
@@ -47,7 +47,7 @@ returns-clause-front c = λ answer.
     let places = c.in_ok-found.found.items in
     let covers : (p : ℕ) → is_among places p ≡ true → later p ≡ true = λ p among.
     c.in_ok-hold.ensures.live p
-    ∙ or_first (is_among c.as_slice.result.now p) (contains nat_cmp c.in_ok-live.live p) (ap (λ (l : List ℕ). is_among l p) c.as_slice.ensures.value ∙ among) in
+    ∙ or_first (is_among c.as_slice.result.now p) (contains nat_cmp c.new-live.result p) (ap (λ (l : List ℕ). is_among l p) c.as_slice.ensures.value ∙ among) in
     let fixed = contains nat_cmp c.in_ok-fixed.fixed in
     let fixed_is : (p : ℕ) → fixed p ≡ is_among places p = λ p. c.in_ok-fixed.ensures p ∙ ap (λ (l : List ℕ). is_among l p) c.as_slice-2.ensures.value in
     let no_wave = c.new-waves.ensures in

@@ -34,10 +34,10 @@ returns g c =
     let ready = ready_all answer d law.answer_pending c.lawful.ensures.design.gates t states stands.states in
     let is : due_gates ≡ filter (λ k. is_due_at states k t) (noted c.args.self.now.events t) = c.in_ok-find_due.ensures.due ∙ ap (λ ss. filter (λ k. is_due_at ss k t) (noted c.args.self.now.events t)) c.as_slice.ensures.value in
     let due = due_is answer d t stands.begun states stands.states (noted c.args.self.now.events) ready stands.events due_gates is in
-    let stirred : c.put_in_order.new.places.items ≡ passing (λ gate. is_stirred answer d gate t) 0 d.gates =
+    let stirred : c.add_readers.new.gates.items ≡ passing (λ gate. is_stirred answer d gate t) 0 d.gates =
     looked answer d t stands.begun states stands.states c.lawful.ensures.design.distinct_nets (λ m. places_at c.args.wiring.now.readers.items m) c.requires.wired.readers
-    c.resolve_nets.new.changed.items c.in_ok-resolve_nets.ensures.changed due_gates c.put_in_order.new.places.items due c.in_ok-put_in_order.ensures.rising
-    (λ k. c.in_ok-put_in_order.ensures.same k ∙ c.in_ok-add_readers.ensures k
+    c.resolve_nets.new.changed.items c.in_ok-resolve_nets.ensures.changed due_gates c.add_readers.new.gates.items due c.in_ok-add_readers.ensures.rising
+    (λ k. c.in_ok-add_readers.ensures.all k
     ∙ ap (λ l. has k due_gates || list_any (λ m. has k (places_at c.args.wiring.now.readers.items m)) l) c.as_slice-5.ensures.value) in
     record {
       begun = stands.begun;
@@ -49,7 +49,7 @@ returns g c =
       gates = stirred;
       events = λ k u from h.
           later_covered (pends_at states) t c.args.self.now.events c.find_due.new.events c.in_ok-find_due.ensures.rest stands.events k u from
-          (second (not (has k c.put_in_order.new.places.items)) (pends_at states k u) h);
+          (second (not (has k c.add_readers.new.gates.items)) (pends_at states k u) h);
       points = c.in_ok-find_nets.ensures.announces;
       no_early_event = none_early t c.args.self.now.events c.find_due.new.events c.in_ok-find_due.ensures.rest stands.no_early_event;
       no_early_point = c.in_ok-find_nets.ensures.early;
