@@ -160,9 +160,7 @@ fn states_and_faults(rt: HostRuntime) {
 }
 
 /// A state of 0 that becomes 1 at 9.
-fn waiting() -> Driver
-    ensures { result ≡ record { current = Zero; pending = Some (One, 9) } }
-{
+fn waiting() -> Driver {
     Driver::waiting(Zero, One, 9)
 }
 
