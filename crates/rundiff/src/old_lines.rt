@@ -112,7 +112,7 @@ impl<'a> OldLines<'a> {
     {
         let inputs = cell.inputs();
         for i in 0..inputs.len() {
-            let input = inputs[i];
+            let input = inputs[i].get();
             let value = read_input(values, input);
             let former = self.value::<S>(old, new, input, t);
             if !former.is_same(value) {

@@ -2,6 +2,7 @@ pub mod Cells
 pub mod HorizonLaws
 pub mod Kept
 pub mod Lost
+pub mod PackedInputs
 pub mod Places
 pub mod Plain
 pub mod Quiet

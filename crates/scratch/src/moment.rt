@@ -221,7 +221,7 @@ pub fn task(cell: &Cell, state: Driver, values: &[Value]) -> Task
     let mut place = inputs.len();
     while place > 0 {
         place -= 1;
-        read_values.put_first(read_input(values, inputs[place]));
+        read_values.put_first(read_input(values, inputs[place].get()));
     }
     Task::new(cell.kind(), cell.delays(), state, read_values)
 }

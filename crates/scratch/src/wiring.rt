@@ -6,8 +6,10 @@ ghost use Rattle.fourstate.specs.Gates.{takes_inputs};
 ghost use Rattle.design.specs.Keys.{IsConnected, IsThere, connection_in, entry_in, net_by_key, netlist};
 ghost use Rattle.design.specs.Places.{driver_places};
 ghost use Rattle.scratch.specs.Kept.{IsWiring, cell_of, driven_kind, input_of, is_at, lone_place, output_at, places_at};
+ghost use Rattle.scratch.specs.PackedInputs.{IsPackable};
 ghost use Rattle.scratch.specs.Places.{drives_at, has, reads_at};
 
+use crate::packed_input::PackedInput;
 use design::{Design, Gate, Net, NetKey, Terminal};
 use fourstate::{Delays, GateKind, NetKind, Value};
 use smallvec::SmallVec;
@@ -29,25 +31,12 @@ pub enum Input {
     Fixed(Value),
 }
 
-/// A constant x: what stands where a gate has no further input.
-impl Default for Input {
-    ghost use Rattle.std.specs.Prelude.{◌≡◌};
-    ghost use Rattle.fourstate.specs.declared.value.Value.TheVariants.{Unknown};
-    ghost use Rattle.scratch.specs.declared.wiring.Input.TheVariants.{Fixed};
-
-    ghost is_default = { λ input. input ≡ Fixed Unknown };
-
-    fn default() -> Input {
-        Input::Fixed(Value::Unknown)
-    }
-}
-
 /// A gate as it is evaluated. The type keeps that its inputs fit its kind.
 #[derive(Drop)]
 pub struct Cell {
     kind: GateKind,
     delays: Delays,
-    inputs: SmallVec<Input, NEAR_INPUTS>,
+    inputs: SmallVec<PackedInput, NEAR_INPUTS>,
 }
 
 impl Model for Cell {
@@ -71,7 +60,7 @@ impl Cell {
         let terminals = gate.inputs();
         let mut inputs = SmallVec::with_capacity(alloc, terminals.len())?;
         for terminal in terminals {
-            inputs.push(locate(design, *terminal))?;
+            inputs.push(PackedInput::new(locate(design, *terminal)))?;
         }
         Ok(Cell {
             kind: gate.kind(),
@@ -95,7 +84,7 @@ impl Cell {
     }
 
     /// Where its inputs get their values from; their number fits the kind.
-    pub fn inputs(&self) -> &[Input]
+    pub fn inputs(&self) -> &[PackedInput]
         ensures inputs { result.now ≡ self.now.inputs }
         ensures fit { IsTrue (takes_inputs self.now.kind (length result.now)) }
     {
@@ -106,7 +95,8 @@ impl Cell {
 /// Where a terminal, whose net is there, gets its value from.
 fn locate(design: &Design, terminal: Terminal) -> Input
     requires { IsThere design.now.nets terminal }
-    ensures { result ≡ input_of (netlist design.now) (connection_in design.now.nets terminal) }
+    ensures input { result ≡ input_of (netlist design.now) (connection_in design.now.nets terminal) }
+    ensures packable { IsPackable result }
 {
     design.lawful();
     design.places_are_keys();
@@ -274,12 +264,12 @@ fn add_reader(input: Input, place: u32, all: &mut Vec<Places>) -> Result<(), All
 }
 
 /// Adds a place to the readers of each net that some inputs read.
-fn add_readers(inputs: &[Input], place: u32, all: &mut Vec<Places>) -> Result<(), AllocError>
+fn add_readers(inputs: &[PackedInput], place: u32, all: &mut Vec<Places>) -> Result<(), AllocError>
     ensures readers { OnOk result ((k m : ℕ) → m < length all.old.items → has k (places_at all.new.items m) ≡ (has k (places_at all.old.items m) || (nat_eq k place && list_any (is_at m) inputs.now))) }
     ensures as_many { OnOk result (length all.new.items ≡ length all.old.items) }
 {
     for input in inputs {
-        add_reader(*input, place, all)?;
+        add_reader(input.get(), place, all)?;
     }
     Ok(())
 }
