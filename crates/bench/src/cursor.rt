@@ -105,6 +105,6 @@ impl<'a> Cursor<'a> {
     {
         let (time, value) = change?;
         self.time = time;
-        Some(Change { time, value })
+        Some(Change::new(time, value))
     }
 }

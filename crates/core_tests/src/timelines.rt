@@ -42,8 +42,8 @@ pub fn pulse(rt: &impl Abort, alloc: Global) -> Wave {
 pub fn check_changes(rt: &impl Abort, wave: &Wave, changes: &[(u64, Value)]) {
     equal(rt, "number of changes", wave.changes().len(), changes.len());
     for (change, (time, value)) in wave.changes().iter().zip(changes) {
-        equal(rt, "time", change.time, *time);
-        equal(rt, "value", change.value, *value);
+        equal(rt, "time", change.time(), *time);
+        equal(rt, "value", change.value(), *value);
     }
 }
 

@@ -11,8 +11,8 @@ use waveform::{Run, Wave};
 pub fn text_of(rt: &impl Abort, alloc: Global, wave: &Wave) -> String {
     let mut text = String::new(alloc);
     for change in wave.changes() {
-        let symbol = char::from(change.value.symbol());
-        write!(text, " {}:{}", change.time, symbol).expect(rt, "a change");
+        let symbol = char::from(change.value().symbol());
+        write!(text, " {}:{}", change.time(), symbol).expect(rt, "a change");
     }
     text
 }

@@ -87,6 +87,6 @@ pub fn check(rt: &impl Abort, snapshot: &Snapshot, count: usize, time: u64, valu
     let changes = wave.changes();
     equal(rt, "number of changes", changes.len(), count);
     let last = changes.last().expect(rt, "a change");
-    equal(rt, "time", last.time, time);
-    equal(rt, "value", last.value, value);
+    equal(rt, "time", last.time(), time);
+    equal(rt, "value", last.value(), value);
 }

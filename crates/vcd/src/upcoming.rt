@@ -44,7 +44,7 @@ fn pass_change<'a, W: Sink>(
 {
     waves.lawful();
     let change = left[0];
-    value_line(writer, place, change.value);
+    value_line(writer, place, change.value());
     let (_, later) = left.split_at(1);
     later
 }
@@ -54,7 +54,7 @@ fn first_time(changes: &[Change]) -> u64
     ensures { result ≡ time_of changes.now }
 {
     match changes.first() {
-        Some(change) => change.time,
+        Some(change) => change.time(),
         None => NEVER,
     }
 }

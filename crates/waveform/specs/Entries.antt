@@ -3,7 +3,6 @@ use Rattle.std.specs.Prelude.{ℕ, ◌+◌, ◌<◌, ◌≤◌}
 use Rattle.std.specs.Option.{ForSome}
 use Rattle.fourstate.specs.declared.limits.TheConstants.{MAX_DELAY}
 use Rattle.fourstate.specs.declared.value.Value.{Value}
-use Rattle.fourstate.specs.Values.{same_value}
 use Rattle.gatestep.specs.Step.{State}
 pub use Rattle.gatestep.specs.Step.{same_pending, same_state}
 

@@ -1,11 +1,14 @@
 pub mod Changes
+pub mod Digits
 pub mod Entries
+pub mod Halves
 pub mod Joins
 pub mod Links
 pub mod Notes
 pub mod Patches
 pub mod Runs
 pub mod SampleLaws
+pub mod StoredChanges
 pub mod Tables
 pub mod Timelines
 pub mod TraceEntries

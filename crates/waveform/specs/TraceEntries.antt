@@ -1,40 +1,87 @@
--- How an entry of a trace is kept in 16 bytes: its time, how long after that the pending event is due, and the two values.
-use Rattle.std.specs.Prelude.{◌≡◌, ◌≢◌, ◌<◌, ◌≤◌, ◌+◌, ◌-◌, ◌^◌, ℕ, Option, Some, None, refl}
-use Rattle.std.specs.Option.{ForSome, ForNone, option_map, option_map_or}
-use Rattle.std.proofs.Common.{arith}
+-- How an entry of a trace is kept in 12 bytes: its time in two halves, and in a third number how long after it the pending
+-- event is due, with the two values.
+use Rattle.std.specs.Prelude.{◌≡◌, ◌≢◌, ◌<◌, ◌≤◌, ◌+◌, ◌-◌, ◌*◌, ◌/◌, ◌%◌, ◌^◌, ℕ, zero, suc, Option, Some, None, refl}
+use Rattle.std.specs.Option.{option_map_or}
+use Rattle.std.proofs.Common.{arith, ◌∙◌}
 use Rattle.fourstate.specs.declared.limits.TheConstants.{MAX_DELAY}
 use Rattle.fourstate.specs.declared.value.Value.{Value}
 use Rattle.gatestep.specs.Step.{State}
+use Rattle.waveform.specs.Digits.{value_of_digit, digit_of, digit_kept}
+use Rattle.waveform.specs.Halves.{whole, low_kept, high_kept}
 use Rattle.waveform.specs.declared.entry.TraceEntry.TheInside.{Inside}
+
+-- the time whose halves are kept
+abbrev pub time_of : Inside → ℕ
+time_of a = whole a.low a.high
+
+-- how long after it what is pending is due; 0 where nothing is
+abbrev pub after_of : Inside → ℕ
+after_of a = a.rest / 16
+
+abbrev pub next_of : Inside → Value
+next_of a = value_of_digit (a.rest / 4 % 4)
+
+abbrev pub current_of : Inside → Value
+current_of a = value_of_digit (a.rest % 4)
+
+-- the value that is pending so long after a time, if it is
+abbrev pub pending_after : (time after : ℕ) → Value → Option (Value × ℕ)
+pending_after time zero v = None
+pending_after time (suc n) v = Some (v, time + suc n)
 
 -- the moment and the state that an entry keeps
 abbrev pub kept_state : Inside → ℕ × State
-kept_state a = (a.time, record { current = a.current; pending = option_map (λ v. (v, a.time + a.after)) a.pending })
+kept_state a = (time_of a, record { current = current_of a; pending = pending_after (time_of a) (after_of a) (next_of a) })
 
 -- a pending value is another than the current one, and due 1 to the greatest delay after the time, at a moment that fits;
--- with none pending the field is 0
+-- with none pending its two bits are 0
 pub record IsTraceEntry (a : Inside) : Type 0 where
-  pub other : ForSome a.pending (λ v. v ≢ a.current)
-  pub later : ForSome a.pending (λ v. 0 < a.after)
-  pub soon : ForSome a.pending (λ v. a.after ≤ MAX_DELAY)
-  pub fits : ForSome a.pending (λ v. a.time + a.after < 2 ^ 64)
-  pub unused : ForNone a.pending (a.after ≡ 0)
+  pub low : a.low < 2 ^ 32
+  pub other : 0 < after_of a → next_of a ≢ current_of a
+  pub soon : after_of a ≤ MAX_DELAY
+  pub fits : 0 < after_of a → time_of a + after_of a < 2 ^ 64
+  pub unused : after_of a ≡ 0 → a.rest < 4
+
+-- the number that keeps so long after, and the two values
+abbrev pub rest_of : (after next current : ℕ) → ℕ
+rest_of after next current = after * 16 + next * 4 + current
 
 -- the fields that keep a moment and a state
 abbrev pub fields_of : ℕ × State → Inside
 fields_of e =
     record {
-      time = e.0;
-      after = option_map_or (λ event. event.1 - e.0) e.1.pending 0;
-      current = e.1.current;
-      pending = option_map (λ event. event.0) e.1.pending;
+      low = e.0 % 2 ^ 32;
+      high = e.0 / 2 ^ 32;
+      rest = option_map_or (λ event. rest_of (event.1 - e.0) (digit_of event.0) (digit_of e.1.current)) e.1.pending (digit_of e.1.current);
     }
 
-restored : (time after : ℕ) (current : Value) (pending : Option Value) → ForNone pending (after ≡ 0) →
-    fields_of (kept_state (record { time = time; after = after; current = current; pending = pending })) ≡ record { time = time; after = after; current = current; pending = pending }
-restored time after current None unused = let none : after ≡ 0 = unused refl in cc
-restored time after current (Some v) unused = let back : time + after - time ≡ after = omega arith in cc
+rest_kept : (rest : ℕ) → rest_of (rest / 16) (rest / 4 % 4) (rest % 4) ≡ rest
+rest_kept rest = omega arith
+
+digits : (rest : ℕ) → (digit_of (value_of_digit (rest % 4)) ≡ rest % 4) × (digit_of (value_of_digit (rest / 4 % 4)) ≡ rest / 4 % 4)
+digits rest = (digit_kept (rest % 4) (omega arith), digit_kept (rest / 4 % 4) (omega arith))
+
+-- the number is the one that keeps what is read from it
+rest_back : (time rest after : ℕ) → after ≡ rest / 16 → (after ≡ 0 → rest < 4) →
+    option_map_or (λ event. rest_of (event.1 - time) (digit_of event.0) (digit_of (value_of_digit (rest % 4))))
+    (pending_after time after (value_of_digit (rest / 4 % 4))) (digit_of (value_of_digit (rest % 4))) ≡ rest
+rest_back time rest zero is unused =
+    let small : rest < 4 = unused refl in
+    let both = digits rest in
+    let whole : rest % 4 ≡ rest = omega arith in both.0 ∙ whole
+rest_back time rest (suc n) is unused =
+    let both = digits rest in
+    let back : time + suc n - time ≡ rest / 16 = omega arith in
+    let whole = rest_kept rest in
+    cc
+
+restored : (low high rest : ℕ) → IsTraceEntry (record { low = low; high = high; rest = rest }) →
+    fields_of (kept_state (record { low = low; high = high; rest = rest })) ≡ record { low = low; high = high; rest = rest }
+restored low high rest is =
+    let lows = low_kept low high is.low in let highs = high_kept low high is.low in
+    let rests = rest_back (whole low high) rest (rest / 16) refl is.unused in
+    cc
 
 -- the fields are those that keep what they show
 pub fields_of-kept : (a : Inside) → IsTraceEntry a → fields_of (kept_state a) ≡ a
-fields_of-kept a is = restored a.time a.after a.current a.pending is.unused
+fields_of-kept a is = restored a.low a.high a.rest is

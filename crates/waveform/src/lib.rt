@@ -5,6 +5,7 @@ mod cached;
 mod change;
 mod entries;
 mod entry;
+mod halves;
 pub mod laws;
 mod lines;
 mod patch;

@@ -30,17 +30,17 @@ impl Sample for Value {
 
     #[inline(always)]
     fn entry(self, time: u64) -> Change {
-        Change { time, value: self }
+        Change::new(time, self)
     }
 
     #[inline(always)]
     fn time(entry: &Change) -> u64 {
-        entry.time
+        entry.time()
     }
 
     #[inline(always)]
     fn sample(entry: &Change) -> Value {
-        entry.value
+        entry.value()
     }
 
     #[inline(always)]

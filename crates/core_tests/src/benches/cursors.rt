@@ -20,7 +20,7 @@ const PULSE: [&str; 7] = [
 ];
 
 fn change(time: u64, value: Value) -> Option<Change> {
-    Some(Change { time, value })
+    Some(Change::new(time, value))
 }
 
 fn stand(rt: &impl Abort, cursor: &Cursor<'_>, time: u64, value: Value) {

@@ -58,8 +58,8 @@ fn check_changes(rt: &impl Abort, wave: Option<&Wave>) {
     equal(rt, "number of changes", changes.len(), 11_997);
     for (place, time, value) in CHANGES {
         let change = changes.get(place).expect(rt, "a change");
-        equal(rt, place, change.time, time);
-        equal(rt, place, change.value, value);
+        equal(rt, place, change.time(), time);
+        equal(rt, place, change.value(), value);
     }
 }
 

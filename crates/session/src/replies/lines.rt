@@ -34,7 +34,7 @@ pub fn wave<W: Sink>(writer: &mut Writer<'_, W>, changes: &[Change])
     ensures { Adds writer.old writer.new (wave_lines changes.now) }
 {
     for change in changes {
-        change_reply(writer, change.time, change.value);
+        change_reply(writer, change.time(), change.value());
     }
 }
 
