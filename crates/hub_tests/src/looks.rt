@@ -121,7 +121,8 @@ fn has_changes(snapshot: &Snapshot, net: &str, points: u64) -> bool {
     let Some(last) = changes.last() else {
         return false;
     };
-    changes.len() as u64 == points.wrapping_add(1) && (last.time(), last.value()) == last_change(points)
+    changes.len() as u64 == points.wrapping_add(1)
+        && (last.time(), last.value()) == last_change(points)
 }
 
 fn last_change(points: u64) -> (u64, Value) {

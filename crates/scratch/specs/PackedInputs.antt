@@ -1,27 +1,12 @@
 -- How an input is kept as one number: the place of its net, or one of the last four numbers for a value that never changes.
-use Rattle.std.specs.Prelude.{◌≡◌, ◌≤◌, ◌<◌, ◌+◌, ◌-◌, ◌^◌, ℕ, zero, suc, Bool, true, false, nat_lt, if◌then◌else◌, ⊤, refl}
-use Rattle.std.proofs.Common.{arith, ap, absurd}
+use Rattle.std.specs.Prelude.{◌≡◌, ◌≤◌, ◌<◌, ◌+◌, ◌-◌, ◌^◌, ℕ, Bool, true, false, nat_lt, if◌then◌else◌, ⊤, refl}
+use Rattle.std.proofs.Common.{arith, ap}
 use Rattle.std.proofs.lemmas.Grind.{common_steps}
-use Rattle.fourstate.specs.declared.value.Value.{Value}
-use Rattle.fourstate.specs.declared.value.Value.TheVariants.{Zero, One, Unknown, HighZ}
+use Rattle.waveform.specs.Digits.{value_of_digit, digit_of, digit_kept}
 use Rattle.scratch.specs.declared.wiring.Input.{Input}
 use Rattle.scratch.specs.declared.wiring.Input.TheVariants.{At, Fixed}
 use Rattle.scratch.specs.declared.packed_input.PackedInput.TheInside.{Inside}
 use Rattle.scratch.specs.declared.packed_input.TheConstants.{FIRST_VALUE}
-
--- the value of this number
-abbrev pub value_of_digit : ℕ → Value
-value_of_digit zero = Zero
-value_of_digit (suc zero) = One
-value_of_digit (suc (suc zero)) = Unknown
-value_of_digit (suc (suc (suc n))) = HighZ
-
--- the number of a value
-abbrev pub digit_of : Value → ℕ
-digit_of Zero = 0
-digit_of One = 1
-digit_of Unknown = 2
-digit_of HighZ = 3
 
 -- the input that a number stands for
 abbrev pub input_of_number : ℕ → Input
@@ -34,7 +19,7 @@ input_of_fields a = input_of_number a.number
 abbrev pub IsNumber : Inside → Type 0
 IsNumber a = a.number < 2 ^ 32
 
--- an input has a number: the place of its net is none of the last four
+-- an input has a number: the place of its net is below the last four
 abbrev pub IsPackable : Input → Type 0
 IsPackable (At place) = place < FIRST_VALUE
 IsPackable (Fixed v) = ⊤
@@ -43,12 +28,6 @@ IsPackable (Fixed v) = ⊤
 abbrev pub fields_of_input : Input → Inside
 fields_of_input (At place) = record { number = place }
 fields_of_input (Fixed v) = record { number = FIRST_VALUE + digit_of v }
-
-digit_kept : (k : ℕ) → k < 4 → digit_of (value_of_digit k) ≡ k
-digit_kept zero low = refl
-digit_kept (suc zero) low = refl
-digit_kept (suc (suc zero)) low = refl
-digit_kept (suc (suc (suc k))) low = let only : k ≡ 0 = omega arith in grind (arith, common_steps)
 
 kept_by : (n : ℕ) (b : Bool) → nat_lt n FIRST_VALUE ≡ b → n < 2 ^ 32 →
     fields_of_input (if b then At n else Fixed (value_of_digit (n - FIRST_VALUE))) ≡ record { number = n }

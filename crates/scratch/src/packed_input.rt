@@ -56,10 +56,7 @@ impl PackedInput {
     {
         let number = match input {
             Input::At(place) => place,
-            Input::Fixed(Value::Zero) => FIRST_VALUE,
-            Input::Fixed(Value::One) => FIRST_VALUE + 1,
-            Input::Fixed(Value::Unknown) => FIRST_VALUE + 2,
-            Input::Fixed(Value::HighZ) => FIRST_VALUE + 3,
+            Input::Fixed(value) => FIRST_VALUE + value as u32,
         };
         PackedInput { number }
     }
