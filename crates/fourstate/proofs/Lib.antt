@@ -1,3 +1,4 @@
 pub mod Planes
 pub mod Readings
+pub mod Rules
 pub mod Tables

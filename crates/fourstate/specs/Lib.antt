@@ -6,5 +6,6 @@ pub mod Keywords
 pub mod Nets
 pub mod PlaneLaws
 pub mod Planes
+pub mod Rules
 pub mod ValueLaws
 pub mod Values

@@ -1,7 +1,8 @@
 //! Gates (IEEE 1364-2005, 7.2 to 7.4).
 
 ghost use Rattle.std.specs.Prelude.{◌≡◌, ◌<◌, IsTrue, length, map};
-ghost use Rattle.fourstate.specs.Gates.{and_of, or_of, xor_of, controlled, gate_of, same_kind, takes_inputs};
+ghost use Rattle.fourstate.specs.Gates.{controlled, gate_of, same_kind, takes_inputs};
+ghost use Rattle.fourstate.specs.Rules.{value_by};
 ghost use Rattle.fourstate.specs.Values.{reading};
 ghost use Rattle.fourstate.specs.Keywords.{gate_keyword, gate_kind_of};
 
@@ -97,71 +98,93 @@ pub fn fits(kind: GateKind, inputs: usize) -> bool
     }
 }
 
+// The first kinds are those whose inputs are all alike. What such a gate gives is found by tables, without a branch for its
+// kind, since the gates of a netlist come in no order that a processor could guess: of each kind, in their order, whether a 0
+// among its inputs decides what it gives, whether a 1 does, whether an odd number of ones does, and what it gives where nothing
+// decides, where something does, where an x is among its inputs, and where both hold (IEEE 1364-2005, 7.2 and 7.3).
+static ZERO_DECIDES: [bool; 8] = [true, true, false, false, false, false, true, true];
+
+static ONE_DECIDES: [bool; 8] = [false, false, true, true, false, false, false, false];
+
+static PARITY_DECIDES: [bool; 8] = [false, false, false, false, true, true, false, false];
+
+static VALUES: [Value; 32] = [
+    // `and`
+    Value::One,
+    Value::Zero,
+    Value::Unknown,
+    Value::Zero,
+    // `nand`
+    Value::Zero,
+    Value::One,
+    Value::Unknown,
+    Value::One,
+    // `or`
+    Value::Zero,
+    Value::One,
+    Value::Unknown,
+    Value::One,
+    // `nor`
+    Value::One,
+    Value::Zero,
+    Value::Unknown,
+    Value::Zero,
+    // `xor`
+    Value::Zero,
+    Value::One,
+    Value::Unknown,
+    Value::Unknown,
+    // `xnor`
+    Value::One,
+    Value::Zero,
+    Value::Unknown,
+    Value::Unknown,
+    // `buf`
+    Value::One,
+    Value::Zero,
+    Value::Unknown,
+    Value::Zero,
+    // `not`
+    Value::Zero,
+    Value::One,
+    Value::Unknown,
+    Value::One,
+];
+
 /// What a gate gives for its inputs, a z among them acting as x. A three-state gate whose control is x or z gives x
 /// (own; IEEE 1364-2005, 7.4 writes L or H where the data is known).
 #[inline(always)]
-#[tactic(auto, using(crate::proofs::Readings::one_value, crate::proofs::Readings::two_values))]
+#[tactic(auto, using(crate::proofs::Readings::two_values))]
 pub fn gate_value(kind: GateKind, inputs: &Inputs) -> Value
     requires { IsTrue (takes_inputs kind (length inputs.now)) }
     ensures { result ≡ gate_of kind inputs.now }
 {
     match kind {
-        GateKind::And => and_value(inputs),
-        GateKind::Nand => and_value(inputs).inverted(),
-        GateKind::Or => or_value(inputs),
-        GateKind::Nor => or_value(inputs).inverted(),
-        GateKind::Xor => xor_value(inputs),
-        GateKind::Xnor => xor_value(inputs).inverted(),
-        GateKind::Buf => inputs.get(0).as_input(),
-        GateKind::Not => inputs.get(0).inverted(),
         GateKind::Bufif1 => controlled_value(Value::One, inputs.get(0).as_input(), inputs.get(1)),
         GateKind::Bufif0 => controlled_value(Value::Zero, inputs.get(0).as_input(), inputs.get(1)),
         GateKind::Notif1 => controlled_value(Value::One, inputs.get(0).inverted(), inputs.get(1)),
         GateKind::Notif0 => controlled_value(Value::Zero, inputs.get(0).inverted(), inputs.get(1)),
+        _ => value_by(
+            kind as usize,
+            inputs.has_zero(),
+            inputs.has_one(),
+            inputs.has_odd_ones(),
+            inputs.has_unknown(),
+        ),
     }
 }
 
+/// What a gate of the kind of this number gives, by whether a 0 is among its inputs, a 1, an odd number of ones, and an x.
 #[inline(always)]
-#[tactic(auto, using(crate::proofs::Readings::zero_read, crate::proofs::Readings::unknown_read))]
-fn and_value(inputs: &Inputs) -> Value
-    requires { 0 < length inputs.now }
-    ensures { result ≡ and_of (map reading inputs.now) }
+fn value_by(kind: usize, zero: bool, one: bool, odd: bool, unknown: bool) -> Value
+    requires { kind < 8 }
+    ensures { result ≡ value_by kind zero one odd unknown }
 {
-    if inputs.has_zero() {
-        Value::Zero
-    } else if inputs.has_unknown() {
-        Value::Unknown
-    } else {
-        Value::One
-    }
-}
-
-#[inline(always)]
-#[tactic(auto, using(crate::proofs::Readings::one_read, crate::proofs::Readings::unknown_read))]
-fn or_value(inputs: &Inputs) -> Value
-    ensures { result ≡ or_of (map reading inputs.now) }
-{
-    if inputs.has_one() {
-        Value::One
-    } else if inputs.has_unknown() {
-        Value::Unknown
-    } else {
-        Value::Zero
-    }
-}
-
-#[inline(always)]
-#[tactic(auto, using(crate::proofs::Readings::ones_read, crate::proofs::Readings::unknown_read))]
-fn xor_value(inputs: &Inputs) -> Value
-    ensures { result ≡ xor_of (map reading inputs.now) }
-{
-    if inputs.has_unknown() {
-        Value::Unknown
-    } else if inputs.has_odd_ones() {
-        Value::One
-    } else {
-        Value::Zero
-    }
+    let is_decided = zero & ZERO_DECIDES[kind]
+        | one & ONE_DECIDES[kind]
+        | odd & PARITY_DECIDES[kind];
+    let first = if unknown { 4 * kind + 2 } else { 4 * kind };
+    VALUES[if is_decided { first + 1 } else { first }]
 }
 
 /// What a three-state gate gives that would pass this value under this control, which is 0 or 1 where it is active.

@@ -138,12 +138,11 @@ impl Inputs {
         self.high != 0
     }
 
-    /// Whether the number of ones is odd, where each value is 0 or 1.
+    /// Whether the number of ones is odd, if each value is 0 or 1.
     #[inline(always)]
     #[tactic(auto, using(crate::proofs::Planes::ones_counted, crate::specs::PlaneLaws::values_counted))]
     pub(crate) fn has_odd_ones(&self) -> bool
-        requires { (occurs Value.Unknown self.now || occurs Value.HighZ self.now) ≡ false }
-        ensures { result ≡ (count_by (same_value Value.One) self.now % 2 == 1) }
+        ensures { (occurs Value.Unknown self.now || occurs Value.HighZ self.now) ≡ false → result ≡ (count_by (same_value Value.One) self.now % 2 == 1) }
     {
         self.low.count_ones() % 2 == 1
     }
