@@ -1,5 +1,6 @@
 pub mod NameLemmas
 pub mod RecentLemmas
+pub mod NotedLemmas
 pub mod GateLemmas
 pub mod WalkLemmas
 pub mod UnitLemmas

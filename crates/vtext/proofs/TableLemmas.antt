@@ -128,6 +128,14 @@ any_absent names bytes h = step (list_any (bytes_eq bytes) names) refl
 pub name_stays : (names : List (List ℕ)) (bytes : List ℕ) (n : ℕ) → number_of names bytes ≡ Some n → with_name names bytes ≡ names
 name_stays names bytes n h = rw (any_there names bytes n h) refl
 
+-- it keeps its number where another one is added
+pub number_with : (names : List (List ℕ)) (bytes name : List ℕ) (n : ℕ) → number_of names name ≡ Some n → number_of (with_name names bytes) name ≡ Some n
+number_with names bytes name n h = step (list_any (bytes_eq bytes) names)
+  where
+    step : (there : Bool) → number_of (cond there names (names ++ bytes ∷ [])) name ≡ Some n
+    step true = h
+    step false = number_stays names (bytes ∷ []) name (any_there names name n h) ∙ h
+
 -- a name is new where its number is the last one
 pub number_is_new : (names all : List (List ℕ)) (bytes : List ℕ) (n : ℕ) → all ≡ with_name names bytes → number_of all bytes ≡ Some n → n ≡ length names → number_of names bytes ≡ None
 number_is_new names all bytes n longer h last = step (number_of names bytes) refl

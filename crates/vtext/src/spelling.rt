@@ -1,7 +1,6 @@
 //! The bytes of a name as a key.
 
-ghost use Rattle.std.specs.Prelude.{◌≡◌, ◌+◌, ◌≤◌, true, length};
-ghost use Rattle.std.specs.Str.{bytes_eq};
+ghost use Rattle.std.specs.Prelude.{◌≡◌, ◌+◌, ◌-◌, ◌≤◌, true, length};
 ghost use Rattle.vtext.specs.Spellings.{four, is_short, packed};
 
 use std::hash::{Hash, Hasher};
@@ -23,18 +22,34 @@ pub struct Spelling<'a> {
 
 /// Whether the bytes are packed into one number.
 #[tactic(auto, using(std::proofs::lemmas::Bool::Decides::nat_tests))]
-fn is_short(bytes: &[u8]) -> bool
+pub fn is_short(bytes: &[u8]) -> bool
     ensures { result ≡ is_short bytes.now }
 {
     HALF <= bytes.len() && bytes.len() <= WORD
 }
 
 /// The four bytes at a place as a number, the first one lowest.
-fn four(bytes: &[u8], at: usize) -> u64
+fn four(bytes: &[u8], at: usize) -> u32
     requires { at + 4 ≤ length bytes.now }
     ensures { result ≡ four bytes.now at }
 {
-    u32::from_le_bytes([bytes[at], bytes[at + 1], bytes[at + 2], bytes[at + 3]]) as u64
+    u32::from_le_bytes([bytes[at], bytes[at + 1], bytes[at + 2], bytes[at + 3]])
+}
+
+/// The first four bytes of a short name as a number.
+pub fn first_four(bytes: &[u8]) -> u32
+    requires { is_short bytes.now ≡ true }
+    ensures { result ≡ four bytes.now 0 }
+{
+    four(bytes, 0)
+}
+
+/// The last four bytes of a short name as a number. With the first four, and with how many there are, they tell all.
+pub fn last_four(bytes: &[u8]) -> u32
+    requires { is_short bytes.now ≡ true }
+    ensures { result ≡ four bytes.now (length bytes.now - 4) }
+{
+    four(bytes, bytes.len() - HALF)
 }
 
 /// The bytes as a number, the first one lowest: the first four, and the last four at their place above.
@@ -43,41 +58,14 @@ fn packed(bytes: &[u8]) -> u64
     ensures { result ≡ packed bytes.now }
 {
     let last = bytes.len() - HALF;
-    four(bytes, 0) | four(bytes, last) << (8 * last)
-}
-
-/// Whether short names of one length are the same.
-fn is_same_short(a: &[u8], b: &[u8]) -> bool
-    requires short { is_short a.now ≡ true }
-    requires length { length a.now ≡ length b.now }
-    ensures { result ≡ bytes_eq a.now b.now }
-{
-    if four(a, 0) != four(b, 0) {
-        return false;
-    }
-    let last = a.len() - HALF;
-    four(a, last) == four(b, last)
-}
-
-/// Whether two names are the same. Most are short.
-#[inline(always)]
-pub fn is_same(a: &[u8], b: &[u8]) -> bool
-    ensures { result ≡ bytes_eq a.now b.now }
-{
-    if a.len() != b.len() {
-        return false;
-    }
-    if is_short(a) {
-        return is_same_short(a, b);
-    }
-    a == b
+    u64::from(first_four(bytes)) | u64::from(last_four(bytes)) << (8 * last)
 }
 
 /// The eight bytes at a place as a number, the first one lowest.
 fn eight(bytes: &[u8], at: usize) -> u64
     requires { at + 8 ≤ length bytes.now }
 {
-    four(bytes, at) | four(bytes, at + HALF) << 32
+    u64::from(four(bytes, at)) | u64::from(four(bytes, at + HALF)) << 32
 }
 
 /// Fewer than four bytes as a number.
