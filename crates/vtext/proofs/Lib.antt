@@ -4,6 +4,7 @@ pub mod NotedLemmas
 pub mod GateLemmas
 pub mod WalkLemmas
 pub mod UnitLemmas
+pub mod WordLemmas
 pub mod ReadLemmas
 pub mod WalkLaws
 pub mod MarkLemmas
