@@ -8,11 +8,11 @@ ghost use Rattle.vtext.specs.Spellings.{is_short};
 use crate::spelling::{first_four, is_short, last_four};
 use std::alloc::{AllocError, Global};
 
-/// How many places there are at first (own).
+/// How many places there are at first, a power of two (own).
 const FEWEST: usize = 256;
 /// How many there are at most: as many as there are when it has grown five times (own).
 const MOST: usize = 262_144;
-/// How many take the part of one where there have to be more (own).
+/// How many take the part of one where there have to be more, a power of two (own).
 const GROWTH: usize = 4;
 
 /// The number of a name, and of a short name its bytes, so that it is known without a look at its text.
@@ -66,13 +66,12 @@ impl Noted {
     }
 }
 
-/// The numbers under which names were found lately, each at a place that the name's fingerprint tells. Names may share a
-/// place: the last one has it. Whoever takes the number of a name that is not short looks whether the name has it.
+/// The numbers under which names were found lately, each at a place that the name's fingerprint tells: those of `n1`, `n2`
+/// and so on stand one behind another, since they mostly come together. Names may share a place: the last one has it.
+/// Whoever takes the number of a name that is not short looks whether the name has it.
 #[derive(Drop)]
 pub struct Recent {
     entries: Vec<Noted>,
-    /// How many bits of a fingerprint, the lower ones, do not tell its place.
-    shift: u32,
 }
 
 impl Recent {
@@ -82,7 +81,6 @@ impl Recent {
     {
         Recent {
             entries: Vec::new(alloc),
-            shift: 0,
         }
     }
 
@@ -123,18 +121,17 @@ impl Recent {
     {
         let places = self.entries.len().saturating_mul(GROWTH).max(FEWEST);
         let mut entries = Vec::with_capacity(*self.entries.allocator(), places)?;
-        for noted in &self.entries {
-            entries.extend_from_slice(&[*noted; GROWTH])?;
+        'copies: for _ in 0..GROWTH {
+            entries.extend_from_slice(self.entries.as_slice())?;
         }
         entries.resize(places, Noted::NONE)?;
         self.entries = entries;
-        self.shift = (places as u64).leading_zeros() + 1;
         Ok(())
     }
 
-    /// The place of a fingerprint, told by its upper bits.
+    /// The place of a fingerprint, told by its lower bits.
     #[inline(always)]
     fn place(&self, fingerprint: u64) -> usize {
-        fingerprint.wrapping_shr(self.shift) as usize
+        fingerprint as usize & self.entries.len().wrapping_sub(1)
     }
 }

@@ -2,5 +2,5 @@ use Rattle.std.proofs.Common.{ℕ, List, All}
 use Rattle.vtext.specs.Recents.{AreRight, IsRight}
 use Rattle.vtext.proofs.recent.Recent.grow.Given as goal
 
-abbrev pub invariant-loop-noted : goal.invariant-loop-noted
-invariant-loop-noted l = (names : List (List ℕ)) → AreRight names l.fn.self → All (IsRight names) l.entries.items
+abbrev pub invariant-copies : goal.invariant-copies
+invariant-copies l = (names : List (List ℕ)) → AreRight names l.fn.self → All (IsRight names) l.entries.items
