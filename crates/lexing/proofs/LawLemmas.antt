@@ -104,7 +104,7 @@ last_alone : (before after : List Token) (token last : Token) → last ∷ [] �
 last_alone [] after token last e = cc
 last_alone (x ∷ before) after token last e = let rest : [] ≡ before ++ token ∷ after = cc in absurd (nil_or_some before after token rest)
 
-no_fault : (kind : Shape) (bytes : List ℕ) → spells kind bytes ≡ true → is_fault kind ≡ false
+pub no_fault : (kind : Shape) (bytes : List ℕ) → spells kind bytes ≡ true → is_fault kind ≡ false
 unfolding spells
 no_fault shape.Name bytes h = refl
 no_fault shape.Escaped bytes h = refl

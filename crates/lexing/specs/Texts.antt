@@ -35,6 +35,13 @@ pub record IsInside (size : ℕ) (token : Token) : Type 0 where
   pub some : token.start < token.end
   pub within : token.end ≤ size
 
+-- the token is the first one that the text spells from the place on: with what it spells behind the token, if that isn't the last
+pub record IsNext (text : List ℕ) (from : ℕ) (token : Token) : Type 0 where
+  pub inside : IsInside (length text) token
+  pub start : from ≤ token.start
+  pub last : is_fault token.shape ≡ true → Spells text from (token ∷ [])
+  pub first : is_fault token.shape ≡ false → (rest : List Token) → Spells text token.end rest → Spells text from (token ∷ rest)
+
 abbrev pub bytes_of : List ℕ → Token → List ℕ
 bytes_of text token = slice_range text token.start token.end
 

@@ -1,7 +1,7 @@
 //! The tokens of a text.
 
-ghost use Rattle.std.specs.Prelude.{◌≡◌, ◌≤◌, length, All, IfOk};
-ghost use Rattle.lexing.specs.Texts.{IsInside, Spells, token_at};
+ghost use Rattle.std.specs.Prelude.{◌≡◌, ◌≤◌, [], length, All, IfOk, IfSome, IsNone};
+ghost use Rattle.lexing.specs.Texts.{IsInside, IsNext, Spells, token_at};
 ghost use Rattle.lexing.specs.declared.limits.TheConstants.{MAX_TEXT};
 
 use crate::classes::{is_letter, is_mark, is_space};
@@ -25,15 +25,16 @@ fn token_at(shape: Shape, from: usize, to: usize) -> Token
     }
 }
 
-/// The tokens of a text of at most `MAX_TEXT` bytes: the longest one at each place, with white space between (IEEE
-/// 1364-2005, 3). A comment or an attribute that doesn't end, and a byte that begins no token, are the last token.
-pub fn tokens(alloc: Global, text: &[u8]) -> Result<Vec<Token>, AllocError>
-    requires { length text.now ≤ MAX_TEXT }
-    ensures spells { IfOk result (λ tokens. Spells text.now 0 tokens.items) }
-    ensures inside { IfOk result (λ tokens. All (IsInside (length text.now)) tokens.items) }
+/// The first token at this place of a text or behind it: the longest one behind the white space there (IEEE 1364-2005, 3),
+/// or a comment or an attribute that doesn't end, or a byte that begins no token.
+#[inline(always)]
+pub fn next_token(text: &[u8], from: usize) -> Option<Token>
+    requires limit { length text.now ≤ MAX_TEXT }
+    requires within { from ≤ length text.now }
+    ensures none { IsNone result → Spells text.now from [] }
+    ensures some { IfSome result (IsNext text.now from) }
 {
-    let mut tokens = Vec::new(alloc);
-    let mut position = 0;
+    let mut position = from;
     while position < text.len() {
         let first = text[position];
         if is_space(first) {
@@ -41,33 +42,43 @@ pub fn tokens(alloc: Global, text: &[u8]) -> Result<Vec<Token>, AllocError>
             continue;
         }
         if is_mark(first) {
-            tokens.push(token_at(Shape::Other, position, position + 1))?;
-            position += 1;
-            continue;
+            return Some(token_at(Shape::Other, position, position + 1));
         }
         if is_letter(first) {
-            let next = position + name_length(&text[position..]);
-            tokens.push(token_at(Shape::Name, position, next))?;
-            position = next;
-            continue;
+            let end = position + name_length(&text[position..]);
+            return Some(token_at(Shape::Name, position, end));
         }
         let rest = &text[position..];
         match white_space(rest) {
             White::Takes(length) => position += length,
             White::Unending => {
-                tokens.push(token_at(Shape::Unending, position, text.len()))?;
-                return Ok(tokens);
+                return Some(token_at(Shape::Unending, position, text.len()));
             }
             White::Nothing => {
                 let lexeme = first_lexeme(rest);
-                let next = position + lexeme.length;
-                tokens.push(token_at(lexeme.shape, position, next))?;
-                match lexeme.shape {
-                    Shape::Stray => return Ok(tokens),
-                    _ => position = next,
-                }
+                let end = position + lexeme.length;
+                return Some(token_at(lexeme.shape, position, end));
             }
         }
+    }
+    None
+}
+
+/// The tokens of a text of at most `MAX_TEXT` bytes, one after another. A comment or an attribute that doesn't end, and a
+/// byte that begins no token, are the last token.
+pub fn tokens(alloc: Global, text: &[u8]) -> Result<Vec<Token>, AllocError>
+    requires { length text.now ≤ MAX_TEXT }
+    ensures spells { IfOk result (λ tokens. Spells text.now 0 tokens.items) }
+    ensures inside { IfOk result (λ tokens. All (IsInside (length text.now)) tokens.items) }
+{
+    let mut tokens = Vec::new(alloc);
+    let mut position = 0;
+    while let Some(token) = next_token(text, position) {
+        tokens.push(token)?;
+        if token.is_last() {
+            return Ok(tokens);
+        }
+        position = token.end as usize;
     }
     Ok(tokens)
 }

@@ -1,7 +1,7 @@
 //! Tokens as places in a text.
 
 ghost use Rattle.std.specs.Prelude.{◌≡◌, ◌+◌, ◌<◌, ◌≤◌, length, slice_range};
-ghost use Rattle.lexing.specs.Texts.{IsInside, name_bytes};
+ghost use Rattle.lexing.specs.Texts.{IsInside, is_fault, name_bytes};
 
 use std::mem::size_of;
 
@@ -39,6 +39,14 @@ pub struct Token {
 }
 
 impl Token {
+    /// Whether the token is always the last one.
+    #[inline(always)]
+    pub fn is_last(self) -> bool
+        ensures { result ≡ is_fault self.shape }
+    {
+        matches!(self.shape, Shape::Unending | Shape::Stray)
+    }
+
     /// The token's bytes, where it stands in this text.
     pub fn bytes(self, text: &[u8]) -> &[u8]
         requires { IsInside (length text.now) self }

@@ -1,8 +1,10 @@
 pub mod NameLemmas
 pub mod RecentLemmas
+pub mod NotedLemmas
 pub mod GateLemmas
 pub mod WalkLemmas
 pub mod UnitLemmas
+pub mod WordLemmas
 pub mod ReadLemmas
 pub mod WalkLaws
 pub mod MarkLemmas

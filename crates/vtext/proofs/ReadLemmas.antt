@@ -15,7 +15,7 @@ use Rattle.vtext.specs.Reads.{IsFirstFault, Says, start_of}
 use Rattle.vtext.specs.Trees.{after_parts}
 use Rattle.vtext.specs.Walks.{IsFault, Leads, start}
 use Rattle.vtext.specs.Sound.{AreGoodWords}
-use Rattle.vtext.specs.Words.{names_of, words_of}
+use Rattle.vtext.specs.Words.{AreSaid, names_of, words_of}
 use Rattle.vtext.proofs.GoodWords.{good_words}
 use Rattle.vtext.proofs.SpelledLemmas.{written}
 use Rattle.vtext.proofs.TreeLemmas.{text_read}
@@ -49,44 +49,37 @@ leads_by default text list s = text_read default (names_of text s.tokens) (words
 
 -- What the code has.
 
--- `read` and `said` are what the code holds of the tokens and the words
-pub says : (default : Option ℕ) (text : List ℕ) (tokens read : List Token) (names : List (List ℕ)) (words said : List Placed) (last : Reading) (list : ModuleList)
-    → length text ≤ MAX_TEXT → Spells text 0 tokens → read ≡ tokens → names ≡ names_of text read → words ≡ words_of text read → said ≡ words
-    → Leads default names start said None (record { state = Outside; so_far = last })
-    → list ≡ record { names = names; unit = last.unit; modules = last.modules }
-    → Says default text list
-says default text tokens read names words said last list short spelled r n w s leads e =
-    let P : List (List ℕ) → List Placed → Type 0 = λ ns ws. Leads default ns start ws None (record { state = Outside; so_far = last }) in
-    let Q : List (List ℕ) → Type 0 = λ ns. list ≡ record { names = ns; unit = last.unit; modules = last.modules } in
-    let table : names ≡ names_of text tokens = n ∙ ap (names_of text) r in
-    let all : said ≡ words_of text tokens = s ∙ w ∙ ap (words_of text) r in
-    says_by default text tokens last list short spelled
-    (subst (P (names_of text tokens)) all (subst (λ (ns : List (List ℕ)). P ns said) table leads)) (subst Q table e)
+module _ (text : List ℕ) (names : List (List ℕ)) (words said : List Placed) (h : AreSaid text names words) (s : said ≡ words) where
+  -- what holds of the names and the words of the tokens holds of what the code has
+  has : (P : List (List ℕ) → List Placed → Type 0) → P names said → P (names_of text h.tokens) (words_of text h.tokens)
+  has P leads = subst (P (names_of text h.tokens)) (s ∙ h.said) (subst (λ (ns : List (List ℕ)). P ns said) h.named leads)
 
-pub said_good : (text : List ℕ) (tokens read : List Token) (names : List (List ℕ)) (words said : List Placed)
-    → Spells text 0 tokens → read ≡ tokens → names ≡ names_of text read → words ≡ words_of text read → said ≡ words → AreGoodWords names said
-said_good text tokens read names words said spelled r n w s =
-    let table : names ≡ names_of text tokens = n ∙ ap (names_of text) r in
-    let all : said ≡ words_of text tokens = s ∙ w ∙ ap (words_of text) r in
-    subst (λ (ns : List (List ℕ)). AreGoodWords ns said) (sym table)
-    (subst (λ (ws : List Placed). AreGoodWords (names_of text tokens) ws) (sym all) (good_words text tokens spelled))
+  pub says : (default : Option ℕ) (last : Reading) (list : ModuleList) → length text ≤ MAX_TEXT
+      → Leads default names start said None (record { state = Outside; so_far = last })
+      → list ≡ record { names = names; unit = last.unit; modules = last.modules }
+      → Says default text list
+  says default last list short leads e =
+      let Q : List (List ℕ) → Type 0 = λ ns. list ≡ record { names = ns; unit = last.unit; modules = last.modules } in
+      says_by default text h.tokens last list short h.spelled (has (λ ns ws. Leads default ns start ws None (record { state = Outside; so_far = last })) leads) (subst Q h.named e)
 
-pub refused : (default : Option ℕ) (text : List ℕ) (tokens read again : List Token) (names : List (List ℕ)) (words said : List Placed) (place : ℕ) (why : Cause) (fault : ReadFault)
-    → length text ≤ MAX_TEXT → Spells text 0 tokens → read ≡ tokens → again ≡ tokens → names ≡ names_of text read → words ≡ words_of text read → said ≡ words
-    → IsFault default names said place why
-    → fault ≡ record { line = line_of text (start_of text again place); kind = kind_of why }
-    → IsFirstFault default text fault
-refused default text tokens read again names words said place why fault short spelled r a n w s first e =
-    let P : List (List ℕ) → List Placed → Type 0 = λ ns ws. IsFault default ns ws place why in
-    let table : names ≡ names_of text tokens = n ∙ ap (names_of text) r in
-    let all : said ≡ words_of text tokens = s ∙ w ∙ ap (words_of text) r in
-    inr (record {
-      short = short;
-      tokens = tokens;
-      spelled = spelled;
-      place = place;
-      why = why;
-      first = subst (P (names_of text tokens)) all (subst (λ (ns : List (List ℕ)). P ns said) table first);
-      line = ap (λ (f : ReadFault). f.line) e ∙ ap (λ (t : List Token). line_of text (start_of text t place)) a;
-      kind = ap (λ (f : ReadFault). f.kind) e;
-    })
+  pub said_good : AreGoodWords names said
+  said_good =
+      subst (λ (ns : List (List ℕ)). AreGoodWords ns said) (sym h.named)
+      (subst (λ (ws : List Placed). AreGoodWords (names_of text h.tokens) ws) (sym (s ∙ h.said)) (good_words text h.tokens h.spelled))
+
+  pub refused : (default : Option ℕ) (again : List Placed) (place : ℕ) (why : Cause) (fault : ReadFault) → length text ≤ MAX_TEXT → again ≡ words
+      → IsFault default names said place why
+      → ((tokens : List Token) → again ≡ words_of text tokens → fault ≡ record { line = line_of text (start_of text tokens place); kind = kind_of why })
+      → IsFirstFault default text fault
+  refused default again place why fault short a first at =
+      let e = at h.tokens (a ∙ h.said) in
+      inr (record {
+        short = short;
+        tokens = h.tokens;
+        spelled = h.spelled;
+        place = place;
+        why = why;
+        first = has (λ ns ws. IsFault default ns ws place why) first;
+        line = ap (λ (f : ReadFault). f.line) e;
+        kind = ap (λ (f : ReadFault). f.kind) e;
+      })

@@ -1,10 +1,7 @@
 -- Short names of one length are the same where their first four bytes and their last four are.
-use Rattle.std.proofs.Common.{◌≡◌, ◌+◌, ◌-◌, ◌<◌, ◌≤◌, ℕ, zero, suc, Bool, true, false, List, get_or, length, nat_eq, nat_lt, refl, sym, ap, subst, ◌∙◌, add-zero, arith}
-use Rattle.std.specs.Str.{bytes_eq}
-use Rattle.std.proofs.lemmas.Bool.{eqb-false, eqb-true}
+use Rattle.std.proofs.Common.{◌≡◌, ◌+◌, ◌-◌, ◌<◌, ◌≤◌, ℕ, zero, suc, Bool, true, false, List, get_or, length, nat_lt, refl, subst, add-zero, arith}
 use Rattle.std.proofs.lemmas.Bool.Decides.{nat_tests}
 use Rattle.std.proofs.lemmas.Grind.{same_number_lists}
-use Rattle.std.proofs.lemmas.Slice.Eq.{bytes_eq-Decides}
 use Rattle.vtext.specs.Spellings.{four, is_short}
 
 most_bytes : (bytes : List ℕ) → is_short bytes ≡ true → length bytes ≤ 8
@@ -42,7 +39,7 @@ module _ (a b : List ℕ) (bytes : (k : ℕ) → get_or a k 0 < 256) (others : (
       let is : at + (k - at) ≡ k = omega arith in
       subst (λ n. get_or a n 0 ≡ get_or b n 0) is (of_four at (k - at) same (omega arith))
 
-  same_ends : is_short a ≡ true → length a ≡ length b → four a 0 ≡ four b 0 → four a (length a - 4) ≡ four b (length a - 4) → a ≡ b
+  pub same_ends : is_short a ≡ true → length a ≡ length b → four a 0 ≡ four b 0 → four a (length a - 4) ≡ four b (length a - 4) → a ≡ b
   same_ends short long first last = same_number_lists a b long at
     where
       at : (k : ℕ) → k < length a → get_or a k 0 ≡ get_or b k 0
@@ -51,16 +48,3 @@ module _ (a b : List ℕ) (bytes : (k : ℕ) → get_or a k 0 < 256) (others : (
           by : (t : Bool) → nat_lt k 4 ≡ t → get_or a k 0 ≡ get_or b k 0
           by true is = let low : k < 4 = grind (arith, nat_tests) in from_four 0 k first (omega arith) (omega arith)
           by false is = let high : 4 ≤ k = grind (arith, nat_tests) in let most : length a ≤ 8 = most_bytes a short in from_four (length a - 4) k last (omega arith) (omega arith)
-
-  pub ends_decide : is_short a ≡ true → length a ≡ length b → four a 0 ≡ four b 0 → nat_eq (four a (length a - 4)) (four b (length a - 4)) ≡ bytes_eq a b
-  ends_decide short long first = by (nat_eq (four a (length a - 4)) (four b (length a - 4))) refl (bytes_eq a b) refl
-    where
-      by : (t : Bool) → nat_eq (four a (length a - 4)) (four b (length a - 4)) ≡ t → (u : Bool) → bytes_eq a b ≡ u → t ≡ u
-      by true is true same = refl
-      by true is false same =
-          let whole : a ≡ b = same_ends short long first (eqb-true (four a (length a - 4)) (four b (length a - 4)) is) in
-          sym ((bytes_eq-Decides a b).1 whole) ∙ same
-      by false is true same =
-          let whole : a ≡ b = (bytes_eq-Decides a b).0 same in
-          absurd (eqb-false (four a (length a - 4)) (four b (length a - 4)) is (ap (λ (list : List ℕ). four list (length a - 4)) whole))
-      by false is false same = refl

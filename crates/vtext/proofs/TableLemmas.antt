@@ -1,10 +1,9 @@
 -- The table of names as it grows: a name keeps its number, and what it says.
-use Rattle.std.proofs.Common.{◌≡◌, ◌≢◌, ℕ, suc, ◌+◌, ◌<◌, ◌++◌, Bool, true, false, not, cond, ◌||◌, List, [], ◌∷◌, Option, Some, None, length, get_or, take, drop, map, fold, refl, sym, ap, subst, ◌∙◌, arith}
-use Rattle.std.proofs.lemmas.List.{append_assoc, get_or_append_left, get_or-map, length-append, map-append, map_more, take-append-drop}
+use Rattle.std.proofs.Common.{◌≡◌, ◌≢◌, ℕ, ◌+◌, ◌<◌, ◌++◌, Bool, true, false, not, cond, ◌||◌, List, [], ◌∷◌, Option, Some, None, length, get_or, map, fold, refl, sym, ap, subst, ◌∙◌, arith}
+use Rattle.std.proofs.lemmas.List.{append_assoc, get_or_append_left, get_or-map, length-append, map-append}
 use Rattle.std.proofs.lemmas.List.Folds.{list_any-append, list_any_at}
 use Rattle.std.proofs.lemmas.List.Quantifiers.{position-Some}
 use Rattle.std.proofs.lemmas.List.Sums.{fold-append}
-use Rattle.std.proofs.Math.Seq.{drop-cons}
 use Rattle.std.specs.List.{list_any, position_or_len}
 use Rattle.std.specs.Str.{bytes_eq}
 use Rattle.lexing.specs.Texts.{name_bytes}
@@ -77,24 +76,29 @@ same_word text first names token rest =
 
 -- The loop over the tokens.
 
-all_from : (text : List ℕ) (tokens : List Token) (i : ℕ) (d : Token) → i < length tokens
-    → names_of text tokens ≡ fold (with_token text) (names_of text (take i tokens)) (get_or tokens i d ∷ drop (suc i) tokens)
-all_from text tokens i d within =
-    ap (names_of text) (sym (take-append-drop i tokens)) ∙ fold-append (with_token text) [] (take i tokens) (drop i tokens)
-    ∙ ap (fold (with_token text) (names_of text (take i tokens))) (drop-cons tokens i d within)
+all_from : (text : List ℕ) (before rest : List Token) (token : Token)
+    → names_of text ((before ++ token ∷ []) ++ rest) ≡ fold (with_token text) (names_of text before) (token ∷ rest)
+all_from text before rest token = ap (names_of text) (append_assoc before (token ∷ []) rest) ∙ fold-append (with_token text) [] before (token ∷ rest)
 
-pub one_more : (text : List ℕ) (first : Option TimeUnit) (tokens : List Token) (i : ℕ) (d : Token) (names after : List (List ℕ)) (words : List Placed) (word : Placed) → i < length tokens
-    → names ≡ names_of text (take i tokens) → after ≡ with_token text names (get_or tokens i d) → words ≡ map (word_of (names_of text tokens) first text) (take i tokens)
-    → word ≡ word_of after first text (get_or tokens i d) → words ++ word ∷ [] ≡ map (word_of (names_of text tokens) first text) (take (i + 1) tokens)
-one_more text first tokens i d names after words word within before more said says =
-    let token : Token = get_or tokens i d in
+-- the names with those of one more token
+pub names_more : (text : List ℕ) (before : List Token) (token : Token) (names after : List (List ℕ)) → names ≡ names_of text before → after ≡ with_token text names token
+    → after ≡ names_of text (before ++ token ∷ [])
+names_more text before token names after known more =
+    more ∙ ap (λ (table : List (List ℕ)). with_token text table token) known ∙ sym (fold-append (with_token text) [] before (token ∷ []))
+
+-- the words of the tokens before, and that of one more token, in a text of more tokens
+pub words_more : (text : List ℕ) (first : Option TimeUnit) (before rest : List Token) (token : Token) (names after : List (List ℕ)) (words : List Placed) (word : Placed)
+    → names ≡ names_of text before → after ≡ with_token text names token
+    → words ≡ map (word_of (names_of text ((before ++ token ∷ []) ++ rest)) first text) before → word ≡ word_of after first text token
+    → words ++ word ∷ [] ≡ map (word_of (names_of text ((before ++ token ∷ []) ++ rest)) first text) (before ++ token ∷ [])
+words_more text first before rest token names after words word known more said says =
+    let all : List (List ℕ) = names_of text ((before ++ token ∷ []) ++ rest) in
     let F : List (List ℕ) → Placed = λ table. word_of table first text token in
-    let now : after ≡ with_token text (names_of text (take i tokens)) token = more ∙ ap (λ (table : List (List ℕ)). with_token text table token) before in
-    let same : F (names_of text tokens) ≡ F (with_token text (names_of text (take i tokens)) token)
-    = ap F (all_from text tokens i d within) ∙ same_word text first (names_of text (take i tokens)) token (drop (suc i) tokens) in
+    let now : after ≡ with_token text (names_of text before) token = more ∙ ap (λ (table : List (List ℕ)). with_token text table token) known in
+    let same : F all ≡ F (with_token text (names_of text before) token) = ap F (all_from text before rest token) ∙ same_word text first (names_of text before) token rest in
     ap (λ (list : List Placed). list ++ word ∷ []) said
-    ∙ ap (λ (last : Placed). map (word_of (names_of text tokens) first text) (take i tokens) ++ last ∷ []) (says ∙ ap F now ∙ sym same)
-    ∙ sym (map_more (word_of (names_of text tokens) first text) tokens i d within)
+    ∙ ap (λ (last : Placed). map (word_of all first text) before ++ last ∷ []) (says ∙ ap F now ∙ sym same)
+    ∙ sym (map-append (word_of all first text) before (token ∷ []))
 
 -- The meanings of names.
 
@@ -127,6 +131,14 @@ any_absent names bytes h = step (list_any (bytes_eq bytes) names) refl
 
 pub name_stays : (names : List (List ℕ)) (bytes : List ℕ) (n : ℕ) → number_of names bytes ≡ Some n → with_name names bytes ≡ names
 name_stays names bytes n h = rw (any_there names bytes n h) refl
+
+-- it keeps its number where another one is added
+pub number_with : (names : List (List ℕ)) (bytes name : List ℕ) (n : ℕ) → number_of names name ≡ Some n → number_of (with_name names bytes) name ≡ Some n
+number_with names bytes name n h = step (list_any (bytes_eq bytes) names)
+  where
+    step : (there : Bool) → number_of (cond there names (names ++ bytes ∷ [])) name ≡ Some n
+    step true = h
+    step false = number_stays names (bytes ∷ []) name (any_there names name n h) ∙ h
 
 -- a name is new where its number is the last one
 pub number_is_new : (names all : List (List ℕ)) (bytes : List ℕ) (n : ℕ) → all ≡ with_name names bytes → number_of all bytes ≡ Some n → n ≡ length names → number_of names bytes ≡ None

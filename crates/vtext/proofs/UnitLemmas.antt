@@ -1,6 +1,5 @@
 -- The unit of the first directive, in a loop over the tokens.
-use Rattle.std.proofs.Common.{◌≡◌, ℕ, ◌+◌, ◌<◌, Bool, true, false, cond, List, [], ◌∷◌, Option, Some, None, length, take, drop, get_or, option_map, unwrap_or, refl, sym, ap, ◌∙◌}
-use Rattle.std.proofs.lemmas.List.{take-append-drop, take_more}
+use Rattle.std.proofs.Common.{◌≡◌, ℕ, ◌++◌, Bool, true, false, cond, List, [], ◌∷◌, Option, Some, None, option_map, unwrap_or, refl, sym, ap, ◌∙◌}
 use Rattle.std.proofs.lemmas.List.Folds.{find-append}
 use Rattle.std.specs.List.{find}
 use Rattle.std.specs.Option.{option_and_then, option_or}
@@ -37,35 +36,34 @@ module _ (u : Token → Option TimeUnit) (t : Token) where
   first_of None rest = refl
   first_of (Some x) rest = refl
 
-module _ (text : List ℕ) (tokens : List Token) (i : ℕ) (d : Token) (within : i < length tokens) where
-  found : find is_directive (take (i + 1) tokens) ≡ option_or (find is_directive (take i tokens)) (cond (is_directive (get_or tokens i d)) (Some (get_or tokens i d)) None)
-  found = ap (find is_directive) (take_more tokens i d within) ∙ find-append is_directive (take i tokens) (get_or tokens i d ∷ [])
+module _ (text : List ℕ) (before : List Token) (token : Token) where
+  found : find is_directive (before ++ token ∷ []) ≡ option_or (find is_directive before) (cond (is_directive token) (Some token) None)
+  found = find-append is_directive before (token ∷ [])
 
   -- the first directive so far, after one more token
-  pub one_more_unit : (first : Option (Option TimeUnit)) → first ≡ option_map (unit_at text) (find is_directive (take i tokens))
-      → with_directive text first (get_or tokens i d) ≡ option_map (unit_at text) (find is_directive (take (i + 1) tokens))
-  one_more_unit first before =
-      ap (λ (f : Option (Option TimeUnit)). with_directive text f (get_or tokens i d)) before
-      ∙ with_unit (unit_at text) (get_or tokens i d) (is_directive (get_or tokens i d)) (find is_directive (take i tokens))
+  pub unit_more : (first : Option (Option TimeUnit)) → first ≡ option_map (unit_at text) (find is_directive before)
+      → with_directive text first token ≡ option_map (unit_at text) (find is_directive (before ++ token ∷ []))
+  unit_more first known =
+      ap (λ (f : Option (Option TimeUnit)). with_directive text f token) known
+      ∙ with_unit (unit_at text) token (is_directive token) (find is_directive before)
       ∙ sym (ap (option_map (unit_at text)) found)
 
-  first_here : is_directive (get_or tokens i d) ≡ true → unwrap_or (option_map (unit_at text) (find is_directive (take (i + 1) tokens))) None ≡ first_unit text tokens
-  first_here holds =
-      let token : Token = get_or tokens i d in
-      let before : Option Token = find is_directive (take i tokens) in
-      let rest : Option Token = find is_directive (drop (i + 1) tokens) in
-      let here : find is_directive (take (i + 1) tokens) ≡ option_or before (Some token) = found ∙ ap (λ (b : Bool). option_or before (cond b (Some token) None)) holds in
-      let all : find is_directive tokens ≡ option_or (option_or before (Some token)) rest
-      = ap (find is_directive) (sym (take-append-drop (i + 1) tokens)) ∙ find-append is_directive (take (i + 1) tokens) (drop (i + 1) tokens) ∙ ap (λ (o : Option Token). option_or o rest) here in
+  first_here : (rest : List Token) → is_directive token ≡ true
+      → unwrap_or (option_map (unit_at text) (find is_directive (before ++ token ∷ []))) None ≡ first_unit text ((before ++ token ∷ []) ++ rest)
+  first_here rest holds =
+      let here : find is_directive (before ++ token ∷ []) ≡ option_or (find is_directive before) (Some token)
+      = found ∙ ap (λ (b : Bool). option_or (find is_directive before) (cond b (Some token) None)) holds in
+      let all : find is_directive ((before ++ token ∷ []) ++ rest) ≡ option_or (option_or (find is_directive before) (Some token)) (find is_directive rest)
+      = find-append is_directive (before ++ token ∷ []) rest ∙ ap (λ (o : Option Token). option_or o (find is_directive rest)) here in
       ap (λ (o : Option Token). unwrap_or (option_map (unit_at text) o) None) here
-      ∙ first_of (unit_at text) token before rest ∙ sym (ap (option_and_then (unit_at text)) all)
+      ∙ first_of (unit_at text) token (find is_directive before) (find is_directive rest) ∙ sym (ap (option_and_then (unit_at text)) all)
 
   -- what the token says is the same with the first directive so far as with that of the text
-  pub same_word_so_far : (names : List (List ℕ)) (first : Option (Option TimeUnit)) (word : Placed) → first ≡ option_map (unit_at text) (find is_directive (take (i + 1) tokens))
-      → word ≡ word_of names (unwrap_or first None) text (get_or tokens i d) → word ≡ word_of names (first_unit text tokens) text (get_or tokens i d)
-  same_word_so_far names first word so_far says =
-      let token : Token = get_or tokens i d in
+  pub same_word_so_far : (rest : List Token) (names : List (List ℕ)) (first : Option (Option TimeUnit)) (word : Placed)
+      → first ≡ option_map (unit_at text) (find is_directive (before ++ token ∷ []))
+      → word ≡ word_of names (unwrap_or first None) text token → word ≡ word_of names (first_unit text ((before ++ token ∷ []) ++ rest)) text token
+  same_word_so_far rest names first word so_far says =
       says
       ∙ ap (λ (w : Word). record { word = w; start = token.start })
-      (word_by_unit token.shape names (unwrap_or first None) (first_unit text tokens) text token
-      (λ holds. ap (λ (f : Option (Option TimeUnit)). unwrap_or f None) so_far ∙ first_here holds))
+      (word_by_unit token.shape names (unwrap_or first None) (first_unit text ((before ++ token ∷ []) ++ rest)) text token
+      (λ holds. ap (λ (f : Option (Option TimeUnit)). unwrap_or f None) so_far ∙ first_here rest holds))

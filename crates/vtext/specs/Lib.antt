@@ -11,6 +11,7 @@ pub mod Ranges
 pub mod ReadFaults
 pub mod Readings
 pub mod Reads
+pub mod Recents
 pub mod Trees
 pub mod Turns
 pub mod Walks

@@ -3,8 +3,8 @@
 ghost use Rattle.std.specs.Prelude.{◌≡◌, ◌≤◌, ◌^◌, [], IfOk, IfSome, OnOk, OnErr, Some, length};
 ghost use Rattle.vtext.specs.Names.{name_at, number_of, with_name};
 
-use crate::recent::Recent;
-use crate::spelling::{Spelling, fingerprint, is_same};
+use crate::recent::{Noted, Recent};
+use crate::spelling::{Spelling, fingerprint, is_short};
 use design::NameHasher;
 use indexmap::IndexSet;
 use std::alloc::{AllocError, Global};
@@ -23,9 +23,11 @@ impl<'a> Model for Names<'a> {
 
     ghost Value = { List (List ℕ) };
 
+    ghost use Rattle.vtext.specs.Recents.{AreRight};
+
     ghost view = { λ a. map (λ text. text.bytes.now) a.texts.keys };
 
-    ghost invariant = { λ a. length a.texts.keys ≤ 2 ^ 32 };
+    ghost invariant = { λ a. (length a.texts.keys ≤ 2 ^ 32) × AreRight (map (λ text. text.bytes.now) a.texts.keys) a.recent };
 }
 
 impl<'a> Names<'a> {
@@ -84,7 +86,7 @@ impl<'a> Names<'a> {
             return Ok(number);
         }
         let number = self.insert(name)?;
-        self.recent.note(fingerprint, number);
+        self.recent.note(fingerprint, Noted::new(name, number));
         Ok(number)
     }
 
@@ -94,9 +96,12 @@ impl<'a> Names<'a> {
         ensures { IfSome result (λ number. number_of self.now name.now ≡ Some number) }
     {
         let noted = self.recent.get(fingerprint)?;
+        if is_short(name) {
+            return noted.is_of(name).then_some(noted.number);
+        }
         let _ = self.texts.len();
-        match self.texts.get_index(noted as usize) {
-            Some(text) if is_same(text.bytes, name) => Some(noted),
+        match self.texts.get_index(noted.number as usize) {
+            Some(text) if text.bytes == name => Some(noted.number),
             _ => None,
         }
     }

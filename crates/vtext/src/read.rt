@@ -1,38 +1,40 @@
 //! The module list of a text, or its first fault.
 
-ghost use Rattle.std.specs.Prelude.{◌≡◌, ◌<◌, ◌≤◌, ◌⊎◌, All, IfErr, IfOk, Err, length};
+ghost use Rattle.std.specs.Prelude.{◌≡◌, ◌<◌, ◌≤◌, ◌⊎◌, IfErr, IfOk, Err, List, length};
 ghost use Rattle.lexing.specs.Lines.{line_of};
-ghost use Rattle.lexing.specs.Texts.{IsInside};
 ghost use Rattle.lexing.specs.declared.limits.TheConstants.{MAX_TEXT};
+ghost use Rattle.lexing.specs.declared.token.Token.{Token};
 ghost use Rattle.vtext.specs.ReadFaults.{kind_of, out_of_memory, too_long};
 ghost use Rattle.vtext.specs.Reads.{IsFirstFault, Says, start_of};
+ghost use Rattle.vtext.specs.Words.{AreWithin, words_of};
 
 use crate::cause::Cause;
 use crate::fault::{ReadFault, kind_of};
 use crate::module_list::Modules;
 use crate::walks::{Refusal, walk};
+use crate::word::Placed;
 use crate::words::words;
 use design::NameHasher;
-use lexing::{MAX_TEXT, Token, line, tokens};
+use lexing::{MAX_TEXT, line};
 use std::alloc::Global;
 
-/// Where the token at a place begins; past the last one, the text's end.
-fn start_of(text: &[u8], tokens: &[Token], place: usize) -> usize
-    requires { All (IsInside (length text.now)) tokens.now }
-    ensures value { result ≡ start_of text.now tokens.now place }
+/// Where the word at a place begins; past the last one, the text's end.
+fn start_of(text: &[u8], words: &[Placed], place: usize) -> usize
+    requires { AreWithin text.now words.now }
+    ensures value { (tokens : List Token) → words.now ≡ words_of text.now tokens → result ≡ start_of text.now tokens place }
     ensures within { result ≤ length text.now }
 {
-    match tokens.get(place) {
-        Some(token) => token.start as usize,
+    match words.get(place) {
+        Some(word) => word.start as usize,
         None => text.len(),
     }
 }
 
-fn fault_at(text: &[u8], tokens: &[Token], place: usize, cause: Cause) -> ReadFault
-    requires { All (IsInside (length text.now)) tokens.now }
-    ensures { result ≡ record { line = line_of text.now (start_of text.now tokens.now place); kind = kind_of cause } }
+fn fault_at(text: &[u8], words: &[Placed], place: usize, cause: Cause) -> ReadFault
+    requires { AreWithin text.now words.now }
+    ensures { (tokens : List Token) → words.now ≡ words_of text.now tokens → result ≡ record { line = line_of text.now (start_of text.now tokens place); kind = kind_of cause } }
 {
-    let start = start_of(text, tokens, place);
+    let start = start_of(text, words, place);
     ReadFault {
         line: line(text, start) as u64,
         kind: kind_of(cause),
@@ -57,13 +59,10 @@ pub fn modules<'a>(
     if text.len() > MAX_TEXT {
         return Err(ReadFault::too_long());
     }
-    let tokens = tokens(alloc, text)?;
-    let (names, words) = words(alloc, hasher, text, tokens.as_slice())?;
+    let (names, words) = words(alloc, hasher, text)?;
     match walk(alloc, default, &names, words.as_slice()) {
         Ok(draft) => Ok(Modules::new(names, draft)),
         Err(Refusal::OutOfMemory) => Err(ReadFault::out_of_memory()),
-        Err(Refusal::Fault(place, cause)) => {
-            Err(fault_at(text, tokens.as_slice(), place, cause))
-        }
+        Err(Refusal::Fault(place, cause)) => { Err(fault_at(text, words.as_slice(), place, cause)) }
     }
 }

@@ -1,7 +1,6 @@
 //! The bytes of a name as a key.
 
-ghost use Rattle.std.specs.Prelude.{◌≡◌, ◌+◌, ◌≤◌, true, length};
-ghost use Rattle.std.specs.Str.{bytes_eq};
+ghost use Rattle.std.specs.Prelude.{◌≡◌, ◌+◌, ◌-◌, ◌≤◌, true, length};
 ghost use Rattle.vtext.specs.Spellings.{four, is_short, packed};
 
 use std::hash::{Hash, Hasher};
@@ -12,7 +11,13 @@ const WORD: usize = 8;
 const HALF: usize = 4;
 /// An odd number that carries each bit of a word into the upper ones of the product: 2^64 by the golden ratio (own).
 const SPREAD: u64 = 0x9E37_79B9_7F4A_7C15;
-/// How far the last bytes of a long name are turned before they meet the first ones (own).
+/// The lower half of each of eight bytes: what a digit counts.
+const LOWER_HALVES: u64 = 0x0F0F_0F0F_0F0F_0F0F;
+/// The lowest bit of each of eight bytes.
+const ONES: u64 = 0x0101_0101_0101_0101;
+/// The eight bytes `00000000`.
+const ZEROS: u64 = 0x3030_3030_3030_3030;
+/// How far the first bytes of a long name are turned before they meet its length and the last ones (own).
 const TURN: u32 = 29;
 
 /// The bytes of a name. A hasher is given a short name as one number, and any other one at once.
@@ -23,18 +28,34 @@ pub struct Spelling<'a> {
 
 /// Whether the bytes are packed into one number.
 #[tactic(auto, using(std::proofs::lemmas::Bool::Decides::nat_tests))]
-fn is_short(bytes: &[u8]) -> bool
+pub fn is_short(bytes: &[u8]) -> bool
     ensures { result ≡ is_short bytes.now }
 {
     HALF <= bytes.len() && bytes.len() <= WORD
 }
 
 /// The four bytes at a place as a number, the first one lowest.
-fn four(bytes: &[u8], at: usize) -> u64
+fn four(bytes: &[u8], at: usize) -> u32
     requires { at + 4 ≤ length bytes.now }
     ensures { result ≡ four bytes.now at }
 {
-    u32::from_le_bytes([bytes[at], bytes[at + 1], bytes[at + 2], bytes[at + 3]]) as u64
+    u32::from_le_bytes([bytes[at], bytes[at + 1], bytes[at + 2], bytes[at + 3]])
+}
+
+/// The first four bytes of a short name as a number.
+pub fn first_four(bytes: &[u8]) -> u32
+    requires { is_short bytes.now ≡ true }
+    ensures { result ≡ four bytes.now 0 }
+{
+    four(bytes, 0)
+}
+
+/// The last four bytes of a short name as a number. With the first four, and with how many there are, they tell all.
+pub fn last_four(bytes: &[u8]) -> u32
+    requires { is_short bytes.now ≡ true }
+    ensures { result ≡ four bytes.now (length bytes.now - 4) }
+{
+    four(bytes, bytes.len() - HALF)
 }
 
 /// The bytes as a number, the first one lowest: the first four, and the last four at their place above.
@@ -43,44 +64,17 @@ fn packed(bytes: &[u8]) -> u64
     ensures { result ≡ packed bytes.now }
 {
     let last = bytes.len() - HALF;
-    four(bytes, 0) | four(bytes, last) << (8 * last)
-}
-
-/// Whether short names of one length are the same.
-fn is_same_short(a: &[u8], b: &[u8]) -> bool
-    requires short { is_short a.now ≡ true }
-    requires length { length a.now ≡ length b.now }
-    ensures { result ≡ bytes_eq a.now b.now }
-{
-    if four(a, 0) != four(b, 0) {
-        return false;
-    }
-    let last = a.len() - HALF;
-    four(a, last) == four(b, last)
-}
-
-/// Whether two names are the same. Most are short.
-#[inline(always)]
-pub fn is_same(a: &[u8], b: &[u8]) -> bool
-    ensures { result ≡ bytes_eq a.now b.now }
-{
-    if a.len() != b.len() {
-        return false;
-    }
-    if is_short(a) {
-        return is_same_short(a, b);
-    }
-    a == b
+    u64::from(first_four(bytes)) | u64::from(last_four(bytes)) << (8 * last)
 }
 
 /// The eight bytes at a place as a number, the first one lowest.
 fn eight(bytes: &[u8], at: usize) -> u64
     requires { at + 8 ≤ length bytes.now }
 {
-    four(bytes, at) | four(bytes, at + HALF) << 32
+    u64::from(four(bytes, at)) | u64::from(four(bytes, at + HALF)) << 32
 }
 
-/// Fewer than four bytes as a number.
+/// Fewer than four bytes as a number, the last one lowest.
 fn few(bytes: &[u8]) -> u64 {
     let mut bits = 0;
     for byte in bytes {
@@ -89,25 +83,43 @@ fn few(bytes: &[u8]) -> u64 {
     bits
 }
 
-/// The first eight bytes and the last eight as a number, with how many there are.
-fn ends(bytes: &[u8]) -> u64
-    requires { 8 ≤ length bytes.now }
-{
-    let last = eight(bytes, bytes.len() - WORD);
-    eight(bytes, 0) ^ last.rotate_left(TURN) ^ bytes.len() as u64
+/// All bits of those of eight bytes that are no digits.
+fn others(bytes: u64) -> u64 {
+    let halves = (bytes ^ ZEROS) & !LOWER_HALVES;
+    let pairs = halves | halves >> 1;
+    let bits = (pairs | pairs >> 2) >> 4 & ONES;
+    bits.wrapping_mul(0xFF)
 }
 
-/// A number of the bytes that few other names share. Its upper bits tell the most.
+/// The number that eight digits spell, the first one lowest, each given by what it counts.
+fn decimal(digits: u64) -> u64 {
+    let pairs = digits.wrapping_mul(10 << 8 | 1) >> 8 & 0x00FF_00FF_00FF_00FF;
+    let fours = pairs.wrapping_mul(100 << 16 | 1) >> 16 & 0x0000_FFFF_0000_FFFF;
+    fours.wrapping_mul(10_000 << 32 | 1) >> 32
+}
+
+/// A number of eight bytes, the first one lowest, and of `more`, that few others share. Where only the digits differ, it
+/// differs by as much as the numbers that they spell.
+fn mixed(bytes: u64, more: u64) -> u64 {
+    let others = others(bytes);
+    let digits = bytes & !others & LOWER_HALVES;
+    let behind = (!others).leading_zeros() & 56;
+    let from = (bytes & others ^ more).wrapping_mul(SPREAD).swap_bytes();
+    decimal(digits.wrapping_shl(behind)).wrapping_add(from)
+}
+
+/// A number of the bytes that few other names share. Its lower bits tell the most. `n1`, `n2` and so on have numbers one
+/// behind another.
 #[inline(always)]
 pub fn fingerprint(bytes: &[u8]) -> u64 {
-    let bits = if is_short(bytes) {
-        packed(bytes)
-    } else if bytes.len() < WORD {
-        few(bytes)
-    } else {
-        ends(bytes)
-    };
-    bits.wrapping_mul(SPREAD)
+    if is_short(bytes) {
+        return mixed(packed(bytes), 0);
+    }
+    if bytes.len() < WORD {
+        return mixed(few(bytes), 0);
+    }
+    let first = eight(bytes, 0).rotate_left(TURN);
+    mixed(eight(bytes, bytes.len() - WORD), first ^ bytes.len() as u64)
 }
 
 impl<'a> Hash for Spelling<'a> {

@@ -1,9 +1,10 @@
 //! What the tokens of a text say to the grammar.
 
-ghost use Rattle.std.specs.Prelude.{◌≡◌, All, IfOk, None, OnOk, Some, length, unwrap_or};
+ghost use Rattle.std.specs.Prelude.{◌≡◌, ◌≤◌, IfOk, None, OnOk, Some, length, unwrap_or};
 ghost use Rattle.lexing.specs.Texts.{IsInside};
+ghost use Rattle.lexing.specs.declared.limits.TheConstants.{MAX_TEXT};
 ghost use Rattle.vtext.specs.Keywords.{meanings_of};
-ghost use Rattle.vtext.specs.Words.{directive_word, names_of, unit_at, with_directive, with_token, word_of, words_of};
+ghost use Rattle.vtext.specs.Words.{AreSaid, AreWithin, directive_word, unit_at, with_directive, with_token, word_of};
 
 use crate::keywords::mark;
 use crate::names::Names;
@@ -11,11 +12,13 @@ use crate::table::Table;
 use crate::units::{directive_word, unit_at};
 use crate::word::{Placed, Word};
 use design::NameHasher;
-use lexing::{Shape, Token, constant_value, number_value};
+use lexing::{Shape, Token, constant_value, next_token, number_value};
 use std::alloc::{AllocError, Global};
 
-/// For how many tokens there probably is a new name (own).
-const TOKENS_FOR_A_NAME: usize = 8;
+/// For how many bytes of a text there probably is a new name (own).
+const BYTES_FOR_A_NAME: usize = 24;
+/// How many bytes of a text one word takes in most texts, or more (own).
+const BYTES_FOR_A_WORD: usize = 2;
 
 impl<'a> Table<'a> {
     /// What a directive says.
@@ -64,17 +67,21 @@ pub fn words<'a>(
     alloc: Global,
     hasher: NameHasher,
     text: &'a [u8],
-    tokens: &[Token],
 ) -> Result<(Names<'a>, Vec<Placed>), AllocError>
-    requires { All (IsInside (length text.now)) tokens.now }
-    ensures names { IfOk result (λ said. said.0 ≡ names_of text.now tokens.now) }
-    ensures words { IfOk result (λ said. said.1.items ≡ words_of text.now tokens.now) }
+    requires { length text.now ≤ MAX_TEXT }
+    ensures said { IfOk result (λ said. AreSaid text.now said.0 said.1.items) }
+    ensures starts { IfOk result (λ said. AreWithin text.now said.1.items) }
 {
     let mut table = Table::new(alloc, hasher);
-    table.names.reserve(tokens.len() / TOKENS_FOR_A_NAME)?;
-    let mut words = Vec::with_capacity(alloc, tokens.len())?;
-    for token in tokens {
-        words.push(table.word(text, *token)?)?;
+    table.names.reserve(text.len() / BYTES_FOR_A_NAME)?;
+    let mut words = Vec::with_capacity(alloc, text.len() / BYTES_FOR_A_WORD)?;
+    let mut position = 0;
+    while let Some(token) = next_token(text, position) {
+        words.push(table.word(text, token)?)?;
+        if token.is_last() {
+            return Ok((table.names, words));
+        }
+        position = token.end as usize;
     }
     Ok((table.names, words))
 }

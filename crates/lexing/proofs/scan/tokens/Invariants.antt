@@ -1,14 +1,14 @@
-use Rattle.std.proofs.Common.{◌≤◌, ◌-◌, ◌++◌, List, length, All}
-use Rattle.lexing.specs.declared.token.Token.{Token}
-use Rattle.lexing.specs.Texts.{IsInside, Spells}
+use Rattle.std.proofs.Common.{◌≤◌, ◌-◌, length, All}
+use Rattle.lexing.specs.Texts.{IsInside}
+use Rattle.lexing.proofs.TextLemmas.{Completes}
 use Rattle.lexing.proofs.scan.tokens.Given as goal
 
-abbrev pub invariant-loop-position : goal.invariant-loop-position
-invariant-loop-position l = record {
+abbrev pub invariant-loop-token : goal.invariant-loop-token
+invariant-loop-token l = record {
   within : l.position ≤ length l.text;
-  spelled : (more : List Token) → Spells l.text l.position more → Spells l.text 0 (l.tokens.items ++ more);
+  spelled : Completes l.text l.position l.tokens.items;
   inside : All (IsInside (length l.text)) l.tokens.items;
 }
 
-abbrev pub decreases-loop-position : goal.decreases-loop-position
-decreases-loop-position l = length l.text - l.position
+abbrev pub decreases-loop-token : goal.decreases-loop-token
+decreases-loop-token l = length l.text - l.position

@@ -3,4 +3,4 @@ use Rattle.vtext.proofs.spelling.packed.Goals as goal
 
 pub returns : goal.returns
 unfolding packed
-returns c = rw (c.four.ensures, c.four-2.ensures)
+returns c = rw (c.from.ensures, c.first_four.ensures, c.from-2.ensures, c.last_four.ensures)

@@ -1,26 +1,31 @@
-use Rattle.std.proofs.Common.{◌≡◌, option_map, take, ◌+◌, ◌∙◌, arith}
-use Rattle.std.specs.List.{find}
-use Rattle.std.proofs.lemmas.Grind.{common_steps}
-use Rattle.lexing.specs.declared.token.Token.{Token}
-use Rattle.vtext.specs.Words.{first_unit, is_timescale, unit_at}
-use Rattle.vtext.proofs.TableLemmas.{one_more}
-use Rattle.vtext.proofs.UnitLemmas.{one_more_unit, same_word_so_far}
+use Rattle.std.proofs.Common.{refl, ap, sym, ◌∙◌}
+use Rattle.vtext.specs.declared.word.Placed.{Placed}
+use Rattle.vtext.proofs.WordLemmas.{said_at_end, said_at_last, so_far_more, within_more}
 use Rattle.vtext.proofs.words.words.Goals as goal
 
+pub returns-then-is_last-clause-said : goal.returns-then-is_last-clause-said
+returns-then-is_last-clause-said c =
+    said_at_last c.args.text.now c.loop-token.position c.loop-token.table.names c.loop-token.table.directive c.loop-token.words.items c.loop-token.invariant.so_far c.in-Some.token
+    c.word.new.self.names c.word.new.self.directive c.in_ok-word.field-0 c.push.new.self.items c.in-Some.ensures.some c.in_ok-word.ensures.names c.in_ok-word.ensures.directive
+    c.in_ok-word.ensures.word c.in_ok-push.ensures.items (sym c.is_last.ensures ∙ c.if-is_last.true)
+
+pub returns-then-is_last-clause-starts : goal.returns-then-is_last-clause-starts
+returns-then-is_last-clause-starts c =
+    within_more c.args.text.now c.in-Some.token c.loop-token.words.items c.push.new.self.items c.in_ok-word.field-0 c.in-Some.ensures.some.inside
+    (ap (λ (w : Placed). w.start) c.in_ok-word.ensures.word) c.in_ok-push.ensures.items c.loop-token.invariant.starts
+
 pub loop-token-preserved : goal.loop-token-preserved
-loop-token-preserved c =
-    let text = c.args.text.now in
-    let tokens = c.args.tokens.now in
-    let i = c.loop-token.token-index in
-    let so_far : c.word.new.self.directive ≡ option_map (unit_at text) (find (λ (token : Token). is_timescale token.shape) (take (i + 1) tokens))
-    = c.in_ok-word.ensures.directive ∙ one_more_unit text tokens i _ c.loop-token-test.true c.loop-token.table.directive c.loop-token.invariant.directive in
-    record {
-      names = grind (arith, common_steps);
-      meanings = c.in_ok-word.ensures.meanings;
-      directive = so_far;
-      words =
-          c.in_ok-push.ensures.items
-          ∙ one_more text (first_unit text tokens) tokens i _ c.loop-token.table.names c.word.new.self.names c.loop-token.words.items c.in_ok-word.field-0
-          c.loop-token-test.true c.loop-token.invariant.names c.in_ok-word.ensures.names c.loop-token.invariant.words
-          (same_word_so_far text tokens i _ c.loop-token-test.true c.word.new.self.names c.word.new.self.directive c.in_ok-word.field-0 so_far c.in_ok-word.ensures.word);
-    }
+loop-token-preserved c = record {
+  within = c.in-Some.ensures.some.inside.within;
+  meanings = c.in_ok-word.ensures.meanings;
+  so_far = so_far_more c.args.text.now c.loop-token.position c.loop-token.table.names c.loop-token.table.directive c.loop-token.words.items c.loop-token.invariant.so_far c.in-Some.token
+      c.word.new.self.names c.word.new.self.directive c.in_ok-word.field-0 c.push.new.self.items c.in-Some.ensures.some c.in_ok-word.ensures.names c.in_ok-word.ensures.directive
+      c.in_ok-word.ensures.word c.in_ok-push.ensures.items (sym c.is_last.ensures ∙ c.if-is_last.false);
+  starts = within_more c.args.text.now c.in-Some.token c.loop-token.words.items c.push.new.self.items c.in_ok-word.field-0 c.in-Some.ensures.some.inside
+      (ap (λ (w : Placed). w.start) c.in_ok-word.ensures.word) c.in_ok-push.ensures.items c.loop-token.invariant.starts;
+}
+
+pub returns-clause-said : goal.returns-clause-said
+returns-clause-said c =
+    said_at_end c.args.text.now c.loop-token.position c.loop-token.table.names c.loop-token.table.directive c.loop-token.words.items c.loop-token.invariant.so_far
+    (c.in_default.ensures.none refl)

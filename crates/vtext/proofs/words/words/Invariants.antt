@@ -1,14 +1,16 @@
-use Rattle.std.proofs.Common.{◌≡◌, map, option_map, take}
-use Rattle.std.specs.List.{find}
-use Rattle.lexing.specs.declared.token.Token.{Token}
+use Rattle.std.proofs.Common.{◌≡◌, ◌≤◌, ◌-◌, length}
 use Rattle.vtext.specs.Keywords.{meanings_of}
-use Rattle.vtext.specs.Words.{first_unit, is_timescale, names_of, unit_at, word_of}
+use Rattle.vtext.specs.Words.{AreWithin}
+use Rattle.vtext.proofs.WordLemmas.{SoFar}
 use Rattle.vtext.proofs.words.words.Given as goal
 
 abbrev pub invariant-loop-token : goal.invariant-loop-token
 invariant-loop-token l = record {
-  names : l.table.names ≡ names_of l.text (take l.token-index l.tokens);
+  within : l.position ≤ length l.text;
   meanings : l.table.meanings.items ≡ meanings_of l.table.names;
-  directive : l.table.directive ≡ option_map (unit_at l.text) (find (λ (token : Token). is_timescale token.shape) (take l.token-index l.tokens));
-  words : l.words.items ≡ map (word_of (names_of l.text l.tokens) (first_unit l.text l.tokens) l.text) (take l.token-index l.tokens);
+  so_far : SoFar l.text l.position l.table.names l.table.directive l.words.items;
+  starts : AreWithin l.text l.words.items;
 }
+
+abbrev pub decreases-loop-token : goal.decreases-loop-token
+decreases-loop-token l = length l.text - l.position

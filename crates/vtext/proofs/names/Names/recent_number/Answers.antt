@@ -7,6 +7,6 @@ use Rattle.vtext.proofs.names.Names.recent_number.Goals as goal
 pub returns-in-Some : goal.returns-in-Some
 returns-in-Some c =
     let text = c.in-Some.text.now in
-    let named : text.bytes.now ≡ c.args.name.now = (bytes_eq-Decides text.bytes.now c.args.name.now).0 (sym c.is_same.ensures ∙ c.if-is_same.true) in
+    let named : text.bytes.now ≡ c.args.name.now = (bytes_eq-Decides text.bytes.now c.args.name.now).0 (sym c.eq.ensures ∙ c.if-eq.true) in
     rw (← c.self.view_is)
-    (text_stands (λ (v : Spelling). v.bytes.now) c.self.inside.texts.keys c.in_ok-noted.noted text c.args.name.now c.len.ensures.unique (sym c.in-Some.ensures.key) named)
+    (text_stands (λ (v : Spelling). v.bytes.now) c.self.inside.texts.keys c.in_ok-noted.noted.number text c.args.name.now c.len.ensures.unique (sym c.in-Some.ensures.key) named)

@@ -1,0 +1,34 @@
+-- A short name is known by what is noted of it.
+use Rattle.std.proofs.Common.{◌≡◌, ◌-◌, ◌<◌, ◌≤◌, ℕ, true, List, Some, get_or, length, sym, ap, ◌∙◌, arith}
+use Rattle.std.proofs.lemmas.Bool.Decides.{nat_tests}
+use Rattle.std.proofs.lemmas.List.Elements.{All-weaker}
+use Rattle.vtext.specs.declared.recent.Noted.{Noted}
+use Rattle.vtext.specs.declared.recent.Recent.{Recent}
+use Rattle.vtext.specs.Names.{number_of, with_name}
+use Rattle.vtext.specs.Recents.{AreRight, IsOf, IsRight}
+use Rattle.vtext.specs.Spellings.{four, is_short}
+use Rattle.vtext.proofs.SameBytes.{same_ends}
+use Rattle.vtext.proofs.TableLemmas.{number_with}
+
+abbrev pub AreBytes : List ℕ → Type 0
+AreBytes name = (k : ℕ) → get_or name k 0 < 256
+
+fewest_bytes : (bytes : List ℕ) → is_short bytes ≡ true → 4 ≤ length bytes
+fewest_bytes bytes short = grind (arith, nat_tests)
+
+same_noted : (noted : Noted) (a b : List ℕ) → AreBytes a → AreBytes b → IsOf noted a → IsOf noted b → a ≡ b
+same_noted noted a b bytes others one other =
+    let long : length a ≡ length b = sym one.long ∙ other.long in
+    same_ends a b bytes others one.short long (sym one.first ∙ other.first) (sym one.last ∙ (other.last ∙ ap (λ (n : ℕ). four b (n - 4)) (sym long)))
+
+pub right_of : (names : List (List ℕ)) (noted : Noted) (name : List ℕ) → AreBytes name → IsOf noted name → number_of names name ≡ Some noted.number → IsRight names noted
+right_of names noted name bytes is stands = λ other others one. ap (number_of names) (same_noted noted other name others bytes one is) ∙ stands
+
+-- nothing is told of a name that is not short
+pub right_none : (names : List (List ℕ)) (noted : Noted) → noted.length ≡ 0 → IsRight names noted
+right_none names noted none = λ name bytes is. absurd (omega (arith, none, is.long, fewest_bytes name is.short))
+
+-- names keep their numbers where another one is added
+pub right_with : (names : List (List ℕ)) (bytes : List ℕ) (recent : Recent) → AreRight names recent → AreRight (with_name names bytes) recent
+right_with names bytes recent right =
+    All-weaker (IsRight names) (IsRight (with_name names bytes)) (λ noted h name are is. number_with names bytes name noted.number (h name are is)) recent.entries.items right
