@@ -16,7 +16,7 @@ use lexing::{Shape, Token, constant_value, next_token, number_value};
 use std::alloc::{AllocError, Global};
 
 /// For how many bytes of a text there probably is a new name (own).
-const BYTES_FOR_A_NAME: usize = 24;
+const BYTES_FOR_A_NAME: usize = 64;
 /// How many bytes of a text one word takes in most texts, or more (own).
 const BYTES_FOR_A_WORD: usize = 2;
 
