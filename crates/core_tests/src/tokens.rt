@@ -2,7 +2,9 @@
 
 use crate::compare::equal;
 use fourstate::{Magnitude, TimeUnit, Unit, Value};
-use lexing::{MAX_TEXT, Shape, constant_value, line, number_value, timescale, tokens};
+use lexing::{
+    MAX_TEXT, Shape, Token, constant_value, line, next_token, number_value, timescale, tokens,
+};
 use std::alloc::Global;
 use std::process::Abort;
 
@@ -216,6 +218,23 @@ fn numbers_and_constants(rt: HostRuntime) {
     for (text, want) in CONSTANTS {
         equal(&rt, text, constant_value(text), want);
     }
+}
+
+#[test]
+fn the_token_behind_a_place(rt: HostRuntime) {
+    let text = b" a /* b */ +\x01c";
+    for (from, shape, start, end) in [
+        (0, Shape::Name, 1, 2),
+        (2, Shape::Other, 11, 12),
+        (12, Shape::Stray, 12, 13),
+        (13, Shape::Name, 13, 14),
+    ] {
+        assert!(&rt; from <= text.len());
+        let want = Token { shape, start, end };
+        equal(&rt, from, next_token(text, from), Some(want));
+        equal(&rt, from, want.is_last(), shape == Shape::Stray);
+    }
+    equal(&rt, "end", next_token(text, text.len()), None);
 }
 
 #[test]

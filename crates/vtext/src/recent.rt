@@ -1,6 +1,6 @@
 //! Under which numbers names were found lately.
 
-ghost use Rattle.std.specs.Prelude.{◌≡◌, List, ℕ, [], IfSome, IsTrue, Some, true};
+ghost use Rattle.std.specs.Prelude.{◌≡◌, ◌↔◌, List, ℕ, [], IfSome, IsTrue, Some, true};
 ghost use Rattle.vtext.specs.Names.{number_of};
 ghost use Rattle.vtext.specs.Recents.{AreRight, IsOf, IsRight};
 ghost use Rattle.vtext.specs.Spellings.{is_short};
@@ -58,7 +58,7 @@ impl Noted {
     #[inline(always)]
     pub fn is_of(self, name: &[u8]) -> bool
         requires { is_short name.now ≡ true }
-        ensures { IsTrue result → IsOf self name.now }
+        ensures { IsTrue result ↔ IsOf self name.now }
     {
         self.length as usize == name.len()
             && self.first == first_four(name)
