@@ -11,9 +11,9 @@ returns-clause-next g c =
 
 pub returns-clause-text : goal.returns-clause-text
 returns-clause-text g c =
-    let line : change_line c.args.place (wave_in c.args.waves.now.waves c.args.place) c.args.t ≡ value_line c.args.place c.change.inside.value =
+    let line : change_line c.args.place (wave_in c.args.waves.now.waves c.args.place) c.args.t ≡ value_line c.args.place c.value.result =
     line_of c.args.place _ c.args.t c.args.left.now c.index-left-0.result (c.lawful.ensures.timelines c.args.place c.requires.place) c.requires.moment c.requires.next
-    ∙ (ap (λ d. value_line c.args.place d.1) (sym c.index-left-0.is) ∙ ap (λ d. value_line c.args.place d.1) (sym c.change.view_is)) in
+    ∙ (ap (λ d. value_line c.args.place d.1) (sym c.index-left-0.is) ∙ ap (value_line c.args.place) (sym c.value.ensures)) in
     rw line c.value_line.ensures
 
 pub bounds-left-0 : goal.bounds-left-0
