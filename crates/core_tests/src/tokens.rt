@@ -1,20 +1,37 @@
 //! Texts written out by hand.
 
+ghost use Rattle.std.specs.Prelude.{length, All};
+ghost use Rattle.lexing.specs.Texts.{IsInside};
+
 use crate::compare::equal;
 use fourstate::{Magnitude, TimeUnit, Unit, Value};
-use lexing::{
-    MAX_TEXT, Shape, Token, constant_value, line, next_token, number_value, timescale, tokens,
-};
+use lexing::{MAX_TEXT, Shape, Token, constant_value, line, next_token, number_value, timescale};
 use std::alloc::Global;
 use std::process::Abort;
 
 /// A text, and the shapes and bytes of its tokens.
 type Case<'a> = (&'a [u8], &'a [(Shape, &'a [u8])]);
 
+/// The tokens of a text, one after another.
+fn tokens(rt: &impl Abort, alloc: Global, text: &[u8]) -> Vec<Token>
+    ensures { All (IsInside (length text.now)) result.items }
+{
+    assert!(rt; text.len() <= MAX_TEXT);
+    let mut found = Vec::new(alloc);
+    let mut position = 0;
+    while let Some(token) = next_token(text, position) {
+        found.push(token).expect(rt, "room");
+        if token.is_last() {
+            return found;
+        }
+        position = token.end as usize;
+    }
+    found
+}
+
 fn check(rt: &impl Abort, alloc: Global, case: Case<'_>) {
     let (text, want) = case;
-    assert!(rt; text.len() <= MAX_TEXT);
-    let found = tokens(alloc, text).expect(rt, "room");
+    let found = tokens(rt, alloc, text);
     equal(rt, text, found.len(), want.len());
     for (token, (shape, bytes)) in found.iter().zip(want.iter()) {
         equal(rt, text, token.shape, *shape);
@@ -240,7 +257,7 @@ fn the_token_behind_a_place(rt: HostRuntime) {
 #[test]
 fn names_are_plain_or_escaped(rt: HostRuntime) {
     let text = b"n1 \\n1 ";
-    let found = tokens(rt.alloc(), text).expect(&rt, "room");
+    let found = tokens(&rt, rt.alloc(), text);
     equal(&rt, "number of tokens", found.len(), 2);
     for token in &found {
         equal(&rt, "name", token.name(text), b"n1".as_slice());
@@ -261,7 +278,7 @@ fn each_beginning(rt: HostRuntime) {
     let text =
         b"`timescale 1 ns/ 10ps\nmodule \\m+ (a); // b\n not #3 (y, 1'b0); (* c *) /* d */ endmodule\x01";
     for end in 0..text.len() + 1 {
-        let found = tokens(rt.alloc(), &text[..end]).expect(&rt, "room");
+        let found = tokens(&rt, rt.alloc(), &text[..end]);
         for (k, token) in found.iter().enumerate() {
             let is_last = k + 1 == found.len();
             let is_fault = matches!(token.shape, Shape::Unending | Shape::Stray);

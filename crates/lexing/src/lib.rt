@@ -19,5 +19,5 @@ pub use directives::timescale;
 pub use limits::MAX_TEXT;
 pub use lines::line;
 pub use numbers::number_value;
-pub use scan::{next_token, tokens};
+pub use scan::next_token;
 pub use token::{Shape, Token};

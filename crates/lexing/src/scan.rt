@@ -63,22 +63,3 @@ pub fn next_token(text: &[u8], from: usize) -> Option<Token>
     }
     None
 }
-
-/// The tokens of a text of at most `MAX_TEXT` bytes, one after another. A comment or an attribute that doesn't end, and a
-/// byte that begins no token, are the last token.
-pub fn tokens(alloc: Global, text: &[u8]) -> Result<Vec<Token>, AllocError>
-    requires { length text.now ≤ MAX_TEXT }
-    ensures spells { IfOk result (λ tokens. Spells text.now 0 tokens.items) }
-    ensures inside { IfOk result (λ tokens. All (IsInside (length text.now)) tokens.items) }
-{
-    let mut tokens = Vec::new(alloc);
-    let mut position = 0;
-    while let Some(token) = next_token(text, position) {
-        tokens.push(token)?;
-        if token.is_last() {
-            return Ok(tokens);
-        }
-        position = token.end as usize;
-    }
-    Ok(tokens)
-}
