@@ -1,7 +1,7 @@
 //! The tokens of a text.
 
-ghost use Rattle.std.specs.Prelude.{◌≡◌, ◌≤◌, [], length, All, IfOk, IfSome, IsNone};
-ghost use Rattle.lexing.specs.Texts.{IsInside, IsNext, Spells, token_at};
+ghost use Rattle.std.specs.Prelude.{◌≡◌, ◌≤◌, [], length, IfSome, IsNone};
+ghost use Rattle.lexing.specs.Texts.{IsNext, Spells, token_at};
 ghost use Rattle.lexing.specs.declared.limits.TheConstants.{MAX_TEXT};
 
 use crate::classes::{is_letter, is_mark, is_space};
@@ -9,7 +9,6 @@ use crate::lexemes::{first_lexeme, name_length};
 use crate::limits::MAX_TEXT;
 use crate::spaces::{White, white_space};
 use crate::token::{Shape, Token};
-use std::alloc::{AllocError, Global};
 
 /// A token from these places of a text.
 #[inline(always)]
