@@ -37,12 +37,7 @@ ones_read (One ∷ values) = sum_by-cons one_in One (map reading values) ∙ ap 
 ones_read (Unknown ∷ values) = ones_read values
 ones_read (HighZ ∷ values) = ones_read values
 
--- the one value of a list, and the two of a list
-pub one_value : (values : List Value) (v : Value) → length values ≡ 1 → slice_get values 0 ≡ Some v → values ≡ v ∷ []
-one_value [] v long first = cc
-one_value (w ∷ []) v long first = cc
-one_value (w ∷ x ∷ values) v long first = absurd (omega arith)
-
+-- the two values of a list
 pub two_values : (values : List Value) (v w : Value) → length values ≡ 2 → slice_get values 0 ≡ Some v → slice_get values 1 ≡ Some w → values ≡ v ∷ w ∷ []
 two_values [] v w long first second = cc
 two_values (x ∷ []) v w long first second = cc

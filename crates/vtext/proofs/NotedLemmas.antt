@@ -24,10 +24,6 @@ same_noted noted a b bytes others one other =
 pub right_of : (names : List (List ℕ)) (noted : Noted) (name : List ℕ) → AreBytes name → IsOf noted name → number_of names name ≡ Some noted.number → IsRight names noted
 right_of names noted name bytes is stands = λ other others one. ap (number_of names) (same_noted noted other name others bytes one is) ∙ stands
 
--- nothing is told of a name that is not short
-pub right_none : (names : List (List ℕ)) (noted : Noted) → noted.length ≡ 0 → IsRight names noted
-right_none names noted none = λ name bytes is. absurd (omega (arith, none, is.long, fewest_bytes name is.short))
-
 -- names keep their numbers where another one is added
 pub right_with : (names : List (List ℕ)) (bytes : List ℕ) (recent : Recent) → AreRight names recent → AreRight (with_name names bytes) recent
 right_with names bytes recent right =

@@ -1,5 +1,5 @@
 -- What the tokens of a text say, one after another.
-use Rattle.std.proofs.Common.{◌≡◌, ◌≤◌, ℕ, true, false, List, [], ◌∷◌, ◌++◌, Option, None, length, map, option_map, unwrap_or, append-nil, append_assoc, refl, sym, subst, ◌∙◌, arith}
+use Rattle.std.proofs.Common.{◌≡◌, ◌≤◌, ℕ, true, false, List, [], ◌∷◌, ◌++◌, Option, None, length, map, option_map, unwrap_or, append-nil, append_assoc, sym, subst, ◌∙◌, arith}
 use Rattle.std.specs.List.{find}
 use Rattle.std.proofs.lemmas.List.Elements.{All-push}
 use Rattle.fourstate.specs.declared.unit.TimeUnit.{TimeUnit}
@@ -21,13 +21,6 @@ pub record SoFar (text : List ℕ) (from : ℕ) (names : List (List ℕ)) (first
   pub tokens : List Token
   pub completed : (rest : List Token) → Spells text from rest → Spells text 0 (tokens ++ rest)
   pub are : Said text tokens names first words
-
-pub so_far_none : (text : List ℕ) → SoFar text 0 [] None []
-so_far_none text = record {
-  tokens = [];
-  completed = λ rest spelled. spelled;
-  are = record { named = refl; directive = refl; said = λ rest. refl };
-}
 
 said_more : (text : List ℕ) (tokens : List Token) (token : Token) (names after : List (List ℕ)) (first next : Option (Option TimeUnit)) (words all : List Placed) (word : Placed)
     → after ≡ with_token text names token → next ≡ with_directive text first token → word ≡ word_of after (unwrap_or next None) text token → all ≡ words ++ word ∷ []

@@ -24,10 +24,3 @@ digit_kept zero low = refl
 digit_kept (suc zero) low = refl
 digit_kept (suc (suc zero)) low = refl
 digit_kept (suc (suc (suc k))) low = let none : k ≡ 0 = omega arith in ap (λ n. suc (suc (suc n))) (sym none)
-
--- a value is that of its number
-pub value_kept : (v : Value) → value_of_digit (digit_of v) ≡ v
-value_kept Zero = refl
-value_kept One = refl
-value_kept Unknown = refl
-value_kept HighZ = refl
