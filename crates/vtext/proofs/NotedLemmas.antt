@@ -1,20 +1,16 @@
 -- A short name is known by what is noted of it.
-use Rattle.std.proofs.Common.{◌≡◌, ◌-◌, ◌<◌, ◌≤◌, ℕ, true, List, Some, get_or, length, sym, ap, ◌∙◌, arith}
-use Rattle.std.proofs.lemmas.Bool.Decides.{nat_tests}
+use Rattle.std.proofs.Common.{◌≡◌, ◌-◌, ◌<◌, ℕ, List, Some, get_or, length, sym, ap, ◌∙◌}
 use Rattle.std.proofs.lemmas.List.Elements.{All-weaker}
 use Rattle.vtext.specs.declared.recent.Noted.{Noted}
 use Rattle.vtext.specs.declared.recent.Recent.{Recent}
 use Rattle.vtext.specs.Names.{number_of, with_name}
 use Rattle.vtext.specs.Recents.{AreRight, IsOf, IsRight}
-use Rattle.vtext.specs.Spellings.{four, is_short}
+use Rattle.vtext.specs.Spellings.{four}
 use Rattle.vtext.proofs.SameBytes.{same_ends}
 use Rattle.vtext.proofs.TableLemmas.{number_with}
 
 abbrev pub AreBytes : List ℕ → Type 0
 AreBytes name = (k : ℕ) → get_or name k 0 < 256
-
-fewest_bytes : (bytes : List ℕ) → is_short bytes ≡ true → 4 ≤ length bytes
-fewest_bytes bytes short = grind (arith, nat_tests)
 
 same_noted : (noted : Noted) (a b : List ℕ) → AreBytes a → AreBytes b → IsOf noted a → IsOf noted b → a ≡ b
 same_noted noted a b bytes others one other =
