@@ -4,6 +4,7 @@ pub mod KeyLists
 pub mod Keys
 pub mod Lawful
 pub mod Lists
+pub mod NameTexts
 pub mod Names
 pub mod Netlist
 pub mod Places

@@ -14,6 +14,7 @@ mod key_list;
 pub mod laws;
 mod limits;
 mod name;
+mod name_text;
 mod net;
 mod net_change;
 mod piece;

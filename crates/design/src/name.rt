@@ -5,6 +5,7 @@ ghost use Rattle.std.specs.List.{list_all};
 ghost use Rattle.design.specs.Names.{is_name, is_name_byte, is_part, parts};
 
 use crate::limits::MAX_NAME;
+use crate::name_text::NameText;
 use std::alloc::{AllocError, Global};
 use std::marker::Model;
 
@@ -12,18 +13,18 @@ use std::marker::Model;
 /// not empty and not `$end` (own). The type keeps this.
 #[derive(Debug, Drop)]
 pub struct Name {
-    text: String,
+    text: NameText,
 }
 
 impl Model for Name {
-    ghost use Rattle.std.specs.Prelude.{ℕ, List, IsTrue, string_bytes};
+    ghost use Rattle.std.specs.Prelude.{ℕ, List, IsTrue};
     ghost use Rattle.design.specs.Names.{is_name};
 
     ghost Value = { List ℕ };
 
-    ghost view = { λ a. string_bytes a.text };
+    ghost view = { λ a. a.text };
 
-    ghost invariant = { λ a. IsTrue (is_name (string_bytes a.text)) };
+    ghost invariant = { λ a. IsTrue (is_name a.text) };
 }
 
 impl Name {
@@ -39,7 +40,7 @@ impl Name {
         requires { IsTrue (is_name text.now) }
         ensures { IfOk result (λ name. name ≡ text.now) }
     {
-        let text = String::from_str(alloc, text)?;
+        let text = NameText::new(alloc, text)?;
         Ok(Name { text })
     }
 
