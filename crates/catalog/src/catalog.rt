@@ -9,8 +9,8 @@ use crate::gather::ready_names;
 use crate::hasher::NameHasher;
 use crate::named::Named;
 use crate::names::Names;
-use crate::order::{Order, item_at, key_at};
-use crate::places::{close_up, index_of, place_at};
+use crate::order::{Order, item_at};
+use crate::places::{close_up, index_of, key_at, place_at};
 use crate::slots::Slots;
 use chunked::{Chunked, Shared};
 use std::alloc::{AllocError, Global};
@@ -129,7 +129,7 @@ impl<R: Named> Catalog<R> {
         ensures there { record_at self.now result ≡ slice_get (records_of self.now) place }
     {
         let index = index_of(&self.order, self.len, place);
-        match key_at(&self.order, index) {
+        match key_at(&self.slots, &self.order, index) {
             Some(key) => key,
             None => unreachable!(),
         }

@@ -1,10 +1,10 @@
 //! The places of the entries in an order that may have gaps.
 
-ghost use Rattle.std.specs.Prelude.{◌≡◌, ◌≤◌, ◌<◌, ◌∷◌, [], ◌++◌, ℕ, Some, IfOk, OnOk, filter, is_some, length, slice_get, take};
+ghost use Rattle.std.specs.Prelude.{◌≡◌, ◌≤◌, ◌<◌, ◌∷◌, [], ◌++◌, ℕ, Some, IfOk, OnOk, filter, is_some, length, option_map, slice_get, take};
 ghost use Rattle.catalog.specs.Columns.{AreApart, AreKnown, ArePlaced, cell_at, entries_in};
 ghost use Rattle.catalog.specs.Slots.{slot_at};
 
-use crate::order::{Entry, Order, entry_at, key_at};
+use crate::order::{self, Entry, Order, entry_at};
 use crate::slots::Slots;
 use chunked::Chunked;
 use std::alloc::{AllocError, Global};
@@ -33,6 +33,17 @@ pub(crate) fn index_of<R: Drop>(order: &Order<R>, len: usize, place: usize) -> u
     } else {
         find_entry(order, place)
     }
+}
+
+/// The key at an index, where there is an entry.
+pub(crate) fn key_at<R: Drop>(slots: &Slots, order: &Order<R>, index: usize) -> Option<usize>
+    requires { ArePlaced (slot_at slots.now) order.now }
+    ensures { result ≡ option_map (λ e. e.0) (cell_at order.now index) }
+{
+    if slots.is_straight(index) {
+        return Some(index);
+    }
+    order::key_at(order, index)
 }
 
 /// How many entries stand before an index.
@@ -110,7 +121,7 @@ fn number<R: Drop>(slots: &mut Slots, order: &Order<R>) -> Result<(), AllocError
     ensures same { OnOk result ((key : ℕ) → is_some (slot_at slots.new key) ≡ is_some (slot_at slots.old key)) }
 {
     for index in 0..order.len() {
-        if let Some(key) = key_at(order, index) {
+        if let Some(key) = order::key_at(order, index) {
             slots.set(key, index)?;
         }
     }

@@ -1,10 +1,11 @@
 //! Where the entry under each key stands.
 
-ghost use Rattle.std.specs.Prelude.{◌≡◌, ◌≢◌, ℕ, None, Some, IfOk, IfSome, IsSome, OnOk, slice_get};
+ghost use Rattle.std.specs.Prelude.{◌≡◌, ◌≢◌, ℕ, None, Some, true, IfOk, IfSome, IsSome, OnOk, slice_get};
 ghost use Rattle.catalog.specs.Slots.{slot_at};
 
 use chunked::{Chunked, ExactClone};
 use std::alloc::{AllocError, Global};
+use std::marker::Model;
 
 /// What is under a key.
 #[derive(Clone, Copy, Debug)]
@@ -19,11 +20,25 @@ impl ExactClone for Slot {
     ghost exact = { λ _ _ same. same };
 }
 
-/// The index of each key in the order, and the key that became free last.
+/// The index of each key in the order, and the key that became free last. Contracts see what is under each key.
 #[derive(Drop)]
 pub(crate) struct Slots {
-    pub(crate) keys: Chunked<Slot>,
-    pub(crate) free: Option<usize>,
+    keys: Chunked<Slot>,
+    free: Option<usize>,
+    // So many of the first keys are each the index of its own entry, and so are known without a look at `keys`.
+    straight: usize,
+}
+
+impl Model for Slots {
+    ghost use Rattle.std.specs.Prelude.{List};
+    ghost use Rattle.catalog.specs.Slots.{AreStraight};
+    ghost use Rattle.catalog.specs.declared.slots.Slot.{Slot};
+
+    ghost Value = { List Slot };
+
+    ghost view = { λ a. a.keys };
+
+    ghost invariant = { λ a. AreStraight a.straight a.keys };
 }
 
 impl Slots {
@@ -34,6 +49,7 @@ impl Slots {
         Slots {
             keys: Chunked::new(alloc),
             free: None,
+            straight: 0,
         }
     }
 
@@ -45,6 +61,7 @@ impl Slots {
         Ok(Slots {
             keys,
             free: self.free,
+            straight: self.straight,
         })
     }
 
@@ -52,10 +69,21 @@ impl Slots {
     pub(crate) fn get(&self, key: usize) -> Option<usize>
         ensures { result ≡ slot_at self.now key }
     {
+        if self.is_straight(key) {
+            return Some(key);
+        }
         match self.keys.get(key) {
             Some(Slot::At(index)) => Some(*index),
             _ => None,
         }
+    }
+
+    /// Whether a key is known to be the index of its own entry.
+    #[inline(always)]
+    pub(crate) fn is_straight(&self, key: usize) -> bool
+        ensures { result ≡ true → slot_at self.now key ≡ Some key }
+    {
+        key < self.straight
     }
 
     /// Puts the index under a key that had none, and gives that key.
@@ -71,6 +99,9 @@ impl Slots {
         }
         let key = self.keys.len();
         self.keys.push(Slot::At(index))?;
+        if index == key && self.straight == key {
+            self.straight = self.keys.len();
+        }
         Ok(key)
     }
 
@@ -80,6 +111,7 @@ impl Slots {
         ensures gone { OnOk result (slot_at self.new key ≡ None) }
         ensures others { OnOk result ((other : ℕ) → other ≢ key → slot_at self.new other ≡ slot_at self.old other) }
     {
+        self.straight = self.straight.min(key);
         self.keys.set(key, Slot::Free(self.free))?;
         self.free = Some(key);
         Ok(())
@@ -91,13 +123,16 @@ impl Slots {
         ensures there { OnOk result (slot_at self.new key ≡ Some index) }
         ensures others { OnOk result ((other : ℕ) → other ≢ key → slot_at self.new other ≡ slot_at self.old other) }
     {
+        if index != key {
+            self.straight = self.straight.min(key);
+        }
         self.keys.set(key, Slot::At(index))?;
         Ok(())
     }
 
     /// The key that became free last, and the one before.
     fn free_key(&self) -> Option<(usize, Option<usize>)>
-        ensures { IfSome result (λ free. slice_get self.now.keys free.0 ≡ Some (Slot.Free free.1)) }
+        ensures { IfSome result (λ free. slice_get self.now free.0 ≡ Some (Slot.Free free.1)) }
     {
         let key = self.free?;
         match self.keys.get(key) {
