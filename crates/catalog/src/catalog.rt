@@ -7,6 +7,7 @@ ghost use Rattle.catalog.specs.Catalog.{AreDistinct, key_named, keys_of, named, 
 use crate::enter::enter;
 use crate::gather::ready_names;
 use crate::hasher::NameHasher;
+use crate::key::Key;
 use crate::named::Named;
 use crate::names::Names;
 use crate::order::{Order, item_at};
@@ -86,7 +87,7 @@ impl<R: Named> Catalog<R> {
     }
 
     /// The key of the record of a name.
-    pub fn key(&self, name: &str) -> Option<usize>
+    pub fn key(&self, name: &str) -> Option<Key>
         ensures key { result ≡ key_named R.name self.now name.now }
         ensures there { IfSome result (λ key. record_at self.now key ≡ option_map (λ e. e.1) (named R.name self.now name.now)) }
     {
@@ -100,7 +101,7 @@ impl<R: Named> Catalog<R> {
     }
 
     /// The record under a key.
-    pub fn get(&self, key: usize) -> Option<&R>
+    pub fn get(&self, key: Key) -> Option<&R>
         ensures { option_copied result ≡ record_at self.now key }
     {
         match self.slots.get(key) {
@@ -110,7 +111,7 @@ impl<R: Named> Catalog<R> {
     }
 
     /// The place of the record under a key, in the order of the records.
-    pub fn place(&self, key: usize) -> Option<usize>
+    pub fn place(&self, key: Key) -> Option<usize>
         ensures place { result ≡ place_of self.now key }
         ensures within { IfSome result (λ place. place < length self.now) }
         ensures there { IfSome result (λ place. slice_get (records_of self.now) place ≡ record_at self.now key) }
@@ -122,7 +123,7 @@ impl<R: Named> Catalog<R> {
     }
 
     /// The key of the record at a place.
-    pub fn key_at(&self, place: usize) -> usize
+    pub fn key_at(&self, place: usize) -> Key
         requires { place < length self.now }
         ensures key { slice_get (keys_of self.now) place ≡ Some result }
         ensures place { place_of self.now result ≡ Some place }
@@ -148,7 +149,7 @@ impl<R: Named> Catalog<R> {
     }
 
     /// Adds a record, which goes last, and gives its key. It fails where memory runs out.
-    pub fn push(self, item: R) -> Result<(Catalog<R>, usize), AllocError>
+    pub fn push(self, item: R) -> Result<(Catalog<R>, Key), AllocError>
         requires { key_named R.name self (R.name item) ≡ None }
         ensures entries { IfOk result (λ added. added.0 ≡ self ++ (added.1, item) ∷ []) }
         ensures fresh { IfOk result (λ added. record_at self added.1 ≡ None) }
@@ -172,7 +173,7 @@ impl<R: Named> Catalog<R> {
     }
 
     /// Puts a record under the key of one with the same name. It fails where memory runs out.
-    pub fn replace(self, key: usize, item: R) -> Result<Catalog<R>, AllocError>
+    pub fn replace(self, key: Key, item: R) -> Result<Catalog<R>, AllocError>
         requires there { IsSome (record_at self key) }
         requires name { IfSome (record_at self key) (λ old. R.name item ≡ R.name old) }
         ensures { IfOk result (λ catalog. catalog ≡ with_record self key item) }
@@ -187,7 +188,7 @@ impl<R: Named> Catalog<R> {
     }
 
     /// Takes the record under a key away. It fails where memory runs out.
-    pub fn remove(self, key: usize) -> Result<Catalog<R>, AllocError>
+    pub fn remove(self, key: Key) -> Result<Catalog<R>, AllocError>
         requires { IsSome (record_at self key) }
         ensures { IfOk result (λ catalog. catalog ≡ without_key self key) }
     {

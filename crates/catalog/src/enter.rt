@@ -7,6 +7,7 @@ ghost use Rattle.catalog.specs.Slots.{slot_at};
 
 use crate::by_name::ByName;
 use crate::hasher::NameHasher;
+use crate::key::Key;
 use crate::named::Named;
 use crate::names::Names;
 use crate::order::Order;
@@ -22,7 +23,7 @@ pub(crate) fn enter<R: Named>(
     slots: &mut Slots,
     order: &mut Order<R>,
     item: Shared<R>,
-) -> Result<(Names<R>, usize), AllocError>
+) -> Result<(Names<R>, Key), AllocError>
     ensures fresh { IfOk result (λ entered. slot_at slots.old entered.1 ≡ None) }
     ensures there { IfOk result (λ entered. slot_at slots.new entered.1 ≡ Some (length order.old)) }
     ensures others { IfOk result (λ entered. (key : ℕ) → key ≢ entered.1 → slot_at slots.new key ≡ slot_at slots.old key) }

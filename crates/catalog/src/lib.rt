@@ -6,6 +6,7 @@ mod catalog;
 mod enter;
 mod gather;
 mod hasher;
+mod key;
 mod named;
 mod names;
 mod order;
@@ -15,4 +16,5 @@ mod slots;
 
 pub use catalog::Catalog;
 pub use hasher::NameHasher;
+pub use key::Key;
 pub use named::Named;

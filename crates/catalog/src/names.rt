@@ -7,6 +7,7 @@ ghost use Rattle.catalog.specs.Found.{found, found_in, key_under};
 
 use crate::by_name::ByName;
 use crate::hasher::NameHasher;
+use crate::key::Key;
 use crate::named::Named;
 use indexmap::IndexMap;
 use std::alloc::{AllocError, Global};
@@ -16,7 +17,7 @@ use std::sync::Arc;
 const MAX_ADDED: usize = 1_024;
 
 /// Keys, each under a record that had its name, and no name twice.
-pub(crate) type Map<R> = IndexMap<ByName<R>, usize, NameHasher>;
+pub(crate) type Map<R> = IndexMap<ByName<R>, Key, NameHasher>;
 
 /// The key that each name had last: the names that copies of a catalog share, and those added since. A name is that of
 /// the first record that had it since all were gathered anew: this one stays in memory until they are again, also where
@@ -48,7 +49,7 @@ impl<R: Named> Names<R> {
     }
 
     /// The key that a name had last.
-    pub(crate) fn get(&self, name: &str) -> Option<usize>
+    pub(crate) fn get(&self, name: &str) -> Option<Key>
         ensures { result ≡ found R.name self.now name.now }
     {
         match get(&self.added, name) {
@@ -69,7 +70,7 @@ impl<R: Named> Names<R> {
         alloc: Global,
         hasher: NameHasher,
         name: ByName<R>,
-        key: usize,
+        key: Key,
     ) -> Result<Names<R>, AllocError>
         ensures { IfOk result (λ names. (other : List ℕ) → found R.name names other ≡ (if same_name (R.name name.record) other then Some key else found R.name self other)) }
     {
@@ -93,7 +94,7 @@ fn with_base<R: Named>(
     hasher: NameHasher,
     base: Option<Arc<Map<R>>>,
     name: ByName<R>,
-    key: usize,
+    key: Key,
 ) -> Result<Names<R>, AllocError>
     ensures { IfOk result (λ names. (other : List ℕ) → found R.name names other ≡ (if same_name (R.name name.record) other then Some key else found_in R.name base other)) }
 {
@@ -123,7 +124,7 @@ fn first<R: Named>(
     alloc: Global,
     hasher: NameHasher,
     name: ByName<R>,
-    key: usize,
+    key: Key,
 ) -> Result<Arc<Map<R>>, AllocError>
     ensures { IfOk result (λ map. (other : List ℕ) → key_under R.name (arc_value map) other ≡ (if same_name (R.name name.record) other then Some key else None)) }
 {
@@ -136,7 +137,7 @@ fn first<R: Named>(
 fn put<R: Named>(
     mut map: Arc<Map<R>>,
     name: ByName<R>,
-    key: usize,
+    key: Key,
 ) -> Result<Arc<Map<R>>, AllocError>
     ensures { IfOk result (λ changed. (other : List ℕ) → key_under R.name (arc_value changed) other ≡ (if same_name (R.name name.record) other then Some key else key_under R.name (arc_value map) other)) }
 {
@@ -148,7 +149,7 @@ fn put<R: Named>(
 pub(crate) fn write<R: Named>(
     map: &mut Map<R>,
     name: ByName<R>,
-    key: usize,
+    key: Key,
 ) -> Result<(), AllocError>
     ensures { OnOk result ((other : List ℕ) → key_under R.name map.new other ≡ (if same_name (R.name name.record) other then Some key else key_under R.name map.old other)) }
 {
@@ -165,7 +166,7 @@ fn try_clone<R: Named>(part: &Option<Arc<Map<R>>>) -> Result<Option<Arc<Map<R>>>
     }
 }
 
-fn get<R: Named>(part: &Option<Arc<Map<R>>>, name: &str) -> Option<usize>
+fn get<R: Named>(part: &Option<Arc<Map<R>>>, name: &str) -> Option<Key>
     ensures { result ≡ found_in R.name part.now name.now }
 {
     match part {

@@ -4,10 +4,11 @@ ghost use Rattle.std.specs.Prelude.{◌≡◌, ℕ, option_map};
 ghost use Rattle.std.specs.Option.{option_copied};
 ghost use Rattle.catalog.specs.Columns.{cell_at};
 
+use crate::key::Key;
 use chunked::{Chunked, Shared};
 
 /// A key and its record, which copies share.
-pub(crate) type Entry<R> = (usize, Shared<R>);
+pub(crate) type Entry<R> = (Key, Shared<R>);
 
 /// The entries and the gaps.
 pub(crate) type Order<R> = Chunked<Option<Entry<R>>>;
@@ -20,7 +21,7 @@ pub(crate) fn entry_at<R: Drop>(order: &Order<R>, index: usize) -> Option<&Entry
 }
 
 /// The key at an index, where there is an entry.
-pub(crate) fn key_at<R: Drop>(order: &Order<R>, index: usize) -> Option<usize>
+pub(crate) fn key_at<R: Drop>(order: &Order<R>, index: usize) -> Option<Key>
     ensures { result ≡ option_map (λ e. e.0) (cell_at order.now index) }
 {
     match entry_at(order, index) {

@@ -4,6 +4,7 @@ ghost use Rattle.std.specs.Prelude.{◌≡◌, ◌≤◌, ◌<◌, ◌∷◌, []
 ghost use Rattle.catalog.specs.Columns.{AreApart, AreKnown, ArePlaced, cell_at, entries_in};
 ghost use Rattle.catalog.specs.Slots.{slot_at};
 
+use crate::key::Key;
 use crate::order::{self, Entry, Order, entry_at};
 use crate::slots::Slots;
 use chunked::Chunked;
@@ -36,14 +37,14 @@ pub(crate) fn index_of<R: Drop>(order: &Order<R>, len: usize, place: usize) -> u
 }
 
 /// The key at an index, where there is an entry.
-pub(crate) fn key_at<R: Drop>(slots: &Slots, order: &Order<R>, index: usize) -> Option<usize>
+pub(crate) fn key_at<R: Drop>(slots: &Slots, order: &Order<R>, index: usize) -> Option<Key>
     requires { ArePlaced (slot_at slots.now) order.now }
     ensures { result ≡ option_map (λ e. e.0) (cell_at order.now index) }
 {
-    if slots.is_straight(index) {
-        return Some(index);
+    match Key::try_from(index) {
+        Ok(key) if slots.is_straight(key) => Some(key),
+        _ => order::key_at(order, index),
     }
-    order::key_at(order, index)
 }
 
 /// How many entries stand before an index.

@@ -6,6 +6,7 @@ ghost use Rattle.std.specs.Option.{option_copied};
 ghost use Rattle.catalog.specs.Catalog.{AreDistinct, key_named, keys_of, named, place_of, record_at, records_of, same_name, with_record, without_key};
 
 use crate::hasher::NameHasher;
+use crate::key::Key;
 use crate::named::Named;
 use chunked::Shared;
 use std::alloc::{AllocError, Global};
@@ -15,8 +16,8 @@ use std::marker::Model;
 /// A catalog as one list.
 #[derive(Drop)]
 pub struct PlainCatalog<R: Named> {
-    entries: Vec<(usize, Shared<R>)>,
-    next_key: usize,
+    entries: Vec<(Key, Shared<R>)>,
+    next_key: Key,
 }
 
 impl<R: Named> Model for PlainCatalog<R> {
@@ -61,7 +62,7 @@ impl<R: Named> PlainCatalog<R> {
     }
 
     /// The key of the record of a name.
-    pub fn key(&self, name: &str) -> Option<usize>
+    pub fn key(&self, name: &str) -> Option<Key>
         ensures key { result ≡ key_named R.name self.now name.now }
         ensures there { IfSome result (λ key. record_at self.now key ≡ option_map (λ e. e.1) (named R.name self.now name.now)) }
     {
@@ -72,7 +73,7 @@ impl<R: Named> PlainCatalog<R> {
     }
 
     /// The record under a key.
-    pub fn get(&self, key: usize) -> Option<&R>
+    pub fn get(&self, key: Key) -> Option<&R>
         ensures { option_copied result ≡ record_at self.now key }
     {
         match place_under(self.entries.as_slice(), key) {
@@ -82,7 +83,7 @@ impl<R: Named> PlainCatalog<R> {
     }
 
     /// The place of the record under a key, in the order of the records.
-    pub fn place(&self, key: usize) -> Option<usize>
+    pub fn place(&self, key: Key) -> Option<usize>
         ensures place { result ≡ place_of self.now key }
         ensures within { IfSome result (λ place. place < length self.now) }
         ensures there { IfSome result (λ place. slice_get (records_of self.now) place ≡ record_at self.now key) }
@@ -91,7 +92,7 @@ impl<R: Named> PlainCatalog<R> {
     }
 
     /// The key of the record at a place.
-    pub fn key_at(&self, place: usize) -> usize
+    pub fn key_at(&self, place: usize) -> Key
         requires { place < length self.now }
         ensures key { slice_get (keys_of self.now) place ≡ Some result }
         ensures place { place_of self.now result ≡ Some place }
@@ -109,7 +110,7 @@ impl<R: Named> PlainCatalog<R> {
     }
 
     /// Adds a record, which goes last, and gives its key. It fails where memory runs out.
-    pub fn push(self, item: R) -> Result<(PlainCatalog<R>, usize), AllocError>
+    pub fn push(self, item: R) -> Result<(PlainCatalog<R>, Key), AllocError>
         requires { key_named R.name self (R.name item) ≡ None }
         ensures entries { IfOk result (λ added. added.0 ≡ self ++ (added.1, item) ∷ []) }
         ensures fresh { IfOk result (λ added. record_at self added.1 ≡ None) }
@@ -125,7 +126,7 @@ impl<R: Named> PlainCatalog<R> {
     }
 
     /// Puts a record under the key of one with the same name. It fails where memory runs out.
-    pub fn replace(self, key: usize, item: R) -> Result<PlainCatalog<R>, AllocError>
+    pub fn replace(self, key: Key, item: R) -> Result<PlainCatalog<R>, AllocError>
         requires there { IsSome (record_at self key) }
         requires name { IfSome (record_at self key) (λ old. R.name item ≡ R.name old) }
         ensures { IfOk result (λ catalog. catalog ≡ with_record self key item) }
@@ -143,7 +144,7 @@ impl<R: Named> PlainCatalog<R> {
     }
 
     /// Takes the record under a key away. It fails where memory runs out.
-    pub fn remove(self, key: usize) -> Result<PlainCatalog<R>, AllocError>
+    pub fn remove(self, key: Key) -> Result<PlainCatalog<R>, AllocError>
         requires { IsSome (record_at self key) }
         ensures { IfOk result (λ catalog. catalog ≡ without_key self key) }
     {
@@ -181,7 +182,7 @@ impl<R: Named> fmt::Debug for PlainCatalog<R> {
     }
 }
 
-fn place_named<R: Named>(entries: &[(usize, Shared<R>)], name: &str) -> Option<usize>
+fn place_named<R: Named>(entries: &[(Key, Shared<R>)], name: &str) -> Option<usize>
     ensures { result ≡ position_from (λ e. same_name (R.name e.1) name.now) 0 entries.now }
 {
     entries
@@ -189,7 +190,7 @@ fn place_named<R: Named>(entries: &[(usize, Shared<R>)], name: &str) -> Option<u
         .position(|entry| entry.1.value().name() == name)
 }
 
-fn place_under<R: Named>(entries: &[(usize, Shared<R>)], key: usize) -> Option<usize>
+fn place_under<R: Named>(entries: &[(Key, Shared<R>)], key: Key) -> Option<usize>
     ensures { result ≡ position_from (λ e. e.0 == key) 0 entries.now }
 {
     entries.iter().position(|entry| entry.0 == key)

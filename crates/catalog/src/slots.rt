@@ -3,6 +3,7 @@
 ghost use Rattle.std.specs.Prelude.{◌≡◌, ◌≢◌, ℕ, None, Some, true, IfOk, IfSome, IsSome, OnOk, slice_get};
 ghost use Rattle.catalog.specs.Slots.{slot_at};
 
+use crate::key::Key;
 use chunked::{Chunked, ExactClone};
 use std::alloc::{AllocError, Global};
 use std::marker::Model;
@@ -13,7 +14,7 @@ pub(crate) enum Slot {
     /// An entry, which stands at this index of the order.
     At(usize),
     /// No entry any more. The key is to be used again, and then this one, which became free before.
-    Free(Option<usize>),
+    Free(Option<Key>),
 }
 
 impl ExactClone for Slot {
@@ -24,9 +25,9 @@ impl ExactClone for Slot {
 #[derive(Drop)]
 pub(crate) struct Slots {
     keys: Chunked<Slot>,
-    free: Option<usize>,
+    free: Option<Key>,
     // So many of the first keys are each the index of its own entry, and so are known without a look at `keys`.
-    straight: usize,
+    straight: Key,
 }
 
 impl Model for Slots {
@@ -66,13 +67,13 @@ impl Slots {
     }
 
     /// The index of a key.
-    pub(crate) fn get(&self, key: usize) -> Option<usize>
+    pub(crate) fn get(&self, key: Key) -> Option<usize>
         ensures { result ≡ slot_at self.now key }
     {
         if self.is_straight(key) {
-            return Some(key);
+            return Some(key as usize);
         }
-        match self.keys.get(key) {
+        match self.keys.get(key as usize) {
             Some(Slot::At(index)) => Some(*index),
             _ => None,
         }
@@ -80,62 +81,65 @@ impl Slots {
 
     /// Whether a key is known to be the index of its own entry.
     #[inline(always)]
-    pub(crate) fn is_straight(&self, key: usize) -> bool
+    pub(crate) fn is_straight(&self, key: Key) -> bool
         ensures { result ≡ true → slot_at self.now key ≡ Some key }
     {
         key < self.straight
     }
 
     /// Puts the index under a key that had none, and gives that key.
-    pub(crate) fn insert(&mut self, index: usize) -> Result<usize, AllocError>
+    pub(crate) fn insert(&mut self, index: usize) -> Result<Key, AllocError>
         ensures fresh { IfOk result (λ key. slot_at self.old key ≡ None) }
         ensures there { IfOk result (λ key. slot_at self.new key ≡ Some index) }
         ensures others { IfOk result (λ key. (other : ℕ) → other ≢ key → slot_at self.new other ≡ slot_at self.old other) }
     {
         if let Some((key, before)) = self.free_key() {
-            self.keys.set(key, Slot::At(index))?;
+            self.keys.set(key as usize, Slot::At(index))?;
             self.free = before;
             return Ok(key);
         }
-        let key = self.keys.len();
+        let Ok(key) = Key::try_from(self.keys.len()) else {
+            return Err(AllocError);
+        };
+        let more = key.checked_add(1).ok_or(AllocError)?;
         self.keys.push(Slot::At(index))?;
-        if index == key && self.straight == key {
-            self.straight = self.keys.len();
+        if index == key as usize && self.straight == key {
+            self.straight = more;
         }
         Ok(key)
     }
 
     /// Takes a key away.
-    pub(crate) fn remove(&mut self, key: usize) -> Result<(), AllocError>
+    pub(crate) fn remove(&mut self, key: Key) -> Result<(), AllocError>
         requires { IsSome (slot_at self.old key) }
         ensures gone { OnOk result (slot_at self.new key ≡ None) }
         ensures others { OnOk result ((other : ℕ) → other ≢ key → slot_at self.new other ≡ slot_at self.old other) }
     {
         self.straight = self.straight.min(key);
-        self.keys.set(key, Slot::Free(self.free))?;
+        self.keys.set(key as usize, Slot::Free(self.free))?;
         self.free = Some(key);
         Ok(())
     }
 
     /// Writes the index of a key.
-    pub(crate) fn set(&mut self, key: usize, index: usize) -> Result<(), AllocError>
+    pub(crate) fn set(&mut self, key: Key, index: usize) -> Result<(), AllocError>
         requires { IsSome (slot_at self.old key) }
         ensures there { OnOk result (slot_at self.new key ≡ Some index) }
         ensures others { OnOk result ((other : ℕ) → other ≢ key → slot_at self.new other ≡ slot_at self.old other) }
     {
-        if index != key {
+        if index != key as usize {
             self.straight = self.straight.min(key);
         }
-        self.keys.set(key, Slot::At(index))?;
+        self.keys.set(key as usize, Slot::At(index))?;
         Ok(())
     }
 
     /// The key that became free last, and the one before.
-    fn free_key(&self) -> Option<(usize, Option<usize>)>
+    fn free_key(&self) -> Option<(Key, Option<Key>)>
         ensures { IfSome result (λ free. slice_get self.now free.0 ≡ Some (Slot.Free free.1)) }
     {
         let key = self.free?;
-        match self.keys.get(key) {
+        match self.keys.get(key as usize) {
             Some(Slot::Free(before)) => Some((key, *before)),
             _ => None,
         }

@@ -12,6 +12,10 @@ impl ExactClone for u64 {
     ghost exact = { λ _ _ same. same };
 }
 
+impl ExactClone for u32 {
+    ghost exact = { λ _ _ same. same };
+}
+
 impl ExactClone for usize {
     ghost exact = { λ _ _ same. same };
 }

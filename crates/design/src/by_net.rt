@@ -12,7 +12,7 @@ use std::alloc::AllocError;
 pub fn list_at(lists: &Chunked<KeyList>, net: NetKey) -> &[GateKey]
     ensures { result.now ≡ list_of lists.now net }
 {
-    match lists.get(net.number) {
+    match lists.get(net.number as usize) {
         Some(list) => list.as_slice(),
         None => &[],
     }
@@ -29,8 +29,8 @@ pub fn insert(
     ensures { IfOk result (λ new. AreChanged (λ k. k == net) (λ list. insert list at key) lists new) }
 {
     let alloc = lists.allocator();
-    grow(&mut lists, net.number)?;
-    lists.get_mut(net.number)?.insert(alloc, at, key)?;
+    grow(&mut lists, net.number as usize)?;
+    lists.get_mut(net.number as usize)?.insert(alloc, at, key)?;
     Ok(lists)
 }
 
@@ -42,8 +42,8 @@ pub fn remove(
 ) -> Result<Chunked<KeyList>, AllocError>
     ensures { IfOk result (λ new. AreChanged (λ k. k == net) (λ list. without_key list key) lists new) }
 {
-    grow(&mut lists, net.number)?;
-    lists.get_mut(net.number)?.remove(key)?;
+    grow(&mut lists, net.number as usize)?;
+    lists.get_mut(net.number as usize)?.remove(key)?;
     Ok(lists)
 }
 

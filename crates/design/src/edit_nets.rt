@@ -13,7 +13,7 @@ use crate::key::NetKey;
 use crate::name::Name;
 use crate::net::Net;
 use crate::net_change::NetChange;
-use catalog::Catalog;
+use catalog::{Catalog, Key};
 use fourstate::{NetKind, Value};
 use std::alloc::{AllocError, Global};
 
@@ -119,7 +119,7 @@ impl Design {
 fn with_change_at(
     alloc: Global,
     nets: Catalog<Net>,
-    key: usize,
+    key: Key,
     change: NetChange,
 ) -> Result<(Catalog<Net>, usize), AllocError>
     requires { IsSomeAnd (record_at nets key) (λ n. IsNetChange change n) }
@@ -135,7 +135,7 @@ fn with_change_at(
 
 /// The net of a key, and the nets with one without points in its place: so its points are changed where they are, unless
 /// a copy shares them.
-fn take(nets: Catalog<Net>, key: usize) -> Result<(Catalog<Net>, Net), AllocError>
+fn take(nets: Catalog<Net>, key: Key) -> Result<(Catalog<Net>, Net), AllocError>
     requires { IsSome (record_at nets key) }
     ensures { IfOk result (λ taken. (record_at nets key ≡ Some taken.1) × (taken.0 ≡ with_record nets key (new_net taken.1.name taken.1.kind taken.1.is_input))) }
 {

@@ -15,7 +15,7 @@ pub(crate) const FEW: usize = 4;
 #[derive(Debug, Drop)]
 pub struct Few {
     keys: [GateKey; FEW],
-    count: usize,
+    count: u32,
 }
 
 impl Model for Few {
@@ -45,7 +45,7 @@ impl Few {
         ensures keys { result.now ≡ self.now }
         ensures within { length result.now ≤ FEW }
     {
-        &self.keys[..self.count]
+        &self.keys[..self.count as usize]
     }
 
     /// Puts a key before that at `at`.
@@ -54,7 +54,7 @@ impl Few {
         requires room { length self.old < FEW }
         ensures { self.new ≡ insert self.old at key }
     {
-        self.keys.copy_within(at..self.count, at + 1);
+        self.keys.copy_within(at..self.count as usize, at + 1);
         self.keys[at] = key;
         self.count += 1;
     }
@@ -75,7 +75,7 @@ impl Few {
         requires { length self.old < FEW }
         ensures { self.new ≡ self.old ++ key ∷ [] }
     {
-        self.keys[self.count] = key;
+        self.keys[self.count as usize] = key;
         self.count += 1;
     }
 }

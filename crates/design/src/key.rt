@@ -2,12 +2,13 @@
 
 ghost use Rattle.std.specs.Prelude.{◌≡◌};
 
+use catalog::Key;
 use std::marker::Model;
 
 /// The key of a net in its design, for as long as it is there. No two nets of a design have the same one.
 #[derive(Clone, Copy, Debug, PartialEq, Eq, Hash)]
 pub struct NetKey {
-    pub(crate) number: usize,
+    pub(crate) number: Key,
 }
 
 impl Model for NetKey {
@@ -26,14 +27,14 @@ impl NetKey {
     pub fn number(self) -> usize
         ensures { result ≡ self }
     {
-        self.number
+        self.number as usize
     }
 }
 
 /// The key of a gate in its design, for as long as it is there. No two gates of a design have the same one.
 #[derive(Clone, Copy, Debug, PartialEq, Eq, Hash)]
 pub struct GateKey {
-    pub(crate) number: usize,
+    pub(crate) number: Key,
 }
 
 impl Model for GateKey {
@@ -52,6 +53,6 @@ impl GateKey {
     pub fn number(self) -> usize
         ensures { result ≡ self }
     {
-        self.number
+        self.number as usize
     }
 }
