@@ -3,7 +3,7 @@
 
 use crate::compare::equal;
 use catalog::plain::PlainCatalog;
-use catalog::{Catalog, NameHasher, Named};
+use catalog::{Catalog, Key, NameHasher, Named};
 use std::alloc::Global;
 use std::process::Abort;
 
@@ -34,7 +34,7 @@ fn add(
     catalog: Catalog<Item>,
     name: &str,
     value: u32,
-) -> (Catalog<Item>, usize) {
+) -> (Catalog<Item>, Key) {
     let item = make_item(rt, alloc, name, value);
     assert!(rt; catalog.key(item.name()).is_none(), "{name}");
     catalog.push(item).expect(rt, "a record more")
@@ -44,7 +44,7 @@ fn put(
     rt: &impl Abort,
     alloc: Global,
     catalog: Catalog<Item>,
-    key: usize,
+    key: Key,
     name: &str,
     value: u32,
 ) -> Catalog<Item> {
@@ -54,7 +54,7 @@ fn put(
     catalog.replace(key, item).expect(rt, "another record")
 }
 
-fn take(rt: &impl Abort, catalog: Catalog<Item>, key: usize) -> Catalog<Item> {
+fn take(rt: &impl Abort, catalog: Catalog<Item>, key: Key) -> Catalog<Item> {
     assert!(rt; catalog.get(key).is_some(), "{key}");
     catalog.remove(key).expect(rt, "a record less")
 }
@@ -198,7 +198,7 @@ fn plain_put(
     rt: &impl Abort,
     alloc: Global,
     plain: PlainCatalog<Item>,
-    key: usize,
+    key: Key,
     name: &str,
     value: u32,
 ) -> PlainCatalog<Item> {
@@ -208,7 +208,7 @@ fn plain_put(
     plain.replace(key, item).expect(rt, "another record")
 }
 
-fn plain_take(rt: &impl Abort, plain: PlainCatalog<Item>, key: usize) -> PlainCatalog<Item> {
+fn plain_take(rt: &impl Abort, plain: PlainCatalog<Item>, key: Key) -> PlainCatalog<Item> {
     assert!(rt; plain.get(key).is_some(), "{key}");
     plain.remove(key).expect(rt, "a record less")
 }
