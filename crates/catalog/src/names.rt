@@ -134,11 +134,7 @@ fn first<R: Named>(
 }
 
 /// The map with this key under a name. It is copied first where it has other owners.
-fn put<R: Named>(
-    mut map: Arc<Map<R>>,
-    name: ByName<R>,
-    key: Key,
-) -> Result<Arc<Map<R>>, AllocError>
+fn put<R: Named>(mut map: Arc<Map<R>>, name: ByName<R>, key: Key) -> Result<Arc<Map<R>>, AllocError>
     ensures { IfOk result (λ changed. (other : List ℕ) → key_under R.name (arc_value changed) other ≡ (if same_name (R.name name.record) other then Some key else key_under R.name (arc_value map) other)) }
 {
     write(Arc::make_mut(&mut map)?, name, key)?;
@@ -146,11 +142,7 @@ fn put<R: Named>(
 }
 
 /// Puts this key under a name.
-pub(crate) fn write<R: Named>(
-    map: &mut Map<R>,
-    name: ByName<R>,
-    key: Key,
-) -> Result<(), AllocError>
+pub(crate) fn write<R: Named>(map: &mut Map<R>, name: ByName<R>, key: Key) -> Result<(), AllocError>
     ensures { OnOk result ((other : List ℕ) → key_under R.name map.new other ≡ (if same_name (R.name name.record) other then Some key else key_under R.name map.old other)) }
 {
     map.insert(name, key)?;
