@@ -148,7 +148,7 @@ impl<R: Named> Catalog<R> {
         }
     }
 
-    /// Adds a record, which goes last, and gives its key. It fails where memory runs out.
+    /// Adds a record, which goes last, and gives its key. It fails where memory runs out, or all keys are in use.
     pub fn push(self, item: R) -> Result<(Catalog<R>, Key), AllocError>
         requires { key_named R.name self (R.name item) ≡ None }
         ensures entries { IfOk result (λ added. added.0 ≡ self ++ (added.1, item) ∷ []) }

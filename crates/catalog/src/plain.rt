@@ -109,7 +109,7 @@ impl<R: Named> PlainCatalog<R> {
         self.entries[place].1.value()
     }
 
-    /// Adds a record, which goes last, and gives its key. It fails where memory runs out.
+    /// Adds a record, which goes last, and gives its key. It fails where memory runs out, or all keys are in use.
     pub fn push(self, item: R) -> Result<(PlainCatalog<R>, Key), AllocError>
         requires { key_named R.name self (R.name item) ≡ None }
         ensures entries { IfOk result (λ added. added.0 ≡ self ++ (added.1, item) ∷ []) }

@@ -87,7 +87,7 @@ impl Slots {
         key < self.straight
     }
 
-    /// Puts the index under a key that had none, and gives that key.
+    /// Puts the index under a key that had none, and gives that key. It fails where memory runs out, or all keys are in use.
     pub(crate) fn insert(&mut self, index: usize) -> Result<Key, AllocError>
         ensures fresh { IfOk result (λ key. slot_at self.old key ≡ None) }
         ensures there { IfOk result (λ key. slot_at self.new key ≡ Some index) }
