@@ -16,10 +16,6 @@ impl ExactClone for u32 {
     ghost exact = { λ _ _ same. same };
 }
 
-impl ExactClone for usize {
-    ghost exact = { λ _ _ same. same };
-}
-
 impl<T: ExactClone> ExactClone for Option<T> {
     ghost exact = { option_exact _ T.exact (λ _ r. r) (λ _ r. r) };
 }
