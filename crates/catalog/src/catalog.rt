@@ -148,28 +148,41 @@ impl<R: Named> Catalog<R> {
         }
     }
 
-    /// Adds a record, which goes last, and gives its key. It fails where memory runs out, or all keys are in use.
-    pub fn push(self, item: R) -> Result<(Catalog<R>, Key), AllocError>
-        requires { key_named R.name self (R.name item) ≡ None }
-        ensures entries { IfOk result (λ added. added.0 ≡ self ++ (added.1, item) ∷ []) }
-        ensures fresh { IfOk result (λ added. record_at self added.1 ≡ None) }
+    /// Adds a record, which goes last, and gives its key. It fails where memory runs out, or all keys are in use; then
+    /// there may be no record any more.
+    pub fn push(&mut self, item: R) -> Result<Key, AllocError>
+        requires { key_named R.name self.old (R.name item) ≡ None }
+        ensures entries { IfOk result (λ key. self.new ≡ self.old ++ (key, item) ∷ []) }
+        ensures fresh { IfOk result (λ key. record_at self.old key ≡ None) }
     {
         let more = self.len.checked_add(1).ok_or(AllocError)?;
         let item = Shared::new(self.alloc, item)?;
-        let names = ready_names(self.alloc, self.hasher, self.names, &self.order, self.len)?;
-        let mut slots = self.slots;
-        let mut order = self.order;
-        let (names, key) = enter(self.alloc, self.hasher, names, &mut slots, &mut order, item)?;
-        Ok((
-            Catalog {
-                names,
-                slots,
-                order,
-                len: more,
-                ..self
-            },
-            key,
-        ))
+        ready_names(self.alloc, self.hasher, &mut self.names, &self.order, self.len)?;
+        let entered = enter(
+            self.alloc,
+            self.hasher,
+            &mut self.names,
+            &mut self.slots,
+            &mut self.order,
+            item,
+        );
+        match entered {
+            Ok(key) => {
+                self.len = more;
+                Ok(key)
+            }
+            Err(error) => {
+                *self = Catalog::new(self.alloc, self.hasher);
+                Err(error)
+            }
+        }
+    }
+
+    /// Takes all records away.
+    pub fn clear(&mut self)
+        ensures { self.new ≡ [] }
+    {
+        *self = Catalog::new(self.alloc, self.hasher);
     }
 
     /// Puts a record under the key of one with the same name. It fails where memory runs out.

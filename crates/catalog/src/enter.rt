@@ -15,24 +15,25 @@ use crate::slots::Slots;
 use chunked::Shared;
 use std::alloc::{AllocError, Global};
 
-/// Puts a record last, under a key that had none, and the key under its name.
+/// Puts a record last, under a key that had none, and the key under its name; that key. Where memory runs out it is not known
+/// what is left.
 pub(crate) fn enter<R: Named>(
     alloc: Global,
     hasher: NameHasher,
-    names: Names<R>,
+    names: &mut Names<R>,
     slots: &mut Slots,
     order: &mut Order<R>,
     item: Shared<R>,
-) -> Result<(Names<R>, Key), AllocError>
-    ensures fresh { IfOk result (λ entered. slot_at slots.old entered.1 ≡ None) }
-    ensures there { IfOk result (λ entered. slot_at slots.new entered.1 ≡ Some (length order.old)) }
-    ensures others { IfOk result (λ entered. (key : ℕ) → key ≢ entered.1 → slot_at slots.new key ≡ slot_at slots.old key) }
-    ensures last { IfOk result (λ entered. order.new ≡ order.old ++ Some (entered.1, item) ∷ []) }
-    ensures named { IfOk result (λ entered. (name : List ℕ) → found R.name entered.0 name ≡ (if same_name (R.name item) name then Some entered.1 else found R.name names name)) }
+) -> Result<Key, AllocError>
+    ensures fresh { IfOk result (λ key. slot_at slots.old key ≡ None) }
+    ensures there { IfOk result (λ key. slot_at slots.new key ≡ Some (length order.old)) }
+    ensures others { IfOk result (λ key. (other : ℕ) → other ≢ key → slot_at slots.new other ≡ slot_at slots.old other) }
+    ensures last { IfOk result (λ key. order.new ≡ order.old ++ Some (key, item) ∷ []) }
+    ensures named { IfOk result (λ key. (name : List ℕ) → found R.name names.new name ≡ (if same_name (R.name item) name then Some key else found R.name names.old name)) }
 {
     let key = slots.insert(order.len())?;
     let record = item.clone()?;
-    let names = names.with(alloc, hasher, ByName { record }, key)?;
+    names.insert(alloc, hasher, ByName { record }, key)?;
     order.push(Some((key, item)))?;
-    Ok((names, key))
+    Ok(key)
 }

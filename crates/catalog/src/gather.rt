@@ -15,23 +15,22 @@ use indexmap::IndexMap;
 use std::alloc::{AllocError, Global};
 use std::sync::Arc;
 
-/// The names, gathered anew where it is time.
+/// Gathers the names anew where it is time. Where memory runs out they stay as they are.
 pub(crate) fn ready_names<R: Named>(
     alloc: Global,
     hasher: NameHasher,
-    names: Names<R>,
+    names: &mut Names<R>,
     order: &Order<R>,
     len: usize,
-) -> Result<Names<R>, AllocError>
+) -> Result<(), AllocError>
     requires distinct { AllPairs (λ a b. a ≢ b) (names_of R.name (entries_in order.now)) }
-    requires found { AreFound R.name (found R.name names) (entries_in order.now) }
-    ensures { IfOk result (λ ready. AreFound R.name (found R.name ready) (entries_in order.now)) }
+    requires found { AreFound R.name (found R.name names.old) (entries_in order.now) }
+    ensures { AreFound R.name (found R.name names.new) (entries_in order.now) }
 {
     if names.is_full(len) {
-        gathered(alloc, hasher, order)
-    } else {
-        Ok(names)
+        *names = gathered(alloc, hasher, order)?;
     }
+    Ok(())
 }
 
 /// The names of all entries.

@@ -64,58 +64,47 @@ impl<R: Named> Names<R> {
         count(&self.added) >= MAX_ADDED || count(&self.base) >= limit
     }
 
-    /// The names with this key under the name of a record.
-    pub(crate) fn with(
-        self,
+    /// Puts this key under the name of a record: into the base where that has no other owner.
+    pub(crate) fn insert(
+        &mut self,
         alloc: Global,
         hasher: NameHasher,
         name: ByName<R>,
         key: Key,
-    ) -> Result<Names<R>, AllocError>
-        ensures { IfOk result (λ names. (other : List ℕ) → found R.name names other ≡ (if same_name (R.name name.record) other then Some key else found R.name self other)) }
+    ) -> Result<(), AllocError>
+        ensures { OnOk result ((other : List ℕ) → found R.name self.new other ≡ (if same_name (R.name name.record) other then Some key else found R.name self.old other)) }
     {
-        let Names { base, added } = self;
-        match added {
-            Some(added) => {
-                let added = put(added, name, key)?;
-                Ok(Names {
-                    base,
-                    added: Some(added),
-                })
-            }
-            None => with_base(alloc, hasher, base, name, key),
+        if let Some(added) = &mut self.added {
+            put(added, name, key)?;
+            return Ok(());
         }
+        if let Some(base) = &mut self.base {
+            if Arc::strong_count(base) == 1 {
+                put(base, name, key)?;
+                return Ok(());
+            }
+        }
+        self.add(alloc, hasher, name, key)
     }
-}
 
-/// The names of a base alone, with this key under a name: in the base where it has no other owner.
-fn with_base<R: Named>(
-    alloc: Global,
-    hasher: NameHasher,
-    base: Option<Arc<Map<R>>>,
-    name: ByName<R>,
-    key: Key,
-) -> Result<Names<R>, AllocError>
-    ensures { IfOk result (λ names. (other : List ℕ) → found R.name names other ≡ (if same_name (R.name name.record) other then Some key else found_in R.name base other)) }
-{
-    match base {
-        Some(base) => {
-            if Arc::strong_count(&base) == 1 {
-                Ok(Names {
-                    base: Some(put(base, name, key)?),
-                    added: None,
-                })
-            } else {
-                Ok(Names {
-                    base: Some(base),
-                    added: Some(first(alloc, hasher, name, key)?),
-                })
-            }
+    /// Puts this key under the name of a record, where no name was added.
+    fn add(
+        &mut self,
+        alloc: Global,
+        hasher: NameHasher,
+        name: ByName<R>,
+        key: Key,
+    ) -> Result<(), AllocError>
+        requires { self.old.added ≡ None }
+        ensures { OnOk result ((other : List ℕ) → found R.name self.new other ≡ (if same_name (R.name name.record) other then Some key else found R.name self.old other)) }
+    {
+        let names = first(alloc, hasher, name, key)?;
+        if self.base.is_some() {
+            self.added = Some(names);
+        } else {
+            self.base = Some(names);
         }
-        None => Ok(Names {
-            base: Some(first(alloc, hasher, name, key)?),
-            added: None,
-        }),
+        Ok(())
     }
 }
 
@@ -133,12 +122,12 @@ fn first<R: Named>(
     Ok(Arc::new(alloc, map)?)
 }
 
-/// The map with this key under a name. It is copied first where it has other owners.
-fn put<R: Named>(mut map: Arc<Map<R>>, name: ByName<R>, key: Key) -> Result<Arc<Map<R>>, AllocError>
-    ensures { IfOk result (λ changed. (other : List ℕ) → key_under R.name (arc_value changed) other ≡ (if same_name (R.name name.record) other then Some key else key_under R.name (arc_value map) other)) }
+/// Puts this key under a name of a map, which is copied first where it has other owners.
+fn put<R: Named>(map: &mut Arc<Map<R>>, name: ByName<R>, key: Key) -> Result<(), AllocError>
+    ensures { OnOk result ((other : List ℕ) → key_under R.name (arc_value map.new) other ≡ (if same_name (R.name name.record) other then Some key else key_under R.name (arc_value map.old) other)) }
 {
-    write(Arc::make_mut(&mut map)?, name, key)?;
-    Ok(map)
+    write(Arc::make_mut(map)?, name, key)?;
+    Ok(())
 }
 
 /// Puts this key under a name.

@@ -10,7 +10,7 @@ pub returns : goal.returns
 returns g c = λ other.
     let name_of = g.R.Named.name in
     let own = c.in_ok-make_mut.field-0.now in
-    let kept : key_under name_of own other ≡ key_under name_of (arc_value c.args.map) other =
+    let kept : key_under name_of own other ≡ key_under name_of (arc_value c.args.map.now) other =
     elim c.in_ok-make_mut.ensures.value [
       | inl e ↦ ap (λ m. key_under name_of m other) e
       | inr copy ↦ lookup_same _ _ (λ p q r. (ap (λ k. same_name other (name_of k.record)) r.0, r.1)) _ _ copy
