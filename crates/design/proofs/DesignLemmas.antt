@@ -18,22 +18,22 @@ use Rattle.design.proofs.EntryLemmas.{Apart, Each, apart_from, apart_map, apart_
 
 -- A design with nothing in it.
 
-pub empty_is_kept : (top : List ℕ) (unit : TimeUnit) → IsTrue (is_name top) → IsKept (empty_design top unit) 0 [] []
+pub cleared_is_kept : (d : Keyed) → IsTrue (is_name d.top) → d.horizon ≤ MAX_TIME → IsKept (record d { nets = []; gates = [] }) 0 [] []
 unfolding netlist
-empty_is_kept top unit named =
-    let d : Netlist = netlist (empty_design top unit) in
+cleared_is_kept d named horizon =
+    let bare : Netlist = netlist (record d { nets = []; gates = [] }) in
     record {
       lawful = record {
         named = named;
         nets = All-nil IsNet;
         gates = All-nil IsGate;
-        wiring = All-nil (IsWired d);
+        wiring = All-nil (IsWired bare);
         distinct_nets = λ i j d below within. absurd (omega arith);
         distinct_gates = λ i j d below within. absurd (omega arith);
         net_count = lit≤ tt;
         gate_count = lit≤ tt;
         point_count = lit≤ tt;
-        horizon = lit≤ tt;
+        horizon = horizon;
       };
       keys = record {
         distinct_nets = λ i j d below within. absurd (omega arith);
@@ -44,6 +44,9 @@ empty_is_kept top unit named =
       readers_listed = λ key. refl;
       drivers_listed = λ key. refl;
     }
+
+pub empty_is_kept : (top : List ℕ) (unit : TimeUnit) → IsTrue (is_name top) → IsKept (empty_design top unit) 0 [] []
+empty_is_kept top unit named = cleared_is_kept (empty_design top unit) named (lit≤ tt)
 
 -- What a design says of its nets and its gates.
 

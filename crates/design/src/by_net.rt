@@ -1,6 +1,6 @@
 //! A list of gate keys for each net.
 
-ghost use Rattle.std.specs.Prelude.{◌≡◌, ◌≤◌, ◌<◌, ◌==◌, ℕ, insert, IfOk, OnOk, length};
+ghost use Rattle.std.specs.Prelude.{◌≡◌, ◌≤◌, ◌<◌, ◌==◌, ℕ, insert, OnOk, length};
 ghost use Rattle.design.specs.Lists.{AreChanged, list_of, without_key};
 
 use crate::key::{GateKey, NetKey};
@@ -20,31 +20,27 @@ pub fn list_at(lists: &Chunked<KeyList>, net: NetKey) -> &[GateKey]
 
 /// Puts a key into the list of a net, before the one that is at `at`.
 pub fn insert(
-    mut lists: Chunked<KeyList>,
+    lists: &mut Chunked<KeyList>,
     net: NetKey,
     at: usize,
     key: GateKey,
-) -> Result<Chunked<KeyList>, AllocError>
-    requires { at ≤ length (list_of lists net) }
-    ensures { IfOk result (λ new. AreChanged (λ k. k == net) (λ list. insert list at key) lists new) }
+) -> Result<(), AllocError>
+    requires { at ≤ length (list_of lists.old net) }
+    ensures { OnOk result (AreChanged (λ k. k == net) (λ list. insert list at key) lists.old lists.new) }
 {
     let alloc = lists.allocator();
-    grow(&mut lists, net.number as usize)?;
+    grow(lists, net.number as usize)?;
     lists.get_mut(net.number as usize)?.insert(alloc, at, key)?;
-    Ok(lists)
+    Ok(())
 }
 
 /// Takes a key out of the list of a net.
-pub fn remove(
-    mut lists: Chunked<KeyList>,
-    net: NetKey,
-    key: GateKey,
-) -> Result<Chunked<KeyList>, AllocError>
-    ensures { IfOk result (λ new. AreChanged (λ k. k == net) (λ list. without_key list key) lists new) }
+pub fn remove(lists: &mut Chunked<KeyList>, net: NetKey, key: GateKey) -> Result<(), AllocError>
+    ensures { OnOk result (AreChanged (λ k. k == net) (λ list. without_key list key) lists.old lists.new) }
 {
-    grow(&mut lists, net.number as usize)?;
+    grow(lists, net.number as usize)?;
     lists.get_mut(net.number as usize)?.remove(key)?;
-    Ok(lists)
+    Ok(())
 }
 
 /// Adds empty lists until the net has one.

@@ -1,6 +1,6 @@
 //! Edits of the gates of a design.
 
-ghost use Rattle.std.specs.Prelude.{◌≡◌, ◌<◌, ◌++◌, ◌∷◌, [], ℕ, List, false, IsTrue, IsSome, IsSomeAnd, IfSome, IfOk, All, length, map};
+ghost use Rattle.std.specs.Prelude.{◌≡◌, ◌<◌, ◌++◌, ◌∷◌, [], ℕ, List, false, IsTrue, IsSome, IsSomeAnd, IfSome, IfOk, OnOk, All, length, map};
 ghost use Rattle.fourstate.specs.Gates.{takes_inputs};
 ghost use Rattle.catalog.specs.Catalog.{key_named, keys_of, record_at, with_record, without_key};
 ghost use Rattle.design.specs.declared.limits.TheConstants.{MAX_GATES};
@@ -13,6 +13,7 @@ ghost use Rattle.design.specs.Netlist.{GateEntry, has_gate, with_delays, with_ga
 use crate::design::Design;
 use crate::gate::{Gate, Inputs};
 use crate::key::{GateKey, NetKey};
+use crate::net::Net;
 use crate::wires::Wires;
 use catalog::Catalog;
 use fourstate::laws::delays_in_range;
@@ -28,14 +29,28 @@ impl Design {
         ensures by_key { IfOk result (λ made. made.0 ≡ with_keyed_gate self gate made.1) }
         ensures by_name { IfOk result (λ made. netlist made.0 ≡ with_gate (netlist self) (entry_in self.nets gate)) }
     {
-        gate.lawful();
-        let (gates, wires, key) = with_gate(self.gates, self.wires, gate)?;
-        let design = Design {
-            gates,
-            wires,
-            ..self
-        };
+        let mut design = self;
+        let key = design.push_gate(gate)?;
         Ok((design, key))
+    }
+
+    /// Adds a gate in place, and gives its key. Where memory runs out no net and no gate is left.
+    pub fn push_gate(&mut self, gate: Gate) -> Result<GateKey, AllocError>
+        requires absent { has_gate (netlist self.old) gate.name ≡ false }
+        requires room { length (netlist self.old).gates < MAX_GATES }
+        requires connected { IsConnected self.old.nets gate }
+        ensures by_key { IfOk result (λ key. self.new ≡ with_keyed_gate self.old gate key) }
+        ensures by_name { OnOk result (netlist self.new ≡ with_gate (netlist self.old) (entry_in self.old.nets gate)) }
+    {
+        gate.lawful();
+        match put_last(&mut self.gates, &mut self.wires, gate) {
+            Ok(key) => Ok(key),
+            Err(error) => {
+                clear(&mut self.nets, &mut self.gates, &mut self.wires);
+                self.points = 0;
+                Err(error)
+            }
+        }
     }
 
     /// Takes a gate away. The others keep their keys.
@@ -100,27 +115,39 @@ impl Design {
     }
 }
 
-/// The gates with one more, the lists with its key at the nets that it reads and drives, and the key.
-fn with_gate(
-    gates: Catalog<Gate>,
-    wires: Wires,
+/// Puts a gate last, and its key into the lists of the nets that it reads and drives; that key. Where memory runs out it is
+/// not known what is left.
+fn put_last(
+    gates: &mut Catalog<Gate>,
+    wires: &mut Wires,
     gate: Gate,
-) -> Result<(Catalog<Gate>, Wires, GateKey), AllocError>
-    requires absent { key_named (λ g. g.name) gates gate.name ≡ None }
-    requires readers { (k : ℕ) → IsInOrder (keys_of gates) (list_of wires.fanout k) }
-    requires drivers { (k : ℕ) → IsInOrder (keys_of gates) (list_of wires.drivers k) }
-    ensures entries { IfOk result (λ made. made.0 ≡ gates ++ (made.2, gate) ∷ []) }
-    ensures fresh { IfOk result (λ made. record_at gates made.2 ≡ None) }
-    ensures readers { IfOk result (λ made. AreChanged (reads_key gate) (with_key_in (keys_of made.0) made.2) wires.fanout made.1.fanout) }
-    ensures drivers { IfOk result (λ made. AreChanged (drives_key gate) (with_key_in (keys_of made.0) made.2) wires.drivers made.1.drivers) }
+) -> Result<GateKey, AllocError>
+    requires absent { key_named (λ g. g.name) gates.old gate.name ≡ None }
+    requires readers { (k : ℕ) → IsInOrder (keys_of gates.old) (list_of wires.old.fanout k) }
+    requires drivers { (k : ℕ) → IsInOrder (keys_of gates.old) (list_of wires.old.drivers k) }
+    ensures entries { IfOk result (λ key. gates.new ≡ gates.old ++ (key, gate) ∷ []) }
+    ensures fresh { IfOk result (λ key. record_at gates.old key ≡ None) }
+    ensures readers { IfOk result (λ key. AreChanged (reads_key gate) (with_key_in (keys_of gates.new) key) wires.old.fanout wires.new.fanout) }
+    ensures drivers { IfOk result (λ key. AreChanged (drives_key gate) (with_key_in (keys_of gates.new) key) wires.old.drivers wires.new.drivers) }
 {
-    let (gates, number) = gates.push(gate)?;
+    let number = gates.push(gate)?;
     let key = GateKey { number };
     let Some(gate) = gates.get(number) else {
         unreachable!();
     };
-    let wires = wires.add(&gates, gate, key)?;
-    Ok((gates, wires, key))
+    wires.add(gates, gate, key)?;
+    Ok(key)
+}
+
+/// Takes all nets and gates away.
+pub(crate) fn clear(nets: &mut Catalog<Net>, gates: &mut Catalog<Gate>, wires: &mut Wires)
+    ensures nets { nets.new ≡ [] }
+    ensures gates { gates.new ≡ [] }
+    ensures wires { wires.new ≡ record { fanout = []; drivers = [] } }
+{
+    nets.clear();
+    gates.clear();
+    *wires = Wires::new(wires.allocator());
 }
 
 /// The gates without one, and the lists without its key.
@@ -137,7 +164,8 @@ fn without_gate(
     let Some(old) = gates.get(key.number) else {
         unreachable!();
     };
-    let wires = wires.remove(old, key)?;
+    let mut wires = wires;
+    wires.remove(old, key)?;
     let gates = gates.remove(key.number)?;
     Ok((gates, wires))
 }
@@ -161,7 +189,8 @@ fn with_wiring_at(
         unreachable!();
     };
     let new = old.with_wiring(output, inputs)?;
-    let wires = wires.rewire(&gates, old, &new, key)?;
+    let mut wires = wires;
+    wires.rewire(&gates, old, &new, key)?;
     let gates = gates.replace(key.number, new)?;
     Ok((gates, wires))
 }

@@ -1,6 +1,6 @@
 //! Edits of the nets of a design.
 
-ghost use Rattle.std.specs.Prelude.{◌≡◌, ◌≤◌, ◌<◌, [], true, false, IsSome, IsSomeAnd, IfSome, IfOk, length};
+ghost use Rattle.std.specs.Prelude.{◌≡◌, ◌≤◌, ◌<◌, [], true, false, IsSome, IsSomeAnd, IfSome, IfOk, OnOk, length};
 ghost use Rattle.fourstate.specs.declared.limits.TheConstants.{MAX_TIME};
 ghost use Rattle.catalog.specs.Catalog.{record_at, with_record};
 ghost use Rattle.design.specs.declared.limits.TheConstants.{MAX_NETS, MAX_POINTS};
@@ -9,6 +9,7 @@ ghost use Rattle.design.specs.Records.{HasRoom, IsNetChange, net_changed, net_wi
 ghost use Rattle.design.specs.Netlist.{has_net, has_point, is_used, net_with_point, new_net, point_total, with_net, with_net_changed, with_net_kind, with_point, without_net, without_point};
 
 use crate::design::Design;
+use crate::edit_gates::clear;
 use crate::key::NetKey;
 use crate::name::Name;
 use crate::net::Net;
@@ -26,7 +27,9 @@ impl Design {
         ensures by_name { IfOk result (λ made. netlist made.0 ≡ with_net (netlist self) (new_net name kind false)) }
         ensures there { IfOk result (λ made. net_by_key made.0 made.1 ≡ Some (new_net name kind false)) }
     {
-        self.push_net(Net::new(name, kind, false))
+        let mut design = self;
+        let key = design.push_net(name, kind, false)?;
+        Ok((design, key))
     }
 
     /// Adds an input, a net of the kind `wire` with no stimulus points, and gives its key.
@@ -37,20 +40,34 @@ impl Design {
         ensures by_name { IfOk result (λ made. netlist made.0 ≡ with_net (netlist self) (new_net name NetKind.Wire true)) }
         ensures there { IfOk result (λ made. net_by_key made.0 made.1 ≡ Some (new_net name NetKind.Wire true)) }
     {
-        self.push_net(Net::new(name, NetKind::Wire, true))
+        let mut design = self;
+        let key = design.push_net(name, NetKind::Wire, true)?;
+        Ok((design, key))
     }
 
-    fn push_net(self, net: Net) -> Result<(Design, NetKey), AllocError>
-        requires bare { net.points ≡ [] }
-        requires absent { has_net (netlist self) net.name ≡ false }
-        requires room { length (netlist self).nets < MAX_NETS }
-        ensures by_key { IfOk result (λ made. made.0 ≡ with_keyed_net self net made.1) }
-        ensures by_name { IfOk result (λ made. netlist made.0 ≡ with_net (netlist self) net) }
-        ensures there { IfOk result (λ made. net_by_key made.0 made.1 ≡ Some net) }
+    /// Adds a net with no stimulus points in place, and gives its key. Where memory runs out no net and no gate is left.
+    pub fn push_net(
+        &mut self,
+        name: Name,
+        kind: NetKind,
+        is_input: bool,
+    ) -> Result<NetKey, AllocError>
+        requires absent { has_net (netlist self.old) name ≡ false }
+        requires room { length (netlist self.old).nets < MAX_NETS }
+        ensures by_key { IfOk result (λ key. self.new ≡ with_keyed_net self.old (new_net name kind is_input) key) }
+        ensures by_name { OnOk result (netlist self.new ≡ with_net (netlist self.old) (new_net name kind is_input)) }
+        ensures there { IfOk result (λ key. net_by_key self.new key ≡ Some (new_net name kind is_input)) }
     {
+        let net = Net::new(name, kind, is_input);
         net.lawful();
-        let (nets, number) = self.nets.push(net)?;
-        Ok((Design { nets, ..self }, NetKey { number }))
+        match self.nets.push(net) {
+            Ok(number) => Ok(NetKey { number }),
+            Err(error) => {
+                clear(&mut self.nets, &mut self.gates, &mut self.wires);
+                self.points = 0;
+                Err(error)
+            }
+        }
     }
 
     /// Takes a net that no gate reads or drives away, and its points with it. The others keep their keys.

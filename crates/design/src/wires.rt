@@ -1,6 +1,6 @@
 //! Which gates read each net, and which drive it, kept as gates come and go.
 
-ghost use Rattle.std.specs.Prelude.{◌≡◌, ℕ, List, [], IsSome, IfOk};
+ghost use Rattle.std.specs.Prelude.{◌≡◌, ℕ, List, [], IsSome, OnOk};
 ghost use Rattle.catalog.specs.Catalog.{keys_of, record_at};
 ghost use Rattle.design.specs.Keys.{drives_key, reads_key};
 ghost use Rattle.design.specs.Lists.{AreChanged, IsInOrder, list_of, with_key_in, without_key};
@@ -37,48 +37,52 @@ impl Wires {
         self.fanout.allocator()
     }
 
-    /// The lists with the key of a gate at the nets that it reads and drives.
-    pub fn add(self, gates: &Catalog<Gate>, gate: &Gate, key: GateKey) -> Result<Wires, AllocError>
+    /// Puts the key of a gate into the lists of the nets that it reads and drives.
+    pub fn add(
+        &mut self,
+        gates: &Catalog<Gate>,
+        gate: &Gate,
+        key: GateKey,
+    ) -> Result<(), AllocError>
         requires there { IsSome (record_at gates.now key) }
-        requires readers { (k : ℕ) → IsInOrder (keys_of gates.now) (list_of self.fanout k) }
-        requires drivers { (k : ℕ) → IsInOrder (keys_of gates.now) (list_of self.drivers k) }
-        ensures readers { IfOk result (λ new. AreChanged (reads_key gate.now) (with_key_in (keys_of gates.now) key) self.fanout new.fanout) }
-        ensures drivers { IfOk result (λ new. AreChanged (drives_key gate.now) (with_key_in (keys_of gates.now) key) self.drivers new.drivers) }
+        requires readers { (k : ℕ) → IsInOrder (keys_of gates.now) (list_of self.old.fanout k) }
+        requires drivers { (k : ℕ) → IsInOrder (keys_of gates.now) (list_of self.old.drivers k) }
+        ensures readers { OnOk result (AreChanged (reads_key gate.now) (with_key_in (keys_of gates.now) key) self.old.fanout self.new.fanout) }
+        ensures drivers { OnOk result (AreChanged (drives_key gate.now) (with_key_in (keys_of gates.now) key) self.old.drivers self.new.drivers) }
     {
-        let Wires { fanout, drivers } = self;
-        let fanout = add_among(fanout, gates, gate.inputs(), key)?;
-        let drivers = add(drivers, gates, gate.output(), key)?;
-        Ok(Wires { fanout, drivers })
+        add_among(&mut self.fanout, gates, gate.inputs(), key)?;
+        add(&mut self.drivers, gates, gate.output(), key)?;
+        Ok(())
     }
 
-    /// The lists without the key of a gate, which stood at the nets that it reads and drives.
-    pub fn remove(self, gate: &Gate, key: GateKey) -> Result<Wires, AllocError>
-        ensures readers { IfOk result (λ new. AreChanged (reads_key gate.now) (λ list. without_key list key) self.fanout new.fanout) }
-        ensures drivers { IfOk result (λ new. AreChanged (drives_key gate.now) (λ list. without_key list key) self.drivers new.drivers) }
+    /// Takes the key of a gate out of the lists of the nets that it reads and drives.
+    pub fn remove(&mut self, gate: &Gate, key: GateKey) -> Result<(), AllocError>
+        ensures readers { OnOk result (AreChanged (reads_key gate.now) (λ list. without_key list key) self.old.fanout self.new.fanout) }
+        ensures drivers { OnOk result (AreChanged (drives_key gate.now) (λ list. without_key list key) self.old.drivers self.new.drivers) }
     {
-        let Wires { fanout, drivers } = self;
-        let fanout = remove_among(fanout, gate.inputs(), key)?;
-        let drivers = remove(drivers, gate.output(), key)?;
-        Ok(Wires { fanout, drivers })
+        remove_among(&mut self.fanout, gate.inputs(), key)?;
+        remove(&mut self.drivers, gate.output(), key)?;
+        Ok(())
     }
 
-    /// The lists with the key of a gate at the nets that it reads and drives, which stood at those of the gate before.
+    /// Puts the key of a gate into the lists of the nets that it reads and drives, and takes it out of those of the gate
+    /// before.
     pub fn rewire(
-        self,
+        &mut self,
         gates: &Catalog<Gate>,
         old: &Gate,
         new: &Gate,
         key: GateKey,
-    ) -> Result<Wires, AllocError>
+    ) -> Result<(), AllocError>
         requires there { IsSome (record_at gates.now key) }
-        requires readers { (k : ℕ) → IsInOrder (keys_of gates.now) (list_of self.fanout k) }
-        requires drivers { (k : ℕ) → IsInOrder (keys_of gates.now) (list_of self.drivers k) }
-        ensures readers { IfOk result (λ wires. (less : List (List ℕ)) × AreChanged (reads_key old.now) (λ list. without_key list key) self.fanout less × AreChanged (reads_key new.now) (with_key_in (keys_of gates.now) key) less wires.fanout) }
-        ensures drivers { IfOk result (λ wires. (less : List (List ℕ)) × AreChanged (drives_key old.now) (λ list. without_key list key) self.drivers less × AreChanged (drives_key new.now) (with_key_in (keys_of gates.now) key) less wires.drivers) }
+        requires readers { (k : ℕ) → IsInOrder (keys_of gates.now) (list_of self.old.fanout k) }
+        requires drivers { (k : ℕ) → IsInOrder (keys_of gates.now) (list_of self.old.drivers k) }
+        ensures readers { OnOk result ((less : List (List ℕ)) × AreChanged (reads_key old.now) (λ list. without_key list key) self.old.fanout less × AreChanged (reads_key new.now) (with_key_in (keys_of gates.now) key) less self.new.fanout) }
+        ensures drivers { OnOk result ((less : List (List ℕ)) × AreChanged (drives_key old.now) (λ list. without_key list key) self.old.drivers less × AreChanged (drives_key new.now) (with_key_in (keys_of gates.now) key) less self.new.drivers) }
     {
-        let less = self.remove(old, key)?;
-        let wires = less.add(gates, new, key)?;
-        Ok(wires)
+        self.remove(old, key)?;
+        self.add(gates, new, key)?;
+        Ok(())
     }
 }
 

@@ -1,6 +1,6 @@
 //! Where the key of a gate stands in the lists beside the nets.
 
-ghost use Rattle.std.specs.Prelude.{◌≡◌, ◌≢◌, ◌<◌, ◌≤◌, ◌-◌, ◌==◌, ℕ, true, false, IsSome, IfSome, IfOk, length};
+ghost use Rattle.std.specs.Prelude.{◌≡◌, ◌≢◌, ◌<◌, ◌≤◌, ◌-◌, ◌==◌, ℕ, true, false, IsSome, IfSome, OnOk, length};
 ghost use Rattle.std.specs.List.{slice_index_or};
 ghost use Rattle.std.specs.List.Sorted.{IsPartitionPoint};
 ghost use Rattle.catalog.specs.Catalog.{keys_of, place_of, record_at};
@@ -19,59 +19,58 @@ use std::alloc::AllocError;
 
 /// Puts the key of a gate into the list of each net among these terminals.
 pub fn add_among(
-    lists: Chunked<KeyList>,
+    lists: &mut Chunked<KeyList>,
     gates: &Catalog<Gate>,
     inputs: &[Terminal],
     key: GateKey,
-) -> Result<Chunked<KeyList>, AllocError>
+) -> Result<(), AllocError>
     requires there { IsSome (record_at gates.now key) }
-    requires ordered { (k : ℕ) → IsInOrder (keys_of gates.now) (list_of lists k) }
-    ensures { IfOk result (λ new. AreChanged (is_among inputs.now) (with_key_in (keys_of gates.now) key) lists new) }
+    requires ordered { (k : ℕ) → IsInOrder (keys_of gates.now) (list_of lists.old k) }
+    ensures { OnOk result (AreChanged (is_among inputs.now) (with_key_in (keys_of gates.now) key) lists.old lists.new) }
 {
     gates.lawful();
-    let mut lists = lists;
     for terminal in inputs {
-        lists = add_terminal(lists, gates, *terminal, key)?;
+        add_terminal(lists, gates, *terminal, key)?;
     }
-    Ok(lists)
+    Ok(())
 }
 
 /// Puts the key of a gate into the list of the net at a terminal.
 fn add_terminal(
-    lists: Chunked<KeyList>,
+    lists: &mut Chunked<KeyList>,
     gates: &Catalog<Gate>,
     terminal: Terminal,
     key: GateKey,
-) -> Result<Chunked<KeyList>, AllocError>
+) -> Result<(), AllocError>
     requires there { IsSome (record_at gates.now key) }
-    requires ordered { (k : ℕ) → IsInOrder (keys_of gates.now) (list_of lists k) }
-    ensures { IfOk result (λ new. AreChanged (is_at terminal) (with_key_in (keys_of gates.now) key) lists new) }
+    requires ordered { (k : ℕ) → IsInOrder (keys_of gates.now) (list_of lists.old k) }
+    ensures { OnOk result (AreChanged (is_at terminal) (with_key_in (keys_of gates.now) key) lists.old lists.new) }
 {
     match terminal {
         Terminal::Net(net) => add(lists, gates, net, key),
-        Terminal::Constant(_) => Ok(lists),
+        Terminal::Constant(_) => Ok(()),
     }
 }
 
 /// Puts the key of a gate into the list of a net, in the order of the gates, unless it is there.
 pub fn add(
-    lists: Chunked<KeyList>,
+    lists: &mut Chunked<KeyList>,
     gates: &Catalog<Gate>,
     net: NetKey,
     key: GateKey,
-) -> Result<Chunked<KeyList>, AllocError>
+) -> Result<(), AllocError>
     requires there { IsSome (record_at gates.now key) }
-    requires ordered { IsInOrder (keys_of gates.now) (list_of lists net) }
-    ensures { IfOk result (λ new. AreChanged (λ k. k == net) (with_key_in (keys_of gates.now) key) lists new) }
+    requires ordered { IsInOrder (keys_of gates.now) (list_of lists.old net) }
+    ensures { OnOk result (AreChanged (λ k. k == net) (with_key_in (keys_of gates.now) key) lists.old lists.new) }
 {
     gates.lawful();
-    let list = list_at(&lists, net);
+    let list = list_at(lists, net);
     let at = place_among(list, gates, key);
     if at < list.len() && list[at] == key {
-        return Ok(lists);
+        return Ok(());
     }
-    let lists = insert(lists, net, at, key)?;
-    Ok(lists)
+    insert(lists, net, at, key)?;
+    Ok(())
 }
 
 /// Whether this is the last key of a list.
@@ -112,29 +111,28 @@ fn stands_before(gates: &Catalog<Gate>, gate: GateKey, place: usize) -> bool
 
 /// Takes the key of a gate out of the list of each net among these terminals.
 pub fn remove_among(
-    lists: Chunked<KeyList>,
+    lists: &mut Chunked<KeyList>,
     inputs: &[Terminal],
     key: GateKey,
-) -> Result<Chunked<KeyList>, AllocError>
-    ensures { IfOk result (λ new. AreChanged (is_among inputs.now) (λ list. without_key list key) lists new) }
+) -> Result<(), AllocError>
+    ensures { OnOk result (AreChanged (is_among inputs.now) (λ list. without_key list key) lists.old lists.new) }
 {
-    let mut lists = lists;
     for terminal in inputs {
-        lists = remove_terminal(lists, *terminal, key)?;
+        remove_terminal(lists, *terminal, key)?;
     }
-    Ok(lists)
+    Ok(())
 }
 
 /// Takes the key of a gate out of the list of the net at a terminal.
 fn remove_terminal(
-    lists: Chunked<KeyList>,
+    lists: &mut Chunked<KeyList>,
     terminal: Terminal,
     key: GateKey,
-) -> Result<Chunked<KeyList>, AllocError>
-    ensures { IfOk result (λ new. AreChanged (is_at terminal) (λ list. without_key list key) lists new) }
+) -> Result<(), AllocError>
+    ensures { OnOk result (AreChanged (is_at terminal) (λ list. without_key list key) lists.old lists.new) }
 {
     match terminal {
         Terminal::Net(net) => remove(lists, net, key),
-        Terminal::Constant(_) => Ok(lists),
+        Terminal::Constant(_) => Ok(()),
     }
 }

@@ -10,7 +10,7 @@ returns-clause-readers c =
     let key = c.args.key in
     let g = c.in-Some.old.now in
     let there : Some g ≡ record_at c.args.gates key = c.in-Some.ensures ∙ ap (λ k. record_at c.args.gates k) c.key.view_is in
-    let wires : (less : List (List ℕ)) × AreChanged (reads_key g) (λ list. without_key list key) c.args.wires.fanout less × AreChanged (reads_key (gate_with_wiring g c.args.output c.args.inputs.items)) (with_key_in (keys_of c.args.gates) key) less c.in_ok-wires.wires.fanout = rw c.in_ok-new.ensures at c.in_ok-wires.ensures.readers in
+    let wires : (less : List (List ℕ)) × AreChanged (reads_key g) (λ list. without_key list key) c.args.wires.fanout less × AreChanged (reads_key (gate_with_wiring g c.args.output c.args.inputs.items)) (with_key_in (keys_of c.args.gates) key) less c.rewire.new.self.fanout = rw c.in_ok-new.ensures at c.in_ok-rewire.ensures.readers in
     rw (← there) wires
 
 pub returns-clause-drivers : goal.returns-clause-drivers
@@ -18,5 +18,5 @@ returns-clause-drivers c =
     let key = c.args.key in
     let g = c.in-Some.old.now in
     let there : Some g ≡ record_at c.args.gates key = c.in-Some.ensures ∙ ap (λ k. record_at c.args.gates k) c.key.view_is in
-    let wires : (less : List (List ℕ)) × AreChanged (drives_key g) (λ list. without_key list key) c.args.wires.drivers less × AreChanged (drives_key (gate_with_wiring g c.args.output c.args.inputs.items)) (with_key_in (keys_of c.args.gates) key) less c.in_ok-wires.wires.drivers = rw c.in_ok-new.ensures at c.in_ok-wires.ensures.drivers in
+    let wires : (less : List (List ℕ)) × AreChanged (drives_key g) (λ list. without_key list key) c.args.wires.drivers less × AreChanged (drives_key (gate_with_wiring g c.args.output c.args.inputs.items)) (with_key_in (keys_of c.args.gates) key) less c.rewire.new.self.drivers = rw c.in_ok-new.ensures at c.in_ok-rewire.ensures.drivers in
     rw (← there) wires

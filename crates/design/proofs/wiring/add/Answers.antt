@@ -12,7 +12,7 @@ use Rattle.design.proofs.wiring.add.Goals as goal
 pub returns : goal.returns
 returns c =
     let gates = c.args.gates.now in
-    let list = list_of c.args.lists c.args.net in
+    let list = list_of c.args.lists.now c.args.net in
     let at = c.place_among-at.result in
     let free : at < length list → (d : ℕ) → get_or list at d ≢ c.args.key = λ within d same.
     elim c.else-at-list.branch [
@@ -25,4 +25,4 @@ returns c =
     ] in
     let put : insert list at c.args.key ≡ with_key_in (keys_of gates) c.args.key list =
     put_where gates list c.args.key at (keys_apart gates c.lawful.ensures.keys) c.requires.ordered c.requires.there (rw (← c.list_at-list.ensures) c.place_among-at.ensures.split) (rw (← c.list_at-list.ensures) c.place_among-at.ensures.within) free in
-    λ k. c.in_ok-lists.ensures k ∙ changed_there c.args.net k (λ (l : List ℕ). insert l at c.args.key) (λ (l : List ℕ). with_key_in (keys_of gates) c.args.key l) c.args.lists put
+    λ k. c.in_ok-insert.ensures k ∙ changed_there c.args.net k (λ (l : List ℕ). insert l at c.args.key) (λ (l : List ℕ). with_key_in (keys_of gates) c.args.key l) c.args.lists.now put
