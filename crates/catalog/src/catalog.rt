@@ -157,7 +157,13 @@ impl<R: Named> Catalog<R> {
     {
         let more = self.len.checked_add(1).ok_or(AllocError)?;
         let item = Shared::new(self.alloc, item)?;
-        ready_names(self.alloc, self.hasher, &mut self.names, &self.order, self.len)?;
+        ready_names(
+            self.alloc,
+            self.hasher,
+            &mut self.names,
+            &self.order,
+            self.len,
+        )?;
         let entered = enter(
             self.alloc,
             self.hasher,

@@ -117,11 +117,7 @@ impl Design {
 
 /// Puts a gate last, and its key into the lists of the nets that it reads and drives; that key. Where memory runs out it is
 /// not known what is left.
-fn put_last(
-    gates: &mut Catalog<Gate>,
-    wires: &mut Wires,
-    gate: Gate,
-) -> Result<GateKey, AllocError>
+fn put_last(gates: &mut Catalog<Gate>, wires: &mut Wires, gate: Gate) -> Result<GateKey, AllocError>
     requires absent { key_named (λ g. g.name) gates.old gate.name ≡ None }
     requires readers { (k : ℕ) → IsInOrder (keys_of gates.old) (list_of wires.old.fanout k) }
     requires drivers { (k : ℕ) → IsInOrder (keys_of gates.old) (list_of wires.old.drivers k) }

@@ -49,8 +49,7 @@ fn with_scope_gates(
     let mut made = design;
     for gate in scope.module().gates() {
         let kept = gate_of(alloc, &made, names, scope, gate)?;
-        let (design, _key) = made.add_gate(kept)?;
-        made = design;
+        made.push_gate(kept)?;
     }
     Ok(made)
 }

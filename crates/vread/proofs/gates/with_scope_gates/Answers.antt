@@ -30,8 +30,8 @@ gate_of-requires c =
     let fit_here : IsFitGate names first.nets scope gate = subst (λ (g : GateEntry). IsFitGate names first.nets scope g) (sym c.gate-item.is) (fit_items i gate within) in
     subst (λ (ns : List netlists.NetEntry). IsFitGate names ns scope gate) (sym same) fit_here
 
-pub add_gate-requires : goal.add_gate-requires
-add_gate-requires c =
+pub push_gate-requires : goal.push_gate-requires
+push_gate-requires c =
     let names = c.args.names.now in
     let scope = c.args.scope.now in
     let first = netlist c.args.design in
@@ -60,7 +60,7 @@ loop-gate-preserved c =
     let scope = c.args.scope.now in
     let first = netlist c.args.design in
     let before = netlist c.loop-gate.made in
-    let now = netlist c.in_ok-design.design in
+    let now = netlist c.push_gate.new.self in
     let items = c.gates-gate-items.result.now in
     let gate : GateEntry = c.gate-item.result in
     let i = c.loop-gate.gate-index in
@@ -69,7 +69,7 @@ loop-gate-preserved c =
     let same : before.nets ≡ first.nets = same_nets first before c.loop-gate.invariant.others in
     let all : List netlists.GateEntry = first.gates ++ map f items in
     let made : now ≡ record before { gates = before.gates ++ (f gate ∷ []) } =
-    c.in_ok-design.ensures.by_name ∙ ap (λ (g : netlists.GateEntry). record before { gates = before.gates ++ g ∷ [] }) c.in_ok-kept.ensures.entry
+    c.in_ok-push_gate.ensures.by_name ∙ ap (λ (g : netlists.GateEntry). record before { gates = before.gates ++ g ∷ [] }) c.in_ok-kept.ensures.entry
     ∙ ap (λ (ns : List netlists.NetEntry). record before { gates = before.gates ++ kept_gate names ns scope gate ∷ [] }) same in
     record {
       all = gates_more first before now (f gate ∷ []) (map f (drop (i + 1) items)) all made (next f items i gate before.gates all within c.gate-item.is c.loop-gate.invariant.all);

@@ -8,49 +8,23 @@ use Rattle.vread.proofs.FitLemmas.{fit_part, net_absent, net_room}
 use Rattle.vread.proofs.GrowLemmas.{nets_end, nets_more, nets_others}
 use Rattle.vread.proofs.nets.with_all.Goals as goal
 
-pub with_input-requires : goal.with_input-requires
-with_input-requires c =
+pub push_net-requires : goal.push_net-requires
+push_net-requires c =
     let before = netlist c.loop-net.made in
     let fit : AreFitNets (before.nets ++ c.in-Some.net ∷ []) = fit_part before.nets (c.in-Some.net ∷ []) (into_iter_items c.next.new.self) ((netlist c.args.design).nets ++ c.args.nets.items)
     (ap (λ (l : List NetEntry). before.nets ++ l) (sym c.in-Some.ensures.steps.0) ∙ c.loop-net.invariant.all) c.requires in
     record {
       absent = net_absent before.nets c.in-Some.net fit c.net.inside.name (ap (λ (n : NetEntry). n.name) c.net.view_is);
       room = net_room before.nets c.in-Some.net fit;
-    }
-
-pub add_net-requires : goal.add_net-requires
-add_net-requires c =
-    let before = netlist c.loop-net.made in
-    let fit : AreFitNets (before.nets ++ c.in-Some.net ∷ []) = fit_part before.nets (c.in-Some.net ∷ []) (into_iter_items c.next.new.self) ((netlist c.args.design).nets ++ c.args.nets.items)
-    (ap (λ (l : List NetEntry). before.nets ++ l) (sym c.in-Some.ensures.steps.0) ∙ c.loop-net.invariant.all) c.requires in
-    record {
-      absent = net_absent before.nets c.in-Some.net fit c.net.inside.name (ap (λ (n : NetEntry). n.name) c.net.view_is);
-      room = net_room before.nets c.in-Some.net fit;
-    }
-
-pub loop-net-preserved-then-net : goal.loop-net-preserved-then-net
-loop-net-preserved-then-net c =
-    let first = netlist c.args.design in
-    let before = netlist c.loop-net.made in
-    let now = netlist c.in_ok-made.made in
-    let steps = c.in-Some.ensures.steps in
-    let made : now ≡ with_net before c.in-Some.net
-    = c.in_ok-made.ensures ∙ ap (with_net before) (ap (λ (b : Bool). new_net c.net.inside.name c.net.inside.kind b) (sym c.if-net.true) ∙ c.net.view_is) in
-    record {
-      all = nets_more first before now (c.in-Some.net ∷ []) (into_iter_items c.next.new.self) (first.nets ++ c.args.nets.items) made
-          (ap (λ (l : List NetEntry). before.nets ++ l) (sym steps.0) ∙ c.loop-net.invariant.all);
-      others = nets_others first before c.loop-net.invariant.others now (c.in-Some.net ∷ []) made;
-      count = omega (arith, steps.1, c.loop-net.invariant.count, ap length steps.0);
     }
 
 pub loop-net-preserved : goal.loop-net-preserved
 loop-net-preserved c =
     let first = netlist c.args.design in
     let before = netlist c.loop-net.made in
-    let now = netlist c.in_ok-design.design in
+    let now = netlist c.push_net.new.self in
     let steps = c.in-Some.ensures.steps in
-    let made : now ≡ with_net before c.in-Some.net
-    = c.in_ok-design.ensures.by_name ∙ ap (with_net before) (ap (λ (b : Bool). new_net c.net.inside.name c.net.inside.kind b) (sym c.if-net.false) ∙ c.net.view_is) in
+    let made : now ≡ with_net before c.in-Some.net = c.in_ok-push_net.ensures.by_name ∙ ap (with_net before) c.net.view_is in
     record {
       all = nets_more first before now (c.in-Some.net ∷ []) (into_iter_items c.next.new.self) (first.nets ++ c.args.nets.items) made
           (ap (λ (l : List NetEntry). before.nets ++ l) (sym steps.0) ∙ c.loop-net.invariant.all);
