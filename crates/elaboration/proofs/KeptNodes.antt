@@ -18,7 +18,7 @@ use Rattle.elaboration.specs.declared.node.NodeRef.{NodeRef}
 use Rattle.elaboration.specs.declared.node.NodeRef.TheVariants.{Nets, Tied}
 use Rattle.elaboration.specs.declared.node.Slot.{Slot}
 use Rattle.elaboration.specs.Elaborations.{IsNode, IsRun, IsScope, IsSlot}
-use Rattle.elaboration.specs.Numbered.{PlacedScope, bit_ref, run_bit, ref_at, slot_for}
+use Rattle.elaboration.specs.Numbered.{PlacedScope, bit_ref, run_bit, ref_at, slot_for, slot_node}
 use Rattle.elaboration.specs.Ports.{range_of}
 use Rattle.elaboration.specs.Scopes.{Node, Scope, bit_node, node_at, node_for, node_of, tied, wired}
 use Rattle.elaboration.proofs.KeptSlots.{most}
@@ -30,15 +30,15 @@ past_end (x ∷ xs) (suc k) e = let rest : nat_lt k (length xs) ≡ false = past
 
 module _ (names : List (List ℕ)) (modules : List (ℕ × ModuleEntry)) (flat : List NetEntry) where
   found_case : (scope : Scope) (b : Bool) (n : ℕ) (slot : Slot) (net : ℕ × nets.Net) (slot_rest : Option Slot) (net_rest : Option nets.Net) → nat_eq n net.0 ≡ b → IsSlot names modules flat scope slot net
-      → IsNode flat (option_map_or (λ s. s.node) slot_rest (Tied Unknown)) (option_map_or (λ o. node_of names modules scope (n, o)) net_rest (tied Unknown))
-      → IsNode flat (option_map_or (λ s. s.node) (cond b (Some slot) slot_rest) (Tied Unknown)) (option_map_or (λ o. node_of names modules scope (n, o)) (cond b (Some net.1) net_rest) (tied Unknown))
+      → IsNode flat (option_map_or slot_node slot_rest (Tied Unknown)) (option_map_or (λ o. node_of names modules scope (n, o)) net_rest (tied Unknown))
+      → IsNode flat (option_map_or slot_node (cond b (Some slot) slot_rest) (Tied Unknown)) (option_map_or (λ o. node_of names modules scope (n, o)) (cond b (Some net.1) net_rest) (tied Unknown))
   found_case scope true n slot net slot_rest net_rest e is others =
       let here : net.0 ≡ n = grind (arith, nat_tests) in
-      subst (λ (k : ℕ). IsNode flat slot.node (node_of names modules scope (k, net.1))) here is.node
+      subst (λ (k : ℕ). IsNode flat (slot_node slot) (node_of names modules scope (k, net.1))) here is.node
   found_case scope false n slot net slot_rest net_rest e is others = others
 
   found_ok : (scope : Scope) (n : ℕ) (slots : List Slot) (listed : List (ℕ × nets.Net)) → AllZip (IsSlot names modules flat scope) slots listed
-      → IsNode flat (option_map_or (λ s. s.node) (slot_for n listed slots) (Tied Unknown)) (option_map_or (λ o. node_of names modules scope (n, o)) (net_of listed n) (tied Unknown))
+      → IsNode flat (option_map_or slot_node (slot_for n listed slots) (Tied Unknown)) (option_map_or (λ o. node_of names modules scope (n, o)) (net_of listed n) (tied Unknown))
   found_ok scope n [] [] zip = refl
   found_ok scope n [] (net ∷ listed) zip = absurd zip
   found_ok scope n (slot ∷ slots) [] zip = absurd zip
@@ -76,7 +76,7 @@ module _ (names : List (List ℕ)) (modules : List (ℕ × ModuleEntry)) (flat :
             places = λ few k net there. alone few wire k net e there;
           }
         where
-          alone : length flat < 2 ^ 64 → (wire : NetEntry) (k : ℕ) (net : NetEntry) → slice_get wires (place_of_bit range i) ≡ Some wire → slice_get (wire ∷ []) k ≡ Some net
+          alone : length flat < 2 ^ 32 → (wire : NetEntry) (k : ℕ) (net : NetEntry) → slice_get wires (place_of_bit range i) ≡ Some wire → slice_get (wire ∷ []) k ≡ Some net
               → slice_get flat (min (run.place + place_of_bit range i) most + k) ≡ Some net
           alone few wire zero net e there =
               let found : slice_get flat (run.place + place_of_bit range i) ≡ Some wire = is.places few (place_of_bit range i) wire e in
@@ -88,9 +88,9 @@ module _ (names : List (List ℕ)) (modules : List (ℕ × ModuleEntry)) (flat :
   pub ref_ok : (kept : PlacedScope) (scope : Scope) → IsScope names modules flat kept scope → (terminal : Terminal) → IsNode flat (ref_at kept terminal) (node_at names modules scope terminal)
   ref_ok kept scope is (terminals.Constant value) = refl
   ref_ok kept scope is (terminals.Net n) =
-      subst (λ (m : ModuleEntry). IsNode flat (option_map_or (λ s. s.node) (slot_for n m.nets kept.slots) (Tied Unknown)) (node_at names modules scope (terminals.Net n))) (sym is.entry)
+      subst (λ (m : ModuleEntry). IsNode flat (option_map_or slot_node (slot_for n m.nets kept.slots) (Tied Unknown)) (node_at names modules scope (terminals.Net n))) (sym is.entry)
       (found_ok scope n kept.slots scope.entry.nets is.slots)
   ref_ok kept scope is (terminals.Bit n i) =
-      subst (λ (m : ModuleEntry). IsNode flat (bit_ref (range_of m.nets n) i (option_map_or (λ s. s.node) (slot_for n m.nets kept.slots) (Tied Unknown))) (node_at names modules scope (terminals.Bit n i))) (sym is.entry)
-      (bit_ok (range_of scope.entry.nets n) i (option_map_or (λ s. s.node) (slot_for n scope.entry.nets kept.slots) (Tied Unknown)) (node_for names modules scope n)
+      subst (λ (m : ModuleEntry). IsNode flat (bit_ref (range_of m.nets n) i (option_map_or slot_node (slot_for n m.nets kept.slots) (Tied Unknown))) (node_at names modules scope (terminals.Bit n i))) (sym is.entry)
+      (bit_ok (range_of scope.entry.nets n) i (option_map_or slot_node (slot_for n scope.entry.nets kept.slots) (Tied Unknown)) (node_for names modules scope n)
       (found_ok scope n kept.slots scope.entry.nets is.slots))

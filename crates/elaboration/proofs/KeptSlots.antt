@@ -1,5 +1,5 @@
 -- What is kept of the nets of a scope is what they are in the design.
-use Rattle.std.proofs.Common.{◌≡◌, ℕ, zero, suc, ◌+◌, ◌-◌, ◌^◌, ◌<◌, ◌≤◌, min, cond, List, [], ◌∷◌, ◌++◌, length, map, Option, Some, None, is_none, unwrap_or, All, refl, sym, ap, subst, ◌∙◌, arith, append_assoc, length-append, ◌&&◌}
+use Rattle.std.proofs.Common.{◌≡◌, ℕ, zero, suc, ◌+◌, ◌-◌, ◌^◌, ◌<◌, ◌≤◌, min, cond, Bool, false, List, [], ◌∷◌, ◌++◌, length, map, Option, Some, None, is_none, unwrap_or, All, refl, sym, ap, subst, ◌∙◌, arith, append_assoc, length-append, ◌&&◌}
 use Rattle.std.specs.Prelude.{flat_map, filter}
 use Rattle.std.specs.List.{AllZip, slice_get}
 use Rattle.std.proofs.lemmas.List.{length-map}
@@ -16,13 +16,14 @@ use Rattle.vtext.specs.Ranges.{indexes, indexes_from, width, width_of}
 use Rattle.vtext.specs.declared.range.Range.{Range}
 use Rattle.elaboration.specs.declared.node.NodeRef.{NodeRef}
 use Rattle.elaboration.specs.Elaborations.{IsNode, IsSlot}
-use Rattle.elaboration.specs.Numbered.{Start, next_place, place_after, slot_of, slots_from}
+use Rattle.elaboration.specs.declared.node.NodeRef.TheVariants.{Nets, Tied}
+use Rattle.elaboration.specs.Numbered.{Start, is_own_slot, next_place, place_after, slot_node, slot_of, slots_from}
 use Rattle.elaboration.specs.Scopes.{Node, Scope, flat_names, is_own, own_bits, own_net, wired}
 
 -- Numbers and lists.
 
 abbrev pub most : ℕ
-most = 2 ^ 64 - 1
+most = 2 ^ 32 - 1
 
 pub count_two : (a x y all top : ℕ) → all ≡ x + y → min (min (a + x) top + y) top ≡ min (a + all) top
 count_two a x y all top e = omega arith
@@ -36,13 +37,23 @@ get_behind : (xs ys : List NetEntry) (k : ℕ) → slice_get (xs ++ ys) (length 
 get_behind [] ys k = ap (slice_get ys) (omega arith)
 get_behind (x ∷ xs) ys k = let on : length (x ∷ xs) + k ≡ suc (length xs + k) = omega arith in ap (slice_get (x ∷ (xs ++ ys))) on ∙ get_behind xs ys k
 
+-- What a connected port is.
+
+given_node : (top : Bool) (place : ℕ) (net : nets.Net) (kept : NodeRef) → slot_node (slot_of top place net (Some kept)) ≡ kept
+given_node top place net (Nets run) = refl
+given_node top place net (Tied value) = refl
+
+given_own : (top : Bool) (place : ℕ) (net : nets.Net) (kept : NodeRef) → is_own_slot (slot_of top place net (Some kept)) ≡ false
+given_own top place net (Nets run) = refl
+given_own top place net (Tied value) = refl
+
 -- Nets of the design that stand from a place on: all that is said of places holds where there are not too many nets.
 
 module _ (names : List (List ℕ)) (modules : List (ℕ × ModuleEntry)) (flat : List NetEntry) where
   pub record At (place : ℕ) (more : List NetEntry) : Type 0 where
-    pub stand : length flat < 2 ^ 64 → (k : ℕ) (net : NetEntry) → slice_get more k ≡ Some net → slice_get flat (place + k) ≡ Some net
+    pub stand : length flat < 2 ^ 32 → (k : ℕ) (net : NetEntry) → slice_get more k ≡ Some net → slice_get flat (place + k) ≡ Some net
 
-  at_front : (place : ℕ) (xs ys : List NetEntry) → At place (xs ++ ys) → length flat < 2 ^ 64 → (k : ℕ) (net : NetEntry) → slice_get xs k ≡ Some net
+  at_front : (place : ℕ) (xs ys : List NetEntry) → At place (xs ++ ys) → length flat < 2 ^ 32 → (k : ℕ) (net : NetEntry) → slice_get xs k ≡ Some net
       → slice_get flat (place + k) ≡ Some net
   at_front place xs ys at few k net there = at.stand few k net (get_front xs ys k net there)
 
@@ -108,7 +119,11 @@ module _ (names : List (List ℕ)) (modules : List (ℕ × ModuleEntry)) (flat :
         let tail = others skip in
         record {
           slots = (
-            record { node = subst (λ (o : Option Node). IsNode flat kept (unwrap_or o (wired (own_bits names modules scope net)))) (sym e) is; own = ap (λ (o : Option Node). is_none o) (sym e) },
+            record {
+              node = subst (λ (k : NodeRef). IsNode flat k (unwrap_or (scope.given net.0) (wired (own_bits names modules scope net)))) (sym (given_node scope.top place net.1 kept))
+                  (subst (λ (o : Option Node). IsNode flat kept (unwrap_or o (wired (own_bits names modules scope net)))) (sym e) is);
+              own = given_own scope.top place net.1 kept ∙ ap (λ (o : Option Node). is_none o) (sym e);
+            },
             tail.slots,
           );
           next = tail.next;
@@ -135,7 +150,7 @@ module _ (names : List (List ℕ)) (modules : List (ℕ × ModuleEntry)) (flat :
         record {
           slots = (
             record {
-              node = subst (λ (o : Option Node). IsNode flat (slot_of scope.top place net.1 None).node (unwrap_or o (wired mine))) (sym e)
+              node = subst (λ (o : Option Node). IsNode flat (slot_node (slot_of scope.top place net.1 None)) (unwrap_or o (wired mine))) (sym e)
                   (record {
                     width = sym size;
                     kinds = bits_all (λ net_entry. net_kind net.1 ≡ net_entry.kind) scope net (λ name. refl);

@@ -13,7 +13,7 @@ use Rattle.elaboration.specs.declared.node.NodeRef.{NodeRef}
 use Rattle.elaboration.specs.declared.node.NodeRef.TheVariants.{Nets, Tied}
 use Rattle.elaboration.specs.declared.node.Slot.{Slot}
 use Rattle.elaboration.specs.Levels.{has_many_instances}
-use Rattle.elaboration.specs.Numbered.{PlacedScope}
+use Rattle.elaboration.specs.Numbered.{PlacedScope, is_own_slot, slot_node}
 use Rattle.elaboration.specs.Ports.{fault_at, second_pass}
 use Rattle.elaboration.specs.Scopes.{Node, Scope, is_own, nets_of, node_of, scopes_of, tied, wired}
 use Rattle.elaboration.specs.Tops.{third_pass, top_of}
@@ -34,7 +34,7 @@ pub record IsRun (nets : List NetEntry) (kept : NetRun) (wires : List NetEntry) 
   pub width : kept.width ≡ length wires
   pub kinds : All (λ net. kept.kind ≡ net.kind) wires
   pub inputs : All (λ net. kept.is_input ≡ net.is_input) wires
-  pub places : length nets < 2 ^ 64 → (k : ℕ) (net : NetEntry) → slice_get wires k ≡ Some net → slice_get nets (kept.place + k) ≡ Some net
+  pub places : length nets < 2 ^ 32 → (k : ℕ) (net : NetEntry) → slice_get wires k ≡ Some net → slice_get nets (kept.place + k) ≡ Some net
 
 abbrev pub IsNode : List NetEntry → NodeRef → Node → Type 0
 IsNode nets (Nets kept) (wired wires) = IsRun nets kept wires
@@ -43,8 +43,8 @@ IsNode nets kept node = ⊥
 
 module _ (names : List (List ℕ)) (modules : List (ℕ × ModuleEntry)) (flat : List NetEntry) where
   pub record IsSlot (scope : Scope) (slot : Slot) (net : ℕ × nets.Net) : Type 0 where
-    pub node : IsNode flat slot.node (node_of names modules scope net)
-    pub own : slot.is_own ≡ is_own names modules scope net
+    pub node : IsNode flat (slot_node slot) (node_of names modules scope net)
+    pub own : is_own_slot slot ≡ is_own names modules scope net
 
   pub record IsScope (kept : PlacedScope) (scope : Scope) : Type 0 where
     pub entry : kept.entry ≡ scope.entry
@@ -63,4 +63,4 @@ pub record IsElaboration (text : List ℕ) (list : ModuleList) (design : Elabora
   pub top : top_of list.modules ≡ Some design.top
   pub scopes : AllZip (IsScope list.names list.modules (nets_of list.names list.modules design.top.1)) design.scopes
       (scopes_of list.names list.modules design.top.1)
-  pub net_count : design.net_count ≡ min (length (nets_of list.names list.modules design.top.1)) (2 ^ 64 - 1)
+  pub net_count : design.net_count ≡ min (length (nets_of list.names list.modules design.top.1)) (2 ^ 32 - 1)

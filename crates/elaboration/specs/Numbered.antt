@@ -17,6 +17,7 @@ use Rattle.elaboration.specs.declared.node.NetRun.{NetRun}
 use Rattle.elaboration.specs.declared.node.NodeRef.{NodeRef}
 use Rattle.elaboration.specs.declared.node.NodeRef.TheVariants.{Nets, Tied}
 use Rattle.elaboration.specs.declared.node.Slot.{Slot}
+use Rattle.elaboration.specs.declared.node.Slot.TheVariants as slot_cases
 use Rattle.elaboration.specs.Ports.{joined_from, range_of}
 
 -- A scope before its nets have places.
@@ -40,16 +41,28 @@ pub record SoFar : Type 0 where
 
 -- The nets of a scope.
 
+-- what a slot is in the design
+abbrev pub slot_node : Slot → NodeRef
+slot_node (slot_cases.Own run) = Nets run
+slot_node (slot_cases.Joined run) = Nets run
+slot_node (slot_cases.Tied value) = Tied value
+
+-- its net comes with the scope
+abbrev pub is_own_slot : Slot → Bool
+is_own_slot (slot_cases.Own run) = true
+is_own_slot (slot_cases.Joined run) = false
+is_own_slot (slot_cases.Tied value) = false
+
 -- what a net is: a connected port, or a net that comes with the scope and has this place
 abbrev pub slot_of : Bool → ℕ → nets.Net → Option NodeRef → Slot
-slot_of top place net (Some node) = record { node = node; is_own = false }
-slot_of top place net None =
-    record { node = Nets (record { place = place; width = width_of net.range; kind = net_kind net; is_input = top && is_input net }); is_own = true }
+slot_of top place net (Some (Nets run)) = slot_cases.Joined run
+slot_of top place net (Some (Tied value)) = slot_cases.Tied value
+slot_of top place net None = slot_cases.Own (record { place = place; width = width_of net.range; kind = net_kind net; is_input = top && is_input net })
 
 -- the place after a net, as far as numbers go
 abbrev pub next_place : ℕ → nets.Net → Option NodeRef → ℕ
 next_place place net (Some node) = place
-next_place place net None = min (place + width_of net.range) (2 ^ 64 - 1)
+next_place place net None = min (place + width_of net.range) (2 ^ 32 - 1)
 
 -- what nets are, of which those that come with the scope have places from here on
 abbrev pub slots_from : Bool → ℕ → List (ℕ × nets.Net) → List (Option NodeRef) → List Slot
@@ -82,7 +95,7 @@ slot_for n (net ∷ more) (slot ∷ slots) = if nat_eq n net.0 then Some slot el
 
 -- the net at a place of a run alone; past its end none
 abbrev pub run_bit : ℕ → NetRun → NetRun
-run_bit place run = record run { place = min (run.place + place) (2 ^ 64 - 1); width = if nat_lt place run.width then 1 else 0 }
+run_bit place run = record run { place = min (run.place + place) (2 ^ 32 - 1); width = if nat_lt place run.width then 1 else 0 }
 
 -- the bit of an index, of what has a range
 abbrev pub bit_ref : Option Range → ℕ → NodeRef → NodeRef
@@ -92,7 +105,7 @@ bit_ref (Some range) i (Tied value) = Tied value
 
 -- what the net of this name is
 abbrev pub ref_for : PlacedScope → ℕ → NodeRef
-ref_for scope n = option_map_or (λ slot. slot.node) (slot_for n scope.entry.nets scope.slots) (Tied Unknown)
+ref_for scope n = option_map_or slot_node (slot_for n scope.entry.nets scope.slots) (Tied Unknown)
 
 -- what a terminal in a scope is
 abbrev pub ref_at : PlacedScope → Terminal → NodeRef

@@ -57,7 +57,7 @@ impl<'a> Elaboration<'a> {
     pub fn net_count(&self) -> usize
         ensures { result ≡ self.now.net_count }
     {
-        self.scopes.count()
+        self.scopes.count() as usize
     }
 
     /// The scopes in order, the top first.

@@ -1,18 +1,22 @@
 //! What the nets of a module are in the design.
 
 ghost use Rattle.std.specs.Prelude.{◌≡◌};
-ghost use Rattle.elaboration.specs.Numbered.{bit_ref, run_bit};
+ghost use Rattle.elaboration.specs.Numbered.{bit_ref, is_own_slot, run_bit, slot_node};
 
 use fourstate::{NetKind, Value};
+use std::mem::size_of;
 use vtext::Range;
+
+// A design has a slot for each of its nets, and the terminals of its gates are looked up in no order: slots stay small.
+const _: () = prove!(size_of::<Slot>() == 16);
 
 /// Nets of the design that stand one after another: a scalar is one, the bits of a vector stand in order from the left.
 #[derive(Clone, Copy, Debug, PartialEq, Eq)]
 pub struct NetRun {
     /// The place of the first one in the design's order, from 0.
-    pub place: usize,
+    pub place: u32,
     /// How many there are.
-    pub width: usize,
+    pub width: u32,
     /// Their kind.
     pub kind: NetKind,
     /// Whether they are inputs of the design.
@@ -21,7 +25,7 @@ pub struct NetRun {
 
 impl NetRun {
     /// The net at a place of the run alone; past its end none.
-    fn bit(self, place: usize) -> NetRun
+    fn bit(self, place: u32) -> NetRun
         ensures { result ≡ run_bit place self }
     {
         NetRun {
@@ -47,7 +51,7 @@ impl NodeRef {
         ensures { result ≡ bit_ref range index self }
     {
         match (self, range) {
-            (NodeRef::Nets(run), Some(range)) => NodeRef::Nets(run.bit(range.place(index))),
+            (NodeRef::Nets(run), Some(range)) => NodeRef::Nets(run.bit(range.place(index) as u32)),
             (node, _) => node,
         }
     }
@@ -55,9 +59,34 @@ impl NodeRef {
 
 /// A net of a module in one of its scopes.
 #[derive(Clone, Copy, Debug, PartialEq, Eq)]
-pub struct Slot {
-    /// What it is.
-    pub node: NodeRef,
-    /// Whether the net comes with the scope, since it is no connected port.
-    pub is_own: bool,
+pub enum Slot {
+    /// Nets that come with the scope, since it is no connected port.
+    Own(NetRun),
+    /// The nets that the port is connected to.
+    Joined(NetRun),
+    /// The constant that the port is tied to.
+    Tied(Value),
+}
+
+impl Slot {
+    /// What it is in the design.
+    #[inline(always)]
+    pub fn node(self) -> NodeRef
+        ensures { result ≡ slot_node self }
+    {
+        match self {
+            Slot::Own(run) | Slot::Joined(run) => NodeRef::Nets(run),
+            Slot::Tied(value) => NodeRef::Tied(value),
+        }
+    }
+
+    /// Whether it comes with the scope.
+    pub fn is_own(self) -> bool
+        ensures { result ≡ is_own_slot self }
+    {
+        match self {
+            Slot::Own(_) => true,
+            Slot::Joined(_) | Slot::Tied(_) => false,
+        }
+    }
 }

@@ -83,7 +83,7 @@ impl<'a> Scope<'a> {
         ensures { result ≡ ref_for self.now name }
     {
         match self.slot_of(name) {
-            Some(slot) => slot.node,
+            Some(slot) => slot.node(),
             None => NodeRef::Tied(Value::Unknown),
         }
     }

@@ -15,7 +15,7 @@ use vtext::{ModuleInstance, Modules};
 #[derive(Drop)]
 pub struct Scopes<'a> {
     list: Vec<Scope<'a>>,
-    count: usize,
+    count: u32,
 }
 
 impl<'a> Model for Scopes<'a> {
@@ -45,7 +45,7 @@ impl<'a> Scopes<'a> {
     }
 
     /// How many nets come with them, as far as numbers go.
-    pub fn count(&self) -> usize
+    pub fn count(&self) -> u32
         ensures { result ≡ self.now.count }
     {
         self.count

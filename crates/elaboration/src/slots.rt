@@ -1,6 +1,7 @@
 //! What the nets of a module are in a scope.
 
 ghost use Rattle.std.specs.Prelude.{◌≡◌, IfOk, length};
+ghost use Rattle.vtext.specs.Ranges.{width_of};
 ghost use Rattle.elaboration.specs.Numbered.{next_place, place_after, slot_of, slots_from};
 
 use crate::node::{NetRun, NodeRef, Slot};
@@ -11,7 +12,7 @@ use vtext::{Module, Net};
 #[derive(Drop)]
 pub struct PlacedSlots {
     pub items: Vec<Slot>,
-    pub next: usize,
+    pub next: u32,
 }
 
 /// What the nets of a module are, whose connected ports are given; the others come with the scope, and have the places from
@@ -21,7 +22,7 @@ pub fn slots_of(
     entry: &Module,
     is_top: bool,
     given: &[Option<NodeRef>],
-    first: usize,
+    first: u32,
 ) -> Result<PlacedSlots, AllocError>
     requires { length given.now ≡ length entry.now.nets }
     ensures items { IfOk result (λ slots. slots.items.items ≡ slots_from is_top first entry.now.nets given.now) }
@@ -41,32 +42,34 @@ pub fn slots_of(
 }
 
 /// What a net is: a connected port, or a net that comes with the scope and has this place.
-fn slot_of(is_top: bool, place: usize, net: Net, given: Option<NodeRef>) -> Slot
+fn slot_of(is_top: bool, place: u32, net: Net, given: Option<NodeRef>) -> Slot
     ensures { result ≡ slot_of is_top place net given }
 {
     match given {
-        Some(node) => Slot {
-            node,
-            is_own: false,
-        },
-        None => Slot {
-            node: NodeRef::Nets(NetRun {
-                place,
-                width: net.width(),
-                kind: net.net_kind(),
-                is_input: is_top && net.is_input(),
-            }),
-            is_own: true,
-        },
+        Some(NodeRef::Nets(run)) => Slot::Joined(run),
+        Some(NodeRef::Tied(value)) => Slot::Tied(value),
+        None => Slot::Own(NetRun {
+            place,
+            width: width_of(net),
+            kind: net.net_kind(),
+            is_input: is_top && net.is_input(),
+        }),
     }
 }
 
+/// How many bits a net has.
+fn width_of(net: Net) -> u32
+    ensures { result ≡ width_of net.range }
+{
+    net.width() as u32
+}
+
 /// The place after a net, as far as numbers go.
-fn next_place(place: usize, net: Net, given: Option<NodeRef>) -> usize
+fn next_place(place: u32, net: Net, given: Option<NodeRef>) -> u32
     ensures { result ≡ next_place place net given }
 {
     match given {
         Some(_) => place,
-        None => place.saturating_add(net.width()),
+        None => place.saturating_add(width_of(net)),
     }
 }

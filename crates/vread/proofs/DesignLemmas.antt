@@ -98,7 +98,7 @@ module _ (text : List ℕ) (list : ModuleList) (design : Elaborated) (is : IsEla
   few_nets : length flat ≤ MAX_NETS
   few_nets = at_most MAX_NETS (length flat) fails.third
 
-  few : length flat < 2 ^ 64
+  few : length flat < 2 ^ 32
   few = omega (arith, few_nets)
 
   none_long : All (λ scope. late.is_long_named names modules scope ≡ false) scopes

@@ -82,8 +82,8 @@ length_gates names modules flat (k ∷ kepts) (s ∷ scopes) count small zip =
     ∙ count_step count (length mine) (length others) small
     ∙ ap (λ n. min (count + n) most) (sym (length-append mine others))
 
-over : (limit c n : ℕ) → limit < most → c ≡ min n most → nat_lt limit c ≡ nat_lt limit n
-over limit c n low e = grind (arith, nat_tests)
+over : (limit greatest c n : ℕ) → limit < greatest → c ≡ min n greatest → nat_lt limit c ≡ nat_lt limit n
+over limit greatest c n low e = grind (arith, nat_tests)
 
 -- A design that modules make.
 module _ (text : List ℕ) (list : ModuleList) (design : Elaborated) (is : IsElaboration text list design) where
@@ -114,10 +114,10 @@ module _ (text : List ℕ) (list : ModuleList) (design : Elaborated) (is : IsEla
       let long : list_any (kept_parts.is_long_named names) design.scopes ≡ list_any (late.is_long_named names modules) scopes =
       any_zip (λ kept scope. Kept kept scope × IsSoundScope names scope) (kept_parts.is_long_named names) (late.is_long_named names modules)
       (λ kept scope both. long_named_same names modules flat refs kept scope both.0 both.1) design.scopes scopes (zip_both Kept (IsSoundScope names) design.scopes scopes is.scopes sound) in
-      let many_nets : nat_lt MAX_NETS design.net_count ≡ nat_lt MAX_NETS (length flat) = over MAX_NETS design.net_count (length flat) (omega arith) is.net_count in
+      let many_nets : nat_lt MAX_NETS design.net_count ≡ nat_lt MAX_NETS (length flat) = over MAX_NETS (2 ^ 32 - 1) design.net_count (length flat) (omega arith) is.net_count in
       let counted : gate_count design.scopes ≡ min (length (gates_of names modules top)) most =
       length_gates names modules flat design.scopes scopes 0 (omega arith) is.scopes ∙ (let on : 0 + length (gates_of names modules top) ≡ length (gates_of names modules top) = omega arith in ap (λ n. min n most) on) in
-      let many_gates : nat_lt MAX_GATES (gate_count design.scopes) ≡ nat_lt MAX_GATES (length (gates_of names modules top)) = over MAX_GATES (gate_count design.scopes) (length (gates_of names modules top)) (omega arith) counted in
+      let many_gates : nat_lt MAX_GATES (gate_count design.scopes) ≡ nat_lt MAX_GATES (length (gates_of names modules top)) = over MAX_GATES most (gate_count design.scopes) (length (gates_of names modules top)) (omega arith) counted in
       let driven : list_any kept_parts.is_input_driven design.scopes ≡ list_any (late.is_input_driven names modules) scopes =
       any_zip Kept kept_parts.is_input_driven (late.is_input_driven names modules) (input_driven_same names modules flat refs) design.scopes scopes is.scopes in
       ap (λ a. chain a (list_any (kept_parts.is_long_named names) design.scopes) (nat_lt MAX_NETS design.net_count) (nat_lt MAX_GATES (gate_count design.scopes)) (list_any kept_parts.is_input_driven design.scopes)) ports

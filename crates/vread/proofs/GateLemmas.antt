@@ -67,7 +67,7 @@ module _ (names : List (List ℕ)) (modules : List (ℕ × ModuleEntry)) (flat :
       (λ gate. ap (λ (p : List ℕ). parts.is_long p (length (gate_bytes names gate))) is.path))
 
   -- Gates, where there are not too many nets.
-  module _ (few : length flat < 2 ^ 64) where
+  module _ (few : length flat < 2 ^ 32) where
     gate_same : (kept : PlacedScope) (scope : Scope) → IsScope names modules flat kept scope → (gate : GateEntry) → IsSingleGate names modules scope gate → kept_gate names flat kept gate ≡ own_gate names modules scope gate
     gate_same kept scope is gate single =
         ap (λ (p : List ℕ). record (kept_gate names flat kept gate) { name = p ++ gate_bytes names gate }) is.path

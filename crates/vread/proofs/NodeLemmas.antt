@@ -63,7 +63,7 @@ module _ (flat : List netlists.NetEntry) where
   input_same (Tied kept) (tied value) is = refl
 
   -- What a terminal of a gate is, where there are not too many nets.
-  module _ (few : length flat < 2 ^ 64) where
+  module _ (few : length flat < 2 ^ 32) where
     none_single : IsSingleNode (wired []) → ⊥
     none_single single = omega (arith, single)
 

@@ -7,7 +7,7 @@ use Rattle.vtext.specs.declared.net.Net as nets
 use Rattle.elaboration.specs.declared.node.Slot.{Slot}
 use Rattle.fourstate.specs.declared.net.NetKind.TheVariants.{Wire}
 use Rattle.vtext.specs.Modules.{ModuleEntry}
-use Rattle.elaboration.specs.declared.node.NodeRef.TheVariants.{Nets}
+use Rattle.elaboration.specs.declared.node.Slot.TheVariants.{Own}
 use Rattle.elaboration.specs.Numbered.{PlacedScope}
 use Rattle.vread.specs.Parts.{any_slot}
 
@@ -56,7 +56,7 @@ module _ (p : Slot → ℕ × nets.Net → Bool) (slots : List Slot) (listed : L
 
 -- a slot of which nothing is said
 abbrev pub blank_slot : Slot
-blank_slot = record { node = Nets (record { place = 0; width = 0; kind = Wire; is_input = false }); is_own = false }
+blank_slot = Own (record { place = 0; width = 0; kind = Wire; is_input = false })
 
 -- The same where lists are those of a scope.
 module _ (p : Slot → ℕ × nets.Net → Bool) (scope : PlacedScope) (slots : List Slot) (entry : ModuleEntry) (is_slots : slots ≡ scope.slots) (is_entry : entry ≡ scope.entry) where

@@ -18,7 +18,7 @@ use Rattle.elaboration.specs.declared.node.NodeRef.{NodeRef}
 use Rattle.elaboration.specs.declared.node.NodeRef.TheVariants.{Nets, Tied}
 use Rattle.elaboration.specs.declared.node.Slot.{Slot}
 use Rattle.elaboration.specs.Elaborations.{IsNode, IsScope, IsSlot}
-use Rattle.elaboration.specs.Numbered.{PlacedScope}
+use Rattle.elaboration.specs.Numbered.{PlacedScope, slot_node}
 use Rattle.elaboration.specs.Scopes.{Node, Scope, flat_names, is_own, node_of, own_bits, own_net, own_nets, wired}
 use Rattle.vread.specs.LateFaults as late
 use Rattle.vread.specs.Parts as parts
@@ -67,8 +67,8 @@ module _ (names : List (List ℕ)) (modules : List (ℕ × ModuleEntry)) (flat :
 
   misjoined_same : (scope : Scope) (slot : Slot) (net : ℕ × nets.Net) → IsSlot names modules flat scope slot net → parts.is_misjoined slot net ≡ late.is_misjoined names modules scope net
   misjoined_same scope slot net is =
-      ap (λ (b : Bool). not b && parts.clashes (net_kind net.1) slot.node) is.own
-      ∙ ap (λ (b : Bool). not (is_own names modules scope net) && b) (clashes_same flat (net_kind net.1) slot.node (node_of names modules scope net) is.node)
+      ap (λ (b : Bool). not b && parts.clashes (net_kind net.1) (slot_node slot)) is.own
+      ∙ ap (λ (b : Bool). not (is_own names modules scope net) && b) (clashes_same flat (net_kind net.1) (slot_node slot) (node_of names modules scope net) is.node)
 
   pub any_misjoined_same : (kept : PlacedScope) (scope : Scope) → IsScope names modules flat kept scope
       → any_slot parts.is_misjoined kept.slots kept.entry.nets ≡ list_any (late.is_misjoined names modules scope) scope.entry.nets
@@ -125,8 +125,8 @@ module _ (names : List (List ℕ)) (modules : List (ℕ × ModuleEntry)) (flat :
   slots_bring kept scope path (slot ∷ slots) (net ∷ listed) zip =
       let more = flat_map (own_bits names modules scope) (filter (is_own names modules scope) listed) in
       ap (λ (l : List netlists.NetEntry). parts.slot_nets names kept.path slot net ++ l) (slots_bring kept scope path slots listed zip.1)
-      ∙ ap (λ (b : Bool). cond b (parts.node_nets names kept.path slot.node net) [] ++ more) zip.0.own
-      ∙ ap (λ (l : List netlists.NetEntry). l ++ more) (brought kept scope net (scope.given net.0) slot.node path zip.0.node)
+      ∙ ap (λ (b : Bool). cond b (parts.node_nets names kept.path (slot_node slot) net) [] ++ more) zip.0.own
+      ∙ ap (λ (l : List netlists.NetEntry). l ++ more) (brought kept scope net (scope.given net.0) (slot_node slot) path zip.0.node)
       ∙ kept_first (is_own names modules scope net) net (own_bits names modules scope) (filter (is_own names modules scope) listed)
 
   pub scope_nets_same : (kept : PlacedScope) (scope : Scope) → IsScope names modules flat kept scope → kept_nets names kept ≡ own_nets names modules scope

@@ -26,7 +26,7 @@ use Rattle.elaboration.specs.declared.node.NodeRef.{NodeRef}
 use Rattle.elaboration.specs.declared.node.NodeRef.TheVariants.{Nets, Tied}
 use Rattle.elaboration.specs.declared.node.Slot.{Slot}
 use Rattle.elaboration.specs.Elaborations.{Elaborated}
-use Rattle.elaboration.specs.Numbered.{PlacedScope, ref_at}
+use Rattle.elaboration.specs.Numbered.{PlacedScope, is_own_slot, ref_at, slot_node}
 use Rattle.vread.specs.LateFaults.{is_clash, rule_of}
 
 -- one of the nets of a scope, with what it is, passes
@@ -50,7 +50,7 @@ is_input_ref (Nets run) = nat_lt 0 run.width && run.is_input
 is_input_ref (Tied value) = false
 
 abbrev pub is_misjoined : Slot → ℕ × nets.Net → Bool
-is_misjoined slot net = not slot.is_own && clashes (net_kind net.1) slot.node
+is_misjoined slot net = not (is_own_slot slot) && clashes (net_kind net.1) (slot_node slot)
 
 -- what a gate of the scope drives
 abbrev pub driven : PlacedScope → GateEntry → NodeRef
@@ -86,7 +86,7 @@ module _ (names : List (List ℕ)) where
   longest net = length (name_at names net.0) + option_map_or bracketed_length net.1.range 0
 
   abbrev pub is_long_net : List ℕ → Slot → ℕ × nets.Net → Bool
-  is_long_net path slot net = slot.is_own && is_long path (longest net)
+  is_long_net path slot net = is_own_slot slot && is_long path (longest net)
 
   abbrev pub is_long_gate : List ℕ → GateEntry → Bool
   is_long_gate path gate = is_long path (length (gate_bytes names gate))
@@ -122,7 +122,7 @@ module _ (names : List (List ℕ)) where
   node_nets path (Tied value) net = []
 
   abbrev pub slot_nets : List ℕ → Slot → ℕ × nets.Net → List netlist.NetEntry
-  slot_nets path slot net = if slot.is_own then node_nets path slot.node net else []
+  slot_nets path slot net = if is_own_slot slot then node_nets path (slot_node slot) net else []
 
   abbrev pub slots_nets : List ℕ → List Slot → List (ℕ × nets.Net) → List netlist.NetEntry
   slots_nets path [] nets = []

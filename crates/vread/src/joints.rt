@@ -1,6 +1,7 @@
 //! Ports and what they are joined to.
 
 ghost use Rattle.std.specs.Prelude.{◌≡◌, ◌&&◌, not};
+ghost use Rattle.elaboration.specs.Numbered.{is_own_slot, slot_node};
 ghost use Rattle.vtext.specs.Nets.{net_kind};
 ghost use Rattle.vread.specs.LateFaults.{is_clash, rule_of};
 ghost use Rattle.vread.specs.Parts.{any_slot, clashes, is_input_ref, is_misjoined, is_tied};
@@ -84,7 +85,7 @@ pub fn is_misjoined(scope: &Scope) -> bool
 }
 
 fn is_port_misjoined(slot: Slot, net: Net) -> bool
-    ensures { result ≡ (not slot.is_own && clashes (net_kind net) slot.node) }
+    ensures { result ≡ (not (is_own_slot slot) && clashes (net_kind net) (slot_node slot)) }
 {
-    !slot.is_own && clashes(net.net_kind(), slot.node)
+    !slot.is_own() && clashes(net.net_kind(), slot.node())
 }

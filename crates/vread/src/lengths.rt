@@ -4,6 +4,7 @@ ghost use Rattle.std.specs.Prelude.{◌≡◌, ◌&&◌, ◌+◌, ◌<◌, ◌�
 ghost use Rattle.std.specs.Fmt.{decimal};
 ghost use Rattle.std.specs.List.{list_any};
 ghost use Rattle.std.specs.Option.{option_map_or};
+ghost use Rattle.elaboration.specs.Numbered.{is_own_slot};
 ghost use Rattle.vtext.specs.Names.{name_at};
 ghost use Rattle.vtext.specs.GateNames.{gate_bytes, instance_bytes, numbered};
 ghost use Rattle.vread.specs.Parts.{any_slot, bracketed_length, is_long, is_long_gate, is_long_named, is_long_net, longest};
@@ -36,9 +37,9 @@ fn are_long_nets(names: &Names, scope: &Scope) -> bool
 }
 
 fn is_long_net(names: &Names, scope: &Scope, slot: Slot, name: u32, net: Net) -> bool
-    ensures { result ≡ (slot.is_own && is_long scope.now.path (longest names.now (name, net))) }
+    ensures { result ≡ (is_own_slot slot && is_long scope.now.path (longest names.now (name, net))) }
 {
-    slot.is_own && is_long(scope, longest(names, name, net.range))
+    slot.is_own() && is_long(scope, longest(names, name, net.range))
 }
 
 /// How many bytes the longest name of a net, or of the bits of a vector, has.

@@ -14,5 +14,5 @@ pub fn key_of(design: &Design, run: NetRun) -> NetKey
     ensures name { name_of design.now.nets result ≡ net_at (netlist design.now).nets run.place }
     ensures there { IsSome (net_by_key design.now result) }
 {
-    design.net_key_at(run.place)
+    design.net_key_at(run.place as usize)
 }

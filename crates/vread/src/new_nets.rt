@@ -9,7 +9,7 @@ ghost use Rattle.vread.specs.Parts.{AreNamed, bits_nets, kept_nets, run_net, run
 
 use crate::names::{bit_in, name_in};
 use design::Name;
-use elaboration::{NetRun, NodeRef, Scope, Slot};
+use elaboration::{NetRun, Scope, Slot};
 use fourstate::NetKind;
 use std::alloc::{AllocError, Global};
 use std::marker::Model;
@@ -93,12 +93,9 @@ fn add_slot(
     requires { AreNamed (slot_nets names.now scope.now.path slot (name, net)) }
     ensures { OnOk result (nets.new.items ≡ nets.old.items ++ slot_nets names.now scope.now.path slot (name, net)) }
 {
-    if !slot.is_own {
-        return Ok(());
-    }
-    match slot.node {
-        NodeRef::Nets(run) => add_run(alloc, nets, names, scope, run, name, net.range),
-        NodeRef::Tied(_) => Ok(()),
+    match slot {
+        Slot::Own(run) => add_run(alloc, nets, names, scope, run, name, net.range),
+        Slot::Joined(_) | Slot::Tied(_) => Ok(()),
     }
 }
 
