@@ -37,7 +37,9 @@ fn add(
 ) -> (Catalog<Item>, Key) {
     let item = make_item(rt, alloc, name, value);
     assert!(rt; catalog.key(item.name()).is_none(), "{name}");
-    catalog.push(item).expect(rt, "a record more")
+    let mut catalog = catalog;
+    let key = catalog.push(item).expect(rt, "a record more");
+    (catalog, key)
 }
 
 fn put(
