@@ -4,4 +4,5 @@ pub mod Found
 pub mod Hashers
 pub mod Kept
 pub mod Slots
+pub mod Spellings
 pub mod Table

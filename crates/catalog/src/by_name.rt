@@ -4,10 +4,11 @@ ghost use Rattle.std.specs.Prelude.{◌≡◌, IfOk};
 ghost use Rattle.std.proofs.Common.{ap};
 ghost use Rattle.std.specs.Cmp.{on_equiv, on_per, partial_equiv_from_equiv};
 ghost use Rattle.std.specs.Cmp.Lexicographic.{bytes_decides, nat_list_eq_equiv};
-ghost use Rattle.std.specs.Hash as fed;
 ghost use Rattle.catalog.specs.Catalog.{same_name};
+ghost use Rattle.catalog.specs.Spellings.{input_of};
 
 use crate::named::Named;
+use crate::spelling::Spelling;
 use chunked::Shared;
 use indexmap::Equivalent;
 use std::alloc::AllocError;
@@ -53,23 +54,24 @@ impl<R: Named> Eq for ByName<R> {
 }
 
 impl<R: Named> Hash for ByName<R> {
-    ghost hash_input = { λ a. fed.str (R.name a.record) };
+    ghost hash_input = { λ a. input_of (R.name a.record) };
 
-    ghost respects_eq = { λ a b h. ap fed.str ((bytes_decides (R.name a.record) (R.name b.record)).0 h) };
+    ghost respects_eq = { λ a b h. ap input_of ((bytes_decides (R.name a.record) (R.name b.record)).0 h) };
 
     fn hash<H: Hasher>(&self, state: &mut H) {
-        self.name().hash(state);
+        let bytes = self.name().as_bytes();
+        Spelling { bytes }.hash(state);
     }
 }
 
-impl<R: Named> Equivalent<ByName<R>> for &str {
-    ghost equivalent = { λ q k. same_name q.now (R.name k.record) };
+impl<'a, R: Named> Equivalent<ByName<R>> for Spelling<'a> {
+    ghost equivalent = { λ q k. same_name q.bytes.now (R.name k.record) };
 
-    ghost respects_hash = { λ q k h. ap fed.str ((bytes_decides q.now (R.name k.record)).0 h) };
+    ghost respects_hash = { λ q k h. ap input_of ((bytes_decides q.bytes.now (R.name k.record)).0 h) };
 
-    ghost respects_eq = { λ q x y. nat_list_eq_equiv.congr q.now (R.name x.record) (R.name y.record) };
+    ghost respects_eq = { λ q x y. nat_list_eq_equiv.congr q.bytes.now (R.name x.record) (R.name y.record) };
 
     fn equivalent(&self, key: &ByName<R>) -> bool {
-        *self == key.name()
+        self.bytes == key.name().as_bytes()
     }
 }

@@ -13,6 +13,7 @@ mod order;
 mod places;
 pub mod plain;
 mod slots;
+pub mod spelling;
 
 pub use catalog::Catalog;
 pub use hasher::NameHasher;

@@ -9,6 +9,7 @@ use crate::by_name::ByName;
 use crate::hasher::NameHasher;
 use crate::key::Key;
 use crate::named::Named;
+use crate::spelling::Spelling;
 use indexmap::IndexMap;
 use std::alloc::{AllocError, Global};
 use std::sync::Arc;
@@ -151,7 +152,10 @@ fn get<R: Named>(part: &Option<Arc<Map<R>>>, name: &str) -> Option<Key>
     ensures { result ≡ found_in R.name part.now name.now }
 {
     match part {
-        Some(map) => map.get(name).copied(),
+        Some(map) => {
+            let bytes = name.as_bytes();
+            map.get(Spelling { bytes }).copied()
+        }
         None => None,
     }
 }

@@ -16,5 +16,4 @@ pub mod Trees
 pub mod Turns
 pub mod Walks
 pub mod Sound
-pub mod Spellings
 pub mod Words

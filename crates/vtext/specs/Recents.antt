@@ -1,9 +1,9 @@
 -- What is noted of names that were found lately: a short name is known by its bytes there, without a look at its text.
 use Rattle.std.specs.Prelude.{◌≡◌, ℕ, ◌-◌, ◌<◌, true, List, Some, All, length, slice_index}
+use Rattle.catalog.specs.Spellings.{four, is_short}
 use Rattle.vtext.specs.declared.recent.Noted.{Noted}
 use Rattle.vtext.specs.declared.recent.Recent.{Recent}
 use Rattle.vtext.specs.Names.{number_of}
-use Rattle.vtext.specs.Spellings.{four, is_short}
 
 -- the bytes of this short name are noted
 pub record IsOf (noted : Noted) (name : List ℕ) : Type 0 where

@@ -3,8 +3,9 @@
 ghost use Rattle.std.specs.Prelude.{◌≡◌, ◌≤◌, ◌^◌, [], IfOk, IfSome, OnOk, OnErr, Some, length};
 ghost use Rattle.vtext.specs.Names.{name_at, number_of, with_name};
 
+use crate::fingerprint::fingerprint;
 use crate::recent::{Noted, Recent};
-use crate::spelling::{Spelling, fingerprint, is_short};
+use catalog::spelling::{Spelling, is_short};
 use design::NameHasher;
 use indexmap::IndexSet;
 use std::alloc::{AllocError, Global};

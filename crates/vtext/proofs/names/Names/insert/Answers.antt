@@ -1,6 +1,6 @@
 use Rattle.std.proofs.Common.{◌≡◌, ◌≤◌, ◌^◌, List, ℕ, length, map, refl, sym, ap, subst, ◌∙◌, arith}
 use Rattle.std.proofs.lemmas.Grind.{common_steps}
-use Rattle.vtext.specs.declared.spelling.Spelling.{Spelling}
+use Rattle.catalog.specs.declared.spelling.Spelling.{Spelling}
 use Rattle.vtext.specs.Names.{with_name}
 use Rattle.vtext.specs.Recents.{AreRight}
 use Rattle.vtext.proofs.NameLemmas.{text_added}

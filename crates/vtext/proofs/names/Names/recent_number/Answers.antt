@@ -1,6 +1,6 @@
 use Rattle.std.proofs.Common.{◌≡◌, sym, ◌∙◌}
 use Rattle.std.proofs.lemmas.Slice.Eq.{bytes_eq-Decides}
-use Rattle.vtext.specs.declared.spelling.Spelling.{Spelling}
+use Rattle.catalog.specs.declared.spelling.Spelling.{Spelling}
 use Rattle.vtext.proofs.RecentLemmas.{text_stands}
 use Rattle.vtext.proofs.names.Names.recent_number.Goals as goal
 

@@ -1,14 +1,9 @@
-//! The bytes of a name as a key.
+//! A number of a name's bytes that few other names share.
 
-ghost use Rattle.std.specs.Prelude.{◌≡◌, ◌+◌, ◌-◌, ◌≤◌, true, length};
-ghost use Rattle.vtext.specs.Spellings.{four, is_short, packed};
+ghost use Rattle.std.specs.Prelude.{◌+◌, ◌≤◌, length};
 
-use std::hash::{Hash, Hasher};
+use catalog::spelling::{HALF, WORD, four, is_short, packed};
 
-/// The most bytes that are packed into one number.
-const WORD: usize = 8;
-/// The fewest: those that are read at once.
-const HALF: usize = 4;
 /// An odd number that carries each bit of a word into the upper ones of the product: 2^64 by the golden ratio (own).
 const SPREAD: u64 = 0x9E37_79B9_7F4A_7C15;
 /// The lower half of each of eight bytes: what a digit counts.
@@ -19,53 +14,6 @@ const ONES: u64 = 0x0101_0101_0101_0101;
 const ZEROS: u64 = 0x3030_3030_3030_3030;
 /// How far the first bytes of a long name are turned before they meet its length and the last ones (own).
 const TURN: u32 = 29;
-
-/// The bytes of a name. A hasher is given a short name as one number, and any other one at once.
-#[derive(Clone, Copy, Debug, PartialEq, Eq)]
-pub struct Spelling<'a> {
-    pub bytes: &'a [u8],
-}
-
-/// Whether the bytes are packed into one number.
-#[tactic(auto, using(std::proofs::lemmas::Bool::Decides::nat_tests))]
-pub fn is_short(bytes: &[u8]) -> bool
-    ensures { result ≡ is_short bytes.now }
-{
-    HALF <= bytes.len() && bytes.len() <= WORD
-}
-
-/// The four bytes at a place as a number, the first one lowest.
-fn four(bytes: &[u8], at: usize) -> u32
-    requires { at + 4 ≤ length bytes.now }
-    ensures { result ≡ four bytes.now at }
-{
-    u32::from_le_bytes([bytes[at], bytes[at + 1], bytes[at + 2], bytes[at + 3]])
-}
-
-/// The first four bytes of a short name as a number.
-pub fn first_four(bytes: &[u8]) -> u32
-    requires { is_short bytes.now ≡ true }
-    ensures { result ≡ four bytes.now 0 }
-{
-    four(bytes, 0)
-}
-
-/// The last four bytes of a short name as a number. With the first four, and with how many there are, they tell all.
-pub fn last_four(bytes: &[u8]) -> u32
-    requires { is_short bytes.now ≡ true }
-    ensures { result ≡ four bytes.now (length bytes.now - 4) }
-{
-    four(bytes, bytes.len() - HALF)
-}
-
-/// The bytes as a number, the first one lowest: the first four, and the last four at their place above.
-fn packed(bytes: &[u8]) -> u64
-    requires { is_short bytes.now ≡ true }
-    ensures { result ≡ packed bytes.now }
-{
-    let last = bytes.len() - HALF;
-    u64::from(first_four(bytes)) | u64::from(last_four(bytes)) << (8 * last)
-}
 
 /// The eight bytes at a place as a number, the first one lowest.
 fn eight(bytes: &[u8], at: usize) -> u64
@@ -120,23 +68,4 @@ pub fn fingerprint(bytes: &[u8]) -> u64 {
     }
     let first = eight(bytes, 0).rotate_left(TURN);
     mixed(eight(bytes, bytes.len() - WORD), first ^ bytes.len() as u64)
-}
-
-impl<'a> Hash for Spelling<'a> {
-    ghost use Rattle.std.specs.Cmp.Lexicographic.{bytes_decides};
-    ghost use Rattle.std.proofs.Common.{ap};
-    ghost use Rattle.vtext.specs.Spellings.{input_of};
-
-    ghost hash_input = { λ a. input_of a.bytes.now };
-
-    ghost respects_eq = { λ a b h. ap input_of ((bytes_decides a.bytes.now b.bytes.now).0 h) };
-
-    fn hash<H: Hasher>(&self, state: &mut H) {
-        let bytes = self.bytes;
-        if is_short(bytes) {
-            state.write_u64(packed(bytes));
-        } else {
-            state.write(bytes);
-        }
-    }
 }

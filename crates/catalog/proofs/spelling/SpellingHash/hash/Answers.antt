@@ -1,6 +1,6 @@
 use Rattle.std.proofs.Common.{sym, ◌∙◌}
-use Rattle.vtext.specs.Spellings.{input_of}
-use Rattle.vtext.proofs.spelling.SpellingHash.hash.Goals as goal
+use Rattle.catalog.specs.Spellings.{input_of}
+use Rattle.catalog.proofs.spelling.SpellingHash.hash.Goals as goal
 
 pub returns-then-is_short : goal.returns-then-is_short
 unfolding input_of

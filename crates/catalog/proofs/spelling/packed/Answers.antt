@@ -1,5 +1,5 @@
-use Rattle.vtext.specs.Spellings.{packed}
-use Rattle.vtext.proofs.spelling.packed.Goals as goal
+use Rattle.catalog.specs.Spellings.{packed}
+use Rattle.catalog.proofs.spelling.packed.Goals as goal
 
 pub returns : goal.returns
 unfolding packed

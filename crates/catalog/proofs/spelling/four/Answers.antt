@@ -1,0 +1,6 @@
+use Rattle.catalog.specs.Spellings.{four}
+use Rattle.catalog.proofs.spelling.four.Goals as goal
+
+pub returns : goal.returns
+unfolding four
+returns c = c.from_le_bytes.ensures
