@@ -1,8 +1,8 @@
-use Rattle.std.proofs.Common.{◌≡◌, ◌++◌, Bool, List, [], ◌∷◌, length, sym, ap, ◌∙◌, arith}
+use Rattle.std.proofs.Common.{◌≡◌, ◌++◌, List, [], ◌∷◌, length, sym, ap, ◌∙◌, arith}
 use Rattle.std.specs.Vec.Iter.{into_iter_items}
 use Rattle.std.proofs.lemmas.List.{nil_from_length}
 use Rattle.design.specs.Keys.{netlist}
-use Rattle.design.specs.Netlist.{NetEntry, new_net, with_net}
+use Rattle.design.specs.Netlist.{NetEntry, with_net}
 use Rattle.vread.specs.Parts.{AreFitNets}
 use Rattle.vread.proofs.FitLemmas.{fit_part, net_absent, net_room}
 use Rattle.vread.proofs.GrowLemmas.{nets_end, nets_more, nets_others}

@@ -1,4 +1,4 @@
-use Rattle.std.proofs.Common.{◌≡◌, Some, ap, sym, ◌∙◌}
+use Rattle.std.proofs.Common.{Some, ap, ◌∙◌}
 use Rattle.catalog.specs.Catalog.{record_at}
 use Rattle.design.specs.Keys.{netlist}
 use Rattle.design.specs.Netlist.{NetEntry, with_net}
