@@ -1,6 +1,6 @@
 //! Edits of the gates of a design.
 
-ghost use Rattle.std.specs.Prelude.{◌≡◌, ◌<◌, ◌++◌, ◌∷◌, [], ℕ, List, false, IsTrue, IsSome, IsSomeAnd, IfSome, IfOk, OnOk, All, length, map};
+ghost use Rattle.std.specs.Prelude.{◌≡◌, ◌<◌, ◌++◌, ◌∷◌, [], ℕ, List, false, IsTrue, IsSome, IsSomeAnd, IfSome, IfOk, OnErr, OnOk, All, length, map};
 ghost use Rattle.fourstate.specs.Gates.{takes_inputs};
 ghost use Rattle.catalog.specs.Catalog.{key_named, keys_of, record_at, with_record, without_key};
 ghost use Rattle.design.specs.declared.limits.TheConstants.{MAX_GATES};
@@ -41,13 +41,18 @@ impl Design {
         requires connected { IsConnected self.old.nets gate }
         ensures by_key { IfOk result (λ key. self.new ≡ with_keyed_gate self.old gate key) }
         ensures by_name { OnOk result (netlist self.new ≡ with_gate (netlist self.old) (entry_in self.old.nets gate)) }
+        ensures err { OnErr result (self.new ≡ record self.old { nets = []; gates = [] }) }
     {
         gate.lawful();
         match put_last(&mut self.gates, &mut self.wires, gate) {
             Ok(key) => Ok(key),
             Err(error) => {
-                clear(&mut self.nets, &mut self.gates, &mut self.wires);
-                self.points = 0;
+                clear(
+                    &mut self.nets,
+                    &mut self.gates,
+                    &mut self.points,
+                    &mut self.wires,
+                );
                 Err(error)
             }
         }
@@ -135,14 +140,21 @@ fn put_last(gates: &mut Catalog<Gate>, wires: &mut Wires, gate: Gate) -> Result<
     Ok(key)
 }
 
-/// Takes all nets and gates away.
-pub(crate) fn clear(nets: &mut Catalog<Net>, gates: &mut Catalog<Gate>, wires: &mut Wires)
+/// Takes all nets and gates away, and what is kept beside them.
+pub(crate) fn clear(
+    nets: &mut Catalog<Net>,
+    gates: &mut Catalog<Gate>,
+    points: &mut usize,
+    wires: &mut Wires,
+)
     ensures nets { nets.new ≡ [] }
     ensures gates { gates.new ≡ [] }
+    ensures points { points.new ≡ 0 }
     ensures wires { wires.new ≡ record { fanout = []; drivers = [] } }
 {
     nets.clear();
     gates.clear();
+    *points = 0;
     *wires = Wires::new(wires.allocator());
 }
 

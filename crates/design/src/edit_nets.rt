@@ -1,6 +1,6 @@
 //! Edits of the nets of a design.
 
-ghost use Rattle.std.specs.Prelude.{◌≡◌, ◌≤◌, ◌<◌, [], true, false, IsSome, IsSomeAnd, IfSome, IfOk, OnOk, length};
+ghost use Rattle.std.specs.Prelude.{◌≡◌, ◌≤◌, ◌<◌, [], true, false, IsSome, IsSomeAnd, IfSome, IfOk, OnErr, OnOk, length};
 ghost use Rattle.fourstate.specs.declared.limits.TheConstants.{MAX_TIME};
 ghost use Rattle.catalog.specs.Catalog.{record_at, with_record};
 ghost use Rattle.design.specs.declared.limits.TheConstants.{MAX_NETS, MAX_POINTS};
@@ -57,14 +57,19 @@ impl Design {
         ensures by_key { IfOk result (λ key. self.new ≡ with_keyed_net self.old (new_net name kind is_input) key) }
         ensures by_name { OnOk result (netlist self.new ≡ with_net (netlist self.old) (new_net name kind is_input)) }
         ensures there { IfOk result (λ key. net_by_key self.new key ≡ Some (new_net name kind is_input)) }
+        ensures err { OnErr result (self.new ≡ record self.old { nets = []; gates = [] }) }
     {
         let net = Net::new(name, kind, is_input);
         net.lawful();
         match self.nets.push(net) {
             Ok(number) => Ok(NetKey { number }),
             Err(error) => {
-                clear(&mut self.nets, &mut self.gates, &mut self.wires);
-                self.points = 0;
+                clear(
+                    &mut self.nets,
+                    &mut self.gates,
+                    &mut self.points,
+                    &mut self.wires,
+                );
                 Err(error)
             }
         }

@@ -26,7 +26,7 @@ pub invariant_of-self-in-Err : goal.invariant_of-self-in-Err
 unfolding netlist
 invariant_of-self-in-Err c =
     let a = c.self.inside in
-    rw (c.clear.ensures.nets, c.clear.ensures.gates, c.clear.ensures.wires) (cleared_is_kept (design_of a) c.self.invariant.lawful.named c.self.invariant.lawful.horizon)
+    rw (c.clear.ensures.nets, c.clear.ensures.gates, c.clear.ensures.points, c.clear.ensures.wires) (cleared_is_kept (design_of a) c.self.invariant.lawful.named c.self.invariant.lawful.horizon)
 
 pub returns-in-Ok-clause-by_name : goal.returns-in-Ok-clause-by_name
 returns-in-Ok-clause-by_name c =
