@@ -39,6 +39,9 @@ lesser_by P a b pa pb (inr e) = subst P (sym e) pb
 pub lesser : (P : ℕ → Type 0) (a b : ℕ) → P a → P b → P (min a b)
 lesser P a b pa pb = lesser_by P a b pa pb (search arith)
 
+pub same_after : (a b c : Queue) → AreSame a b → AreSame b c → AreSame a c
+same_after a b c one two u = two u ∙ one u
+
 pub added_after : (t number : ℕ) (a b c : Queue) → AreSame a b → IsAdded t number b c → IsAdded t number a c
 added_after t number a b c same added u = added u ∙ ap (λ l. cond (nat_eq t u) (l ++ number ∷ []) l) (same u)
 
@@ -157,3 +160,8 @@ none_second first second t none = right (noted first t) (noted second t) (sym (n
 
 pub none_both : (first second : Queue) (t : ℕ) → noted first t ≡ [] → noted second t ≡ [] → noted (joined first second) t ≡ []
 none_both first second t one two = noted_joined first second t ∙ ap (λ l. l ++ noted second t) one ∙ two
+
+-- Where the first queue has nothing for a moment, and nothing is there, the numbers of the second one are all.
+pub exchanged : (old new : List ℕ) (first second now : Queue) (t : ℕ) → joined first second ≡ now → old ≡ [] → noted first t ≡ [] → new ≡ noted second t → new ≡ old ++ noted now t
+exchanged old new first second now t view empty none is =
+    is ∙ sym (ap (λ l. l ++ noted second t) none) ∙ sym (noted_joined first second t) ∙ ap (λ q. noted q t) view ∙ sym (ap (λ l. l ++ noted now t) empty)

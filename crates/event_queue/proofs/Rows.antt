@@ -1,16 +1,15 @@
 -- What is noted for moments in a row.
-use Rattle.std.proofs.Common.{◌≡◌, ◌≢◌, ◌<◌, ◌≤◌, ◌+◌, ◌-◌, ◌∙◌, ap, sym, subst, refl, Bool, true, false, cond, ℕ, suc, List, [], ◌∷◌, ◌++◌, Some, length, get_or, take, drop, set, map, Vec, Global, ◌⊎◌, inl, inr, length-drop, length-take, arith}
+use Rattle.std.proofs.Common.{◌≡◌, ◌≢◌, ◌<◌, ◌≤◌, ◌+◌, ◌-◌, ◌%◌, ◌∙◌, ap, sym, subst, refl, Bool, true, false, cond, ℕ, suc, List, [], ◌∷◌, ◌++◌, Some, length, get_or, take, drop, set, map, Vec, Global, All, IsTrue, ◌↔◌, ◌⊎◌, inl, inr, length-drop, length-take, arith}
 use Rattle.std.specs.Map.{lookup}
 use Rattle.std.specs.Option.{option_map_or}
 use Rattle.std.specs.Ordering.{is_eq, nat_cmp}
-use Rattle.std.specs.Prelude.{◌==◌, nat_eq, min}
+use Rattle.std.specs.Prelude.{◌==◌, nat_eq}
 use Rattle.std.proofs.lemmas.Bool.Decides.{nat_tests}
 use Rattle.std.proofs.lemmas.Grind.{get_or-set_at}
 use Rattle.std.proofs.Math.Seq.{map-set_same}
-use Rattle.std.proofs.lemmas.List.{get_or-drop, get_or-take, get_or-append-add, get_or_append_left, get_or_past, get_or-map, get_or-set_other, drop-map, length-map, map-append, map-set, take-map}
+use Rattle.std.proofs.lemmas.List.{get_or-drop, get_or-take, get_or-append-add, get_or_append_left, get_or_past, get_or_default, get_or-map, get_or-set_other, length-append, length-map, length-set, map-set}
 use Rattle.event_queue.specs.Noted.{AreSame, IsAdded, IsTaken, noted}
-use Rattle.event_queue.specs.Lists.{in_row}
-use Rattle.event_queue.proofs.Changes.{added_after}
+use Rattle.event_queue.specs.Lists.{in_ring, in_row}
 use Rattle.event_queue.proofs.Moments.{same_moment}
 
 pub either : (a b : ℕ) → (a < b) ⊎ (b ≤ a)
@@ -40,87 +39,137 @@ before from (list ∷ lists) t low =
     ap (λ (b : Bool). option_map_or (λ numbers. numbers) (cond b (Some list) (lookup (λ moment. is_eq (nat_cmp t moment)) (in_row (from + 1) lists))) []) (same_moment t from ∙ apart)
     ∙ before (from + 1) lists t (omega arith)
 
--- The list of a moment is another one.
-module _ (from t : ℕ) (old new : List (List ℕ)) (list : List ℕ) (low : from ≤ t) (short : t - from < length old) (changed : new ≡ set old (t - from) list) where
-  there_by : (u : ℕ) (b : Bool) → nat_eq t u ≡ b → (u < from) ⊎ (from ≤ u) → noted (in_row from new) u ≡ cond b list (noted (in_row from old) u)
-  there_by u true same (inl under) = absurd (let is : t ≡ u = grind (arith, nat_tests) in omega arith)
-  there_by u true same (inr above) =
-      let is : u - from ≡ t - from = grind (arith, nat_tests) in
-      within from new u above ∙ ap (λ l. get_or l (u - from) []) changed ∙ get_or-set_at old (t - from) (u - from) list [] is short
-  there_by u false apart (inl under) = before from new u under ∙ sym (before from old u under)
-  there_by u false apart (inr above) =
-      let other : u - from ≢ t - from = λ e. (let is : t ≡ u = omega arith in absurd (let same : nat_eq t u ≡ true = grind (arith, nat_tests) in let no : true ≡ false = sym same ∙ apart in cc)) in
-      within from new u above ∙ ap (λ l. get_or l (u - from) []) changed ∙ get_or-set_other old (t - from) (u - from) list [] other ∙ sym (within from old u above)
+-- The lists of a ring: a moment that is near has the list at its remainder.
 
-  pub there : (u : ℕ) → noted (in_row from new) u ≡ cond (nat_eq t u) list (noted (in_row from old) u)
-  there u = there_by u (nat_eq t u) refl (either u from)
+abbrev Place : ℕ → ℕ → Type 0
+Place from u = ((u < from) ⊎ (from + 64 ≤ u)) ⊎ ((from ≤ u) × (u < from + 64))
 
-  more_by : (number u : ℕ) (b : Bool) → nat_eq t u ≡ b → list ≡ get_or old (t - from) [] ++ number ∷ [] →
-      cond b list (noted (in_row from old) u) ≡ cond b (noted (in_row from old) u ++ number ∷ []) (noted (in_row from old) u)
-  more_by number u true same more =
-      let is : t ≡ u = grind (arith, nat_tests) in
-      more ∙ ap (λ l. l ++ number ∷ []) (sym (within from old t low)) ∙ ap (λ v. noted (in_row from old) v ++ number ∷ []) is
-  more_by number u false apart more = refl
+place_by : (from u : ℕ) → (u < from) ⊎ (from ≤ u) → (u < from + 64) ⊎ (from + 64 ≤ u) → Place from u
+place_by from u (inl under) _ = inl (inl under)
+place_by from u (inr low) (inl high) = inr (low, high)
+place_by from u (inr low) (inr past) = inl (inr past)
 
-  pub row_added : (number : ℕ) → list ≡ get_or old (t - from) [] ++ number ∷ [] → IsAdded t number (in_row from old) (in_row from new)
-  row_added number more u = there u ∙ more_by number u (nat_eq t u) refl more
+place_of : (from u : ℕ) → Place from u
+place_of from u = place_by from u (either u from) (either u (from + 64))
 
-  pub row_taken : list ≡ [] → IsTaken t (in_row from old) (in_row from new)
-  row_taken none u = there u ∙ ap (λ l. cond (nat_eq t u) l (noted (in_row from old) u)) none
+abbrev pub IsWhole : List (List ℕ) → Type 0
+IsWhole lists = 0 < length lists → length lists ≡ 64
 
--- The lists are as they were.
-module _ (from : ℕ) (old new : List (List ℕ)) (same : (k : ℕ) → get_or new k [] ≡ get_or old k []) where
-  same_by : (u : ℕ) → (u < from) ⊎ (from ≤ u) → noted (in_row from new) u ≡ noted (in_row from old) u
-  same_by u (inl under) = before from new u under ∙ sym (before from old u under)
-  same_by u (inr above) = within from new u above ∙ same (u - from) ∙ sym (within from old u above)
+module _ (from : ℕ) (lists : List (List ℕ)) (whole : IsWhole lists) where
+  abbrev k : ℕ
+  k = from % 64
 
-  pub row_same : AreSame (in_row from old) (in_row from new)
-  row_same u = same_by u (either u from)
-
--- The first list becomes the last one, k times: those were empty.
-module _ (from to k : ℕ) (lists : List (List ℕ)) (later : from ≤ to) (past : k ≡ min (length lists) (to - from)) (none : (u : ℕ) → u < to → noted (in_row from lists) u ≡ []) where
   abbrev turned : List (List ℕ)
   turned = drop k lists ++ take k lists
 
-  empty : (m : ℕ) → m < k → get_or lists m [] ≡ []
-  empty m low =
-      let place : (from + m) - from ≡ m = omega arith in
-      ap (λ i. get_or lists i []) (sym place) ∙ sym (within from lists (from + m) (omega arith)) ∙ none (from + m) (omega arith)
+  behind_by : (t : ℕ) → from ≤ t → t < from + 64 → length lists - k ≤ t - from → (length lists ≡ 0) ⊎ (0 < length lists) → get_or turned (t - from) [] ≡ get_or lists (t % 64) []
+  behind_by t low high past (inl none) =
+      let short : length turned ≡ 0 = omega (arith, length-drop k lists, length-take k lists, length-append (drop k lists) (take k lists)) in
+      get_or_past turned (t - from) [] (omega arith) ∙ sym (get_or_past lists (t % 64) [] (omega arith))
+  behind_by t low high past (inr some) =
+      let size : length lists ≡ 64 = whole some in
+      let m = (t - from) - (length lists - k) in
+      let place : t - from ≡ length (drop k lists) + m = omega (arith, length-drop k lists) in
+      let is : m ≡ t % 64 = omega arith in
+      ap (λ i. get_or turned i []) place ∙ get_or-append-add (drop k lists) (take k lists) m [] ∙ get_or-take k lists m [] (omega arith) ∙ ap (λ i. get_or lists i []) is
 
-  last_by : (m : ℕ) → (m < k) ⊎ (k ≤ m) → get_or (take k lists) m [] ≡ []
-  last_by m (inl low) = get_or-take k lists m [] low ∙ empty m low
-  last_by m (inr high) = get_or_past (take k lists) m [] (omega (arith, length-take k lists))
+  turned_by : (t : ℕ) → from ≤ t → t < from + 64 → (t - from < length lists - k) ⊎ (length lists - k ≤ t - from) → get_or turned (t - from) [] ≡ get_or lists (t % 64) []
+  turned_by t low high (inl there) =
+      let size : length lists ≡ 64 = whole (omega arith) in
+      let place : k + (t - from) ≡ t % 64 = omega arith in
+      get_or_append_left (drop k lists) (take k lists) [] (t - from) (omega (arith, length-drop k lists)) ∙ get_or-drop k lists (t - from) [] ∙ ap (λ i. get_or lists i []) place
+  turned_by t low high (inr past) = behind_by t low high past (search arith)
 
-  after_by : (u : ℕ) → to ≤ u → (u - to < length lists - k) ⊎ (length lists - k ≤ u - to) → get_or turned (u - to) [] ≡ get_or lists (u - from) []
-  after_by u above (inl low) =
-      let place : k + (u - to) ≡ u - from = omega arith in
-      get_or_append_left (drop k lists) (take k lists) [] (u - to) (omega (arith, length-drop k lists)) ∙ get_or-drop k lists (u - to) [] ∙ ap (λ i. get_or lists i []) place
-  after_by u above (inr high) =
-      let m = (u - to) - (length lists - k) in
-      let place : u - to ≡ length (drop k lists) + m = omega (arith, length-drop k lists) in
-      ap (λ i. get_or (drop k lists ++ take k lists) i []) place ∙ get_or-append-add (drop k lists) (take k lists) m [] ∙ last_by m (either m k)
-      ∙ sym (get_or_past lists (u - from) [] (omega arith))
+  pub near : (t : ℕ) → from ≤ t → t < from + 64 → noted (in_ring 64 from lists) t ≡ get_or lists (t % 64) []
+  near t low high = within from turned t low ∙ turned_by t low high (either (t - from) (length lists - k))
 
-  moved_by : (u : ℕ) → (u < to) ⊎ (to ≤ u) → noted (in_row to turned) u ≡ noted (in_row from lists) u
-  moved_by u (inl under) = before to turned u under ∙ sym (none u under)
-  moved_by u (inr above) = within to turned u above ∙ after_by u above (either (u - to) (length lists - k)) ∙ sym (within from lists u (omega arith))
+  few : (length lists ≡ 0) ⊎ (0 < length lists) → length turned ≤ 64
+  few (inl none) = omega (arith, length-drop k lists, length-take k lists, length-append (drop k lists) (take k lists))
+  few (inr some) = let size : length lists ≡ 64 = whole some in omega (arith, length-drop k lists, length-take k lists, length-append (drop k lists) (take k lists))
 
-  pub row_moved : AreSame (in_row from lists) (in_row to (drop k lists ++ take k lists))
-  row_moved u = moved_by u (either u to)
+  -- no other moment has a number
+  pub beside : (t : ℕ) → (t < from) ⊎ (from + 64 ≤ t) → noted (in_ring 64 from lists) t ≡ []
+  beside t (inl under) = before from turned t under
+  beside t (inr past) = within from turned t (omega arith) ∙ get_or_past turned (t - from) [] (let size = few (search arith) in omega arith)
 
--- An empty row may begin anywhere.
-module _ (from to : ℕ) (lists : List (List ℕ)) (none : (u : ℕ) → noted (in_row from lists) u ≡ []) where
-  all_empty : (k : ℕ) → get_or lists k [] ≡ []
-  all_empty k =
-      let place : (from + k) - from ≡ k = omega arith in
-      ap (λ i. get_or lists i []) (sym place) ∙ sym (within from lists (from + k) (omega arith)) ∙ none (from + k)
+-- The list of a moment is another one.
+module _ (from t : ℕ) (old new : List (List ℕ)) (list : List ℕ) (whole : IsWhole old) (low : from ≤ t) (high : t < from + 64) (short : t % 64 < length old) (changed : new ≡ set old (t % 64) list) where
+  whole_new : IsWhole new
+  whole_new some = let size : length old ≡ 64 = whole (omega arith) in ap length changed ∙ length-set old (t % 64) list ∙ size
 
-  started_by : (u : ℕ) → (u < to) ⊎ (to ≤ u) → noted (in_row to lists) u ≡ []
-  started_by u (inl under) = before to lists u under
-  started_by u (inr above) = within to lists u above ∙ all_empty (u - to)
+  there_by : (u : ℕ) (b : Bool) → nat_eq t u ≡ b → Place from u → noted (in_ring 64 from new) u ≡ cond b list (noted (in_ring 64 from old) u)
+  there_by u true same (inl out) = absurd (let is : t ≡ u = grind (arith, nat_tests) in elim out [
+    | inl under ↦ omega arith
+    | inr past ↦ omega arith
+  ])
+  there_by u true same (inr in_it) =
+      let is : u % 64 ≡ t % 64 = (let e : t ≡ u = grind (arith, nat_tests) in ap (λ v. v % 64) (sym e)) in
+      near from new whole_new u in_it.0 in_it.1 ∙ ap (λ l. get_or l (u % 64) []) changed ∙ get_or-set_at old (t % 64) (u % 64) list [] is short
+  there_by u false apart (inl out) = beside from new whole_new u out ∙ sym (beside from old whole u out)
+  there_by u false apart (inr in_it) =
+      let other : u % 64 ≢ t % 64 = λ e. (let is : t ≡ u = (let a = in_it.0 in let b = in_it.1 in omega arith) in absurd (let same : nat_eq t u ≡ true = grind (arith, nat_tests) in let no : true ≡ false = sym same ∙ apart in cc)) in
+      near from new whole_new u in_it.0 in_it.1 ∙ ap (λ l. get_or l (u % 64) []) changed ∙ get_or-set_other old (t % 64) (u % 64) list [] other ∙ sym (near from old whole u in_it.0 in_it.1)
 
-  pub row_started : AreSame (in_row from lists) (in_row to lists)
-  row_started u = started_by u (either u to) ∙ sym (none u)
+  pub there : (u : ℕ) → noted (in_ring 64 from new) u ≡ cond (nat_eq t u) list (noted (in_ring 64 from old) u)
+  there u = there_by u (nat_eq t u) refl (place_of from u)
+
+  more_by : (number u : ℕ) (b : Bool) → nat_eq t u ≡ b → list ≡ get_or old (t % 64) [] ++ number ∷ [] →
+      cond b list (noted (in_ring 64 from old) u) ≡ cond b (noted (in_ring 64 from old) u ++ number ∷ []) (noted (in_ring 64 from old) u)
+  more_by number u true same more =
+      let is : t ≡ u = grind (arith, nat_tests) in
+      more ∙ ap (λ l. l ++ number ∷ []) (sym (near from old whole t low high)) ∙ ap (λ v. noted (in_ring 64 from old) v ++ number ∷ []) is
+  more_by number u false apart more = refl
+
+  pub row_added : (number : ℕ) → list ≡ get_or old (t % 64) [] ++ number ∷ [] → IsAdded t number (in_ring 64 from old) (in_ring 64 from new)
+  row_added number more u = there u ∙ more_by number u (nat_eq t u) refl more
+
+  pub row_taken : list ≡ [] → IsTaken t (in_ring 64 from old) (in_ring 64 from new)
+  row_taken none u = there u ∙ ap (λ l. cond (nat_eq t u) l (noted (in_ring 64 from old) u)) none
+
+-- Where no list has a number, no moment has one.
+pub none_noted : (from : ℕ) (lists : List (List ℕ)) → IsWhole lists → ((k : ℕ) → get_or lists k [] ≡ []) → (u : ℕ) → noted (in_ring 64 from lists) u ≡ []
+none_noted from lists whole none u = elim (place_of from u) [
+  | inl out ↦ beside from lists whole u out
+  | inr in_it ↦ near from lists whole u in_it.0 in_it.1 ∙ none (u % 64)
+]
+
+-- The ring begins at a later moment: those before it have no number.
+module _ (from to : ℕ) (lists : List (List ℕ)) (whole : IsWhole lists) (later : from ≤ to) (none_near : (u : ℕ) → from ≤ u → u < to → noted (in_ring 64 from lists) u ≡ []) where
+  none : (u : ℕ) → u < to → noted (in_ring 64 from lists) u ≡ []
+  none u low = elim (either u from) [
+    | inl under ↦ beside from lists whole u (inl under)
+    | inr above ↦ none_near u above low
+  ]
+
+  -- the list of a moment that comes near was that of one that is past
+  comes : (u : ℕ) → from + 64 ≤ u → u < to + 64 → get_or lists (u % 64) [] ≡ []
+  comes u past high =
+      let v = from + (u - from) % 64 in
+      let same : u % 64 ≡ v % 64 = omega arith in
+      ap (λ i. get_or lists i []) same ∙ sym (near from lists whole v (omega arith) (omega arith)) ∙ none v (omega arith)
+
+  moved_by : (u : ℕ) → Place to u → (u < from + 64) ⊎ (from + 64 ≤ u) → noted (in_ring 64 to lists) u ≡ noted (in_ring 64 from lists) u
+  moved_by u (inl (inl under)) _ = beside to lists whole u (inl under) ∙ sym (none u under)
+  moved_by u (inl (inr past)) _ = beside to lists whole u (inr past) ∙ sym (beside from lists whole u (inr (omega arith)))
+  moved_by u (inr in_it) (inl high) = near to lists whole u in_it.0 in_it.1 ∙ sym (near from lists whole u (let low = in_it.0 in omega arith) high)
+  moved_by u (inr in_it) (inr past) = near to lists whole u in_it.0 in_it.1 ∙ comes u past in_it.1 ∙ sym (beside from lists whole u (inr past))
+
+  pub row_moved : AreSame (in_ring 64 from lists) (in_ring 64 to lists)
+  row_moved u = moved_by u (place_of to u) (either u (from + 64))
+
+-- An empty ring may begin anywhere.
+module _ (from to : ℕ) (lists : List (List ℕ)) (whole : IsWhole lists) (none : (u : ℕ) → noted (in_ring 64 from lists) u ≡ []) where
+  all_empty : (u : ℕ) → get_or lists (u % 64) [] ≡ []
+  all_empty u =
+      let v = from + (u % 64 + 64 - from % 64) % 64 in
+      let same : u % 64 ≡ v % 64 = omega arith in
+      ap (λ i. get_or lists i []) same ∙ sym (near from lists whole v (omega arith) (omega arith)) ∙ none v
+
+  pub row_started : AreSame (in_ring 64 from lists) (in_ring 64 to lists)
+  row_started u = elim (place_of to u) [
+    | inl out ↦ beside to lists whole u out
+    | inr in_it ↦ near to lists whole u in_it.0 in_it.1 ∙ all_empty u
+  ] ∙ sym (none u)
 
 -- The lists of a row.
 
@@ -133,16 +182,13 @@ nth xs k x low read = get_or-map (λ (list : Vec ℕ Global). list.items) xs k x
 pub past : (xs : List (Vec ℕ Global)) (k : ℕ) → length xs ≤ k → get_or (lists_of xs) k [] ≡ []
 past xs k high = get_or_past (lists_of xs) k [] (omega (arith, length-map xs (λ (list : Vec ℕ Global). list.items)))
 
-none_long : (l : List ℕ) → length l ≡ 0 → l ≡ []
+none_long : {X : Type 0} (l : List X) → length l ≡ 0 → l ≡ []
 none_long [] e = refl
 none_long (x ∷ l) e = absurd (omega arith)
 
--- what a test for a number in a list says
-pub emptied : (x : Vec ℕ Global) (b : Bool) → b ≡ (x.len == 0) → b ≡ true → x.items ≡ []
-emptied x b is on = none_long x.items (let none : x.len ≡ 0 = grind (arith, nat_tests) in omega arith)
-
-pub filled : (x : Vec ℕ Global) (b : Bool) → b ≡ (x.len == 0) → b ≡ false → x.items ≢ []
-filled x b is off e = absurd (let none : length x.items ≡ 0 = ap length e in let zero : x.len ≡ 0 = omega arith in let test : (x.len == 0) ≡ true = grind (arith, nat_tests) in let no : true ≡ false = sym test ∙ sym is ∙ off in cc)
+-- what a test for an empty list says
+pub emptied : {X : Type 0} (l : List X) (n : ℕ) (b : Bool) → n ≡ length l → b ≡ (n == 0) → b ≡ true → l ≡ []
+emptied l n b long is on = none_long l (let none : n ≡ 0 = grind (arith, nat_tests) in sym long ∙ none)
 
 pub same_length : (xs : List (Vec ℕ Global)) → length (lists_of xs) ≡ length xs
 same_length xs = length-map xs (λ (list : Vec ℕ Global). list.items)
@@ -153,37 +199,40 @@ shorter xs k low = omega (arith, length-map xs (λ (list : Vec ℕ Global). list
 pub set_lists : (xs : List (Vec ℕ Global)) (k : ℕ) (x : Vec ℕ Global) → lists_of (set xs k x) ≡ set (lists_of xs) k x.items
 set_lists xs k x = map-set (λ (list : Vec ℕ Global). list.items) xs k x
 
-pub turned_lists : (xs : List (Vec ℕ Global)) (k : ℕ) → lists_of (drop k xs ++ take k xs) ≡ drop k (lists_of xs) ++ take k (lists_of xs)
-turned_lists xs k =
-    map-append (λ (list : Vec ℕ Global). list.items) (drop k xs) (take k xs)
-    ∙ ap (λ l. l ++ lists_of (take k xs)) (sym (drop-map (λ (list : Vec ℕ Global). list.items) k xs))
-    ∙ ap (λ l. drop k (lists_of xs) ++ l) (sym (take-map (λ (list : Vec ℕ Global). list.items) k xs))
+pub whole_lists : (xs : List (Vec ℕ Global)) → (0 < length xs → length xs ≡ 64) → IsWhole (lists_of xs)
+whole_lists xs whole some = same_length xs ∙ whole (omega (arith, same_length xs))
 
--- nothing is noted for a moment before the row, nor for one whose list is empty
-pub none_by : (from : ℕ) (lists : List (List ℕ)) (u : ℕ) → (from ≤ u → get_or lists (u - from) [] ≡ []) → (u < from) ⊎ (from ≤ u) → noted (in_row from lists) u ≡ []
-none_by from lists u none (inl under) = before from lists u under
-none_by from lists u none (inr above) = within from lists u above ∙ none above
+-- lists without a number
+pub each_empty : (xs : List (Vec ℕ Global)) → All (λ list. list.items ≡ []) xs → (k : ℕ) → (k < length xs) ⊎ (length xs ≤ k) → get_or (lists_of xs) k [] ≡ []
+each_empty [] none k _ = refl
+each_empty (x ∷ xs) none k (inl low) = nth (x ∷ xs) k (get_or (x ∷ xs) k x) low (get_or_default (x ∷ xs) k x (get_or (x ∷ xs) k x) low) ∙ none k x low
+each_empty (x ∷ xs) none k (inr high) = past (x ∷ xs) k high
 
--- every list is empty, if those up to the end are
-pub none_at : (xs : List (Vec ℕ Global)) (k n : ℕ) → ((m : ℕ) → m < n → get_or (lists_of xs) m [] ≡ []) → length xs ≤ n → (k < n) ⊎ (n ≤ k) → get_or (lists_of xs) k [] ≡ []
-none_at xs k n none all (inl low) = none k low
-none_at xs k n none all (inr high) = past xs k (omega arith)
+-- what the test says whether a moment is near
+pub is_beside : (from t : ℕ) (b : Bool) → IsTrue b ↔ ((from ≤ t) × (t < from + 64)) → b ≡ false → (t < from) ⊎ (from + 64 ≤ t)
+is_beside from t b is off = elim (place_of from t) [
+  | inl out ↦ out
+  | inr in_it ↦ absurd (let on : b ≡ true = is.1 in_it in let no : true ≡ false = sym on ∙ off in cc)
+]
 
 -- A list of a row is written over.
+module _ (now : List (ℕ × List ℕ)) (from t : ℕ) (lists : List (Vec ℕ Global)) (x y : Vec ℕ Global) (view : in_ring 64 from (lists_of lists) ≡ now) (read : x ≡ get_or lists (t % 64) x) where
+  pub one_same : y.items ≡ x.items → AreSame now (in_ring 64 from (lists_of (set lists (t % 64) y)))
+  one_same e u =
+      let is : lists_of (set lists (t % 64) y) ≡ lists_of lists = map-set_same (λ (list : Vec ℕ Global). list.items) lists (t % 64) y x (e ∙ ap (λ (list : Vec ℕ Global). list.items) read) in
+      ap (λ l. noted (in_ring 64 from l) u) is ∙ ap (λ q. noted q u) view
 
-pub made_same : (now : List (ℕ × List ℕ)) (from : ℕ) (old made : List (Vec ℕ Global)) → in_row from (lists_of old) ≡ now →
-    ((k : ℕ) → get_or (lists_of made) k [] ≡ get_or (lists_of old) k []) → AreSame now (in_row from (lists_of made))
-made_same now from old made view same = subst (λ q. AreSame q (in_row from (lists_of made))) view (row_same from (lists_of old) (lists_of made) same)
+  module _ (whole : 0 < length lists → length lists ≡ 64) (low : from ≤ t) (high : t < from + 64) (short : t % 64 < length lists) where
+    pub one_there : noted now t ≡ x.items
+    one_there = ap (λ q. noted q t) (sym view) ∙ near from (lists_of lists) (whole_lists lists whole) t low high ∙ nth lists (t % 64) x short read
 
-module _ (now : List (ℕ × List ℕ)) (from k : ℕ) (made : List (Vec ℕ Global)) (x y : Vec ℕ Global) (read : x ≡ get_or made k x) (same : AreSame now (in_row from (lists_of made))) where
-  pub one_same : y.items ≡ x.items → AreSame now (in_row from (lists_of (set made k y)))
-  one_same e =
-      let is : lists_of (set made k y) ≡ lists_of made = map-set_same (λ (list : Vec ℕ Global). list.items) made k y x (e ∙ ap (λ (list : Vec ℕ Global). list.items) read) in
-      subst (λ l. AreSame now (in_row from l)) (sym is) same
+    pub one_added : (number : ℕ) → y.items ≡ x.items ++ number ∷ [] → IsAdded t number now (in_ring 64 from (lists_of (set lists (t % 64) y)))
+    one_added number more =
+        subst (λ q. IsAdded t number q (in_ring 64 from (lists_of (set lists (t % 64) y)))) view
+        (row_added from t (lists_of lists) (lists_of (set lists (t % 64) y)) y.items (whole_lists lists whole) low high (shorter lists (t % 64) short) (set_lists lists (t % 64) y) number
+        (more ∙ ap (λ l. l ++ number ∷ []) (sym (nth lists (t % 64) x short read))))
 
-  pub one_added : (t number : ℕ) → from ≤ t → k ≡ t - from → k < length made → y.items ≡ x.items ++ number ∷ [] → IsAdded t number now (in_row from (lists_of (set made k y)))
-  one_added t number low place short more =
-      let at : t - from < length (lists_of made) = rw (← place) (shorter made k short) in
-      added_after t number now (in_row from (lists_of made)) (in_row from (lists_of (set made k y))) same
-      (row_added from t (lists_of made) (lists_of (set made k y)) y.items low at (set_lists made k y ∙ ap (λ i. set (lists_of made) i y.items) place) number
-      (more ∙ ap (λ l. l ++ number ∷ []) (sym (nth made k x short read) ∙ ap (λ i. get_or (lists_of made) i []) place)))
+    pub one_taken : y.items ≡ [] → IsTaken t now (in_ring 64 from (lists_of (set lists (t % 64) y)))
+    one_taken none =
+        subst (λ q. IsTaken t q (in_ring 64 from (lists_of (set lists (t % 64) y)))) view
+        (row_taken from t (lists_of lists) (lists_of (set lists (t % 64) y)) y.items (whole_lists lists whole) low high (shorter lists (t % 64) short) (set_lists lists (t % 64) y) none)

@@ -1,6 +1,6 @@
 //! Numbers that are noted for the next moments, of which the first one is known.
 
-ghost use Rattle.std.specs.Prelude.{◌≡◌, ◌≢◌, ◌<◌, [], ℕ, IfSome, IfNone, IfOk, OnErr, true, false};
+ghost use Rattle.std.specs.Prelude.{◌≡◌, ◌≢◌, ◌<◌, [], ℕ, Some, IfSome, IfNone, IfOk, OnErr, true, false, min, unwrap_or};
 ghost use Rattle.event_queue.specs.Noted.{AreSame, IsAdded, IsTaken, noted};
 
 use crate::row::Row;
@@ -37,18 +37,26 @@ impl NearMoments {
         }
     }
 
+    /// Makes the lists, if they are not there. It fails where memory runs out. Either way the same numbers are noted.
+    pub(crate) fn make_lists(&mut self, alloc: Global) -> Result<(), AllocError>
+        ensures { AreSame self.old self.new }
+    {
+        self.row.make_lists(alloc)
+    }
+
     /// Notes a number for the moment `t`, if it is one of the next. It fails where memory runs out, and then nothing has
     /// changed.
-    pub(crate) fn add(&mut self, alloc: Global, t: u64, number: usize) -> Result<bool, AllocError>
+    #[inline(always)]
+    pub(crate) fn add(&mut self, t: u64, number: usize) -> Result<bool, AllocError>
         ensures near { IfOk result (λ is_near. is_near ≡ true → IsAdded t number self.old self.new) }
         ensures same { IfOk result (λ is_near. is_near ≡ false → AreSame self.old self.new) }
         ensures far { IfOk result (λ is_near. is_near ≡ false → noted self.new t ≡ []) }
         ensures err { OnErr result (AreSame self.old self.new) }
     {
-        if !self.row.add(alloc, t, number)? {
+        if !self.row.add(t, number)? {
             return Ok(false);
         }
-        self.first = Some(self.first.unwrap_or(t).min(t));
+        add_moment(&mut self.first, t);
         Ok(true)
     }
 
@@ -77,6 +85,31 @@ impl NearMoments {
         self.move_on(t);
     }
 
+    /// Moves the numbers of the moment `t` into an empty list. The next moments are then those that they are after `clear`.
+    pub(crate) fn exchange(&mut self, t: u64, out: &mut Vec<usize>)
+        requires { out.old.items ≡ [] }
+        ensures numbers { out.new.items ≡ noted self.old t }
+        ensures rest { IsTaken t self.old self.new }
+    {
+        self.exchange_list(t, out);
+        self.move_on(t);
+    }
+
+    fn exchange_list(&mut self, t: u64, out: &mut Vec<usize>)
+        requires { out.old.items ≡ [] }
+        ensures numbers { out.new.items ≡ noted self.old t }
+        ensures rest { IsTaken t self.old self.new }
+    {
+        let Some(first) = self.first else {
+            return;
+        };
+        if t < first {
+            return;
+        }
+        self.row.exchange(t, out);
+        self.first = self.row.first();
+    }
+
     fn empty(&mut self, t: u64)
         ensures { IsTaken t self.old self.new }
     {
@@ -98,4 +131,17 @@ impl NearMoments {
         };
         self.row.move_on(first.min(t));
     }
+}
+
+// Lets `first` be the first moment where `t` is one of them too.
+#[inline(always)]
+fn add_moment(first: &mut Option<u64>, t: u64)
+    ensures { first.new ≡ Some (min (unwrap_or first.old t) t) }
+{
+    if let Some(known) = *first {
+        if known <= t {
+            return;
+        }
+    }
+    *first = Some(t);
 }

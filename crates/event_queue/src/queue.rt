@@ -39,11 +39,25 @@ impl EventQueue {
     }
 
     /// Notes a number for the moment `t`. It fails where memory runs out, and then nothing has changed.
+    #[inline(always)]
     pub fn add(&mut self, alloc: Global, t: u64, number: usize) -> Result<(), AllocError>
         ensures ok { OnOk result (IsAdded t number self.old self.new) }
         ensures err { OnErr result (AreSame self.old self.new) }
     {
-        if self.near.add(alloc, t, number)? {
+        if self.near.add(t, number)? {
+            return Ok(());
+        }
+        self.add_elsewhere(alloc, t, number)
+    }
+
+    // Notes a number for a moment that has no list. It is not inlined, so that `add` stays small where it is.
+    #[inline(never)]
+    fn add_elsewhere(&mut self, alloc: Global, t: u64, number: usize) -> Result<(), AllocError>
+        ensures ok { OnOk result (IsAdded t number self.old self.new) }
+        ensures err { OnErr result (AreSame self.old self.new) }
+    {
+        self.near.make_lists(alloc)?;
+        if self.near.add(t, number)? {
             return Ok(());
         }
         self.far.add(alloc, t, number)
@@ -71,6 +85,10 @@ impl EventQueue {
         ensures err { OnErr result (AreSame self.old self.new) }
         ensures err_out { OnErr result (out.new.items ≡ out.old.items) }
     {
+        if out.is_empty() && self.far.numbers(t).is_empty() {
+            self.near.exchange(t, out);
+            return Ok(());
+        }
         append_both(out, self.far.numbers(t), self.near.numbers(t))?;
         self.far.clear(t);
         self.near.clear(t);

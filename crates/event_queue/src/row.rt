@@ -1,38 +1,38 @@
 //! Numbers that are noted for the next moments, each with a list at its place.
 
-ghost use Rattle.std.specs.Prelude.{◌≡◌, ◌≢◌, ◌<◌, ◌≤◌, [], ℕ, IfSome, IfNone, IfOk, OnErr, true, false, length, map, slice_index_or};
+ghost use Rattle.std.specs.Prelude.{◌≡◌, ◌≢◌, ◌<◌, ◌≤◌, ◌+◌, ◌↔◌, [], ℕ, IfSome, IfNone, IfOk, OnErr, IsTrue, true, false, length, All};
 ghost use Rattle.event_queue.specs.Noted.{AreSame, IsAdded, IsTaken, noted};
-ghost use Rattle.event_queue.specs.declared.row.TheConstants.{COUNT};
+ghost use Rattle.event_queue.specs.declared.row.TheConstants.{COUNT, LAST};
 
 use std::alloc::{AllocError, Global};
-use std::collections::VecDeque;
 use std::marker::Model;
+use std::mem::swap;
 
 // How many moments have a list.
-const COUNT: usize = 64;
+const COUNT: u64 = 64;
 
 // The last moment that can be the first one with a list: those that follow it are numbers too.
-const LAST: u64 = u64::MAX - COUNT as u64;
+const LAST: u64 = u64::MAX - COUNT;
 
 /// Numbers that are noted for the next moments, in the order in which they were noted. Other moments have none.
 #[derive(Drop)]
 pub(crate) struct Row {
     // The first moment that has a list.
     from: u64,
-    // The numbers of that moment, of the next one and so on.
-    lists: VecDeque<Vec<usize>>,
+    // The numbers of a moment that has a list, at its remainder by `COUNT`. The lists are not there before a number comes.
+    lists: Vec<Vec<usize>>,
 }
 
 impl Model for Row {
-    ghost use Rattle.std.specs.Prelude.{ℕ, List, ◌≤◌, length, map};
-    ghost use Rattle.event_queue.specs.Lists.{in_row};
+    ghost use Rattle.std.specs.Prelude.{ℕ, List, ◌≡◌, ◌<◌, ◌≤◌, length, map};
+    ghost use Rattle.event_queue.specs.Lists.{in_ring};
     ghost use Rattle.event_queue.specs.declared.row.TheConstants.{COUNT, LAST};
 
     ghost Value = { List (ℕ × List ℕ) };
 
-    ghost view = { λ a. in_row a.from (map (λ list. list.items) a.lists.items) };
+    ghost view = { λ a. in_ring COUNT a.from (map (λ list. list.items) a.lists.items) };
 
-    ghost invariant = { λ a. record { early : a.from ≤ LAST; few : length a.lists.items ≤ COUNT } };
+    ghost invariant = { λ a. record { early : a.from ≤ LAST; full : 0 < length a.lists.items → length a.lists.items ≡ COUNT } };
 }
 
 impl Row {
@@ -42,23 +42,32 @@ impl Row {
     {
         Row {
             from: 0,
-            lists: VecDeque::new(alloc),
+            lists: Vec::new(alloc),
         }
     }
 
-    /// Notes a number for the moment `t`, if it is one of the next. It fails where memory runs out, and then nothing has
-    /// changed.
-    pub(crate) fn add(&mut self, alloc: Global, t: u64, number: usize) -> Result<bool, AllocError>
+    /// Makes the lists, if they are not there. It fails where memory runs out. Either way the same numbers are noted.
+    pub(crate) fn make_lists(&mut self, alloc: Global) -> Result<(), AllocError>
+        ensures { AreSame self.old self.new }
+    {
+        if self.lists.is_empty() {
+            self.lists = new_lists(alloc)?;
+        }
+        Ok(())
+    }
+
+    /// Notes a number for the moment `t`, if it has a list. It fails where memory runs out, and then nothing has changed.
+    #[inline(always)]
+    pub(crate) fn add(&mut self, t: u64, number: usize) -> Result<bool, AllocError>
         ensures near { IfOk result (λ is_near. is_near ≡ true → IsAdded t number self.old self.new) }
         ensures same { IfOk result (λ is_near. is_near ≡ false → AreSame self.old self.new) }
         ensures far { IfOk result (λ is_near. is_near ≡ false → noted self.new t ≡ []) }
         ensures err { OnErr result (AreSame self.old self.new) }
     {
-        make_lists(alloc, &mut self.lists)?;
-        if t < self.from {
+        if !is_near(self.from, t) {
             return Ok(false);
         }
-        match self.lists.get_mut((t - self.from) as usize) {
+        match self.lists.get_mut((t % COUNT) as usize) {
             Some(numbers) => {
                 numbers.push(number)?;
                 Ok(true)
@@ -73,9 +82,9 @@ impl Row {
         ensures least { IfSome result (λ t. (u : ℕ) → u < t → noted self.now u ≡ []) }
         ensures none { IfNone result ((u : ℕ) → noted self.now u ≡ []) }
     {
-        for i in 0..self.lists.len() {
-            if !self.lists[i].is_empty() {
-                return Some(self.from + i as u64);
+        for t in self.from..self.from + COUNT {
+            if !self.numbers(t).is_empty() {
+                return Some(t);
             }
         }
         None
@@ -85,10 +94,10 @@ impl Row {
     pub(crate) fn numbers(&self, t: u64) -> &[usize]
         ensures { result.now ≡ noted self.now t }
     {
-        if t < self.from {
+        if !is_near(self.from, t) {
             return &[];
         }
-        match self.lists.get((t - self.from) as usize) {
+        match self.lists.get((t % COUNT) as usize) {
             Some(numbers) => numbers.as_slice(),
             None => &[],
         }
@@ -98,11 +107,25 @@ impl Row {
     pub(crate) fn empty(&mut self, t: u64)
         ensures { IsTaken t self.old self.new }
     {
-        if t < self.from {
+        if !is_near(self.from, t) {
             return;
         }
-        if let Some(numbers) = self.lists.get_mut((t - self.from) as usize) {
+        if let Some(numbers) = self.lists.get_mut((t % COUNT) as usize) {
             numbers.clear();
+        }
+    }
+
+    /// Moves the numbers of the moment `t` into an empty list, and keeps that one's memory in its place.
+    pub(crate) fn exchange(&mut self, t: u64, out: &mut Vec<usize>)
+        requires { out.old.items ≡ [] }
+        ensures numbers { out.new.items ≡ noted self.old t }
+        ensures rest { IsTaken t self.old self.new }
+    {
+        if !is_near(self.from, t) {
+            return;
+        }
+        if let Some(numbers) = self.lists.get_mut((t % COUNT) as usize) {
+            swap(numbers, out);
         }
     }
 
@@ -119,23 +142,27 @@ impl Row {
         requires { (u : ℕ) → u < t → noted self.old u ≡ [] }
         ensures { AreSame self.old self.new }
     {
-        let from = t.min(LAST);
-        if from > self.from {
-            let past = self.lists.len().min((from - self.from) as usize);
-            self.lists.rotate_left(past);
-            self.from = from;
-        }
+        self.from = t.min(LAST).max(self.from);
     }
 }
 
-// Makes the lists that are not there yet.
-fn make_lists(alloc: Global, lists: &mut VecDeque<Vec<usize>>) -> Result<(), AllocError>
-    requires { length lists.old.items ≤ COUNT }
-    ensures same { (k : ℕ) → slice_index_or (map (λ list. list.items) lists.new.items) k [] ≡ slice_index_or (map (λ list. list.items) lists.old.items) k [] }
-    ensures few { length lists.new.items ≤ COUNT }
+// Whether the moment `t` has a list in a row from a moment on.
+#[inline(always)]
+fn is_near(from: u64, t: u64) -> bool
+    requires { from ≤ LAST }
+    ensures { IsTrue result ↔ ((from ≤ t) × (t < from + COUNT)) }
 {
-    for _ in lists.len()..COUNT {
-        lists.push_back(Vec::new(alloc))?;
+    t.wrapping_sub(from) < COUNT
+}
+
+// Empty lists for a row.
+fn new_lists(alloc: Global) -> Result<Vec<Vec<usize>>, AllocError>
+    ensures many { IfOk result (λ lists. length lists.items ≡ COUNT) }
+    ensures empty { IfOk result (λ lists. All (λ list. list.items ≡ []) lists.items) }
+{
+    let mut lists = Vec::new(alloc);
+    for _ in 0..COUNT {
+        lists.push(Vec::new(alloc))?;
     }
-    Ok(())
+    Ok(lists)
 }

@@ -1,5 +1,4 @@
-use Rattle.std.proofs.Common.{◌∙◌, ap, sym, subst, Some}
-use Rattle.std.specs.Prelude.{min}
+use Rattle.std.proofs.Common.{sym, subst}
 use Rattle.event_queue.specs.Lists.{IsFirst}
 use Rattle.event_queue.proofs.Changes.{first_added, first_same}
 use Rattle.event_queue.proofs.near.NearMoments.add.Goals as goal
@@ -12,5 +11,5 @@ invariant_of-self-then-not-branch c = first_same c.self.inside.row c.add.new.sel
 
 pub invariant_of-self-2 : goal.invariant_of-self-2
 invariant_of-self-2 c =
-    subst (λ f. IsFirst c.add.new.self (Some f)) (sym (c.min.ensures ∙ ap (λ f. min f c.args.t) c.unwrap_or.ensures))
+    subst (λ f. IsFirst c.add.new.self f) (sym c.add_moment.ensures)
     (first_added c.self.inside.row c.add.new.self c.args.t c.args.number (c.in_ok-add.ensures.near c.if-not-branch.false) c.self.inside.first c.self.invariant)

@@ -1,7 +1,7 @@
 use Rattle.std.proofs.Common.{subst, refl}
 use Rattle.event_queue.specs.Noted.{AreSame, IsAdded}
 use Rattle.event_queue.specs.Lists.{joined}
-use Rattle.event_queue.proofs.Changes.{by_err, by_ok, held_err, joined_ahead, joined_behind, joined_same}
+use Rattle.event_queue.proofs.Changes.{added_after, by_err, by_ok, held_err, joined_behind, joined_same, same_after}
 use Rattle.event_queue.proofs.queue.EventQueue.add.Goals as goal
 
 pub returns-in_err-add-clause-err : goal.returns-in_err-add-clause-err
@@ -18,13 +18,13 @@ returns-then-branch-clause-ok c =
 pub returns-clause-ok : goal.returns-clause-ok
 returns-clause-ok c =
     let far = c.self.inside.far in let near = c.self.inside.near in
-    by_ok c.add-2.result c.add-2.ensures.ok (λ added.
-    subst (λ q. IsAdded c.args.t c.args.number q (joined c.add-2.new.self c.add.new.self)) c.self.view_is
-    (joined_ahead far near c.add-2.new.self c.add.new.self c.args.t c.args.number added (c.in_ok-add.ensures.same c.if-branch.false) (c.in_ok-add.ensures.far c.if-branch.false)))
+    by_ok c.add_elsewhere.result c.add_elsewhere.ensures.ok (λ added.
+    added_after c.args.t c.args.number c.args.self.now (joined far c.add.new.self) c.add_elsewhere.new.self
+    (subst (λ q. AreSame q (joined far c.add.new.self)) c.self.view_is (joined_same far near far c.add.new.self (λ u. refl) (c.in_ok-add.ensures.same c.if-branch.false))) added)
 
 pub returns-clause-err : goal.returns-clause-err
 returns-clause-err c =
     let far = c.self.inside.far in let near = c.self.inside.near in
-    by_err c.add-2.result c.add-2.ensures.err (λ same.
-    subst (λ q. AreSame q (joined c.add-2.new.self c.add.new.self)) c.self.view_is
-    (joined_same far near c.add-2.new.self c.add.new.self same (c.in_ok-add.ensures.same c.if-branch.false)))
+    by_err c.add_elsewhere.result c.add_elsewhere.ensures.err (λ same.
+    same_after c.args.self.now (joined far c.add.new.self) c.add_elsewhere.new.self
+    (subst (λ q. AreSame q (joined far c.add.new.self)) c.self.view_is (joined_same far near far c.add.new.self (λ u. refl) (c.in_ok-add.ensures.same c.if-branch.false))) same)

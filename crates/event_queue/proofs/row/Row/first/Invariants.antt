@@ -1,5 +1,6 @@
-use Rattle.std.proofs.Common.{◌≡◌, ◌<◌, [], ℕ, map, get_or}
+use Rattle.std.proofs.Common.{◌≡◌, ◌<◌, [], ℕ}
+use Rattle.event_queue.specs.Noted.{noted}
 use Rattle.event_queue.proofs.row.Row.first.Given as goal
 
-abbrev pub invariant-loop-i : goal.invariant-loop-i
-invariant-loop-i l = (k : ℕ) → k < l.i → get_or (map (λ list. list.items) l.self-inside.lists.items) k [] ≡ []
+abbrev pub invariant-loop-t : goal.invariant-loop-t
+invariant-loop-t l = (u : ℕ) → u < l.t → noted l.self u ≡ []
