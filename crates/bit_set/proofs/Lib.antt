@@ -1,3 +1,4 @@
+pub mod Lowest
 pub mod Numbers
 pub mod Upper
 pub mod Words
