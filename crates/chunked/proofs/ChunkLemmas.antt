@@ -1,9 +1,9 @@
 -- Lists in chunks: an element read, written and added, and the end cut off.
-use Rattle.std.proofs.Common.{◌≡◌, ℕ, zero, suc, ◌+◌, ◌*◌, ◌-◌, ◌<◌, ◌≤◌, List, [], ◌∷◌, ◌++◌, length, get_or, take, None, Result, Ok, Err, OnErr, slice_get, sym, refl, ap, ◌∙◌, inl, inr, arith, mul-le-mul_left}
+use Rattle.std.proofs.Common.{◌≡◌, ℕ, zero, suc, ◌+◌, ◌*◌, ◌-◌, ◌<◌, ◌≤◌, List, [], ◌∷◌, ◌++◌, length, get_or, take, replicate, None, Result, Ok, Err, OnErr, slice_get, sym, refl, ap, ◌∙◌, inl, inr, arith, mul-le-mul_left}
 use Rattle.std.proofs.lemmas.Bool.{cases_lt}
-use Rattle.std.proofs.lemmas.List.{append-nil, append_assoc, length-append, length-set, length-take, length_push, set-append_left, set-append_right}
+use Rattle.std.proofs.lemmas.List.{append-nil, append_assoc, length-append, length-set, length-take, set-append_left, set-append_right}
 use Rattle.std.proofs.lemmas.Option.{slice_get_past}
-use Rattle.std.specs.List.{AllZip, flat_map, slice_set}
+use Rattle.std.specs.List.{AllClonesOf, AllZip, flat_map, slice_set}
 use Rattle.chunked.specs.Chunks.{AreFull}
 
 get_left : {X : Type 0} (xs ys : List X) (i : ℕ) → i < length xs → slice_get (xs ++ ys) i ≡ slice_get xs i
@@ -31,6 +31,23 @@ take_right (x ∷ xs) ys n (suc i) long h =
 pub on_err : {T E P : Type 0} (r : Result T E) → P → OnErr r P
 on_err (Ok x) p = tt
 on_err (Err e) p = p
+
+-- clones that are equal to x, and x itself, are copies of x
+pub copies : {X : Type 0} (clones : X → X → Type 0) (x : X) (ys : List X) → AllClonesOf clones x ys → ((y : X) → clones x y → y ≡ x) → ys ≡ replicate (length ys) x
+copies clones x [] all exact = refl
+copies clones x (y ∷ ys) all exact =
+    let one : y ≡ x = elim all.0 [
+      | inl same ↦ same
+      | inr clone ↦ exact y clone
+    ] in
+    ap (λ z. z ∷ ys) one ∙ ap (λ l. x ∷ l) (copies clones x ys all.1 exact)
+
+-- a list of clones that are equal to what they are clones of
+pub zipped : {X : Type 0} (clones : X → X → Type 0) → ((x y : X) → clones x y → y ≡ x) → (xs ys : List X) → AllZip clones xs ys → ys ≡ xs
+zipped clones exact [] [] h = refl
+zipped clones exact [] (y ∷ ys) h = absurd h
+zipped clones exact (x ∷ xs) [] h = absurd h
+zipped clones exact (x ∷ xs) (y ∷ ys) h = ap (λ z. z ∷ ys) (exact x y h.0) ∙ ap (λ l. x ∷ l) (zipped clones exact xs ys h.1)
 
 module _ {C X : Type 0} (items : C → List X) (n : ℕ) where
   -- there are no more elements than the chunks hold
@@ -101,22 +118,38 @@ module _ {C X : Type 0} (items : C → List X) (n : ℕ) where
         (full.0, λ more. long, rest.1),
       )
 
-  pub chunk_push : (cs : List C) → AreFull items n cs → (q r : ℕ) (v : X) (old new : C) → length (flat_map items cs) ≡ n * q + r → r < n → q < length cs → old ≡ get_or cs q old → items new ≡ items old ++ v ∷ [] → (flat_map items (slice_set cs q new) ≡ flat_map items cs ++ v ∷ []) × AreFull items n (slice_set cs q new)
-  chunk_push [] full q r v old new total low there e changed = absurd (omega arith)
-  chunk_push (c ∷ []) full zero r v old new total low there e changed =
-      let one : items new ≡ items c ++ v ∷ [] = changed ∙ ap (λ o. items o ++ v ∷ []) e in
-      let long : length (items new) ≡ length (items c) + 1 = ap (λ l. length l) one ∙ length_push (items c) v in (
-        append-nil (items new) ∙ one ∙ ap (λ l. l ++ v ∷ []) (sym (append-nil (items c))),
-        (omega (arith, length-append (items c) []), λ more. absurd (omega arith), tt),
-      )
-  chunk_push (c ∷ []) full (suc q) r v old new total low there e changed = absurd (omega arith)
-  chunk_push (c ∷ b ∷ cs) full zero r v old new total low there e changed =
+  -- the last chunk has what the others leave
+  pub chunk_rest : (cs : List C) → AreFull items n cs → (q r : ℕ) (old : C) → length (flat_map items cs) ≡ n * q + r → r < n → q < length cs → old ≡ get_or cs q old → length (items old) ≡ r
+  chunk_rest [] full q r old total low there e = absurd (omega arith)
+  chunk_rest (c ∷ []) full zero r old total low there e = omega (arith, length-append (items c) [], ap (λ o. length (items o)) e)
+  chunk_rest (c ∷ []) full (suc q) r old total low there e = absurd (omega arith)
+  chunk_rest (c ∷ b ∷ cs) full zero r old total low there e =
       absurd (omega (arith, full.1 (omega arith), length-append (items c) (flat_map items (b ∷ cs))))
-  chunk_push (c ∷ b ∷ cs) full (suc q) r v old new total low there e changed =
+  chunk_rest (c ∷ b ∷ cs) full (suc q) r old total low there e =
       let long : length (items c) ≡ n = full.1 (omega arith) in
       let count = length-append (items c) (flat_map items (b ∷ cs)) in
-      let rest = chunk_push (b ∷ cs) full.2 q r v old new (omega (arith, count)) low (omega arith) e changed in
-      (ap (λ l. items c ++ l) rest.0 ∙ sym (append_assoc (items c) (flat_map items (b ∷ cs)) (v ∷ [])), (full.0, λ more. long, rest.1))
+      chunk_rest (b ∷ cs) full.2 q r old (omega (arith, count)) low (omega arith) e
+
+  -- elements more in the last chunk, which has room for them
+  pub chunk_append : (cs : List C) → AreFull items n cs → (q r : ℕ) (vs : List X) (old new : C) → length (flat_map items cs) ≡ n * q + r → r < n → r + length vs ≤ n → q < length cs → old ≡ get_or cs q old → items new ≡ items old ++ vs → (flat_map items (slice_set cs q new) ≡ flat_map items cs ++ vs) × AreFull items n (slice_set cs q new)
+  chunk_append [] full q r vs old new total low room there e changed = absurd (omega arith)
+  chunk_append (c ∷ []) full zero r vs old new total low room there e changed =
+      let one : items new ≡ items c ++ vs = changed ∙ ap (λ o. items o ++ vs) e in
+      let long : length (items new) ≡ length (items c) + length vs = ap (λ l. length l) one ∙ length-append (items c) vs in (
+        append-nil (items new) ∙ one ∙ ap (λ l. l ++ vs) (sym (append-nil (items c))),
+        (omega (arith, length-append (items c) []), λ more. absurd (omega arith), tt),
+      )
+  chunk_append (c ∷ []) full (suc q) r vs old new total low room there e changed = absurd (omega arith)
+  chunk_append (c ∷ b ∷ cs) full zero r vs old new total low room there e changed =
+      absurd (omega (arith, full.1 (omega arith), length-append (items c) (flat_map items (b ∷ cs))))
+  chunk_append (c ∷ b ∷ cs) full (suc q) r vs old new total low room there e changed =
+      let long : length (items c) ≡ n = full.1 (omega arith) in
+      let count = length-append (items c) (flat_map items (b ∷ cs)) in
+      let rest = chunk_append (b ∷ cs) full.2 q r vs old new (omega (arith, count)) low room (omega arith) e changed in
+      (ap (λ l. items c ++ l) rest.0 ∙ sym (append_assoc (items c) (flat_map items (b ∷ cs)) vs), (full.0, λ more. long, rest.1))
+
+  pub chunk_push : (cs : List C) → AreFull items n cs → (q r : ℕ) (v : X) (old new : C) → length (flat_map items cs) ≡ n * q + r → r < n → q < length cs → old ≡ get_or cs q old → items new ≡ items old ++ v ∷ [] → (flat_map items (slice_set cs q new) ≡ flat_map items cs ++ v ∷ []) × AreFull items n (slice_set cs q new)
+  chunk_push cs full q r v old new total low there e changed = chunk_append cs full q r (v ∷ []) old new total low (omega arith) there e changed
 
   -- an empty chunk more, where all are full
   pub chunk_more : (cs : List C) (none : C) → items none ≡ [] → AreFull items n cs → length (flat_map items cs) ≡ n * length cs → (flat_map items (cs ++ none ∷ []) ≡ flat_map items cs) × AreFull items n (cs ++ none ∷ [])

@@ -1,11 +1,12 @@
 //! One branch of a list: its row is copied before a write where it has other owners.
 
-ghost use Rattle.std.specs.Prelude.{◌≡◌, ◌<◌, ◌∷◌, [], ◌++◌, IfOk, OnErr, OnOk, Some, length, slice_get, take};
+ghost use Rattle.std.specs.Prelude.{◌≡◌, ◌<◌, ◌≤◌, ◌+◌, ◌%◌, ◌∷◌, [], ◌++◌, IfOk, OnErr, OnOk, Some, length, slice_get, replicate, take};
 ghost use Rattle.std.specs.Option.{option_copied};
 ghost use Rattle.std.specs.Borrow.{sem};
 ghost use Rattle.chunked.specs.Chunks.{row_in};
 ghost use Rattle.chunked.specs.Lending.{lends_in_branch};
 
+use crate::chunk::CHUNK;
 use crate::exact::ExactClone;
 use crate::row::Row;
 use std::alloc::AllocError;
@@ -43,6 +44,20 @@ pub(crate) fn push<T: ExactClone>(branch: &mut Branch<T>, item: T) -> Result<(),
     ensures err { OnErr result (row_in branch.new ≡ row_in branch.old) }
 {
     Arc::make_mut(branch)?.push(item)?;
+    Ok(())
+}
+
+/// Adds so many copies of an element to the last chunk.
+pub(crate) fn pad<T: ExactClone>(
+    branch: &mut Branch<T>,
+    count: usize,
+    item: T,
+) -> Result<(), AllocError>
+    requires { length (row_in branch.old) % CHUNK + count ≤ CHUNK }
+    ensures ok { OnOk result (row_in branch.new ≡ row_in branch.old ++ replicate count item) }
+    ensures err { OnErr result (row_in branch.new ≡ row_in branch.old) }
+{
+    Arc::make_mut(branch)?.pad(count, item)?;
     Ok(())
 }
 

@@ -1,6 +1,6 @@
 //! One chunk of a list: it is copied before a write where it has other owners.
 
-ghost use Rattle.std.specs.Prelude.{◌≡◌, ◌<◌, ◌∷◌, [], ◌++◌, IfOk, OnErr, OnOk, length, slice_get, Some, take};
+ghost use Rattle.std.specs.Prelude.{◌≡◌, ◌<◌, ◌≤◌, ◌+◌, ◌∷◌, [], ◌++◌, IfOk, OnErr, OnOk, length, slice_get, Some, replicate, take};
 ghost use Rattle.std.specs.Option.{option_copied};
 ghost use Rattle.std.specs.Borrow.{sem};
 ghost use Rattle.chunked.specs.Chunks.{items_in};
@@ -55,6 +55,22 @@ pub(crate) fn push<T: ExactClone>(chunk: &mut Chunk<T>, item: T) -> Result<(), A
     ensures err { OnErr result (items_in chunk.new ≡ items_in chunk.old) }
 {
     Arc::make_mut(chunk)?.push(item)?;
+    Ok(())
+}
+
+/// Adds so many copies of an element.
+pub(crate) fn pad<T: ExactClone>(
+    chunk: &mut Chunk<T>,
+    count: usize,
+    item: T,
+) -> Result<(), AllocError>
+    requires { length (items_in chunk.old) + count ≤ CHUNK }
+    ensures ok { OnOk result (items_in chunk.new ≡ items_in chunk.old ++ replicate count item) }
+    ensures err { OnErr result (items_in chunk.new ≡ items_in chunk.old) }
+{
+    let items = Arc::make_mut(chunk)?;
+    let len = items.len() + count;
+    items.resize(len, item)?;
     Ok(())
 }
 

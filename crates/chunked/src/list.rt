@@ -1,11 +1,12 @@
 //! The list.
 
-ghost use Rattle.std.specs.Prelude.{◌≡◌, ◌<◌, ◌/◌, ◌∷◌, [], ◌++◌, IfOk, OnErr, OnOk, Some, length, slice_get, slice_set, take};
+ghost use Rattle.std.specs.Prelude.{◌≡◌, ◌<◌, ℕ, ◌/◌, ◌∷◌, [], ◌++◌, IfOk, OnErr, OnOk, Some, length, slice_get, slice_set, replicate, take};
 ghost use Rattle.std.specs.Option.{option_copied};
 ghost use Rattle.std.specs.Borrow.{sem};
 ghost use Rattle.chunked.specs.Chunks.{AreFull, row_in, rows_of};
 
 use crate::branch::{self, BRANCH, Branch};
+use crate::chunk::CHUNK;
 use crate::exact::ExactClone;
 use crate::row::Row;
 use std::alloc::{AllocError, Global};
@@ -98,6 +99,20 @@ impl<T: ExactClone> Chunked<T> {
         make_room(&mut self.branches, at)?;
         branch::push(&mut self.branches[at], item)?;
         self.len = more;
+        Ok(())
+    }
+
+    /// Adds copies of an element, at least one, until the last chunk is full. It fails where memory runs out.
+    pub fn pad(&mut self, item: T) -> Result<(), AllocError>
+        ensures ok { OnOk result ((count : ℕ) × 0 < count × (self.new ≡ self.old ++ replicate count item)) }
+        ensures err { OnErr result (self.new ≡ self.old) }
+    {
+        let count = CHUNK - self.len % CHUNK;
+        let filled = self.len.checked_add(count).ok_or(AllocError)?;
+        let at = self.len / BRANCH;
+        make_room(&mut self.branches, at)?;
+        branch::pad(&mut self.branches[at], count, item)?;
+        self.len = filled;
         Ok(())
     }
 

@@ -1,6 +1,6 @@
 //! A row of chunks, which clones of it share.
 
-ghost use Rattle.std.specs.Prelude.{◌≡◌, ◌<◌, ◌/◌, ◌∷◌, [], ◌++◌, IfOk, OnErr, OnOk, Some, length, slice_get, take};
+ghost use Rattle.std.specs.Prelude.{◌≡◌, ◌<◌, ◌≤◌, ◌+◌, ◌%◌, ◌/◌, ◌∷◌, [], ◌++◌, IfOk, OnErr, OnOk, Some, length, slice_get, replicate, take};
 ghost use Rattle.std.specs.Option.{option_copied};
 ghost use Rattle.std.specs.Borrow.{sem};
 ghost use Rattle.chunked.specs.Chunks.{AreFull, items_in, items_of};
@@ -83,6 +83,20 @@ impl<T: ExactClone> Row<T> {
         make_room(&mut self.chunks, at)?;
         chunk::push(&mut self.chunks[at], item)?;
         self.len = more;
+        Ok(())
+    }
+
+    /// Adds so many copies of an element to the last chunk.
+    pub(crate) fn pad(&mut self, count: usize, item: T) -> Result<(), AllocError>
+        requires { length self.old % CHUNK + count ≤ CHUNK }
+        ensures ok { OnOk result (self.new ≡ self.old ++ replicate count item) }
+        ensures err { OnErr result (self.new ≡ self.old) }
+    {
+        let filled = self.len.checked_add(count).ok_or(AllocError)?;
+        let at = self.len / CHUNK;
+        make_room(&mut self.chunks, at)?;
+        chunk::pad(&mut self.chunks[at], count, item)?;
+        self.len = filled;
         Ok(())
     }
 
