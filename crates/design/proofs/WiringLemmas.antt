@@ -1,6 +1,6 @@
 -- Lists of gate keys: which are changed by terminals, and what they are after an edit of the gates.
 use Rattle.std.proofs.Common.{◌≡◌, ℕ, ◌+◌, ◌<◌, Bool, true, false, not, cond, ◌==◌, ◌&&◌, ◌||◌, List, [], ◌∷◌, ◌++◌, length, get_or, take, None, sym, refl, ap, subst, ◌∙◌}
-use Rattle.std.proofs.lemmas.Bool.{eq-eqb, eqb-true}
+use Rattle.std.proofs.lemmas.Bool.{eq-eqb}
 use Rattle.std.proofs.lemmas.List.{append-nil, take_more}
 use Rattle.std.proofs.lemmas.List.Elements.{filter-append}
 use Rattle.std.proofs.lemmas.List.Folds.{list_any-append}
@@ -59,14 +59,6 @@ left_in_order keys test key lists less was changed k = subst (IsInOrder keys) (s
     step : (b : Bool) → IsInOrder keys (cond b (Lists.without_key (list_of lists k) key) (list_of lists k))
     step true = without_in_order keys (list_of lists k) key (was k)
     step false = was k
-
--- the same change of the one list whose key is asked for
-pub changed_there : (net k : ℕ) (f g : List ℕ → List ℕ) (lists : List (List ℕ)) → f (list_of lists net) ≡ g (list_of lists net) → cond (k == net) (f (list_of lists k)) (list_of lists k) ≡ cond (k == net) (g (list_of lists k)) (list_of lists k)
-changed_there net k f g lists same = step (k == net) refl
-  where
-    step : (b : Bool) → (k == net) ≡ b → cond b (f (list_of lists k)) (list_of lists k) ≡ cond b (g (list_of lists k)) (list_of lists k)
-    step true at = let here : net ≡ k = sym (eqb-true k net at) in let P : ℕ → Type 0 = λ j. f (list_of lists j) ≡ g (list_of lists j) in subst P here same
-    step false at = refl
 
 -- Edits of the gates: q says which gates a list has the keys of.
 

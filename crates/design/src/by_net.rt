@@ -1,6 +1,6 @@
 //! A list of gate keys for each net.
 
-ghost use Rattle.std.specs.Prelude.{◌≡◌, ◌≤◌, ◌<◌, ◌==◌, ℕ, insert, OnOk, length};
+ghost use Rattle.std.specs.Prelude.{◌≡◌, ◌<◌, ◌==◌, ℕ, OnOk, length};
 ghost use Rattle.design.specs.Lists.{AreChanged, list_of, without_key};
 
 use crate::key::{GateKey, NetKey};
@@ -18,22 +18,6 @@ pub fn list_at(lists: &Chunked<KeyList>, net: NetKey) -> &[GateKey]
     }
 }
 
-/// Puts a key into the list of a net, before the one that is at `at`.
-pub fn insert(
-    lists: &mut Chunked<KeyList>,
-    net: NetKey,
-    at: usize,
-    key: GateKey,
-) -> Result<(), AllocError>
-    requires { at ≤ length (list_of lists.old net) }
-    ensures { OnOk result (AreChanged (λ k. k == net) (λ list. insert list at key) lists.old lists.new) }
-{
-    let alloc = lists.allocator();
-    grow(lists, net.number as usize)?;
-    lists.get_mut(net.number as usize)?.insert(alloc, at, key)?;
-    Ok(())
-}
-
 /// Takes a key out of the list of a net.
 pub fn remove(lists: &mut Chunked<KeyList>, net: NetKey, key: GateKey) -> Result<(), AllocError>
     ensures { OnOk result (AreChanged (λ k. k == net) (λ list. without_key list key) lists.old lists.new) }
@@ -44,12 +28,13 @@ pub fn remove(lists: &mut Chunked<KeyList>, net: NetKey, key: GateKey) -> Result
 }
 
 /// Adds empty lists until the net has one.
-fn grow(lists: &mut Chunked<KeyList>, net: usize) -> Result<(), AllocError>
+#[inline(always)]
+pub fn grow(lists: &mut Chunked<KeyList>, net: usize) -> Result<(), AllocError>
     ensures there { OnOk result (net < length lists.new) }
     ensures same { OnOk result ((k : ℕ) → list_of lists.new k ≡ list_of lists.old k) }
 {
     while lists.len() <= net {
-        lists.push(KeyList::new())?;
+        lists.pad(KeyList::new())?;
     }
     Ok(())
 }

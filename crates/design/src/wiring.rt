@@ -8,14 +8,14 @@ ghost use Rattle.design.specs.Keys.{is_among, is_at};
 ghost use Rattle.design.specs.Kept.{stands_before};
 ghost use Rattle.design.specs.Lists.{AreChanged, IsInOrder, list_of, with_key_in, without_key};
 
-use crate::by_net::{insert, list_at, remove};
+use crate::by_net::{grow, remove};
 use crate::gate::Gate;
 use crate::key::{GateKey, NetKey};
 use crate::key_list::KeyList;
 use crate::terminal::Terminal;
 use catalog::Catalog;
 use chunked::Chunked;
-use std::alloc::AllocError;
+use std::alloc::{AllocError, Global};
 
 /// Puts the key of a gate into the list of each net among these terminals.
 pub fn add_among(
@@ -63,13 +63,30 @@ pub fn add(
     requires ordered { IsInOrder (keys_of gates.now) (list_of lists.old net) }
     ensures { OnOk result (AreChanged (λ k. k == net) (with_key_in (keys_of gates.now) key) lists.old lists.new) }
 {
+    let alloc = lists.allocator();
+    grow(lists, net.number as usize)?;
+    put(lists.get_mut(net.number as usize)?, alloc, gates, key)?;
+    Ok(())
+}
+
+/// Puts the key of a gate into a list, in the order of the gates, unless it is there.
+fn put(
+    list: &mut KeyList,
+    alloc: Global,
+    gates: &Catalog<Gate>,
+    key: GateKey,
+) -> Result<(), AllocError>
+    requires there { IsSome (record_at gates.now key) }
+    requires ordered { IsInOrder (keys_of gates.now) list.old }
+    ensures { OnOk result (list.new ≡ with_key_in (keys_of gates.now) key list.old) }
+{
     gates.lawful();
-    let list = list_at(lists, net);
-    let at = place_among(list, gates, key);
-    if at < list.len() && list[at] == key {
+    let keys = list.as_slice();
+    let at = place_among(keys, gates, key);
+    if at < keys.len() && keys[at] == key {
         return Ok(());
     }
-    insert(lists, net, at, key)?;
+    list.insert(alloc, at, key)?;
     Ok(())
 }
 
