@@ -1,6 +1,6 @@
 //! What has been read of a text so far.
 
-ghost use Rattle.std.specs.Prelude.{◌≡◌, [], false, IsSome, OnOk};
+ghost use Rattle.std.specs.Prelude.{◌≡◌, [], false, not, IfOk, IsSome, OnOk};
 ghost use Rattle.vtext.specs.Nets.{net_of, with_net};
 ghost use Rattle.vtext.specs.GateNames.{is_taken, with_taken};
 ghost use Rattle.vtext.specs.Notes.{finished};
@@ -195,12 +195,13 @@ impl Draft {
         self.module.taken.contains(&name)
     }
 
-    /// Takes a name for a gate or an instance.
-    pub fn take_name(&mut self, name: u32) -> Result<(), AllocError>
-        ensures { OnOk result (view self.new ≡ record (view self.old) { taken = with_taken (view self.old).taken name }) }
+    /// Takes a name for a gate or an instance, and answers whether it was free.
+    pub fn take_name(&mut self, name: u32) -> Result<bool, AllocError>
+        ensures taken { OnOk result (view self.new ≡ record (view self.old) { taken = with_taken (view self.old).taken name }) }
+        ensures free { IfOk result (λ free. free ≡ not (is_taken (view self.old).taken name)) }
     {
-        self.module.taken.insert(name)?;
-        Ok(())
+        let free = self.module.taken.insert(name)?;
+        Ok(free)
     }
 
     /// The module that is being read is finished.

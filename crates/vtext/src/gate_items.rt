@@ -90,15 +90,15 @@ impl Draft {
     }
 
     /// Where a gate instance begins.
+    #[inline(always)]
     pub fn instance_start(&mut self, word: Word) -> Result<Turn, AllocError>
         ensures { IfOk result (λ turn. IsTurn turn (view self.new) (instance_start (view self.old) word)) }
     {
         match word {
             Word::Name(name) => {
-                if let Some(cause) = self.instance_cause(name) {
-                    return Ok(Turn::Refused(cause));
+                if !self.name_instance(name)? {
+                    return Ok(Turn::Refused(Cause::DuplicateName));
                 }
-                self.name_instance(name)?;
                 Ok(Turn::To(ParserState::InstanceOpen))
             }
             Word::Misnamed => Ok(Turn::Refused(Cause::BadName)),

@@ -78,7 +78,10 @@ impl Draft {
         ensures { OnOk result (view self.new ≡ record (view self.old) { taken = with_name_taken names.now (view self.old).taken text.now }) }
     {
         match names.find(text) {
-            Some(name) => self.take_name(name),
+            Some(name) => {
+                self.take_name(name)?;
+                Ok(())
+            }
             None => Ok(()),
         }
     }

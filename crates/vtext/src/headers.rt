@@ -144,6 +144,7 @@ impl Draft {
     }
 
     /// Behind a range in the inline form, or where none is written.
+    #[inline(always)]
     pub fn inline_name(
         &mut self,
         names: &Names,

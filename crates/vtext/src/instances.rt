@@ -1,7 +1,8 @@
 //! Gate items and their instances.
 
-ghost use Rattle.std.specs.Prelude.{◌≡◌, ◌<◌, ◌-◌, ◌^◌, ◌++◌, [], ◌∷◌, IfOk, OnOk};
+ghost use Rattle.std.specs.Prelude.{◌≡◌, ◌<◌, ◌-◌, ◌^◌, ◌++◌, [], ◌∷◌, not, IfOk, OnOk};
 ghost use Rattle.vtext.specs.Instances.{completed, gate_of, gates_of, instance_name, is_made_taken, is_own_taken, part_gates, with_made_taken, with_own_taken};
+ghost use Rattle.vtext.specs.GateNames.{is_taken};
 ghost use Rattle.vtext.specs.Notes.{name_instance};
 ghost use Rattle.vtext.specs.Readings.{view};
 
@@ -150,13 +151,14 @@ impl Draft {
         }
     }
 
-    /// A gate instance is written with this name.
-    pub fn name_instance(&mut self, name: u32) -> Result<(), AllocError>
-        ensures { OnOk result (view self.new ≡ name_instance (view self.old) name) }
+    /// A gate instance is written with this name; answers whether the name was free.
+    pub fn name_instance(&mut self, name: u32) -> Result<bool, AllocError>
+        ensures named { OnOk result (view self.new ≡ name_instance (view self.old) name) }
+        ensures free { IfOk result (λ free. free ≡ not (is_taken (view self.old).taken name)) }
     {
-        self.take_name(name)?;
+        let free = self.take_name(name)?;
         self.instance.name = Some(name);
-        Ok(())
+        Ok(free)
     }
 
     /// The instance is complete.

@@ -107,6 +107,7 @@ impl Draft {
     }
 
     /// Where a port declaration wants a name.
+    #[inline(always)]
     pub fn port_name(
         &mut self,
         names: &Names,
@@ -145,6 +146,7 @@ impl Draft {
     }
 
     /// Where a net declaration wants a name.
+    #[inline(always)]
     pub fn net_name(
         &mut self,
         names: &Names,
