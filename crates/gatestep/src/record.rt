@@ -1,6 +1,6 @@
 //! What a stepper was asked so far, for contracts alone.
 
-ghost use Rattle.std.specs.Prelude.{◌≡◌, ℕ, ◌+◌, List, [], ◌++◌, if◌then◌else◌};
+ghost use Rattle.std.specs.Prelude.{◌≡◌, ℕ, ◌+◌, List, [], ◌∷◌, ◌++◌, if◌then◌else◌};
 ghost use Rattle.std.specs.Borrow.{ftrue};
 ghost use Rattle.gatestep.specs.Step.{Evaluation};
 ghost use Rattle.gatestep.specs.Record.{at_moment};
@@ -8,12 +8,13 @@ ghost use Rattle.gatestep.specs.Record.{at_moment};
 use crate::task::Task;
 use std::marker::{Model, Send};
 use std::mem::size_of;
+use std::slice;
 
 const _: () = prove!(size_of::<Record>() == 0);
 
 /// What a stepper was asked so far, in order, each task with its moment, and how many of its steps lost a worker. It
-/// takes no bytes, contracts alone read it, and only `add` changes it: a proof outside this module that names it is
-/// to be refused in review.
+/// takes no bytes, contracts alone read it, and only `add` changes it, which `add_one` calls: a proof outside this module
+/// that names it is to be refused in review.
 #[derive(Drop)]
 pub struct Record {
     seal: (),
@@ -38,6 +39,15 @@ impl Record {
     pub fn add(&mut self, tasks: &[Task], t: u64, lost: bool)
         ensures { (self.new.asked ≡ self.old.asked ++ at_moment t tasks.now) × (self.new.losses ≡ self.old.losses + (if lost then 1 else 0)) }
     {}
+
+    /// Adds a task that was asked by itself, at the moment `t`. Nothing runs.
+    #[inline(always)]
+    pub fn add_one(&mut self, task: &Task, t: u64)
+        ensures asked { self.new.asked ≡ self.old.asked ++ (task.now, t) ∷ [] }
+        ensures losses { self.new.losses ≡ self.old.losses }
+    {
+        self.add(slice::from_ref(task), t, false);
+    }
 }
 
 // It owns nothing.

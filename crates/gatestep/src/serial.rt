@@ -1,6 +1,6 @@
 //! A stepper that evaluates on the caller's thread.
 
-ghost use Rattle.std.specs.Prelude.{[], ◌≡◌, ◌≢◌, ◌<◌, ◌≤◌, ◌+◌, ◌++◌, length, map, All, OnOk, OnErr, if◌then◌else◌};
+ghost use Rattle.std.specs.Prelude.{false, [], ◌≡◌, ◌≢◌, ◌<◌, ◌≤◌, ◌+◌, ◌++◌, length, map, All, OnOk, OnErr, if◌then◌else◌};
 ghost use Rattle.fourstate.specs.declared.limits.TheConstants.{MAX_TIME};
 ghost use Rattle.gatestep.specs.Faults.{is_lost};
 ghost use Rattle.gatestep.specs.Record.{at_moment};
@@ -59,6 +59,20 @@ impl Stepper for Serial {
             }
         }
         Ok(())
+    }
+
+    /// It deals to nobody.
+    #[inline(always)]
+    fn deals(&self, _tasks: usize) -> bool
+        ensures { result ≡ false }
+    {
+        false
+    }
+
+    #[inline(always)]
+    fn evaluate(&mut self, task: &Task, t: u64) -> Driver {
+        self.history.add_one(task, t);
+        next(task, t)
     }
 
     ghost answer_current = { advance_current };

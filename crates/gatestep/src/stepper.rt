@@ -1,6 +1,6 @@
 //! Who evaluates gates.
 
-ghost use Rattle.std.specs.Prelude.{◌≡◌, ℕ, ◌+◌, ◌<◌, ◌≤◌, List, [], ◌++◌, length, map, All, OnOk, OnErr, if◌then◌else◌};
+ghost use Rattle.std.specs.Prelude.{◌≡◌, ℕ, ◌+◌, ◌<◌, ◌≤◌, List, [], ◌∷◌, ◌++◌, length, map, All, OnOk, OnErr, if◌then◌else◌};
 ghost use Rattle.fourstate.specs.declared.limits.TheConstants.{MAX_DELAY, MAX_TIME};
 ghost use Rattle.gatestep.specs.Faults.{is_lost};
 ghost use Rattle.gatestep.specs.Record.{at_moment};
@@ -33,6 +33,19 @@ pub trait Stepper {
         ensures none { OnErr result (out.new.items ≡ []) }
         ensures recorded { asked self.new ≡ asked self.old ++ at_moment t tasks.now }
         ensures lost { losses self.new ≡ losses self.old + (if is_lost result then 1 else 0) };
+
+    /// Whether a step of so many tasks is to be asked in one piece, since its tasks are dealt to others. No answer
+    /// depends on it.
+    fn deals(&self, tasks: usize) -> bool;
+
+    /// Evaluates a task at the moment `t`, in time units, on the caller's thread, and never fails. It counts as asked.
+    fn evaluate(&mut self, task: &Task, t: u64) -> Driver
+        requires ready { IsReady t task.now }
+        requires within { t ≤ MAX_TIME }
+        ensures answer { result ≡ answer task.now t }
+        ensures later { PendingFrom (t + 1) result }
+        ensures recorded { asked self.new ≡ asked self.old ++ (task.now, t) ∷ [] }
+        ensures lost { losses self.new ≡ losses self.old };
 
     /// An answer's current value is that of the task's state once a due event has become current.
     ghost answer_current: { (e : Evaluation) (t : ℕ) → (answer e t).current ≡ (due e.state t).current };

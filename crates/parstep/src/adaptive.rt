@@ -1,12 +1,13 @@
 //! A stepper that takes the faster way for the number of tasks.
 
-ghost use Rattle.std.specs.Prelude.{[], ◌≡◌, ◌<◌, ◌≤◌, ◌+◌, ◌++◌, length, map, All, OnOk, OnErr, IfOk, IfErr, Err, if◌then◌else◌, nat_lt};
+ghost use Rattle.std.specs.Prelude.{[], ◌≡◌, ◌↔◌, ◌⊎◌, ◌<◌, ◌≤◌, ◌+◌, ◌++◌, length, map, All, OnOk, OnErr, IfOk, IfErr, Err, IsTrue, if◌then◌else◌, nat_lt};
 ghost use Rattle.fourstate.specs.declared.limits.TheConstants.{MAX_TIME};
 ghost use Rattle.gatestep.specs.Faults.{is_lost};
 ghost use Rattle.gatestep.specs.Record.{at_moment};
 ghost use Rattle.gatestep.specs.Step.{advance};
 ghost use Rattle.gatestep.specs.StepLaws.{advance_current, advance_later, advance_near, advance_stays};
 ghost use Rattle.gatestep.specs.Tasks.{IsReady, PendingFrom};
+ghost use Rattle.parstep.specs.declared.adaptive.TheConstants.{LEAST_DEALT};
 ghost use Rattle.parstep.specs.declared.limits.TheConstants.{MAX_WORKERS};
 
 use crate::limits::MAX_WORKERS;
@@ -86,6 +87,21 @@ impl<P: Probe, R: Wait + Drop> Stepper for Adaptive<P, R> {
         self.is_lost = lost || self.is_lost;
         self.history.add(tasks, t, lost);
         result
+    }
+
+    /// It deals the steps of `LEAST_DEALT` tasks or more. Once a worker was lost it says so of every step: who asks this
+    /// first then asks by `step`, which answers that a worker was lost.
+    #[inline(always)]
+    fn deals(&self, tasks: usize) -> bool
+        ensures { IsTrue result ↔ ((0 < ⟦<Adaptive<P, R> as Stepper>⟧.losses self.now) ⊎ (LEAST_DEALT ≤ tasks)) }
+    {
+        self.is_lost || tasks >= LEAST_DEALT
+    }
+
+    #[inline(always)]
+    fn evaluate(&mut self, task: &Task, t: u64) -> Driver {
+        self.history.add_one(task, t);
+        self.alone.evaluate(task, t)
     }
 
     ghost answer_current = { advance_current };

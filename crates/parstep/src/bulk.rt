@@ -1,6 +1,6 @@
 //! A stepper over a parallel map.
 
-ghost use Rattle.std.specs.Prelude.{[], ◌≡◌, ◌<◌, ◌≤◌, ◌+◌, ◌++◌, length, map, All, OnOk, OnErr, IfOk, if◌then◌else◌};
+ghost use Rattle.std.specs.Prelude.{true, [], ◌≡◌, ◌<◌, ◌≤◌, ◌+◌, ◌++◌, length, map, All, OnOk, OnErr, IfOk, if◌then◌else◌};
 ghost use Rattle.fourstate.specs.declared.limits.TheConstants.{MAX_TIME};
 ghost use Rattle.gatestep.specs.Faults.{is_lost};
 ghost use Rattle.gatestep.specs.Record.{at_moment};
@@ -80,6 +80,18 @@ impl<R: Threads + Sync + Drop> Stepper for Bulk<R> {
             }
             Err(_) => Err(StepFault::OutOfMemory),
         }
+    }
+
+    /// It deals every step.
+    fn deals(&self, _tasks: usize) -> bool
+        ensures { result ≡ true }
+    {
+        true
+    }
+
+    fn evaluate(&mut self, task: &Task, t: u64) -> Driver {
+        self.history.add_one(task, t);
+        next(task, t)
     }
 
     ghost answer_current = { advance_current };

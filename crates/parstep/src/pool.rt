@@ -1,6 +1,6 @@
 //! A stepper over threads that live on.
 
-ghost use Rattle.std.specs.Prelude.{[], ◌≡◌, ◌<◌, ◌≤◌, ◌+◌, ◌++◌, ℕ, length, map, vec_len, All, OnOk, OnErr, IfOk, IfErr, Err, if◌then◌else◌, nat_lt};
+ghost use Rattle.std.specs.Prelude.{true, [], ◌≡◌, ◌<◌, ◌≤◌, ◌+◌, ◌++◌, ℕ, length, map, vec_len, All, OnOk, OnErr, IfOk, IfErr, Err, if◌then◌else◌, nat_lt};
 ghost use Rattle.fourstate.specs.declared.limits.TheConstants.{MAX_TIME};
 ghost use Rattle.gatestep.specs.Faults.{is_lost};
 ghost use Rattle.gatestep.specs.Record.{at_moment};
@@ -14,7 +14,7 @@ use crate::limits::MAX_WORKERS;
 use crate::seat::Seat;
 use crate::start::start_all;
 use crate::worker::Probe;
-use gatestep::{Driver, Record, StepFault, Stepper, Task};
+use gatestep::{Driver, Record, StepFault, Stepper, Task, next};
 use std::alloc::Global;
 use std::marker::PhantomData;
 use std::sync::Wait;
@@ -97,6 +97,18 @@ impl<P: Probe, R: Wait + Drop> Stepper for Pool<P, R> {
         self.is_lost = lost || self.is_lost;
         self.history.add(tasks, t, lost);
         result
+    }
+
+    /// It deals every step.
+    fn deals(&self, _tasks: usize) -> bool
+        ensures { result ≡ true }
+    {
+        true
+    }
+
+    fn evaluate(&mut self, task: &Task, t: u64) -> Driver {
+        self.history.add_one(task, t);
+        next(task, t)
     }
 
     ghost answer_current = { advance_current };
