@@ -1,6 +1,7 @@
 pub mod Chains
 pub mod Drifts
 pub mod Ends
+pub mod Falling
 pub mod Follows
 pub mod Functions
 pub mod Gaps

@@ -1,6 +1,6 @@
 -- Lists: the last element, and those that a test takes.
 use Rattle.std.proofs.Common.{◌≡◌, ℕ, suc, zero, ◌-◌, ◌<◌, ◌≤◌, ◌∙◌, sym, ap, Bool, true, false, not, cond, Option, Some, None, List, [], ◌∷◌, ◌++◌, map, length, get_or, take, drop, refl, arith}
-use Rattle.std.specs.Prelude.{slice_get, option_map, ◌&&◌}
+use Rattle.std.specs.Prelude.{slice_get, option_map, IfSome, ◌&&◌}
 use Rattle.std.specs.List.{filter, find, last_or, All}
 use Rattle.std.specs.List.Sorted.{IsPartitionPoint}
 use Rattle.std.proofs.lemmas.Bool.{cond-true, cond-false}
@@ -133,3 +133,17 @@ filter_twice p q weaker x xs false false e h rest =
 pub filter-filter : {A : Type 0} (p q : A → Bool) → ((x : A) → p x ≡ true → q x ≡ true) → (xs : List A) → filter p (filter q xs) ≡ filter p xs
 filter-filter p q weaker [] = refl
 filter-filter p q weaker (x ∷ xs) = filter_twice p q weaker x xs (p x) (q x) refl refl (filter-filter p q weaker xs)
+
+found_with : {A : Type 0} (P : A → Type 0) (p : A → Bool) (x : A) (xs : List A) (b : Bool) → p x ≡ b → P x → IfSome (find p xs) P → IfSome (find p (x ∷ xs)) P
+found_with P p x xs true e here later = rw e here
+found_with P p x xs false e here later = rw e later
+
+-- what holds of each element holds of one that is found
+pub found_holds : {A : Type 0} (P : A → Type 0) (p : A → Bool) (xs : List A) → All P xs → IfSome (find p xs) P
+found_holds P p [] all = tt
+found_holds P p (x ∷ xs) all = found_with P p x xs (p x) refl (All-head P x xs all) (found_holds P p xs (All-tail P x xs all))
+
+-- and of the last one
+pub last_holds : {A : Type 0} (P : A → Type 0) (before : Option A) (xs : List A) → IfSome before P → All P xs → IfSome (last_or before xs) P
+last_holds P before [] one all = one
+last_holds P before (x ∷ xs) one all = last_holds P (Some x) xs (All-head P x xs all) (All-tail P x xs all)

@@ -7,6 +7,7 @@ use Rattle.std.proofs.lemmas.Bool.{le-leb, lt-leb, lt-ltb, le-ltb, leb-true, ltb
 use Rattle.std.proofs.lemmas.List.Elements.{All-filter, All-weaker, filter_passes}
 use Rattle.waveform.proofs.Drifts.{Drifts}
 use Rattle.waveform.specs.Joins.{joined, spliced}
+use Rattle.waveform.specs.declared.times.TheConstants.{TIME_END}
 use Rattle.waveform.specs.Timelines.{IsTimeline, AreInTurn, entries_before, entries_until, value_by}
 use Rattle.waveform.proofs.Lists.{filter-filter}
 use Rattle.waveform.proofs.Turns.{before_zero, before_is, until_timeline, latest_some}
@@ -32,12 +33,12 @@ value_before drift start xs t u before =
     (filter-filter (λ e. nat_le e.0 u) (λ e. nat_lt e.0 t) (λ e h. let low : e.0 ≤ u = leb-true e.0 u h in lt-ltb e.0 t (omega arith)) xs)
 
 module _ {A : Type 0} {same : A → A → Bool} {drift : A → ℕ → A} (drifts : Drifts same drift) where
-  -- what can be stored: at each moment, the value that a timeline has there
-  pub value_can_store : (can : ℕ → A → Type 0) → ((t u : ℕ) (a : A) → t ≤ u → can t a → can u (drift a u)) → (start : A) (xs : List (ℕ × A)) (t : ℕ) →
-      IsTimeline same drift xs → All (λ e. can e.0 e.1) xs → can t (value_by drift start xs t)
-  value_can_store can later start xs t timeline all =
+  -- what can be stored: at each moment that can be, the value that a timeline has there
+  pub value_can_store : (can : ℕ → A → Type 0) → ((t u : ℕ) (a : A) → t ≤ u → u < TIME_END → can t a → can u (drift a u)) → (start : A) (xs : List (ℕ × A)) (t : ℕ) →
+      IsTimeline same drift xs → All (λ e. can e.0 e.1) xs → t < TIME_END → can t (value_by drift start xs t)
+  value_can_store can later start xs t timeline all low =
       let entry = latest_some same drift (λ e. can e.0 e.1) xs t timeline all in
-      subst (can t) (sym (ap (λ o. option_map_or (λ e. drift e.1 t) o start) entry.1)) (later entry.0.0 t entry.0.1 entry.2.0 entry.2.1)
+      subst (can t) (sym (ap (λ o. option_map_or (λ e. drift e.1 t) o start) entry.1)) (later entry.0.0 t entry.0.1 entry.2.0 low entry.2.1)
 
   front_room : (xs : List (ℕ × A)) (t : ℕ) → IsTimeline same drift xs → EndsBefore (entries_before xs t) t × AreInTurn same drift None (entries_before xs t)
   front_room xs t timeline =
@@ -75,15 +76,15 @@ module _ {A : Type 0} {same : A → A → Bool} {drift : A → ℕ → A} (drift
         joined_timeline drifts start (joined same drift start (entries_before xs begin) begin (entries_until ys end)) xs (end + 1) front_room_after front_timeline.in_turn mine
 
     -- what can be stored of both can be stored of what is spliced
-    pub spliced_can_store : (can : ℕ → A → Type 0) → ((t u : ℕ) (a : A) → t ≤ u → can t a → can u (drift a u)) →
+    pub spliced_can_store : (can : ℕ → A → Type 0) → ((t u : ℕ) (a : A) → t ≤ u → u < TIME_END → can t a → can u (drift a u)) → end + 1 < TIME_END →
         All (λ e. can e.0 e.1) xs → All (λ e. can e.0 e.1) ys → All (λ e. can e.0 e.1) (spliced same drift start xs begin end ys)
-    spliced_can_store can later mine_can theirs_can =
+    spliced_can_store can later low mine_can theirs_can =
         let P : ℕ × A → Type 0 = λ e. can e.0 e.1 in
         let theirs_cut = All-filter (λ e. nat_le e.0 end) P ys theirs_can in
         joined_all drifts P start (joined same drift start (entries_before xs begin) begin (entries_until ys end)) xs (end + 1)
         (joined_all drifts P start (entries_before xs begin) (entries_until ys end) begin (All-filter (λ e. nat_lt e.0 begin) P xs mine_can)
-        (value_can_store can later start (entries_until ys end) begin (until_timeline same drift ys end theirs) theirs_cut) theirs_cut)
-        (value_can_store can later start xs (end + 1) mine mine_can) mine_can
+        (value_can_store can later start (entries_until ys end) begin (until_timeline same drift ys end theirs) theirs_cut (omega arith)) theirs_cut)
+        (value_can_store can later start xs (end + 1) mine mine_can low) mine_can
 
     inside_front : (t : ℕ) →
         cond (nat_lt t (end + 1)) (value_by drift start (joined same drift start (entries_before xs begin) begin (entries_until ys end)) t) (value_by drift start xs t)

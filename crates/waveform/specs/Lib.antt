@@ -1,7 +1,7 @@
 pub mod Changes
+pub mod Currents
 pub mod Digits
 pub mod Entries
-pub mod Halves
 pub mod Joins
 pub mod Links
 pub mod Notes

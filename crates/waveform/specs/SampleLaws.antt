@@ -1,5 +1,5 @@
 -- The laws of states as samples of a timeline.
-use Rattle.std.specs.Prelude.{◌≡◌, ◌≤◌, ℕ, true, ◌&&◌, ◌==◌, Option, Some, None, refl}
+use Rattle.std.specs.Prelude.{◌≡◌, ◌<◌, ◌≤◌, ℕ, true, ◌&&◌, ◌==◌, Option, Some, None, refl}
 use Rattle.std.proofs.Common.{arith}
 use Rattle.std.proofs.lemmas.Bool.{eqb-true, eq-eqb, and_parts, and_from}
 use Rattle.std.proofs.lemmas.Grind.{common_steps}
@@ -8,6 +8,7 @@ use Rattle.fourstate.specs.Values.{same_value}
 use Rattle.fourstate.specs.ValueLaws.{is_same, same_self}
 use Rattle.gatestep.specs.Step.{State, due, due_of}
 use Rattle.waveform.specs.Entries.{same_pending, same_state, CanStore}
+use Rattle.waveform.specs.declared.times.TheConstants.{TIME_END}
 
 same_events : (v w : Value) (t u : ℕ) → (same_value v w && t == u) ≡ true →
     ◌≡◌ {A = Option (Value × ℕ)} (Some (v, t)) (Some (w, u))
@@ -57,10 +58,10 @@ stored_is_settled c (Some event) t can = grind (arith, common_steps)
 pub settled_at : (t : ℕ) (a : State) → CanStore t a → due a t ≡ a
 settled_at t a can = stored_is_settled a.current a.pending t can
 
-due_can_store : (c : Value) (pending : Option (Value × ℕ)) (t u : ℕ) → t ≤ u → CanStore t (record { current = c; pending = pending }) → CanStore u (due_of c pending u)
-due_can_store c None t u le can = λ x h. grind (arith, common_steps)
-due_can_store c (Some event) t u le can = λ x h. grind (arith, common_steps)
+due_can_store : (c : Value) (pending : Option (Value × ℕ)) (t u : ℕ) → t ≤ u → u < TIME_END → CanStore t (record { current = c; pending = pending }) → CanStore u (due_of c pending u)
+due_can_store c None t u le low can = (low, λ x h. grind (arith, common_steps))
+due_can_store c (Some event) t u le low can = (low, λ x h. grind (arith, common_steps))
 
 -- what can be stored at t can be stored later too, drifted to that moment
-pub stored_later : (t u : ℕ) (a : State) → t ≤ u → CanStore t a → CanStore u (due a u)
-stored_later t u a le can = due_can_store a.current a.pending t u le can
+pub stored_later : (t u : ℕ) (a : State) → t ≤ u → u < TIME_END → CanStore t a → CanStore u (due a u)
+stored_later t u a le low can = due_can_store a.current a.pending t u le low can

@@ -1,25 +1,24 @@
--- How a change is kept in 12 bytes: its moment in two halves, and its value.
-use Rattle.std.specs.Prelude.{◌≡◌, ◌<◌, ◌/◌, ◌%◌, ◌^◌, ℕ}
+-- How a change is kept in 8 bytes: its moment, and in the lowest two bits its value.
+use Rattle.std.specs.Prelude.{◌≡◌, ◌+◌, ◌*◌, ◌/◌, ◌%◌, ℕ}
+use Rattle.std.proofs.Common.{arith}
 use Rattle.fourstate.specs.declared.value.Value.{Value}
-use Rattle.waveform.specs.Halves.{whole, low_kept, high_kept}
+use Rattle.waveform.specs.Digits.{value_of_digit, digit_of, digit_kept}
 use Rattle.waveform.specs.declared.change.Change.TheInside.{Inside}
 
--- the change that the fields keep
+-- the change that the number keeps
 abbrev pub change_of : Inside → ℕ × Value
-change_of a = (whole a.low a.high, a.value)
+change_of a = (a.number / 4, value_of_digit (a.number % 4))
 
--- the lower half has 32 bits
-abbrev pub IsChange : Inside → Type 0
-IsChange a = a.low < 2 ^ 32
-
--- the fields that keep a change
+-- the number that keeps a change
 abbrev pub fields_of : ℕ × Value → Inside
-fields_of p = record { low = p.0 % 2 ^ 32; high = p.0 / 2 ^ 32; value = p.1 }
+fields_of p = record { number = p.0 * 4 + digit_of p.1 }
 
-restored : (low high : ℕ) (value : Value) → low < 2 ^ 32 →
-    fields_of (change_of (record { low = low; high = high; value = value })) ≡ record { low = low; high = high; value = value }
-restored low high value below = let lows = low_kept low high below in let highs = high_kept low high below in cc
+restored : (number : ℕ) → fields_of (change_of (record { number = number })) ≡ record { number = number }
+restored number =
+    let value = digit_kept (number % 4) (omega arith) in
+    let whole : number / 4 * 4 + number % 4 ≡ number = omega arith in
+    cc
 
--- the fields are those that keep what they show
-pub fields_of-kept : (a : Inside) → IsChange a → fields_of (change_of a) ≡ a
-fields_of-kept a below = restored a.low a.high a.value below
+-- the number is the one that keeps what it shows
+pub fields_of-kept : (a : Inside) → Unit {0} → fields_of (change_of a) ≡ a
+fields_of-kept a every = restored a.number

@@ -1,10 +1,11 @@
 //! Entries of a timeline, one after another.
 
-ghost use Rattle.std.specs.Prelude.{◌≡◌, ◌-◌, ◌^◌, ◌<◌, ◌≤◌, ◌++◌, ◌∷◌, [], map, take, drop, length, slice_get, All, Some, OnOk, OnErr, IfOk};
+ghost use Rattle.std.specs.Prelude.{◌≡◌, ◌+◌, ◌<◌, ◌≤◌, ◌++◌, ◌∷◌, [], map, take, drop, length, slice_get, All, Some, OnOk, OnErr, IfOk};
 ghost use Rattle.std.specs.List.{find, last_or};
 ghost use Rattle.std.specs.Vec.{vec_capacity, vec_len};
 ghost use Rattle.waveform.specs.Timelines.{AreInTurn, IsTimeline, is_reached, pushed, latest, entries_before, entries_until, entries_after, value_by};
 ghost use Rattle.waveform.specs.Joins.{joined, spliced};
+ghost use Rattle.waveform.specs.declared.times.TheConstants.{TIME_END};
 
 use crate::sample::Sample;
 use std::alloc::{AllocError, Global};
@@ -131,12 +132,12 @@ pub fn first_to<V: Sample>(entries: &[V::Entry], value: V) -> Option<(u64, V)>
     None
 }
 
-/// The value at `t`; it can be stored there.
+/// The value at `t`; it can be stored there, where that moment can be.
 pub fn value_at<V: Sample>(entries: &[V::Entry], t: u64) -> V
     requires timeline { IsTimeline V.same V.drift (map V.stored entries.now) }
     requires stored { All (λ entry. V.can_store entry.0 entry.1) (map V.stored entries.now) }
     ensures value { result ≡ value_by V.drift V.start (map V.stored entries.now) t }
-    ensures can { V.can_store t result }
+    ensures can { t < TIME_END → V.can_store t result }
 {
     latest_entry::<V>(entries, t).1.drifted(t)
 }
@@ -147,6 +148,7 @@ pub fn join<V: Sample>(
     t: u64,
     source: &[V::Entry],
 ) -> Result<(), AllocError>
+    requires within { t < TIME_END }
     requires timeline { IsTimeline V.same V.drift (map V.stored source.now) }
     requires stored { All (λ entry. V.can_store entry.0 entry.1) (map V.stored source.now) }
     ensures { OnOk result (map V.stored entries.new.items
@@ -190,7 +192,7 @@ pub fn splice<V: Sample>(
     theirs: &[V::Entry],
 ) -> Result<Vec<V::Entry>, AllocError>
     requires order { begin ≤ end }
-    requires within { end < 2 ^ 64 - 1 }
+    requires within { end + 1 < TIME_END }
     requires timeline { IsTimeline V.same V.drift (map V.stored mine.now) }
     requires stored { All (λ entry. V.can_store entry.0 entry.1) (map V.stored mine.now) }
     requires their_timeline { IsTimeline V.same V.drift (map V.stored theirs.now) }

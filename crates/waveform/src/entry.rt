@@ -1,26 +1,30 @@
 //! An entry of a trace.
 
 ghost use Rattle.std.specs.Prelude.{◌≡◌};
-ghost use Rattle.waveform.specs.Digits.{value_of_digit};
 
-use crate::halves::{lower, upper, whole};
-use fourstate::Value;
+use crate::digits::{VALUES, value_of_digit};
+use fourstate::MAX_DELAY;
 use gatestep::Driver;
 use std::marker::Model;
 use std::mem::size_of;
 
-const _: () = prove!(size_of::<TraceEntry>() == 12);
+/// How many delays an entry tells apart.
+const DELAYS: u64 = 1 << 20;
+
+/// How many numbers keep such a delay and two values.
+const RESTS: u64 = DELAYS * VALUES * VALUES;
+
+const _: () = prove!(MAX_DELAY < DELAYS);
+
+const _: () = prove!(size_of::<TraceEntry>() == 8);
 
 /// An entry of a trace: the state of a gate's driver from a moment on, up to the next entry. In between, an event that
 /// falls due becomes current by itself, so it has no entry of its own. Contracts see the pair of the moment and the state.
 #[derive(Clone, Copy, Debug)]
 pub struct TraceEntry {
-    // The moment in two halves: so an entry has 12 bytes, and fewer of them go through a processor's cache.
-    low: u32,
-    high: u32,
-    // How long after the moment what is pending is due, 0 where nothing is, then two bits for the value that is pending, and
-    // two for the current one.
-    rest: u32,
+    // The moment, then 20 bits for how long after it what is pending is due, 0 where nothing is, two for the value that is
+    // pending, and two for the current one: so an entry has 8 bytes, and fewer of them go through a processor's cache.
+    number: u64,
 }
 
 impl Model for TraceEntry {
@@ -51,15 +55,13 @@ impl TraceEntry {
         ensures { result ≡ (time, state) }
     {
         let rest = match state.pending() {
-            None => state.current() as u32,
+            None => state.current() as u64,
             Some((value, due)) => {
-                (due - time) as u32 * 16 + value as u32 * 4 + state.current() as u32
+                ((due - time) * VALUES + value as u64) * VALUES + state.current() as u64
             }
         };
         TraceEntry {
-            low: lower(time),
-            high: upper(time),
-            rest,
+            number: time * RESTS + rest,
         }
     }
 
@@ -68,7 +70,7 @@ impl TraceEntry {
     pub fn time(&self) -> u64
         ensures { result ≡ self.now.0 }
     {
-        whole(self.low, self.high)
+        self.number / RESTS
     }
 
     /// The state at that moment.
@@ -76,25 +78,13 @@ impl TraceEntry {
     pub fn state(&self) -> Driver
         ensures { result ≡ self.now.1 }
     {
-        let current = value_of_digit(self.rest % 4);
-        let after = self.rest / 16;
+        let rest = self.number % RESTS;
+        let current = value_of_digit(rest % VALUES);
+        let after = rest / (VALUES * VALUES);
         if after == 0 {
             return Driver::steady(current);
         }
-        let next = value_of_digit(self.rest / 4 % 4);
-        Driver::waiting(current, next, self.time() + u64::from(after))
-    }
-}
-
-/// The value of this number.
-#[inline(always)]
-fn value_of_digit(digit: u32) -> Value
-    ensures { result ≡ value_of_digit digit }
-{
-    match digit {
-        0 => Value::Zero,
-        1 => Value::One,
-        2 => Value::Unknown,
-        _ => Value::HighZ,
+        let next = value_of_digit(rest / VALUES % VALUES);
+        Driver::waiting(current, next, self.time() + after)
     }
 }

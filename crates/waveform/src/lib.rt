@@ -3,9 +3,10 @@
 
 mod cached;
 mod change;
+mod currents;
+mod digits;
 mod entries;
 mod entry;
-mod halves;
 pub mod laws;
 mod lines;
 mod patch;
@@ -13,17 +14,20 @@ mod run;
 mod sample;
 mod table;
 mod timeline;
+mod times;
 mod trace;
 mod wave;
 mod writing;
 
 pub use cached::CachedTimeline;
 pub use change::Change;
+pub use currents::append_currents;
 pub use entry::TraceEntry;
 pub use lines::Lines;
 pub use patch::Patch;
 pub use run::Run;
 pub use sample::Sample;
 pub use timeline::Timeline;
+pub use times::TIME_END;
 pub use trace::Trace;
 pub use wave::Wave;

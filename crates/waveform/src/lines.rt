@@ -17,6 +17,8 @@ use std::marker::Model;
 pub struct Lines<V: Sample> {
     lines: Vec<Timeline<V>>,
     notes: Vec<(usize, V::Entry)>,
+    // How many entries are noted before they are written.
+    room: usize,
 }
 
 impl<V: Sample> Model for Lines<V> {
@@ -35,9 +37,11 @@ impl<V: Sample> Lines<V> {
     pub fn new(alloc: Global, lines: Vec<Timeline<V>>) -> Lines<V>
         ensures { result ≡ lines.items }
     {
+        let room = room(lines.len());
         Lines {
             lines,
             notes: Vec::new(alloc),
+            room,
         }
     }
 
@@ -70,7 +74,7 @@ impl<V: Sample> Lines<V> {
         requires { MayBeNoted V.same V.drift V.can_store self.old (place, V.stored entry) }
         ensures { OnOk result (self.new ≡ with_note self.old (place, V.stored entry)) }
     {
-        if self.notes.len() >= room(self.lines.len()) {
+        if self.notes.len() >= self.room {
             self.write()?;
         }
         self.notes.push((place, entry))?;
@@ -101,7 +105,7 @@ impl<V: Sample> Lines<V> {
     pub fn finish(self) -> Result<Vec<Timeline<V>>, AllocError>
         ensures { IfOk result (λ lines. lines.items ≡ self) }
     {
-        let Lines { lines, notes } = self;
+        let Lines { lines, notes, .. } = self;
         let mut lines = lines;
         write_notes::<V>(&mut lines, notes.as_slice())?;
         Ok(lines)

@@ -4,6 +4,7 @@ ghost use Rattle.std.specs.Prelude.{◌≡◌, ◌<◌, ◌≤◌, ℕ, suc, IfO
 ghost use Rattle.std.specs.Option.{ForSome};
 ghost use Rattle.waveform.specs.Timelines.{IsAlwaysSettled, changes_below, end_of};
 ghost use Rattle.waveform.specs.Patches.{IsMended, Keeps};
+ghost use Rattle.waveform.specs.declared.times.TheConstants.{TIME_END};
 
 use crate::sample::Sample;
 use crate::timeline::Timeline;
@@ -103,12 +104,12 @@ impl<V: Sample> Patch<V> {
         }
     }
 
-    /// The value at `m`, in time units, a moment that is known. It can be stored there.
+    /// The value at `m`, in time units, a moment that is known. It can be stored there, where that moment can be.
     pub fn at(&self, old: &Timeline<V>, m: u64) -> V
         ensures value { (f g : ℕ → V) (h n : ℕ) → IsAlwaysSettled V.drift f → IsAlwaysSettled V.drift g
             → old.now ≡ changes_below V.same V.drift g h → m < h → m < n
             → IsMended V.same V.drift g f self.now.line self.now.since n → result ≡ f m }
-        ensures can { V.can_store m result }
+        ensures can { m < TIME_END → V.can_store m result }
     {
         match self.since {
             Some(s) if s <= m => old.at(m),
@@ -140,6 +141,7 @@ impl<V: Sample> Patch<V> {
     /// and then the patch is gone.
     pub fn finish(self, old: &Timeline<V>, end: u64) -> Result<Timeline<V>, AllocError>
         requires later { end_of self.line ≤ end }
+        requires within { end ≤ TIME_END }
         ensures end { IfOk result (λ line. end_of line ≤ end) }
         ensures made { IfOk result (λ line. (f g : ℕ → V) (h : ℕ) → IsAlwaysSettled V.drift f → IsAlwaysSettled V.drift g
             → old.now ≡ changes_below V.same V.drift g h → end ≤ h → IsMended V.same V.drift g f self.line self.since end

@@ -1,6 +1,7 @@
 //! What a timeline holds at each time.
 
-ghost use Rattle.std.specs.Prelude.{◌≡◌, ◌≤◌, ℕ, Bool, true};
+ghost use Rattle.std.specs.Prelude.{◌≡◌, ◌<◌, ◌≤◌, ℕ, Bool, true};
+ghost use Rattle.waveform.specs.declared.times.TheConstants.{TIME_END};
 
 /// What a timeline holds: a value that may move by itself while time goes on, and how one entry of it is stored (own).
 pub trait Sample: Copy {
@@ -55,6 +56,9 @@ pub trait Sample: Copy {
     /// A value that can be stored at a moment is as it stands there.
     ghost stored_is_settled: { (t : ℕ) (a : Self) → can_store t a → drift a t ≡ a };
 
+    /// A moment at which a value can be stored lies below `TIME_END`.
+    ghost stored_within: { (t : ℕ) (a : Self) → can_store t a → t < TIME_END };
+
     /// A value that can be stored at a moment can be stored later, drifted to there.
-    ghost stored_later: { (t u : ℕ) (a : Self) → t ≤ u → can_store t a → can_store u (drift a u) };
+    ghost stored_later: { (t u : ℕ) (a : Self) → t ≤ u → u < TIME_END → can_store t a → can_store u (drift a u) };
 }

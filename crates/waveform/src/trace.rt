@@ -15,8 +15,8 @@ use gatestep::Driver;
 /// each moment all the same.
 pub type Trace = Timeline<Driver>;
 
-/// A state's pending event becomes current at its time. A state can be stored at a moment where that time lies after it,
-/// and at most the greatest delay after it.
+/// A state's pending event becomes current at its time. A state can be stored at a moment that can be, where that time lies
+/// after it, and at most the greatest delay after it.
 impl Sample for Driver {
     type Entry = TraceEntry;
 
@@ -62,6 +62,8 @@ impl Sample for Driver {
     ghost drift_twice = { due_twice };
 
     ghost stored_is_settled = { settled_at };
+
+    ghost stored_within = { λ t a can. can.0 };
 
     ghost stored_later = { stored_later };
 }

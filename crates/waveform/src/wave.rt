@@ -1,10 +1,11 @@
 //! Waves: what a net has at each moment.
 
-ghost use Rattle.std.specs.Prelude.{◌≡◌, ⊤, refl};
+ghost use Rattle.std.specs.Prelude.{◌≡◌, ◌<◌, refl};
 ghost use Rattle.fourstate.specs.ValueLaws.{is_same, same_self};
 ghost use Rattle.fourstate.specs.Values.{same_value};
 ghost use Rattle.fourstate.specs.declared.value.Value.TheVariants.{Unknown};
 ghost use Rattle.waveform.specs.Entries.{standing};
+ghost use Rattle.waveform.specs.declared.times.TheConstants.{TIME_END};
 
 use crate::change::Change;
 use crate::sample::Sample;
@@ -14,7 +15,7 @@ use fourstate::Value;
 /// What a net has at each moment, kept as its changes.
 pub type Wave = Timeline<Value>;
 
-/// A value stands until the next change, and any value can be stored at any moment.
+/// A value stands until the next change, and any value can be stored at any moment that can be.
 impl Sample for Value {
     type Entry = Change;
 
@@ -26,7 +27,7 @@ impl Sample for Value {
 
     ghost start = { Unknown };
 
-    ghost can_store = { λ _ _. ⊤ };
+    ghost can_store = { λ t _. t < TIME_END };
 
     #[inline(always)]
     fn entry(self, time: u64) -> Change {
@@ -61,7 +62,9 @@ impl Sample for Value {
 
     ghost stored_is_settled = { λ t a can. refl };
 
-    ghost stored_later = { λ t u a le can. can };
+    ghost stored_within = { λ t a can. can };
+
+    ghost stored_later = { λ t u a le low can. low };
 }
 
 impl Timeline<Value> {

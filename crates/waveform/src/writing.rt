@@ -30,7 +30,6 @@ struct Links {
 }
 
 /// How many entries are noted for so many timelines before they are written (own).
-#[inline(always)]
 pub fn room(lines: usize) -> usize {
     if lines < FEW_LINES {
         NOTES_OF_FEW_LINES

@@ -1,8 +1,9 @@
 //! A function of time that follows another one for a while.
 
-ghost use Rattle.std.specs.Prelude.{◌≡◌, ◌≤◌, ℕ, suc, nat_lt, IfOk, if◌then◌else◌};
+ghost use Rattle.std.specs.Prelude.{◌≡◌, ◌<◌, ◌≤◌, ℕ, suc, nat_lt, IfOk, if◌then◌else◌};
 ghost use Rattle.waveform.specs.Joins.{joined};
 ghost use Rattle.waveform.specs.Timelines.{end_of, entries_until, value_by};
+ghost use Rattle.waveform.specs.declared.times.TheConstants.{TIME_END};
 
 use super::Timeline;
 use crate::entries::{join, up_to};
@@ -27,6 +28,7 @@ impl<V: Sample> Timeline<V> {
     pub fn follow(self, from: u64, to: u64, other: &Timeline<V>) -> Result<Timeline<V>, AllocError>
         requires later { end_of self ≤ from }
         requires order { from ≤ to }
+        requires within { from < TIME_END }
         ensures entries { IfOk result (λ new. new ≡ joined V.same V.drift V.start self from (entries_until other.now to)) }
         ensures end { IfOk result (λ new. end_of new ≤ suc to) }
         ensures value { IfOk result (λ new. (u : ℕ) → value_by V.drift V.start new u

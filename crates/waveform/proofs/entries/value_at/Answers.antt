@@ -14,4 +14,4 @@ returns-clause-can g c =
     let can = value_can_store drifts sample.can_store laws.stored_later sample.start entries c.args.t c.requires.timeline c.requires.stored in
     let value : c.drifted.result ≡ value_by sample.drift sample.start entries c.args.t =
     c.drifted.ensures ∙ sym (ap (λ o. option_map_or (λ e. sample.drift e.1 c.args.t) o sample.start) c.latest_entry.ensures) in
-    subst (sample.can_store c.args.t) (sym value) can
+    λ low. subst (sample.can_store c.args.t) (sym value) (can low)

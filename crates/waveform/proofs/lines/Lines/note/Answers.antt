@@ -3,7 +3,7 @@ use Rattle.std.proofs.lemmas.List.{map-append}
 use Rattle.waveform.specs.Notes.{AreNoted, MayBeNoted, noted, with_note, with_notes}
 use Rattle.waveform.proofs.Noting.{one_more, one_more_noted}
 use Rattle.waveform.proofs.lines.Lines.note.Goals as goal
-use Rattle.waveform.proofs.lines.Lines.note.Goals.{then-len-room+in_ok-write, else-len-room}
+use Rattle.waveform.proofs.lines.Lines.note.Goals.{then-len-self+in_ok-write, else-len-self}
 
 pub invariant_of-self-2 : goal.invariant_of-self-2
 invariant_of-self-2 g c =
@@ -12,9 +12,9 @@ invariant_of-self-2 g c =
     let notes = c.self-2.inside.notes.items in
     let note = noted sample.stored (c.args.place, c.args.entry) in
     let left = map (noted sample.stored) notes in
-    let kept : c.if-len-room.self ≡ c.args.self.now = elim c.if-len-room.branch [
-      | then-len-room+in_ok-write w ↦ w.self-is ∙ w.in_ok-write.ensures
-      | else-len-room w ↦ cc
+    let kept : c.if-len-self.self ≡ c.args.self.now = elim c.if-len-self.branch [
+      | then-len-self+in_ok-write w ↦ w.self-is ∙ w.in_ok-write.ensures
+      | else-len-self w ↦ cc
     ] in
     let same : with_notes lines left ≡ c.args.self.now = c.self-2.view_is ∙ kept in
     let may = subst (λ ls. MayBeNoted sample.same sample.drift sample.can_store ls note) (sym same) c.requires in
@@ -29,9 +29,9 @@ returns g c =
     let notes = c.self-2.inside.notes.items in
     let note = noted sample.stored (c.args.place, c.args.entry) in
     let left = map (noted sample.stored) notes in
-    let kept : c.if-len-room.self ≡ c.args.self.now = elim c.if-len-room.branch [
-      | then-len-room+in_ok-write w ↦ w.self-is ∙ w.in_ok-write.ensures
-      | else-len-room w ↦ cc
+    let kept : c.if-len-self.self ≡ c.args.self.now = elim c.if-len-self.branch [
+      | then-len-self+in_ok-write w ↦ w.self-is ∙ w.in_ok-write.ensures
+      | else-len-self w ↦ cc
     ] in
     let same : with_notes lines left ≡ c.args.self.now = c.self-2.view_is ∙ kept in
     ap (λ ns. with_notes lines (map (noted sample.stored) ns)) c.in_ok-push.ensures.items

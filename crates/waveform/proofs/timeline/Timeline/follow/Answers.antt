@@ -27,7 +27,7 @@ invariant_of-result g c =
     let stored = All-filter _ can (map sample.stored c.other.inside.entries.items) c.other.invariant.1 in
     subst (λ entries. IsTimeline sample.same sample.drift entries × All can entries) (sym made) (
       joined_timeline drifts sample.start mine theirs c.args.from (ends_before mine c.args.from both.0.begins later) both.0.in_turn cut,
-      joined_all drifts can sample.start mine theirs c.args.from both.1 (value_can_store drifts sample.can_store laws.stored_later sample.start theirs c.args.from cut stored) stored,
+      joined_all drifts can sample.start mine theirs c.args.from both.1 (value_can_store drifts sample.can_store laws.stored_later sample.start theirs c.args.from cut stored c.requires.within) stored,
     )
 
 pub returns-clause-entries : goal.returns-clause-entries

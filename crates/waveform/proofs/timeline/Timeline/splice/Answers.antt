@@ -20,7 +20,7 @@ invariant_of-self g c =
     let others = c.other.invariant in
     subst (λ entries. IsTimeline sample.same sample.drift entries × All can entries) (sym made) (
       spliced_timeline drifts sample.start mine theirs c.args.from c.args.to c.requires.order both.0 others.0,
-      spliced_can_store drifts sample.start mine theirs c.args.from c.args.to c.requires.order both.0 others.0 sample.can_store laws.stored_later both.1 others.1,
+      spliced_can_store drifts sample.start mine theirs c.args.from c.args.to c.requires.order both.0 others.0 sample.can_store laws.stored_later c.requires.within both.1 others.1,
     )
 
 pub returns-clause-ok : goal.returns-clause-ok
