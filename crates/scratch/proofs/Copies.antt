@@ -1,7 +1,6 @@
 -- The lines of a run, read in the order of its nets and gates.
 use Rattle.std.proofs.Common.{◌≡◌, ◌<◌, ◌∙◌, ap, sym, refl, Bool, ℕ, zero, suc, ◌+◌, ◌-◌, List, [], ◌∷◌, ◌++◌, map, take, Option, Some, None, All, option_map, slice_get, arith}
 use Rattle.std.proofs.lemmas.List.{map-append}
-use Rattle.fourstate.specs.declared.value.Value.{Value}
 use Rattle.fourstate.specs.declared.value.Value.TheVariants.{Unknown}
 use Rattle.fourstate.specs.Values.{same_value}
 use Rattle.gatestep.specs.Step.{State, Evaluation, due, initial}
@@ -15,9 +14,13 @@ use Rattle.waveform.specs.Runs.{RunRecord}
 use Rattle.waveform.specs.Tables.{line_at}
 use Rattle.waveform.specs.Timelines.{IsAlwaysSettled, changes_below, entries_until, value_by}
 use Rattle.scratch.specs.HorizonLaws.{CutsChanges}
+use Rattle.std.specs.Option.{option_map_or}
+use Rattle.scratch.specs.Kept.{lone_driver}
+use Rattle.scratch.specs.Recorded.{recorded_below}
 use Rattle.scratch.specs.Run.{IsRun, state_after, state_before, trace_of, value, wave_of}
-use Rattle.scratch.proofs.Lists.{map_alike, take_next}
+use Rattle.scratch.proofs.Lists.{take_next}
 use Rattle.scratch.proofs.Moments.{map_twice}
+use Rattle.scratch.proofs.Recorded.{recorded_alone, recorded_whole}
 use Rattle.scratch.proofs.Runs.{map_where, settled}
 
 gates_by : (nets : List (ℕ × NetEntry)) (es : List (ℕ × KeyedGate)) (k : ℕ) →
@@ -56,13 +59,20 @@ module _ {X L : Type 0} (f : X → L) (cut : L → L) (whole : (x : X) → cut (
   pub one_copied : option_map f (slice_get xs k) ≡ Some line → old ≡ map f (take k xs) → new ≡ old ++ cut line ∷ [] → new ≡ map f (take (k + 1) xs)
   one_copied is was more = one_by (slice_get xs k) refl is was more
 
+-- what is found from one line more
+pub one_found : {X L Y : Type 0} (f : X → L) (h : X → Y) (xs : List X) (k : ℕ) (line : L) (y : Y) (old new : List Y) → ((x : X) → slice_get xs k ≡ Some x → line ≡ f x → y ≡ h x) →
+    option_map f (slice_get xs k) ≡ Some line → old ≡ map h (take k xs) → new ≡ old ++ y ∷ [] → new ≡ map h (take (k + 1) xs)
+one_found f h xs k line y old new so is was more = by (slice_get xs k) refl is
+  where
+    by : (o : Option _) → slice_get xs k ≡ o → option_map f o ≡ Some line → new ≡ map h (take (k + 1) xs)
+    by None at is = absurd (cc)
+    by (Some x) at is =
+        let same : line ≡ f x = cc in
+        more ∙ ap (λ l. l ++ y ∷ []) was ∙ ap (λ z. map h (take k xs) ++ z ∷ []) (so x at same)
+        ∙ sym (map-append h (take k xs) (x ∷ [])) ∙ ap (map h) (sym (take_next xs k x at))
+
 module _ (answer : Evaluation → ℕ → State) (d : Netlist) (h : ℕ) (is : h ≡ d.horizon) where
   -- no entry lies past the horizon
-  pub whole_wave : CutsChanges same_value standing → (n : NetEntry) → entries_until (wave_of answer d n) h ≡ wave_of answer d n
-  whole_wave cuts n =
-      cuts (value answer d n) h (suc d.horizon) (omega arith)
-      ∙ ap (λ t. changes_below same_value standing (value answer d n) (suc t)) is
-
   pub whole_trace : CutsChanges same_state due → (g : GateEntry) → entries_until (trace_of answer d g) h ≡ trace_of answer d g
   whole_trace cuts g =
       cuts (state_after answer d g) h (suc d.horizon) (omega arith)
@@ -73,17 +83,23 @@ abbrev pub GivesValues : {A : Type 0} → (A → A → Bool) → (A → ℕ → 
 GivesValues {A = A} same drift start = (f : ℕ → A) → IsAlwaysSettled drift f → (t n : ℕ) → t < n → value_by drift start (changes_below same drift f n) t ≡ f t
 
 module _ (answer : Evaluation → ℕ → State) (d : Netlist) (h : ℕ) (is : h ≡ d.horizon) where
-  -- the values at the horizon
-  pub last_values : GivesValues same_value standing Unknown → (lines : List (List (ℕ × Value))) (values : List Value) → lines ≡ map (wave_of answer d) d.nets →
-      values ≡ map (λ line. value_by standing Unknown line h) lines → values ≡ map (λ n. value answer d n (suc d.horizon - 1)) d.nets
-  last_values gives lines values are those =
-      those ∙ ap (map (λ line. value_by standing Unknown line h)) are ∙ map_twice (wave_of answer d) (λ line. value_by standing Unknown line h) d.nets
-      ∙ map_alike (λ n. value_by standing Unknown (wave_of answer d n) h) (λ n. value answer d n (suc d.horizon - 1)) last d.nets
-    where
-      last : (n : NetEntry) → value_by standing Unknown (wave_of answer d n) h ≡ value answer d n (suc d.horizon - 1)
-      last n =
-          let same : h ≡ suc d.horizon - 1 = omega arith in
-          gives (value answer d n) (λ t. refl) h (suc d.horizon) (omega arith) ∙ ap (value answer d n) same
+  -- the value at the horizon
+  pub last_value : GivesValues same_value standing Unknown → (n : NetEntry) → value_by standing Unknown (wave_of answer d n) h ≡ value answer d n (suc d.horizon - 1)
+  last_value gives n =
+      let same : h ≡ suc d.horizon - 1 = omega arith in
+      gives (value answer d n) (λ t. refl) h (suc d.horizon) (omega arith) ∙ ap (value answer d n) same
+
+  -- what is copied of a wave: all of it, or moment 0
+  pub copied_wave : CutsChanges same_value standing → (n : NetEntry) (o : Option ℕ) (until : ℕ) → lone_driver d n ≡ o → until ≡ option_map_or (λ k. 0) o h →
+      entries_until (wave_of answer d n) until ≡ recorded_below answer d n (suc d.horizon)
+  copied_wave cuts n None until alone so_far =
+      cuts (value answer d n) until (suc d.horizon) (let so : until ≡ h = so_far in omega (arith, so, is))
+      ∙ ap (λ t. changes_below same_value standing (value answer d n) t) (let so : until ≡ h = so_far in let end : suc until ≡ suc d.horizon = omega (arith, so, is) in end)
+      ∙ sym (recorded_whole answer d n (suc d.horizon) alone)
+  copied_wave cuts n (Some k) until alone so_far =
+      cuts (value answer d n) until (suc d.horizon) (let so : until ≡ 0 = so_far in omega (arith, so))
+      ∙ ap (λ t. changes_below same_value standing (value answer d n) t) (let so : until ≡ 0 = so_far in let end : suc until ≡ 1 = omega (arith, so) in end)
+      ∙ sym (recorded_alone answer d n (suc d.horizon) k alone)
 
   -- and the states
   module _ (pending : (e : Evaluation) (t : ℕ) → IsTask e → NothingDue t (answer e t)) (gates : All IsGate d.gates) where

@@ -1,6 +1,7 @@
 pub mod Among
 pub mod Asked
 pub mod Between
+pub mod Complete
 pub mod Copies
 pub mod GateSteps
 pub mod Keyed
@@ -13,6 +14,7 @@ pub mod OneTask
 pub mod Passing
 pub mod Places
 pub mod Readers
+pub mod Recorded
 pub mod Runs
 pub mod Skips
 pub mod Still

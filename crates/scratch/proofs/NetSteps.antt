@@ -1,9 +1,10 @@
 -- The values and waves of nets that change go on, the others stay.
-use Rattle.std.proofs.Common.{◌≡◌, ◌<◌, ◌∙◌, sym, ap, refl, Bool, true, false, not, ℕ, zero, suc, ◌+◌, ◌-◌, List, [], ◌∷◌, ◌++◌, map, Option, Some, None, slice_get, length, All, add-one, arith}
-use Rattle.std.specs.Option.{option_map_or, option_map}
+use Rattle.std.proofs.Common.{◌≡◌, ◌<◌, ◌∙◌, sym, ap, subst, refl, Bool, true, false, not, ℕ, zero, suc, ◌+◌, ◌-◌, List, [], ◌∷◌, ◌++◌, map, Option, Some, None, slice_get, slice_index_or, unwrap_or, length, All, add-one, arith}
+use Rattle.std.specs.Option.{is_some, option_map_or, option_map}
 use Rattle.std.specs.Prelude.{◌||◌, if◌then◌else◌}
 use Rattle.std.proofs.Math.ListN.{set}
-use Rattle.std.proofs.lemmas.Option.{slice_get-map, slice_get_within}
+use Rattle.std.proofs.lemmas.List.{length-map}
+use Rattle.std.proofs.lemmas.Option.{slice_get-map, slice_get_read, slice_get_within}
 use Rattle.fourstate.specs.declared.net.NetKind.{NetKind}
 use Rattle.fourstate.specs.declared.net.NetKind.TheVariants.{Wire, Tri, Wand, Triand, Wor, Trior}
 use Rattle.fourstate.specs.declared.value.Value.{Value}
@@ -18,14 +19,15 @@ use Rattle.waveform.specs.Entries.{standing}
 use Rattle.fourstate.specs.ValueLaws.{is_same, same_self}
 use Rattle.waveform.specs.Timelines.{is_reached, pushed}
 use Rattle.smallvec.specs.SmallVec.{SmallVec}
-use Rattle.scratch.specs.Kept.{currents_of, driven_kind, lone_place, net_from, only_place, values_at}
+use Rattle.scratch.specs.Kept.{currents_of, driven_kind, lone_driver, net_from, only_place, values_at}
 use Rattle.scratch.specs.Places.{changes_at, has}
+use Rattle.scratch.specs.Recorded.{recorded_below}
 use Rattle.scratch.specs.Run.{state_before, value}
 use Rattle.scratch.proofs.Among.{has_more, nat_itself, or_false, or_true}
 use Rattle.scratch.proofs.Between.{Between, is_new, is_old, length_set, pass, step, write}
 use Rattle.scratch.proofs.Moments.{map_twice, net_is}
-use Rattle.scratch.proofs.Runs.{Grows, LieBefore, Reached, waves_early}
-use Rattle.scratch.proofs.Skips.{all_at}
+use Rattle.scratch.proofs.Recorded.{recorded_alone, recorded_moves, recorded_whole}
+use Rattle.scratch.proofs.Runs.{Grows, LieBefore, Reached}
 use Rattle.scratch.proofs.Still.{Stays, not_false, wave_stays}
 
 module _ (answer : Evaluation → ℕ → State) (d : Netlist) (t : ℕ) where
@@ -33,7 +35,7 @@ module _ (answer : Evaluation → ℕ → State) (d : Netlist) (t : ℕ) where
   values_of u = map (λ n. value answer d n u) d.nets
 
   abbrev waves_of : ℕ → List (List (ℕ × Value))
-  waves_of u = map (λ n. wave_changes_below (value answer d n) u) d.nets
+  waves_of u = map (λ n. recorded_below answer d n u) d.nets
 
   abbrev changes : ℕ → Bool
   changes k = changes_at answer d k t
@@ -72,15 +74,15 @@ module _ (answer : Evaluation → ℕ → State) (d : Netlist) (t : ℕ) where
         rw add-one (sym (wave_stays still answer d n v (rw one at same)))
 
     same_wave_by : (o : Option NetEntry) → option_map_or (λ n. not (same_value (value answer d n t) (value answer d n (t - 1)))) o false ≡ false →
-        option_map (λ n. wave_changes_below (value answer d n) t) o ≡ option_map (λ n. wave_changes_below (value answer d n) (t + 1)) o
+        option_map (λ n. recorded_below answer d n t) o ≡ option_map (λ n. recorded_below answer d n (t + 1)) o
     same_wave_by None h = refl
     same_wave_by (Some n) h =
-        ap (λ v. Some v) (wave_on n t begun (is_same (value answer d n t) (value answer d n (t - 1)) (not_false (same_value (value answer d n t) (value answer d n (t - 1))) h)))
+        ap (λ v. Some v) (recorded_moves answer d n t (t + 1) (wave_on n t begun (is_same (value answer d n t) (value answer d n (t - 1)) (not_false (same_value (value answer d n t) (value answer d n (t - 1))) h))))
 
     -- and its wave
     pub same_wave_at : (k : ℕ) → changes k ≡ false → slice_get (waves_of t) k ≡ slice_get (waves_of (t + 1)) k
     same_wave_at k h =
-        slice_get-map (λ n. wave_changes_below (value answer d n) t) d.nets k ∙ same_wave_by (slice_get d.nets k) h ∙ sym (slice_get-map (λ n. wave_changes_below (value answer d n) (t + 1)) d.nets k)
+        slice_get-map (λ n. recorded_below answer d n t) d.nets k ∙ same_wave_by (slice_get d.nets k) h ∙ sym (slice_get-map (λ n. recorded_below answer d n (t + 1)) d.nets k)
 
     module _ (p : ℕ) (done : List ℕ) (values : List Value) (waves : List (List (ℕ × Value))) (changed : List ℕ) (part : Part done values waves changed) where
       as_it_is : slice_get values p ≡ slice_get (values_of t) p → slice_get waves p ≡ slice_get (waves_of (t + 1)) p → has p changed ≡ changes p → Part (done ++ p ∷ []) values waves changed
@@ -145,45 +147,65 @@ module _ (answer : Evaluation → ℕ → State) (d : Netlist) (t : ℕ) where
           not_done : has p done ≡ false
           not_done = first_by (has p done) refl other
 
-          wave_was : (w : List (ℕ × Value)) → slice_get waves p ≡ Some w → slice_get (waves_of t) p ≡ Some w
-          wave_was w there = sym (is_old done (slice_get (waves_of t)) (slice_get (waves_of (t + 1))) (slice_get waves) part.waves p not_done) ∙ there
+          wave_was : (w : List (ℕ × Value)) → slice_get waves p ≡ Some w → recorded_below answer d n t ≡ w
+          wave_was w there =
+              let both : Some (recorded_below answer d n t) ≡ Some w =
+              sym (slice_get-map (λ n. recorded_below answer d n t) d.nets p ∙ ap (option_map (λ n. recorded_below answer d n t)) here)
+              ∙ sym (is_old done (slice_get (waves_of t)) (slice_get (waves_of (t + 1))) (slice_get waves) part.waves p not_done) ∙ there in
+              cc
 
-          pub wave_early : LieBefore same_value standing → (w : List (ℕ × Value)) → slice_get waves p ≡ Some w → All (λ e. e.0 < t) w
-          wave_early early w there = all_at (All (λ e. e.0 < t)) (waves_of t) p w (waves_early answer d early t) (wave_was w there)
-
-          -- its wave has become the value that it had the moment before
-          pub wave_reached : Reached same_value standing → (w : List (ℕ × Value)) → slice_get waves p ≡ Some w → is_reached same_value standing w t v ≡ same_value v old
-          wave_reached reached w there =
-              let both : Some (wave_changes_below (value answer d n) t) ≡ Some w =
-              sym (slice_get-map (λ n. wave_changes_below (value answer d n) t) d.nets p ∙ ap (option_map (λ n. wave_changes_below (value answer d n) t)) here) ∙ wave_was w there in
-              let one : wave_changes_below (value answer d n) t ≡ w = cc in
-              ap (λ x. is_reached same_value standing x t v) (sym one) ∙ reached (value answer d n) (λ u. refl) t begun v ∙ ap (same_value v) (old_value not_done)
-
-          -- a net that changes goes on
-          pub went : Grows same_value standing → (w : List (ℕ × Value)) → slice_get waves p ≡ Some w →
-              Part (done ++ p ∷ []) (set values p v) (set waves p (pushed same_value standing w t v)) (changed ++ p ∷ [])
-          went grows w there =
+          -- a net that changes goes on, with what is recorded of it
+          goes_on : (ws : List (List (ℕ × Value))) → ((k : ℕ) → Between (done ++ p ∷ []) (slice_get (waves_of t)) (slice_get (waves_of (t + 1))) (slice_get ws)) → length ws ≡ length d.nets →
+              Part (done ++ p ∷ []) (set values p v) ws (changed ++ p ∷ [])
+          goes_on ws are as_many =
               let in_nets = slice_get_within d.nets p n here in
               let in_values : p < length values = rw part.as_many in_nets in
-              let in_waves : p < length waves = rw part.as_many_waves in_nets in
-              let old_wave : Some (wave_changes_below (value answer d n) t) ≡ Some w =
-              sym (slice_get-map (λ n. wave_changes_below (value answer d n) t) d.nets p ∙ ap (option_map (λ n. wave_changes_below (value answer d n) t)) here) ∙ wave_was w there in
-              let old_one : wave_changes_below (value answer d n) t ≡ w = cc in
-              let one : pushed same_value standing (wave_changes_below (value answer d n) t) t (value answer d n t) ≡ wave_changes_below (value answer d n) (t + 1) =
-              rw add-one (grows (value answer d n) (λ u. refl) t) in
-              let new_wave : slice_get (waves_of (t + 1)) p ≡ Some (pushed same_value standing w t v) =
-              slice_get-map (λ n. wave_changes_below (value answer d n) (t + 1)) d.nets p ∙ ap (option_map (λ n. wave_changes_below (value answer d n) (t + 1))) here
-              ∙ ap (λ x. Some x) (sym one ∙ ap (λ x. pushed same_value standing x t (value answer d n t)) old_one ∙ ap (pushed same_value standing w t) (sym is)) in
               let on : changes p ≡ true = change_is not_done ∙ other in
               record {
                 values = write done (values_of (t - 1)) (values_of t) values part.values p v new_value in_values;
-                waves = write done (waves_of t) (waves_of (t + 1)) waves part.waves p (pushed same_value standing w t v) new_wave in_waves;
+                waves = are 0;
                 changed = step done (λ k. false) changes (λ k. has k changed) part.changed p (λ k. has k (changed ++ p ∷ []))
                     (has_more p p changed ∙ ap (λ (b : Bool). has p changed || b) (nat_itself p) ∙ or_true (has p changed) ∙ sym on)
                     (λ k e. has_more k p changed ∙ ap (λ (b : Bool). has k changed || b) e ∙ or_false (has k changed));
                 as_many = length_set values p v ∙ part.as_many;
-                as_many_waves = length_set waves p (pushed same_value standing w t v) ∙ part.as_many_waves;
+                as_many_waves = as_many;
               }
+
+          -- of one with one driver nothing more is recorded
+          pub went_alone : (k : ℕ) → lone_driver d n ≡ Some k → Part (done ++ p ∷ []) (set values p v) waves (changed ++ p ∷ [])
+          went_alone k alone =
+              let same : slice_get waves p ≡ slice_get (waves_of (t + 1)) p =
+              is_old done (slice_get (waves_of t)) (slice_get (waves_of (t + 1))) (slice_get waves) part.waves p not_done
+              ∙ slice_get-map (λ n. recorded_below answer d n t) d.nets p ∙ ap (option_map (λ n. recorded_below answer d n t)) here
+              ∙ ap (λ x. Some x) (recorded_alone answer d n t k alone ∙ sym (recorded_alone answer d n (t + 1) k alone))
+              ∙ sym (slice_get-map (λ n. recorded_below answer d n (t + 1)) d.nets p ∙ ap (option_map (λ n. recorded_below answer d n (t + 1))) here) in
+              goes_on waves (λ _. pass done (waves_of t) (waves_of (t + 1)) waves part.waves p same) part.as_many_waves
+
+          -- of another one its new value is
+          module _ (whole : lone_driver d n ≡ None) (w : List (ℕ × Value)) (there : slice_get waves p ≡ Some w) where
+            wave_is : wave_changes_below (value answer d n) t ≡ w
+            wave_is = sym (recorded_whole answer d n t whole) ∙ wave_was w there
+
+            pub wave_early : LieBefore same_value standing → All (λ e. e.0 < t) w
+            wave_early early = subst (All (λ e. e.0 < t)) wave_is (early (value answer d n) t)
+
+            -- its wave has become the value that it had the moment before
+            pub wave_reached : Reached same_value standing → is_reached same_value standing w t v ≡ same_value v old
+            wave_reached reached =
+                ap (λ x. is_reached same_value standing x t v) (sym wave_is) ∙ reached (value answer d n) (λ u. refl) t begun v ∙ ap (same_value v) (old_value not_done)
+
+            pub went : Grows same_value standing → Part (done ++ p ∷ []) (set values p v) (set waves p (pushed same_value standing w t v)) (changed ++ p ∷ [])
+            went grows =
+                let in_nets = slice_get_within d.nets p n here in
+                let in_waves : p < length waves = rw part.as_many_waves in_nets in
+                let one : pushed same_value standing (wave_changes_below (value answer d n) t) t (value answer d n t) ≡ wave_changes_below (value answer d n) (t + 1) =
+                rw add-one (grows (value answer d n) (λ u. refl) t) in
+                let new_wave : slice_get (waves_of (t + 1)) p ≡ Some (pushed same_value standing w t v) =
+                slice_get-map (λ n. recorded_below answer d n (t + 1)) d.nets p ∙ ap (option_map (λ n. recorded_below answer d n (t + 1))) here
+                ∙ ap (λ x. Some x) (recorded_whole answer d n (t + 1) whole ∙ sym one ∙ ap (λ x. pushed same_value standing x t (value answer d n t)) wave_is ∙ ap (pushed same_value standing w t) (sym is)) in
+                goes_on (set waves p (pushed same_value standing w t v))
+                (λ _. write done (waves_of t) (waves_of (t + 1)) waves part.waves p (pushed same_value standing w t v) new_wave in_waves)
+                (length_set waves p (pushed same_value standing w t v) ∙ part.as_many_waves)
 
 -- the drivers that stand at the place of a net
 pub drivers_at : (d : Netlist) (lists : List (SmallVec ℕ)) (p : ℕ) (n : NetEntry) (places : SmallVec ℕ) → map (λ (v : SmallVec ℕ). v.items) lists ≡ map (λ n. driver_places d.gates n.name) d.nets →
@@ -249,9 +271,50 @@ alone_is [] k h = cc
 alone_is (p ∷ []) k h = let same : p ≡ k = cc in ap (λ x. x ∷ []) same
 alone_is (p ∷ q ∷ ps) k h = cc
 
-pub lone_there : (lone : List (Option ℕ)) (drivers : List (SmallVec ℕ)) (p k : ℕ) (places : SmallVec ℕ) → lone ≡ map lone_place drivers →
-    slice_get drivers p ≡ Some places → slice_get lone p ≡ Some (Some k) → places.items ≡ k ∷ []
-lone_there lone drivers p k places are here there =
-    let both : Some (lone_place places) ≡ Some (Some k) = sym (ap (λ l. slice_get l p) are ∙ slice_get-map lone_place drivers p ∙ ap (option_map lone_place) here) ∙ there in
-    let one : lone_place places ≡ Some k = cc in
-    alone_is places.items k one
+lone_by : (is_input : Bool) (places : List ℕ) (k : ℕ) → (if is_input then None else only_place places) ≡ Some k → (is_input ≡ false) × (places ≡ k ∷ [])
+lone_by true places k h = cc
+lone_by false places k h = (refl, alone_is places k h)
+
+-- a net that one driver alone gives its value is no input, and has no other driver
+pub lone_is : (d : Netlist) (n : NetEntry) (k : ℕ) → lone_driver d n ≡ Some k → (n.is_input ≡ false) × (driver_places d.gates n.name ≡ k ∷ [])
+lone_is d n k h = lone_by n.is_input (driver_places d.gates n.name) k h
+
+-- what is listed at the place of a net
+pub lone_there : (d : Netlist) (lone : List (Option ℕ)) (p : ℕ) (n : NetEntry) (o : Option ℕ) → lone ≡ map (lone_driver d) d.nets → slice_get d.nets p ≡ Some n →
+    slice_get lone p ≡ Some o → lone_driver d n ≡ o
+lone_there d lone p n o are here there =
+    let both : Some (lone_driver d n) ≡ Some o = sym (ap (λ l. slice_get l p) are ∙ slice_get-map (lone_driver d) d.nets p ∙ ap (option_map (lone_driver d)) here) ∙ there in
+    cc
+
+-- and it has what the driver gives
+pub lone_gives : (d : Netlist) (currents : List Value) (t : ℕ) (n : NetEntry) (k : ℕ) → lone_driver d n ≡ Some k →
+    unwrap_or (slice_get currents k) Unknown ≡ net_from currents t n (driver_places d.gates n.name)
+lone_gives d currents t n k h =
+    let is = lone_is d n k h in
+    sym (ap (λ b. if b then stimulus n.points t else net_of n.kind (values_at currents (driver_places d.gates n.name))) is.0
+    ∙ ap (λ l. net_of n.kind (values_at currents l)) is.1 ∙ one_driver n.kind (unwrap_or (slice_get currents k) Unknown))
+
+-- what is listed is the driver that alone gives the net its value
+pub listed_at : (d : Netlist) (lone : List (Option ℕ)) (p : ℕ) (n : NetEntry) (o : Option ℕ) → lone ≡ map (lone_driver d) d.nets → slice_get d.nets p ≡ Some n → p < length d.nets →
+    o ≡ slice_index_or lone p o → lone_driver d n ≡ o
+listed_at d lone p n o are here within read =
+    let in_lone : p < length lone = (let as_many = simp length-map at (ap length are) in omega arith) in
+    lone_there d lone p n o are here (slice_get_read lone (length lone) p o refl in_lone read)
+
+none_is : (o : Option ℕ) → is_some o ≡ false → o ≡ None
+none_is None h = refl
+none_is (Some k) h = cc
+
+some_is : (o : Option ℕ) → is_some o ≡ true → (k : ℕ) × (o ≡ Some k)
+some_is None h = cc
+some_is (Some k) h = (k, refl)
+
+-- no driver is listed for a net whose changes are all recorded, and one for another
+pub whole_there : (d : Netlist) (lone : List (Option ℕ)) (p : ℕ) (n : NetEntry) (o : Option ℕ) → lone ≡ map (lone_driver d) d.nets → slice_get d.nets p ≡ Some n → p < length d.nets →
+    o ≡ slice_index_or lone p o → is_some o ≡ false → lone_driver d n ≡ None
+whole_there d lone p n o are here within read none = listed_at d lone p n o are here within read ∙ none_is o none
+
+pub alone_there : (d : Netlist) (lone : List (Option ℕ)) (p : ℕ) (n : NetEntry) (o : Option ℕ) → lone ≡ map (lone_driver d) d.nets → slice_get d.nets p ≡ Some n → p < length d.nets →
+    o ≡ slice_index_or lone p o → is_some o ≡ true → (k : ℕ) × (lone_driver d n ≡ Some k)
+alone_there d lone p n o are here within read some =
+    let it = some_is o some in (it.0, listed_at d lone p n o are here within read ∙ it.1)

@@ -12,6 +12,7 @@ use Rattle.design.specs.Netlist.{GateEntry, Netlist}
 use Rattle.waveform.specs.Changes.{wave_changes_below, trace_below}
 use Rattle.waveform.specs.Entries.{CanStore, same_state, standing}
 use Rattle.waveform.specs.Timelines.{IsAlwaysSettled, changes_below, is_reached, pushed}
+use Rattle.waveform.specs.declared.times.TheConstants.{TIME_END}
 use Rattle.scratch.specs.Run.{evaluation_at, state_after, state_before, value}
 
 -- two maps agree on a list if they do on the elements of which P holds
@@ -70,17 +71,20 @@ module _ (answer : Evaluation → ℕ → State) (d : Netlist) where
       near_before g is (suc t) = λ event some.
           let before = near (evaluation_at d (state_before answer d t) g t) t (is_task g is t) (near_before g is t) event some in omega arith
 
-      can_store : (g : GateEntry) → IsGate g → (t : ℕ) → CanStore t (state_after answer d g t)
-      can_store g is t = λ event some.
-          let before = near_before g is (suc t) event some in
-          (pending (evaluation_at d (state_before answer d t) g t) t (is_task g is t) event some, omega arith)
+      can_store : (g : GateEntry) → IsGate g → (t : ℕ) → t < TIME_END → CanStore t (state_after answer d g t)
+      can_store g is t low = (
+        low,
+        λ event some.
+            let before = near_before g is (suc t) event some in
+            (pending (evaluation_at d (state_before answer d t) g t) t (is_task g is t) event some, omega arith),
+      )
 
       -- the states after t can be stored at t
-      pub storable : All IsGate d.gates → (t : ℕ) (states : List State) → states ≡ map (state_before answer d (t + 1)) d.gates → All (CanStore t) states
-      storable are t states those =
+      pub storable : All IsGate d.gates → (t : ℕ) → t < TIME_END → (states : List State) → states ≡ map (state_before answer d (t + 1)) d.gates → All (CanStore t) states
+      storable are t low states those =
           rw (those, add-one)
           (All-map (CanStore t) (state_before answer d (suc t)) d.gates
-          (All-weaker IsGate (λ g. CanStore t (state_before answer d (suc t) g)) (λ g is. can_store g is t) d.gates are))
+          (All-weaker IsGate (λ g. CanStore t (state_before answer d (suc t) g)) (λ g is. can_store g is t low) d.gates are))
 
   pub waves_early : LieBefore same_value standing → (t : ℕ) → All (All (λ e. e.0 < t)) (map (λ n. wave_changes_below (value answer d n) t) d.nets)
   waves_early early t = all_map (All (λ e. e.0 < t)) (λ n. wave_changes_below (value answer d n) t) (λ n. early (value answer d n) t) d.nets

@@ -13,14 +13,16 @@ use Rattle.gatestep.specs.Step.{State, Evaluation, due}
 use Rattle.gatestep.specs.Tasks.{IsTask, NothingDue, PendingFrom, again}
 use Rattle.design.specs.Lawful.{IsGate}
 use Rattle.design.specs.Netlist.{GateEntry, Netlist, has_point}
-use Rattle.waveform.specs.Changes.{wave_changes_below, trace_below}
+use Rattle.waveform.specs.Changes.{trace_below}
 use Rattle.waveform.specs.Entries.{same_state, standing}
 use Rattle.scratch.specs.Places.{Announces, Covers, has, pends_at, point_at}
 use Rattle.scratch.specs.Quiet.{IsQuiet}
+use Rattle.scratch.specs.Recorded.{recorded_below}
 use Rattle.scratch.specs.Run.{state_after, state_before, value}
 use Rattle.scratch.specs.Stands.{Stands}
 use Rattle.scratch.specs.Work.{is_due, is_stirred, stirred_at, work_below}
 use Rattle.scratch.specs.declared.engine.Engine.{Engine}
+use Rattle.scratch.proofs.Recorded.{recorded_moves}
 use Rattle.scratch.proofs.Runs.{map_where, ready_all}
 use Rattle.scratch.proofs.Still.{Stays, none_kept, quiet_gate, quiet_idle, quiet_net, still_after, trace_stays, wave_stays}
 
@@ -102,8 +104,10 @@ module _ (answer : Evaluation → ℕ → State) (d : Netlist)
     values_stay : map (λ x. value answer d x (suc v)) d.nets ≡ map (λ x. value answer d x v) d.nets
     values_stay = map_where (λ n. has_point n.points (suc v) ≡ false) _ _ (quiet_net answer d current v quiet) d.nets quiet.no_point
 
-    waves_stay : map (λ x. wave_changes_below (value answer d x) (suc (suc v))) d.nets ≡ map (λ x. wave_changes_below (value answer d x) (suc v)) d.nets
-    waves_stay = map_where (λ n. has_point n.points (suc v) ≡ false) _ _ (λ n none. wave_stays still_waves answer d n v (quiet_net answer d current v quiet n none)) d.nets quiet.no_point
+    waves_stay : map (λ x. recorded_below answer d x (suc (suc v))) d.nets ≡ map (λ x. recorded_below answer d x (suc v)) d.nets
+    waves_stay =
+        map_where (λ n. has_point n.points (suc v) ≡ false) _ _
+        (λ n none. recorded_moves answer d n (suc (suc v)) (suc v) (wave_stays still_waves answer d n v (quiet_net answer d current v quiet n none))) d.nets quiet.no_point
 
     early_on : (listed : ℕ → List ℕ) → listed (suc v) ≡ [] → ((t : ℕ) → t < suc v → listed t ≡ []) → (t : ℕ) → (t < suc v) ⊎ (t ≡ suc v) → listed t ≡ []
     early_on listed here before t (inl low) = before t low

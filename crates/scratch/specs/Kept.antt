@@ -51,8 +51,9 @@ only_place [] = None
 only_place (p ∷ []) = Some p
 only_place (p ∷ q ∷ ps) = None
 
-abbrev pub lone_place : SmallVec ℕ → Option ℕ
-lone_place places = only_place places.items
+-- the driver that alone gives a net its value, if there is one
+abbrev pub lone_driver : Netlist → NetEntry → Option ℕ
+lone_driver d n = if n.is_input then None else only_place (driver_places d.gates n.name)
 
 -- these are the connections of the design
 pub record IsWiring (d : Netlist) (w : Wiring) : Type 0 where
@@ -61,7 +62,7 @@ pub record IsWiring (d : Netlist) (w : Wiring) : Type 0 where
   pub outputs : (k m : ℕ) → drives_at d k m ≡ true → has m (output_at w.outputs.items k) ≡ true
   pub readers : (k m : ℕ) → has k (places_at w.readers.items m) ≡ reads_at d k m
   pub kinds : w.kinds.items ≡ map driven_kind d.nets
-  pub lone_drivers : w.lone_drivers.items ≡ map lone_place w.drivers.items
+  pub lone_drivers : w.lone_drivers.items ≡ map (lone_driver d) d.nets
 
 -- the values at some places
 abbrev pub values_at : List Value → List ℕ → List Value

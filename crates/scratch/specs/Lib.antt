@@ -6,6 +6,7 @@ pub mod PackedInputs
 pub mod Places
 pub mod Plain
 pub mod Quiet
+pub mod Recorded
 pub mod Recordings
 pub mod Run
 pub mod Stands

@@ -4,8 +4,9 @@ use Rattle.event_queue.specs.Noted.{noted}
 use Rattle.gatestep.specs.Step.{State, Evaluation}
 use Rattle.gatestep.specs.Tasks.{PendingFrom}
 use Rattle.design.specs.Netlist.{Netlist}
-use Rattle.waveform.specs.Changes.{wave_changes_below, trace_below}
+use Rattle.waveform.specs.Changes.{trace_below}
 use Rattle.scratch.specs.Places.{Announces, Covers, has, passing, pends_at, point_at}
+use Rattle.scratch.specs.Recorded.{recorded_below}
 use Rattle.scratch.specs.Run.{state_after, state_before, value}
 use Rattle.scratch.specs.Work.{is_stirred}
 use Rattle.scratch.specs.declared.engine.Engine.{Engine}
@@ -16,7 +17,7 @@ pub record Stands (answer : Evaluation → ℕ → State) (d : Netlist) (e : Eng
   pub begun : 0 < n
   pub states : e.states.items ≡ map (state_before answer d n) d.gates
   pub values : e.values.items ≡ map (λ x. value answer d x (n - 1)) d.nets
-  pub waves : e.waves ≡ map (λ x. wave_changes_below (value answer d x) n) d.nets
+  pub waves : e.waves ≡ map (λ x. recorded_below answer d x n) d.nets
   pub traces : e.traces ≡ map (λ g. trace_below (state_after answer d g) n) d.gates
   pub events : Covers (pends_at e.states.items) (noted e.events) n
   pub points : Announces (point_at d.nets) (noted e.points) n
@@ -29,7 +30,7 @@ pub record IsStirred (answer : Evaluation → ℕ → State) (d : Netlist) (e : 
   pub states : e.states.items ≡ map (state_before answer d t) d.gates
   pub ready : All (PendingFrom t) e.states.items
   pub values : e.values.items ≡ map (λ x. value answer d x t) d.nets
-  pub waves : e.waves ≡ map (λ x. wave_changes_below (value answer d x) (t + 1)) d.nets
+  pub waves : e.waves ≡ map (λ x. recorded_below answer d x (t + 1)) d.nets
   pub traces : e.traces ≡ map (λ g. trace_below (state_after answer d g) t) d.gates
   pub gates : e.gates.items ≡ passing (λ g. is_stirred answer d g t) 0 d.gates
   pub events : Covers (λ k u. not (has k e.gates.items) && pends_at e.states.items k u) (noted e.events) (t + 1)

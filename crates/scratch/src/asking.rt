@@ -1,8 +1,10 @@
 //! The evaluation of the gates that are stirred at a moment.
 
-ghost use Rattle.std.specs.Prelude.{◌≡◌, ◌<◌, ◌≤◌, ◌+◌, ◌++◌, map, length, slice_get, All, Some, OnOk, OnErr, if◌then◌else◌};
+ghost use Rattle.std.specs.Prelude.{List, ◌≡◌, ◌<◌, ◌≤◌, ◌+◌, ◌++◌, map, length, slice_get, All, Some, OnOk, OnErr, if◌then◌else◌};
 ghost use Rattle.fourstate.specs.declared.limits.TheConstants.{MAX_TIME};
 ghost use Rattle.gatestep.specs.Faults.{is_lost};
+ghost use Rattle.gatestep.specs.Record.{at_moment};
+ghost use Rattle.gatestep.specs.Step.{Evaluation};
 ghost use Rattle.gatestep.specs.Tasks.{PendingFrom};
 ghost use Rattle.design.specs.Keys.{netlist};
 ghost use Rattle.scratch.specs.Kept.{IsWiring, evaluations_from};
@@ -36,6 +38,35 @@ fn find_some_tasks(
     Ok(())
 }
 
+/// The answers of the gates at some places, one after another, without a list of their tasks. It fails only where nothing was
+/// asked.
+fn evaluate_each<S: Stepper>(
+    wiring: &Wiring,
+    values: &[Value],
+    states: &[Driver],
+    places: &[usize],
+    stepper: &mut S,
+    t: u64,
+    answers: &mut Vec<Driver>,
+) -> Result<(), AllocError>
+    requires beside { length wiring.now.cells.items ≡ length states.now }
+    requires there { All (λ k. k < length states.now) places.now }
+    requires ready { All (PendingFrom t) states.now }
+    requires within { t ≤ MAX_TIME }
+    ensures ok { OnOk result ((tasks : List Evaluation) × (map (λ task. Some task) tasks ≡ map (slice_get (evaluations_from values.now wiring.now.cells.items states.now)) places.now)
+        × (answers.new.items ≡ map (λ task. S.answer task t) tasks) × (S.asked stepper.new ≡ S.asked stepper.old ++ at_moment t tasks)) }
+    ensures err { OnErr result (S.asked stepper.new ≡ S.asked stepper.old) }
+    ensures lost { S.losses stepper.new ≡ S.losses stepper.old }
+{
+    answers.clear();
+    answers.reserve(places.len())?;
+    for place in places {
+        let task = task(&wiring.cells[*place], states[*place], values);
+        answers.push_reserved(stepper.evaluate(&task, t));
+    }
+    Ok(())
+}
+
 /// The answers to the tasks of the stirred gates, which are at these places.
 pub fn ask<S: Stepper>(
     design: &Design,
@@ -59,6 +90,10 @@ pub fn ask<S: Stepper>(
     ensures part { OnErr result (HasGrownOrNot (S.asked stepper.old) (S.asked stepper.new) (work_at S.answer (netlist design.now) t)) }
     ensures lost { S.losses stepper.new ≡ S.losses stepper.old + (if is_lost result then 1 else 0) }
 {
+    if !stepper.deals(gates.len()) {
+        evaluate_each(wiring, values, states, gates, stepper, t, answers)?;
+        return Ok(());
+    }
     find_some_tasks(wiring, values, states, gates, tasks)?;
     answers.clear();
     if !tasks.is_empty() {

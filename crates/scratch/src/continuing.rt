@@ -42,5 +42,5 @@ pub fn run_on<S: Stepper>(
         engine.pass(alloc, design, wiring, stepper, t)?;
         t = engine.advance::<S>(design, t + 1);
     }
-    Ok(engine.finish::<S>(alloc, design)?)
+    Ok(engine.finish::<S>(alloc, design, wiring)?)
 }

@@ -11,6 +11,7 @@ ghost use Rattle.scratch.specs.Stands.{IsStirred, Stands};
 ghost use Rattle.scratch.specs.Work.{HasGrownOrNot, stirred_at, work_at, work_below};
 
 use crate::asking::ask;
+use crate::completing::complete_waves;
 use crate::opening::Opening;
 use crate::recording::Recording;
 use crate::resolving::resolve_nets;
@@ -32,7 +33,7 @@ pub struct Engine {
     pub states: Vec<Driver>,
     /// The value of each net, in the order of the nets.
     pub values: Vec<Value>,
-    /// The waves so far, in the order of the nets.
+    /// The waves so far, in the order of the nets; of a net to which one driver alone gives its value only moment 0.
     pub waves: Lines<Value>,
     /// The traces so far, in the order of the gates.
     pub traces: Lines<Driver>,
@@ -182,6 +183,7 @@ impl Engine {
     ) -> Result<(), AllocError>
         requires wired { IsWiring (netlist design.now) wiring.now }
         requires stands { Stands S.answer (netlist design.now) self.old t }
+        requires within { t ≤ MAX_TIME }
         ensures { OnOk result (IsStirred S.answer (netlist design.now) self.new t) }
     {
         design.lawful();
@@ -230,6 +232,7 @@ impl Engine {
         t: u64,
     ) -> Result<(), AllocError>
         requires stirred { IsStirred S.answer (netlist design.now) self.old t }
+        requires within { t ≤ MAX_TIME }
         requires answers { self.old.answers.items ≡ map (state_before S.answer (netlist design.now) (t + 1)) (stirred_at S.answer (netlist design.now) t) }
         ensures { OnOk result (Stands S.answer (netlist design.now) self.new (t + 1)) }
     {
@@ -278,14 +281,20 @@ impl Engine {
     }
 
     /// The run of the design, where all moments up to its horizon are done.
-    pub fn finish<S: Stepper>(self, alloc: Global, design: &Design) -> Result<Run, AllocError>
-        requires { Stands S.answer (netlist design.now) self (suc (netlist design.now).horizon) }
+    pub fn finish<S: Stepper>(
+        self,
+        alloc: Global,
+        design: &Design,
+        wiring: &Wiring,
+    ) -> Result<Run, AllocError>
+        requires wired { IsWiring (netlist design.now) wiring.now }
+        requires stands { Stands S.answer (netlist design.now) self (suc (netlist design.now).horizon) }
         ensures { IfOk result (IsRun S.answer design.now) }
     {
-        let recording = Recording {
-            waves: self.waves.finish()?,
-            traces: self.traces.finish()?,
-        };
+        let mut waves = self.waves.finish()?;
+        let traces = self.traces.finish()?;
+        complete_waves::<S>(design, wiring, traces.as_slice(), &mut waves)?;
+        let recording = Recording { waves, traces };
         let run = recording.finish(alloc, design)?;
         Ok(run)
     }

@@ -35,7 +35,7 @@ pub fn extend<S: Stepper>(
     ensures lost { S.losses stepper.new ≡ S.losses stepper.old + (if loses_a_worker result then 1 else 0) }
 {
     let wiring = wire(alloc, design)?;
-    let engine = resume::<S>(alloc, former, run)?;
+    let engine = resume::<S>(alloc, former, &wiring, run)?;
     let start = former.horizon() + 1;
     run_on(alloc, design, &wiring, engine, start, stepper)
 }

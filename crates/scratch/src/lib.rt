@@ -2,6 +2,7 @@
 #![tactic(auto)]
 
 mod asking;
+mod completing;
 mod continuing;
 mod engine;
 mod extending;

@@ -213,6 +213,7 @@ pub fn read_input(values: &[Value], input: Input) -> Value
 }
 
 /// The task of a cell in this state.
+#[inline(always)]
 pub fn task(cell: &Cell, state: Driver, values: &[Value]) -> Task
     ensures { result ≡ evaluation_from values.now cell.now state }
 {

@@ -1,13 +1,14 @@
 //! The values of nets at a moment, from the states of the gates.
 
-ghost use Rattle.std.specs.Prelude.{◌≡◌, ◌<◌, ◌+◌, ◌-◌, ℕ, false, not, map, length, slice_get, unwrap_or, OnOk, IfOk, IfSome};
+ghost use Rattle.std.specs.Prelude.{◌≡◌, ◌<◌, ◌≤◌, ◌+◌, ◌-◌, ℕ, false, not, map, length, slice_get, unwrap_or, OnOk, IfOk, IfSome};
+ghost use Rattle.fourstate.specs.declared.limits.TheConstants.{MAX_TIME};
 ghost use Rattle.fourstate.specs.Nets.{net_of};
 ghost use Rattle.fourstate.specs.Values.{same_value};
-ghost use Rattle.waveform.specs.Changes.{wave_changes_below};
 ghost use Rattle.design.specs.Keys.{netlist};
 ghost use Rattle.design.specs.Places.{driver_places};
 ghost use Rattle.scratch.specs.Kept.{IsWiring, currents_of, net_from, values_at};
 ghost use Rattle.scratch.specs.Places.{changes_at, has};
+ghost use Rattle.scratch.specs.Recorded.{recorded_below};
 ghost use Rattle.scratch.specs.Run.{state_before, value};
 
 use crate::wiring::Wiring;
@@ -45,6 +46,7 @@ fn gather_currents(
 }
 
 /// What a net of this kind has at the moment `t` from the states of its drivers at some places.
+#[inline(never)]
 fn resolve_drivers(
     kind: NetKind,
     places: &[u32],
@@ -59,6 +61,7 @@ fn resolve_drivers(
 }
 
 /// The value of the net at a place at the moment `t` from the states of the gates. One driver alone gives what it drives.
+#[inline(always)]
 fn resolved(
     design: &Design,
     wiring: &Wiring,
@@ -72,12 +75,12 @@ fn resolved(
     ensures { IfOk result (λ v. IfSome (slice_get (netlist design.now).nets place)
         (λ n. v ≡ net_from (currents_of states.now t) t n (driver_places (netlist design.now).gates n.name))) }
 {
+    if let Some(driver) = wiring.lone_drivers[place] {
+        return Ok(current_at(states, driver as usize, t));
+    }
     match wiring.kinds[place] {
         None => Ok(design.net_at(place).stimulus_at(t)),
         Some(kind) => {
-            if let Some(driver) = wiring.lone_drivers[place] {
-                return Ok(current_at(states, driver as usize, t));
-            }
             let places = wiring.drivers[place].as_slice();
             let value = resolve_drivers(kind, places, states, t, driven)?;
             Ok(value)
@@ -94,7 +97,7 @@ fn is_other(value: Value, other: Value) -> bool
 }
 
 /// Goes on to the values at the moment `t`, where nets at other places than these keep theirs, and finds the nets that have
-/// another one.
+/// another one. The wave of a net to which one driver alone gives its value is found later, from the driver's trace.
 pub fn resolve_nets<S: Stepper>(
     design: &Design,
     wiring: &Wiring,
@@ -108,12 +111,13 @@ pub fn resolve_nets<S: Stepper>(
 ) -> Result<(), AllocError>
     requires wired { IsWiring (netlist design.now) wiring.now }
     requires begun { 0 < t }
+    requires within { t ≤ MAX_TIME }
     requires states { states.now ≡ map (state_before S.answer (netlist design.now) t) (netlist design.now).gates }
     requires values { values.old.items ≡ map (λ n. value S.answer (netlist design.now) n (t - 1)) (netlist design.now).nets }
-    requires waves { waves.old ≡ map (λ n. wave_changes_below (value S.answer (netlist design.now) n) t) (netlist design.now).nets }
+    requires waves { waves.old ≡ map (λ n. recorded_below S.answer (netlist design.now) n t) (netlist design.now).nets }
     requires others { (k : ℕ) → has k nets.now ≡ false → changes_at S.answer (netlist design.now) k t ≡ false }
     ensures values { OnOk result (values.new.items ≡ map (λ n. value S.answer (netlist design.now) n t) (netlist design.now).nets) }
-    ensures waves { OnOk result (waves.new ≡ map (λ n. wave_changes_below (value S.answer (netlist design.now) n) (t + 1)) (netlist design.now).nets) }
+    ensures waves { OnOk result (waves.new ≡ map (λ n. recorded_below S.answer (netlist design.now) n (t + 1)) (netlist design.now).nets) }
     ensures changed { OnOk result ((k : ℕ) → has k changed.new.items ≡ changes_at S.answer (netlist design.now) k t) }
 {
     laws::push_to_changes::<Value>();
@@ -127,7 +131,9 @@ pub fn resolve_nets<S: Stepper>(
             let former = values[*place];
             if is_other(value, former) {
                 values[*place] = value;
-                waves.push_known(*place, t, former, value)?;
+                if wiring.lone_drivers[*place].is_none() {
+                    waves.push_known(*place, t, former, value)?;
+                }
                 changed.push(*place)?;
             }
         }

@@ -1,9 +1,11 @@
 //! What stands after the last moment of a run, read from the run.
 
-ghost use Rattle.std.specs.Prelude.{◌≡◌, ◌<◌, ℕ, suc, map, length, IfOk, Some, option_map, slice_get};
+ghost use Rattle.std.specs.Prelude.{◌≡◌, ◌<◌, ◌-◌, ℕ, suc, map, length, IfOk, Some, option_map, slice_get};
 ghost use Rattle.design.specs.Keys.{netlist};
-ghost use Rattle.gatestep.specs.Step.{Evaluation, State};
-ghost use Rattle.scratch.specs.Run.{IsRun, IsSomeRun, trace_of, wave_of};
+ghost use Rattle.gatestep.specs.Step.{Evaluation, State, due, initial};
+ghost use Rattle.scratch.specs.Kept.{IsWiring};
+ghost use Rattle.scratch.specs.Recorded.{recorded_below};
+ghost use Rattle.scratch.specs.Run.{IsRun, IsSomeRun, trace_of, value};
 ghost use Rattle.scratch.specs.Stands.{Stands};
 ghost use Rattle.waveform.specs.Timelines.{value_by};
 
@@ -11,17 +13,24 @@ use crate::engine::Engine;
 use crate::noting::{list_events, list_points};
 use crate::recording::Recording;
 use crate::waves::wave_at;
+use crate::wiring::Wiring;
 use design::Design;
 use fourstate::Value;
 use gatestep::{Driver, Stepper};
 use std::alloc::{AllocError, Global};
-use waveform::{Run, Sample, Timeline, Trace, Wave, laws};
+use waveform::{Run, Trace, Wave, laws};
 
 /// For how many entries more there is room in a line that goes on (own).
 const ROOM: usize = 8;
 
 /// What stands after the last moment of the run of a design. It shares nothing with the run.
-pub fn resume<S: Stepper>(alloc: Global, design: &Design, run: &Run) -> Result<Engine, AllocError>
+pub fn resume<S: Stepper>(
+    alloc: Global,
+    design: &Design,
+    wiring: &Wiring,
+    run: &Run,
+) -> Result<Engine, AllocError>
+    requires wired { IsWiring (netlist design.now) wiring.now }
     requires run { IsRun S.answer design.now run.now }
     ensures { IfOk result (λ engine. Stands S.answer (netlist design.now) engine (suc (netlist design.now).horizon)) }
 {
@@ -29,55 +38,83 @@ pub fn resume<S: Stepper>(alloc: Global, design: &Design, run: &Run) -> Result<E
     laws::value_of_changes::<Value>();
     laws::value_of_changes::<Driver>();
     let horizon = design.horizon();
-    let recording = copy_lines::<S>(alloc, design, run)?;
-    let values = last_of(alloc, recording.waves.as_slice(), horizon)?;
-    let states = last_of(alloc, recording.traces.as_slice(), horizon)?;
+    let recording = copy_lines::<S>(alloc, design, wiring, run)?;
+    let values = last_values::<S>(alloc, design, run)?;
+    let states = last_states(alloc, recording.traces.as_slice(), horizon)?;
     let events = list_events(alloc, states.as_slice())?;
     let points = list_points(alloc, design, horizon)?;
     Ok(Engine::new(alloc, states, values, recording, events, points))
 }
 
-/// The value of each line at the moment `t`.
-fn last_of<V: Sample>(alloc: Global, lines: &[Timeline<V>], t: u64) -> Result<Vec<V>, AllocError>
-    ensures { IfOk result (λ values. values.items ≡ map (λ line. value_by V.drift V.start line t) lines.now) }
+/// The value of each net at the horizon.
+fn last_values<S: Stepper>(
+    alloc: Global,
+    design: &Design,
+    run: &Run,
+) -> Result<Vec<Value>, AllocError>
+    requires run { IsRun S.answer design.now run.now }
+    ensures { IfOk result (λ values. values.items ≡ map (λ n. value S.answer (netlist design.now) n (suc (netlist design.now).horizon - 1)) (netlist design.now).nets) }
 {
-    let mut values = Vec::with_capacity(alloc, lines.len())?;
-    for line in lines {
-        values.push(line.at(t))?;
+    laws::value_of_changes::<Value>();
+    let horizon = design.horizon();
+    let mut values = Vec::with_capacity(alloc, design.net_count())?;
+    for place in 0..design.net_count() {
+        let wave = wave_at(design, run, place);
+        values.push(wave.at(horizon))?;
     }
     Ok(values)
 }
 
-/// Copies of the waves and the traces of a run, in the order of the nets and of the gates.
+/// The state that each trace has at the moment `t`.
+fn last_states(alloc: Global, traces: &[Trace], t: u64) -> Result<Vec<Driver>, AllocError>
+    ensures { IfOk result (λ states. states.items ≡ map (λ line. value_by due initial line t) traces.now) }
+{
+    let mut states = Vec::with_capacity(alloc, traces.len())?;
+    for trace in traces {
+        states.push(trace.at(t))?;
+    }
+    Ok(states)
+}
+
+/// Copies of the waves and the traces of a run, in the order of the nets and of the gates; of waves what is recorded while a run
+/// goes on.
 fn copy_lines<S: Stepper>(
     alloc: Global,
     design: &Design,
+    wiring: &Wiring,
     run: &Run,
 ) -> Result<Recording, AllocError>
+    requires wired { IsWiring (netlist design.now) wiring.now }
     requires run { IsRun S.answer design.now run.now }
-    ensures waves { IfOk result (λ recording. recording.waves.items ≡ map (wave_of S.answer (netlist design.now)) (netlist design.now).nets) }
+    ensures waves { IfOk result (λ recording. recording.waves.items ≡ map (λ n. recorded_below S.answer (netlist design.now) n (suc (netlist design.now).horizon)) (netlist design.now).nets) }
     ensures traces { IfOk result (λ recording. recording.traces.items ≡ map (trace_of S.answer (netlist design.now)) (netlist design.now).gates) }
 {
-    let waves = copy_waves::<S>(alloc, design, run)?;
+    let waves = copy_waves::<S>(alloc, design, wiring, run)?;
     let traces = copy_traces::<S>(alloc, design, run)?;
     Ok(Recording { waves, traces })
 }
 
-/// A copy of the wave of each net.
+/// A copy of the wave of each net; of one to which one driver alone gives its value up to moment 0.
 fn copy_waves<S: Stepper>(
     alloc: Global,
     design: &Design,
+    wiring: &Wiring,
     run: &Run,
 ) -> Result<Vec<Wave>, AllocError>
+    requires wired { IsWiring (netlist design.now) wiring.now }
     requires run { IsRun S.answer design.now run.now }
-    ensures { IfOk result (λ waves. waves.items ≡ map (wave_of S.answer (netlist design.now)) (netlist design.now).nets) }
+    ensures { IfOk result (λ waves. waves.items ≡ map (λ n. recorded_below S.answer (netlist design.now) n (suc (netlist design.now).horizon)) (netlist design.now).nets) }
 {
     laws::cut_of_changes::<Value>();
     let horizon = design.horizon();
     let mut waves = Vec::with_capacity(alloc, design.net_count())?;
     for place in 0..design.net_count() {
+        let until = match wiring.lone_drivers[place] {
+            Some(_) => 0,
+            None => horizon,
+        };
         let wave = wave_at(design, run, place);
-        waves.push(wave.fork(alloc, horizon, ROOM)?)?;
+        waves.push(wave.fork(alloc, until, ROOM)?)?;
     }
     Ok(waves)
 }

@@ -1,6 +1,7 @@
 //! What the answers of a moment leave.
 
-ghost use Rattle.std.specs.Prelude.{◌≡◌, ◌<◌, ◌+◌, ◌&&◌, [], ℕ, not, map, length, OnOk};
+ghost use Rattle.std.specs.Prelude.{◌≡◌, ◌<◌, ◌≤◌, ◌+◌, ◌&&◌, [], ℕ, not, map, length, OnOk};
+ghost use Rattle.fourstate.specs.declared.limits.TheConstants.{MAX_TIME};
 ghost use Rattle.event_queue.specs.Noted.{noted};
 ghost use Rattle.waveform.specs.Changes.{trace_below};
 ghost use Rattle.design.specs.Keys.{netlist};
@@ -27,6 +28,7 @@ pub fn settle<S: Stepper>(
     events: &mut EventQueue,
 ) -> Result<(), AllocError>
     requires begun { 0 < t }
+    requires within { t ≤ MAX_TIME }
     requires gates { gates.now ≡ passing (λ g. is_stirred S.answer (netlist design.now) g t) 0 (netlist design.now).gates }
     requires answers { answers.now ≡ map (state_before S.answer (netlist design.now) (t + 1)) (stirred_at S.answer (netlist design.now) t) }
     requires beside { length answers.now ≡ length gates.now }

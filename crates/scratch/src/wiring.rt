@@ -1,11 +1,11 @@
 //! The connections of a design, by places in place of keys.
 
-ghost use Rattle.std.specs.Prelude.{◌≡◌, ◌<◌, ◌||◌, ◌&&◌, ℕ, true, false, nat_eq, map, IfOk, OnOk, IfSome, IsSome, IsTrue, length};
+ghost use Rattle.std.specs.Prelude.{◌≡◌, ◌<◌, ◌||◌, ◌&&◌, ℕ, true, false, None, nat_eq, map, if◌then◌else◌, IfOk, OnOk, IfSome, IsSome, IsTrue, length};
 ghost use Rattle.std.specs.List.{list_any};
 ghost use Rattle.fourstate.specs.Gates.{takes_inputs};
 ghost use Rattle.design.specs.Keys.{IsConnected, IsThere, connection_in, entry_in, net_by_key, netlist};
 ghost use Rattle.design.specs.Places.{driver_places};
-ghost use Rattle.scratch.specs.Kept.{IsWiring, cell_of, driven_kind, input_of, is_at, lone_place, output_at, places_at};
+ghost use Rattle.scratch.specs.Kept.{IsWiring, cell_of, driven_kind, input_of, is_at, lone_driver, only_place, output_at, places_at};
 ghost use Rattle.scratch.specs.PackedInputs.{IsPackable};
 ghost use Rattle.scratch.specs.Places.{drives_at, has, reads_at};
 
@@ -125,7 +125,7 @@ pub struct Wiring {
     pub readers: Vec<Places>,
     /// Of each net its kind, if drivers give its value.
     pub kinds: Vec<Option<NetKind>>,
-    /// Of each net the place of the gate that alone drives it, if there is one.
+    /// Of each net the place of the gate that alone gives its value, if there is one.
     pub lone_drivers: Vec<Option<u32>>,
 }
 
@@ -138,7 +138,7 @@ pub fn wire(alloc: Global, design: &Design) -> Result<Wiring, AllocError>
     let outputs = all_outputs(alloc, design)?;
     let readers = all_readers(alloc, design, cells.as_slice())?;
     let kinds = all_kinds(alloc, design)?;
-    let lone_drivers = all_lone_drivers(alloc, drivers.as_slice())?;
+    let lone_drivers = all_lone_drivers(alloc, design, drivers.as_slice())?;
     Ok(Wiring {
         cells,
         drivers,
@@ -149,21 +149,29 @@ pub fn wire(alloc: Global, design: &Design) -> Result<Wiring, AllocError>
     })
 }
 
-/// The place that stands alone in each of some lists.
-fn all_lone_drivers(alloc: Global, drivers: &[Places]) -> Result<Vec<Option<u32>>, AllocError>
-    ensures { IfOk result (λ lone. lone.items ≡ map lone_place drivers.now) }
+/// The driver that alone gives each net its value.
+fn all_lone_drivers(
+    alloc: Global,
+    design: &Design,
+    drivers: &[Places],
+) -> Result<Vec<Option<u32>>, AllocError>
+    requires { map (λ places. places.items) drivers.now ≡ map (λ n. driver_places (netlist design.now).gates n.name) (netlist design.now).nets }
+    ensures { IfOk result (λ lone. lone.items ≡ map (lone_driver (netlist design.now)) (netlist design.now).nets) }
 {
-    let mut lone = Vec::with_capacity(alloc, drivers.len())?;
-    for place in 0..drivers.len() {
-        lone.push(lone_place(&drivers[place]))?;
+    let mut lone = Vec::with_capacity(alloc, design.net_count())?;
+    for place in 0..design.net_count() {
+        lone.push(lone_driver(design.net_at(place), &drivers[place]))?;
     }
     Ok(lone)
 }
 
-/// The place that stands alone in a list.
-fn lone_place(places: &Places) -> Option<u32>
-    ensures { result ≡ lone_place places.now }
+/// The driver that alone gives a net its value, if its drivers are at these places.
+fn lone_driver(net: &Net, places: &Places) -> Option<u32>
+    ensures { result ≡ (if net.now.is_input then None else only_place places.now.items) }
 {
+    if net.is_input() {
+        return None;
+    }
     match places.as_slice() {
         [place] => Some(*place),
         _ => None,

@@ -16,6 +16,29 @@ held_err : {A E P : Type 0} (r : Result A E) → P → OnErr r P
 held_err (Ok x) p = tt
 held_err (Err e) p = p
 
+pub evaluate_each-requires-clause-there : goal.evaluate_each-requires-clause-there
+evaluate_each-requires-clause-there g c =
+    let d = netlist c.args.design.now in let answer = g.S.Stepper.answer in
+    let as_many : length c.args.states.now ≡ length d.gates = ap length c.requires.states ∙ length-map d.gates (state_before answer d c.args.t) in
+    rw as_many (in_range c.args.gates.now (length d.gates) (λ k on.
+    in_list (λ gate. is_stirred answer d gate c.args.t) d.gates k (sym (has_place (λ gate. is_stirred answer d gate c.args.t) d.gates k) ∙ sym (ap (has k) c.requires.gates) ∙ on)))
+
+pub returns-then-not-deals-clause-answers : goal.returns-then-not-deals-clause-answers
+returns-then-not-deals-clause-answers g c =
+    let d = netlist c.args.design.now in let answer = g.S.Stepper.answer in let t = c.args.t in
+    let so = c.in_ok-evaluate_each.ensures.ok in
+    let tasks : so.0 ≡ map (λ gate. task_at answer d gate t) (stirred_at answer d t) =
+    tasks_are answer d t c.args.values.now c.args.wiring.now.cells.items c.args.states.now c.args.gates.now so.0 c.requires.values c.requires.wired.cells c.requires.states c.requires.gates so.1 in
+    so.2 ∙ ap (map (λ task. answer task t)) tasks ∙ answers_are answer d t
+
+pub returns-then-not-deals-clause-asked : goal.returns-then-not-deals-clause-asked
+returns-then-not-deals-clause-asked g c =
+    let d = netlist c.args.design.now in let answer = g.S.Stepper.answer in let t = c.args.t in
+    let so = c.in_ok-evaluate_each.ensures.ok in
+    let tasks : so.0 ≡ map (λ gate. task_at answer d gate t) (stirred_at answer d t) =
+    tasks_are answer d t c.args.values.now c.args.wiring.now.cells.items c.args.states.now c.args.gates.now so.0 c.requires.values c.requires.wired.cells c.requires.states c.requires.gates so.1 in
+    so.3 ∙ ap (λ l. g.S.Stepper.asked c.args.stepper.now ++ at_moment t l) tasks
+
 pub find_some_tasks-requires-clause-there : goal.find_some_tasks-requires-clause-there
 find_some_tasks-requires-clause-there g c =
     let d = netlist c.args.design.now in let answer = g.S.Stepper.answer in

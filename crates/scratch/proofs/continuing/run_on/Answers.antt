@@ -44,8 +44,8 @@ loop-t-preserved g c =
       losses = grind (arith, common_steps);
     }
 
-pub finish-requires : goal.finish-requires
-finish-requires g c =
+pub finish-requires-clause-stands : goal.finish-requires-clause-stands
+finish-requires-clause-stands g c =
     let answer = g.S.Stepper.answer in let d = netlist c.args.design.now in
     let last : c.loop-t.t ≡ suc d.horizon = let past = c.loop-t-test.false in let within = c.loop-t.invariant.within in let is = c.horizon-horizon.ensures.horizon in omega arith in
     subst (Stands answer d c.loop-t.engine) last c.loop-t.invariant.stands

@@ -3,8 +3,11 @@ use Rattle.design.specs.Keys.{netlist}
 use Rattle.scratch.specs.Stands.{Stands}
 use Rattle.scratch.specs.Work.{work_from}
 use Rattle.scratch.proofs.Asked.{err_on, ok_on}
-use Rattle.scratch.proofs.Later.{stands_in}
+use Rattle.scratch.proofs.Later.{stands_in, wired_in}
 use Rattle.scratch.proofs.extending.extend.Goals as goal
+
+pub resume-requires-clause-wired : goal.resume-requires-clause-wired
+resume-requires-clause-wired g c = wired_in c.in_ok-wiring.wiring c.args.former.now c.args.design.now c.requires.same c.in_ok-wiring.ensures
 
 pub run_on-requires-clause-stands : goal.run_on-requires-clause-stands
 run_on-requires-clause-stands g c =

@@ -4,16 +4,16 @@ use Rattle.std.specs.Option.{option_map_or}
 use Rattle.std.proofs.lemmas.List.{take_all}
 use Rattle.std.proofs.lemmas.Option.{slice_get-get_or, slice_get_read, slice_get_past}
 use Rattle.fourstate.specs.Values.{same_value}
-use Rattle.waveform.specs.Changes.{wave_changes_below}
 use Rattle.design.specs.Keys.{netlist}
 use Rattle.design.specs.Places.{driver_places}
 use Rattle.scratch.specs.Places.{changes_at, has}
+use Rattle.scratch.specs.Recorded.{recorded_below}
 use Rattle.scratch.specs.Run.{value}
 use Rattle.scratch.proofs.Between.{finish}
 use Rattle.scratch.proofs.Lists.{some_at, take_next}
-use Rattle.scratch.proofs.NetSteps.{again, resolved_is, same_value_at, same_wave_at, stayed, wave_early, wave_reached, went}
+use Rattle.scratch.proofs.NetSteps.{again, alone_there, resolved_is, same_value_at, same_wave_at, stayed, wave_early, wave_reached, went, went_alone, whole_there}
 use Rattle.scratch.proofs.resolving.resolve_nets.Goals as goal
-use Rattle.scratch.proofs.resolving.resolve_nets.Goals.{then-place-len+in_ok-value+then-is_other+in_ok-push_known+in_ok-push, then-place-len+in_ok-value+else-is_other, else-place-len}
+use Rattle.scratch.proofs.resolving.resolve_nets.Goals.{then-place-len+in_ok-value+then-is_other+in_ok-push, then-place-len+in_ok-value+else-is_other, else-place-len, then-is_none+in_ok-push_known, else-is_none}
 
 pub push_known-requires-clause-later : goal.push_known-requires-clause-later
 push_known-requires-clause-later g c =
@@ -29,8 +29,10 @@ push_known-requires-clause-later g c =
     let other : not (same_value v c.index-former.result.now) ≡ true = sym c.is_other.ensures ∙ c.if-is_other.true in
     let in_waves : place < length c.loop-place.waves = rw part.as_many_waves in_nets in
     let wave = slice_get-get_or c.loop-place.waves place [] in_waves in
+    let lone = c.args.wiring.now.lone_drivers.items in
+    let whole = whole_there d lone place n c.index.result.now c.requires.wired.lone_drivers it.1 in_nets c.index.ensures (c.is_none.ensures ∙ ap not c.if-is_none.true) in
     wave_early answer d t c.requires.begun c.no_change.ensures place done c.loop-place.values.items c.loop-place.waves c.loop-place.changed.items part n it.1 v c.index-former.result.now is old other
-    c.changes_lie_before.ensures (slice_index_or c.loop-place.waves place []) wave
+    whole (slice_index_or c.loop-place.waves place []) wave c.changes_lie_before.ensures
 
 pub push_known-requires-clause-known : goal.push_known-requires-clause-known
 push_known-requires-clause-known g c =
@@ -46,8 +48,10 @@ push_known-requires-clause-known g c =
     let other : not (same_value v c.index-former.result.now) ≡ true = sym c.is_other.ensures ∙ c.if-is_other.true in
     let in_waves : place < length c.loop-place.waves = rw part.as_many_waves in_nets in
     let wave = slice_get-get_or c.loop-place.waves place [] in_waves in
+    let lone = c.args.wiring.now.lone_drivers.items in
+    let whole = whole_there d lone place n c.index.result.now c.requires.wired.lone_drivers it.1 in_nets c.index.ensures (c.is_none.ensures ∙ ap not c.if-is_none.true) in
     wave_reached answer d t c.requires.begun c.no_change.ensures place done c.loop-place.values.items c.loop-place.waves c.loop-place.changed.items part n it.1 v c.index-former.result.now is old other
-    c.reached_by_changes.ensures (slice_index_or c.loop-place.waves place []) wave
+    whole (slice_index_or c.loop-place.waves place []) wave c.reached_by_changes.ensures
 
 pub loop-place-preserved : goal.loop-place-preserved
 loop-place-preserved g c =
@@ -58,7 +62,7 @@ loop-place-preserved g c =
     let vs = c.loop-place.values.items in let ws = c.loop-place.waves in let cs = c.loop-place.changed.items in
     let still = c.no_change.ensures in
     elim c.if-place-len.branch [
-      | then-place-len+in_ok-value+then-is_other+in_ok-push_known+in_ok-push w ↦
+      | then-place-len+in_ok-value+then-is_other+in_ok-push w ↦
           let in_nets : place < length d.nets = let low = w.if-place-len.true in let many = part.as_many in grind (arith, common_steps) in
           let it = some_at d.nets place in_nets in let n = it.0 in
           let v = w.in_ok-value.value in
@@ -66,10 +70,19 @@ loop-place-preserved g c =
           let in_values : place < length vs = rw part.as_many in_nets in
           let old = slice_get_read vs (length vs) place w.index-former.result.now refl in_values w.index-former.ensures in
           let other : not (same_value v w.index-former.result.now) ≡ true = sym w.is_other.ensures ∙ w.if-is_other.true in
-          let in_waves : place < length ws = rw part.as_many_waves in_nets in
-          let wave = slice_get-get_or ws place [] in_waves in
-          rw (more, w.values-is, w.waves-is, w.changed-is, w.in_ok-push_known.ensures, w.in_ok-push.ensures.items)
-          (went answer d t c.requires.begun still place done vs ws cs part n it.1 v w.index-former.result.now is old other c.push_to_changes.ensures (slice_index_or ws place []) wave)
+          let lone = c.args.wiring.now.lone_drivers.items in
+          elim w.if-is_none.branch [
+            | then-is_none+in_ok-push_known u ↦
+                let in_waves : place < length ws = rw part.as_many_waves in_nets in
+                let wave = slice_get-get_or ws place [] in_waves in
+                let whole = whole_there d lone place n w.index.result.now c.requires.wired.lone_drivers it.1 in_nets w.index.ensures (w.is_none.ensures ∙ ap not u.if-is_none.true) in
+                rw (more, w.values-is, w.waves-is, u.waves-is, w.changed-is, u.in_ok-push_known.ensures, w.in_ok-push.ensures.items)
+                (went answer d t c.requires.begun still place done vs ws cs part n it.1 v w.index-former.result.now is old other whole (slice_index_or ws place []) wave c.push_to_changes.ensures)
+            | else-is_none u ↦
+                let alone = alone_there d lone place n w.index.result.now c.requires.wired.lone_drivers it.1 in_nets w.index.ensures (w.is_none.ensures ∙ ap not u.if-is_none.false) in
+                rw (more, w.values-is, w.waves-is, u.waves-is, w.changed-is, w.in_ok-push.ensures.items)
+                (went_alone answer d t c.requires.begun still place done vs ws cs part n it.1 v w.index-former.result.now is old other alone.0 alone.1)
+          ]
       | then-place-len+in_ok-value+else-is_other w ↦
           let in_nets : place < length d.nets = let low = w.if-place-len.true in let many = part.as_many in grind (arith, common_steps) in
           let it = some_at d.nets place in_nets in let n = it.0 in
@@ -97,5 +110,5 @@ pub returns-clause-waves : goal.returns-clause-waves
 returns-clause-waves g c =
     let answer = g.S.Stepper.answer in let d = netlist c.args.design.now in let t = c.args.t in
     let whole : take c.loop-place.place-index c.args.nets.now ≡ c.args.nets.now = take_all c.loop-place.place-index c.args.nets.now (let past = c.loop-place-test.false in omega arith) in
-    finish (take c.loop-place.place-index c.args.nets.now) (map (λ n. wave_changes_below (value answer d n) t) d.nets) (map (λ n. wave_changes_below (value answer d n) (t + 1)) d.nets) c.loop-place.waves c.loop-place.invariant.waves
+    finish (take c.loop-place.place-index c.args.nets.now) (map (λ n. recorded_below answer d n t) d.nets) (map (λ n. recorded_below answer d n (t + 1)) d.nets) c.loop-place.waves c.loop-place.invariant.waves
     (λ k off. same_wave_at answer d t c.requires.begun c.no_change.ensures k (c.requires.others k (ap (has k) (sym whole) ∙ off)))

@@ -1,63 +1,52 @@
-use Rattle.std.proofs.Common.{◌≡◌, ◌<◌, ◌∙◌, sym, ap, refl, [], ◌∷◌, Option, Some, None, IfSome, length, slice_get, unwrap_or, arith}
+use Rattle.std.proofs.Common.{◌≡◌, ◌<◌, ◌∙◌, sym, ap, refl, Option, Some, None, IfSome, length, slice_get, arith}
 use Rattle.std.proofs.lemmas.List.{length-map}
 use Rattle.std.proofs.lemmas.Option.{slice_get_read}
 use Rattle.fourstate.specs.Nets.{net_of}
-use Rattle.fourstate.specs.declared.value.Value.TheVariants.{Unknown}
 use Rattle.design.specs.Keys.{netlist}
 use Rattle.design.specs.Places.{driver_places}
 use Rattle.scratch.specs.Kept.{currents_of, driven_kind, net_from, values_at}
 use Rattle.scratch.proofs.Lists.{some_at}
-use Rattle.scratch.proofs.NetSteps.{driven_is, drivers_at, kind_there, lone_there, one_driver, stimulus_is}
+use Rattle.scratch.proofs.NetSteps.{driven_is, drivers_at, kind_there, lone_gives, lone_there, stimulus_is}
 use Rattle.scratch.proofs.resolving.resolved.Goals as goal
 
 -- what holds of what is there holds if there is one
 if_there : {X : Type 0} (o : Option X) (x : X) (P : X → Type 0) → o ≡ Some x → P x → IfSome o P
 if_there o x P e p = rw e p
 
+pub returns-in-Some : goal.returns-in-Some
+returns-in-Some c =
+    let d = netlist c.args.design.now in let place = c.args.place in
+    let it = some_at d.nets place c.requires.there in let n = it.0 in
+    let lone = c.args.wiring.now.lone_drivers.items in
+    let in_lone : place < length lone = (let as_many = simp length-map at (ap length c.requires.wired.lone_drivers) in let low = c.requires.there in omega arith) in
+    let there = slice_get_read lone (length lone) place c.index.result.now refl in_lone c.index.ensures ∙ ap (λ o. Some o) c.in-Some.is in
+    let alone = lone_there d lone place n (Some c.in-Some.driver) c.requires.wired.lone_drivers it.1 there in
+    if_there (slice_get d.nets place) n (λ n. c.current_at.result ≡ net_from (currents_of c.args.states.now c.args.t) c.args.t n (driver_places d.gates n.name)) it.1
+    (c.current_at.ensures ∙ lone_gives d (currents_of c.args.states.now c.args.t) c.args.t n c.in-Some.driver alone)
+
 pub returns-in-None : goal.returns-in-None
 returns-in-None c =
     let d = netlist c.args.design.now in let place = c.args.place in
     let kinds = c.args.wiring.now.kinds.items in
     let below : place < length kinds = (let as_many = simp length-map at (ap length c.requires.wired.kinds) in let low = c.requires.there in omega arith) in
-    let listed = slice_get_read kinds (length kinds) place c.index.result.now refl below c.index.ensures in
+    let listed = slice_get_read kinds (length kinds) place c.index-2.result.now refl below c.index-2.ensures in
     let n = c.net_at.result.now in
-    let none : None ≡ driven_kind n = sym c.in-None.is ∙ kind_there d kinds place n c.index.result.now c.requires.wired.kinds c.net_at.ensures listed in
+    let none : None ≡ driven_kind n = sym c.in-None.is ∙ kind_there d kinds place n c.index-2.result.now c.requires.wired.kinds c.net_at.ensures listed in
     if_there (slice_get d.nets place) n (λ n. c.stimulus_at.result ≡ net_from (currents_of c.args.states.now c.args.t) c.args.t n (driver_places d.gates n.name)) c.net_at.ensures
     (c.stimulus_at.ensures ∙ stimulus_is (currents_of c.args.states.now c.args.t) c.args.t n (driver_places d.gates n.name) none)
 
-pub returns-in_ok-value-in-Some : goal.returns-in_ok-value-in-Some
-returns-in_ok-value-in-Some c =
+pub returns-in_ok-value-in-Some-index : goal.returns-in_ok-value-in-Some-index
+returns-in_ok-value-in-Some-index c =
     let d = netlist c.args.design.now in let place = c.args.place in
     let it = some_at d.nets place c.requires.there in let n = it.0 in
     let kinds = c.args.wiring.now.kinds.items in
     let below : place < length kinds = (let as_many = simp length-map at (ap length c.requires.wired.kinds) in let low = c.requires.there in omega arith) in
-    let listed = slice_get_read kinds (length kinds) place c.index.result.now refl below c.index.ensures in
-    let some : Some c.in-Some.kind ≡ driven_kind n = sym c.in-Some.is ∙ kind_there d kinds place n c.index.result.now c.requires.wired.kinds it.1 listed in
+    let listed = slice_get_read kinds (length kinds) place c.index-2.result.now refl below c.index-2.ensures in
+    let some : Some c.in-Some-index.kind ≡ driven_kind n = sym c.in-Some-index.is ∙ kind_there d kinds place n c.index-2.result.now c.requires.wired.kinds it.1 listed in
     let drivers = c.args.wiring.now.drivers.items in
     let in_drivers : place < length drivers = (let as_many = simp length-map at (ap length c.requires.wired.drivers) in let low = c.requires.there in omega arith) in
-    let beside = slice_get_read drivers (length drivers) place c.index-in-Some-2.result.now refl in_drivers c.index-in-Some-2.ensures in
-    let places : c.as_slice-places.result.now ≡ driver_places d.gates n.name = c.as_slice-places.ensures ∙ drivers_at d drivers place n c.index-in-Some-2.result.now c.requires.wired.drivers it.1 beside in
+    let beside = slice_get_read drivers (length drivers) place c.index-in-Some-index.result.now refl in_drivers c.index-in-Some-index.ensures in
+    let places : c.as_slice-places.result.now ≡ driver_places d.gates n.name = c.as_slice-places.ensures ∙ drivers_at d drivers place n c.index-in-Some-index.result.now c.requires.wired.drivers it.1 beside in
     let currents = currents_of c.args.states.now c.args.t in
-    if_there (slice_get d.nets place) n (λ n. c.in_ok-value-in-Some.value ≡ net_from currents c.args.t n (driver_places d.gates n.name)) it.1
-    (c.in_ok-value-in-Some.ensures ∙ ap (λ l. net_of c.in-Some.kind (values_at currents l)) places ∙ driven_is currents c.args.t n c.in-Some.kind (driver_places d.gates n.name) some)
-
-pub returns-in-Some-index : goal.returns-in-Some-index
-returns-in-Some-index c =
-    let d = netlist c.args.design.now in let place = c.args.place in
-    let it = some_at d.nets place c.requires.there in let n = it.0 in
-    let kinds = c.args.wiring.now.kinds.items in
-    let below : place < length kinds = (let as_many = simp length-map at (ap length c.requires.wired.kinds) in let low = c.requires.there in omega arith) in
-    let listed = slice_get_read kinds (length kinds) place c.index.result.now refl below c.index.ensures in
-    let some : Some c.in-Some.kind ≡ driven_kind n = sym c.in-Some.is ∙ kind_there d kinds place n c.index.result.now c.requires.wired.kinds it.1 listed in
-    let drivers = c.args.wiring.now.drivers.items in
-    let in_drivers : place < length drivers = (let as_many = simp length-map at (ap length c.requires.wired.drivers) in let low = c.requires.there in omega arith) in
-    let places = some_at drivers place in_drivers in
-    let lone = c.args.wiring.now.lone_drivers.items in
-    let in_lone : place < length lone = (let as_many = simp length-map at (ap length c.requires.wired.lone_drivers) in omega arith) in
-    let there = slice_get_read lone (length lone) place c.index-in-Some.result.now refl in_lone c.index-in-Some.ensures ∙ ap (λ o. Some o) c.in-Some-index.is in
-    let alone = lone_there lone drivers place c.in-Some-index.driver places.0 c.requires.wired.lone_drivers places.1 there in
-    let them : driver_places d.gates n.name ≡ c.in-Some-index.driver ∷ [] = sym (drivers_at d drivers place n places.0 c.requires.wired.drivers it.1 places.1) ∙ alone in
-    let currents = currents_of c.args.states.now c.args.t in
-    if_there (slice_get d.nets place) n (λ n. c.current_at.result ≡ net_from currents c.args.t n (driver_places d.gates n.name)) it.1
-    (c.current_at.ensures ∙ sym (one_driver c.in-Some.kind (unwrap_or (slice_get currents c.in-Some-index.driver) Unknown))
-    ∙ ap (λ l. net_of c.in-Some.kind (values_at currents l)) (sym them) ∙ driven_is currents c.args.t n c.in-Some.kind (driver_places d.gates n.name) some)
+    if_there (slice_get d.nets place) n (λ n. c.in_ok-value-in-Some-index.value ≡ net_from currents c.args.t n (driver_places d.gates n.name)) it.1
+    (c.in_ok-value-in-Some-index.ensures ∙ ap (λ l. net_of c.in-Some-index.kind (values_at currents l)) places ∙ driven_is currents c.args.t n c.in-Some-index.kind (driver_places d.gates n.name) some)

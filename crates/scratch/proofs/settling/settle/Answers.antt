@@ -134,7 +134,7 @@ push_known-requires-clause-can g c =
     let here = value_at_place (λ gate. is_stirred answer d gate c.args.t) (state_before answer d (c.args.t + 1)) d.gates gates c.args.answers.now c.requires.gates c.requires.answers
     c.loop-i.i place c.index-answers-i.result (slice_get-get_or gates c.loop-i.i 0 within) there in
     let next = map (state_before answer d (c.args.t + 1)) d.gates in
-    all_at (CanStore c.args.t) next place c.index-answers-i.result (storable answer d law.answer_pending law.answer_near c.lawful.ensures.design.gates c.args.t next refl) here
+    all_at (CanStore c.args.t) next place c.index-answers-i.result (storable answer d law.answer_pending law.answer_near c.lawful.ensures.design.gates c.args.t (omega arith) next refl) here
 
 pub loop-i-preserved : goal.loop-i-preserved
 loop-i-preserved g c =
@@ -187,8 +187,8 @@ loop-i-preserved g c =
         | in-Some+in_ok-add w ↦ λ u low.
             let event : Value × ℕ = (w.in-Some.field-0-0, w.in-Some.time) in
             let pending : s.pending ≡ Some event = sym c.pending.ensures ∙ w.in-Some.is in
-            let can = all_at (CanStore t) next place s (storable answer d law.answer_pending law.answer_near are t next refl) here in
-            let later : t < event.1 = (can event pending).0 in
+            let can = all_at (CanStore t) next place s (storable answer d law.answer_pending law.answer_near are t (omega arith) next refl) here in
+            let later : t < event.1 = (can.1 event pending).0 in
             ap (λ q. noted q u) w.events-is ∙ elsewhere event.1 place c.loop-i.events w.add.new.self w.in_ok-add.ensures.ok u (nat_beyond event.1 u (omega arith)) ∙ c.loop-i.invariant.early u low
         | in_default w ↦ λ u low. ap (λ q. noted q u) w.events-is ∙ c.loop-i.invariant.early u low
       ];

@@ -1,7 +1,8 @@
 use Rattle.std.proofs.Common.{◌≡◌, map, take}
-use Rattle.scratch.specs.Kept.{lone_place}
+use Rattle.design.specs.Keys.{netlist}
+use Rattle.scratch.specs.Kept.{lone_driver}
 use Rattle.scratch.proofs.wiring.all_lone_drivers.Given as goal
 
--- the places that stand alone in the lists so far
+-- the lone drivers of the nets so far
 abbrev pub invariant-loop-place : goal.invariant-loop-place
-invariant-loop-place l = l.lone.items ≡ map lone_place (take l.place l.fn.drivers)
+invariant-loop-place l = l.lone.items ≡ map (lone_driver (netlist l.design)) (take l.place (netlist l.design).nets)

@@ -9,7 +9,7 @@ pub returns : goal.returns
 returns g c =
     let answer = g.S.Stepper.answer in let design = c.args.design.now in let d = netlist design in
     record {
-      waves = waves_under answer design c.in_ok-run.run'.waves (subst (λ lines. AreUnder (keys_of design.nets) lines c.in_ok-run.run'.waves) (c.in_ok-finish.ensures ∙ c.requires.waves) c.in_ok-run.ensures.waves);
-      traces = traces_under answer design c.in_ok-run.run'.traces (subst (λ lines. AreUnder (keys_of design.gates) lines c.in_ok-run.run'.traces) (c.in_ok-finish-2.ensures ∙ c.requires.traces) c.in_ok-run.ensures.traces);
+      waves = waves_under answer design c.in_ok-run.run'.waves (subst (λ lines. AreUnder (keys_of design.nets) lines c.in_ok-run.run'.waves) c.in_ok-complete_waves.ensures c.in_ok-run.ensures.waves);
+      traces = traces_under answer design c.in_ok-run.run'.traces (subst (λ lines. AreUnder (keys_of design.gates) lines c.in_ok-run.run'.traces) (c.in_ok-traces.ensures ∙ c.requires.stands.traces) c.in_ok-run.ensures.traces);
       horizon = c.in_ok-run.ensures.horizon;
     }

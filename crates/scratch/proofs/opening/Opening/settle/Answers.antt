@@ -3,8 +3,12 @@ use Rattle.event_queue.specs.Noted.{noted}
 use Rattle.gatestep.specs.Tasks.{PendingFrom}
 use Rattle.design.specs.Keys.{netlist}
 use Rattle.scratch.specs.Places.{has, pends_at}
+use Rattle.waveform.specs.Changes.{wave_changes_below}
+use Rattle.scratch.specs.Recorded.{recorded_below}
 use Rattle.scratch.specs.Run.{state_after, state_before, value}
+use Rattle.scratch.proofs.Lists.{map_alike}
 use Rattle.scratch.proofs.Moments.{map_twice}
+use Rattle.scratch.proofs.Recorded.{recorded_first}
 use Rattle.scratch.proofs.Runs.{ready_all, storable}
 use Rattle.scratch.proofs.Tasks.{first_answers}
 use Rattle.scratch.proofs.opening.Opening.settle.Goals as goal
@@ -12,7 +16,7 @@ use Rattle.scratch.proofs.opening.Opening.settle.Goals as goal
 pub open-requires : goal.open-requires
 open-requires g c =
     let laws = g.met.S.Stepper in let answer = g.S.Stepper.answer in let d = netlist c.args.design.now in
-    storable answer d laws.answer_pending laws.answer_near c.lawful.ensures.design.gates 0 c.as_slice-2.result.now
+    storable answer d laws.answer_pending laws.answer_near c.lawful.ensures.design.gates 0 (omega arith) c.as_slice-2.result.now
     (c.as_slice-2.ensures.value ∙ c.requires.answers ∙ first_answers answer d)
 
 pub returns : goal.returns
@@ -26,7 +30,7 @@ returns g c =
       begun = omega arith;
       states = ap (λ v. v.items) c.new.ensures.states ∙ after;
       values = ap (λ v. v.items) c.new.ensures.values ∙ c.requires.opening.values;
-      waves = c.new.ensures.waves ∙ c.in_ok-recording.ensures.waves ∙ ap (map (λ v. (0, v) ∷ [])) (c.as_slice.ensures.value ∙ c.requires.opening.values) ∙ map_twice (λ n. value answer d n 0) (λ v. (0, v) ∷ []) d.nets;
+      waves = c.new.ensures.waves ∙ c.in_ok-recording.ensures.waves ∙ ap (map (λ v. (0, v) ∷ [])) (c.as_slice.ensures.value ∙ c.requires.opening.values) ∙ map_twice (λ n. value answer d n 0) (λ v. (0, v) ∷ []) d.nets ∙ sym (map_alike (λ n. recorded_below answer d n 1) (λ n. wave_changes_below (value answer d n) 1) (recorded_first answer d) d.nets);
       traces = c.new.ensures.traces ∙ c.in_ok-recording.ensures.traces ∙ ap (map (λ s. (0, s) ∷ [])) (c.as_slice-2.ensures.value ∙ after) ∙ map_twice (λ gate. state_after answer d gate 0) (λ s. (0, s) ∷ []) d.gates;
       events = λ k t from h. ap (λ q. has k (noted q t)) c.new.ensures.events ∙ c.in_ok-events.ensures.covers k t (omega arith) (ap (λ l. pends_at l k t) states ∙ h);
       points = rw c.new.ensures.points c.in_ok-points.ensures.announces;
