@@ -1,10 +1,11 @@
 //! Going along the wave of a net.
 
-ghost use Rattle.std.specs.Prelude.{◌≡◌, ◌≤◌, option_map};
+ghost use Rattle.std.specs.Prelude.{◌≡◌, ◌<◌, ◌≤◌, IfSome, option_map};
 ghost use Rattle.fourstate.specs.Values.{same_value};
 ghost use Rattle.design.specs.Netlist.{net_named};
 ghost use Rattle.waveform.specs.Changes.{wave_at};
 ghost use Rattle.waveform.specs.Timelines.{first_after, last_before, next_to};
+ghost use Rattle.waveform.specs.declared.times.TheConstants.{TIME_END};
 ghost use Rattle.bench.specs.Cursors.{at_time, begin_of, moved};
 
 use crate::snapshot::Snapshot;
@@ -100,6 +101,7 @@ impl<'a> Cursor<'a> {
 
     // Goes to a change, if there is one.
     fn go(&mut self, change: Option<(u64, Value)>) -> Option<Change>
+        requires { IfSome change (λ c. c.0 < TIME_END) }
         ensures found { result ≡ change }
         ensures moved { self.new ≡ moved self.old change }
     {

@@ -6,6 +6,7 @@ ghost use Rattle.fourstate.specs.declared.value.Value as values;
 ghost use Rattle.std.specs.Option.{ForSome};
 ghost use Rattle.waveform.specs.Changes.{wave_changes_below};
 ghost use Rattle.waveform.specs.Timelines.{IsAlwaysSettled, changes_below, end_of};
+ghost use Rattle.waveform.specs.declared.times.TheConstants.{TIME_END};
 
 use crate::compare::equal;
 use crate::timelines::{check_changes, check_entries, moving, pulse, standing};
@@ -33,6 +34,7 @@ fn followed<V: Sample>(
 ) -> Timeline<V>
     requires later { end_of line ≤ from }
     requires order { from ≤ to }
+    requires within { from < TIME_END }
     ensures { end_of result ≤ suc to }
 {
     line.follow(from, to, other).expect(rt, "room")
@@ -73,7 +75,8 @@ fn left<V: Sample>(patch: Patch<V>, t: u64) -> Patch<V>
 
 /// The timeline of the patch up to a moment.
 fn finished<V: Sample>(rt: &impl Abort, patch: Patch<V>, old: &Timeline<V>, end: u64) -> Timeline<V>
-    requires { end_of patch.line ≤ end }
+    requires later { end_of patch.line ≤ end }
+    requires within { end ≤ TIME_END }
 {
     patch.finish(old, end).expect(rt, "room")
 }
@@ -228,7 +231,8 @@ fn put_or_opened(
     t: u64,
     value: Value,
 ) -> Patch<Value>
-    requires { ForSome patch (λ p. end_of p.line ≤ t) }
+    requires within { t < TIME_END }
+    requires later { ForSome patch (λ p. end_of p.line ≤ t) }
     ensures { end_of result.line ≤ suc t }
 {
     Patch::put_or_open(patch, alloc, old, t, value).expect(rt, "room")
@@ -266,7 +270,8 @@ fn with_one_other_value(
     value: Value,
     end: u64,
 ) -> Result<Wave, AllocError>
-    requires { t < end }
+    requires order { t < end }
+    requires within { end ≤ TIME_END }
     ensures { IfOk result (λ wave. (f g : ℕ → values.Value) (h : ℕ) → old.now ≡ wave_changes_below g h → end ≤ h
         → ((u : ℕ) → u < t → f u ≡ g u) → value ≡ f t → ((u : ℕ) → t < u → u < end → f u ≡ g u)
         → wave ≡ wave_changes_below f end) }

@@ -7,6 +7,7 @@ use Rattle.std.proofs.lemmas.List.Elements.{All-map}
 use Rattle.fourstate.specs.declared.limits.TheConstants.{MAX_DELAY}
 use Rattle.gatestep.specs.Tasks.{IsTask, NothingDue, PendingBefore, PendingFrom}
 use Rattle.waveform.specs.Entries.{CanStore}
+use Rattle.waveform.specs.declared.times.TheConstants.{TIME_END}
 use Rattle.std.specs.Option.{option_map_or}
 use Rattle.gatestep.specs.Step.{State, Evaluation, initial}
 use Rattle.design.specs.Lawful.{IsDesign}
@@ -118,15 +119,15 @@ idle false w free both = free refl
 
 -- the states of some gates after a moment can be stored there
 pub stored_each : (answer : Evaluation → ℕ → State) (d : Netlist) (pending : (e : Evaluation) (t : ℕ) → IsTask e → NothingDue t (answer e t))
-    (near : (e : Evaluation) (t : ℕ) → IsTask e → PendingBefore (t + MAX_DELAY) e.state → PendingBefore (t + 1 + MAX_DELAY) (answer e t)) → IsDesign d → (t : ℕ) (places : List ℕ) →
+    (near : (e : Evaluation) (t : ℕ) → IsTask e → PendingBefore (t + MAX_DELAY) e.state → PendingBefore (t + 1 + MAX_DELAY) (answer e t)) → IsDesign d → (t : ℕ) → t < TIME_END → (places : List ℕ) →
     ((p : ℕ) → is_among places p ≡ true → p < length d.gates) → (states : List State) → states ≡ map (λ p. state_after answer d (gate_at d p) t) places → All (CanStore t) states
-stored_each answer d pending near is t places gates states those =
+stored_each answer d pending near is t low places gates states those =
     subst (All (CanStore t)) (sym those)
     (All-map (CanStore t) (λ p. state_after answer d (gate_at d p) t) places
     (λ k e within.
     let p = slice_index_or places k e in
-    can_store answer d pending near (gate_at d p) (is.gates p blank_gate (gates p (is_one places k p (get_at places k e within)))) t))
+    can_store answer d pending near (gate_at d p) (is.gates p blank_gate (gates p (is_one places k p (get_at places k e within)))) t low))
 
 -- what can be stored at a moment is pending for later
 pub stored_later : (t : ℕ) (states : List State) → All (CanStore t) states → All (PendingFrom (suc t)) states
-stored_later t states can = λ k e within event is. let after = (can k e within event is).0 in omega arith
+stored_later t states can = λ k e within event is. let after = ((can k e within).1 event is).0 in omega arith

@@ -11,6 +11,7 @@ use Rattle.design.specs.Names.{same_name}
 use Rattle.design.specs.Netlist.{GateEntry, Netlist, gate_named}
 use Rattle.waveform.specs.Entries.{CanStore}
 use Rattle.waveform.specs.Timelines.{IsAlwaysSettled}
+use Rattle.waveform.specs.declared.times.TheConstants.{TIME_END}
 use Rattle.scratch.specs.Run.{evaluation_at, state_after, state_before}
 use Rattle.rundiff.specs.Fronts.{named_state}
 use Rattle.rundiff.proofs.Lists.{found_in}
@@ -44,14 +45,17 @@ module _ (answer : Evaluation → ℕ → State) (d : Netlist) (pending : (e : E
         let before = near (evaluation_at d (state_before answer d t) g t) t (is_task g is t) (near_before g is t) event some in omega arith
 
     -- the state after a moment can be stored there
-    pub can_store : (g : GateEntry) → IsGate g → (t : ℕ) → CanStore t (state_after answer d g t)
-    can_store g is t = λ event some.
-        let before = near_before g is (suc t) event some in
-        (pending (evaluation_at d (state_before answer d t) g t) t (is_task g is t) event some, omega arith)
+    pub can_store : (g : GateEntry) → IsGate g → (t : ℕ) → t < TIME_END → CanStore t (state_after answer d g t)
+    can_store g is t low = (
+      low,
+      λ event some.
+          let before = near_before g is (suc t) event some in
+          (pending (evaluation_at d (state_before answer d t) g t) t (is_task g is t) event some, omega arith),
+    )
 
 -- what can be stored at a moment is not due before the next one
 pub stored_ready : (t : ℕ) (s : State) → 0 < t → CanStore (t - 1) s → PendingFrom t s
-stored_ready t s some can = λ event is. let after = can event is in omega arith
+stored_ready t s some can = λ event is. let after = can.1 event is in omega arith
 
 pub next_one : (t : ℕ) → 0 < t → suc (t - 1) ≡ t
 next_one t some = omega arith

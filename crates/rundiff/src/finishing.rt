@@ -8,6 +8,7 @@ ghost use Rattle.design.specs.Keys.{netlist};
 ghost use Rattle.catalog.specs.Catalog.{keys_of};
 ghost use Rattle.waveform.specs.Patches.{Keeps};
 ghost use Rattle.waveform.specs.Timelines.{IsAlwaysSettled, changes_below, end_of};
+ghost use Rattle.waveform.specs.declared.times.TheConstants.{TIME_END};
 ghost use Rattle.scratch.specs.Run.{IsRun};
 ghost use Rattle.rundiff.specs.Finishing.{ArePut, AreCleared, new_trace, new_wave};
 ghost use Rattle.rundiff.specs.Fronts.{AreTraces, AreWaves, EndBy, IsTrace, IsWave};
@@ -87,6 +88,7 @@ fn put_wave<S: Stepper>(
     ensures traces { made.new.traces ≡ made.old.traces }
     ensures horizon { made.new.horizon ≡ made.old.horizon }
 {
+    new.lawful();
     let key = new.net_key_at(place);
     let former = old_wave(old, run, key, new.net_at(place).name().as_str(), blank);
     let wave = whole(waves.take(place), alloc, former, new.horizon() + 1)?;
@@ -159,6 +161,7 @@ fn whole<V: Sample>(
     end: u64,
 ) -> Result<Timeline<V>, AllocError>
     requires some { 0 < end }
+    requires within { end ≤ TIME_END }
     requires later { ForSome patch (λ p. end_of p.line ≤ end) }
     ensures { IfOk result (λ line. (f g : ℕ → V) → IsAlwaysSettled V.drift f → IsAlwaysSettled V.drift g
         → old.now ≡ changes_below V.same V.drift g end → Keeps V.same V.drift g f patch end → line ≡ changes_below V.same V.drift f end) }

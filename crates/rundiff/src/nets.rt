@@ -97,6 +97,7 @@ fn put_value<S: Stepper>(
     ensures end { OnOk result (ForSome (kept_at waves.new place) (λ patch. end_of patch.line ≤ suc t)) }
     ensures others { OnOk result ((q : ℕ) → nat_eq place q ≡ false → kept_at waves.new q ≡ kept_at waves.old q) }
 {
+    old.lawful();
     let value = driven_value::<S>(alloc, traces, blank_trace, old, run, new, place, t)?;
     let former = former_wave(waves, blank_wave, old, run, new, place);
     put(waves, alloc, place, former, t, value)

@@ -6,6 +6,7 @@ ghost use Rattle.rundiff.specs.PlaceMaps.{kept_at};
 ghost use Rattle.waveform.specs.Timelines.{IsAlwaysSettled, changes_below, end_of};
 ghost use Rattle.rundiff.specs.Fronts.{IsFree, IsOwn};
 ghost use Rattle.waveform.specs.Patches.{Keeps};
+ghost use Rattle.waveform.specs.declared.times.TheConstants.{TIME_END};
 
 use crate::place_map::PlaceMap;
 use std::alloc::{AllocError, Global};
@@ -33,7 +34,7 @@ pub fn value_at<V: Sample>(
     ensures value { (f g : ℕ → V) (h n : ℕ) → IsAlwaysSettled V.drift f → IsAlwaysSettled V.drift g
         → IsOwn (kept_at patches.now place) ⊎ (old.now ≡ changes_below V.same V.drift g h)
         → m < h → m < n → Keeps V.same V.drift g f (kept_at patches.now place) n → result ≡ f m }
-    ensures can { V.can_store m result }
+    ensures can { m < TIME_END → V.can_store m result }
 {
     laws::value_of_changes::<V>();
     laws::changes_of_timeline::<V>();

@@ -1,5 +1,8 @@
 //! Cursors, moved by hand.
 
+ghost use Rattle.std.specs.Prelude.{◌<◌};
+ghost use Rattle.waveform.specs.declared.times.TheConstants.{TIME_END};
+
 use super::opened::open;
 use crate::compare::equal;
 use bench::{Bench, Cursor};
@@ -19,7 +22,9 @@ const PULSE: [&str; 7] = [
     "horizon 100",
 ];
 
-fn change(time: u64, value: Value) -> Option<Change> {
+fn change(time: u64, value: Value) -> Option<Change>
+    requires { time < TIME_END }
+{
     Some(Change::new(time, value))
 }
 

@@ -40,6 +40,16 @@ impl Stepper for Losing {
         }
     }
 
+    // So that each moment is asked by `step`, which counts down.
+    fn deals(&self, _tasks: usize) -> bool {
+        true
+    }
+
+    fn evaluate(&mut self, task: &Task, t: u64) -> Driver {
+        self.history.add_one(task, t);
+        self.serial.evaluate(task, t)
+    }
+
     ghost answer_current = { advance_current };
 
     ghost answer_pending = { advance_later };

@@ -12,7 +12,7 @@ pub struct Counting {
     history: Record,
     /// The steps that were made.
     pub steps: u64,
-    /// The tasks in them all.
+    /// The tasks in them all, and those that were asked by themselves.
     pub tasks: u64,
 }
 
@@ -51,6 +51,17 @@ impl Stepper for Counting {
                 Err(StepFault::OutOfMemory)
             }
         }
+    }
+
+    // So that each moment is asked by `step`, which counts it.
+    fn deals(&self, _tasks: usize) -> bool {
+        true
+    }
+
+    fn evaluate(&mut self, task: &Task, t: u64) -> Driver {
+        self.tasks = self.tasks.saturating_add(1);
+        self.history.add_one(task, t);
+        self.inner.evaluate(task, t)
     }
 
     ghost answer_current = { advance_current };

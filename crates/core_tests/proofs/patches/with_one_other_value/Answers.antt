@@ -16,7 +16,7 @@ stays f g line (Some r) s n at within alike mended =
 
 pub returns : goal.returns
 returns c =
-    let later : c.args.t < c.args.end = c.requires in
+    let later : c.args.t < c.args.end = c.requires.order in
     let since : c.leave.new.self.since ≡ Some (c.args.t + 1) =
     c.leave.ensures.since ∙ ap (λ o. Some (unwrap_or o (c.args.t + 1))) c.in_ok-patch.ensures.own in
     IfOk-weaker c.finish.result _ _

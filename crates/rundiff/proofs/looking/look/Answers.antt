@@ -1,4 +1,4 @@
-use Rattle.std.proofs.Common.{◌≡◌, ◌∙◌, ap, sym, subst, Some, Bool, true, false, List, length}
+use Rattle.std.proofs.Common.{◌≡◌, ◌∙◌, ◌<◌, ap, sym, subst, Some, Bool, true, false, List, length, arith}
 use Rattle.std.specs.Prelude.{◌&&◌}
 use Rattle.std.proofs.lemmas.List.{length-map}
 use Rattle.fourstate.specs.declared.value.Value.{Value}
@@ -7,6 +7,7 @@ use Rattle.design.specs.Keys.{connection_in, entry_in, netlist}
 use Rattle.design.specs.Lawful.{IsGate}
 use Rattle.design.specs.Netlist.{GateEntry, gate_named}
 use Rattle.waveform.specs.Entries.{CanStore}
+use Rattle.waveform.specs.declared.times.TheConstants.{TIME_END}
 use Rattle.scratch.specs.Run.{state_after, state_before}
 use Rattle.rundiff.specs.Dirty.{is_dirty}
 use Rattle.rundiff.specs.Fronts.{is_working}
@@ -71,7 +72,8 @@ returns-then-not-is_stirred g c =
     let state : c.gate_state-state.result ≡ state_after answer new (gate_at new c.args.place) c.args.t =
     c.gate_state-state.ensures.state ∙ rests answer new (gate_at new c.args.place) laws.answer_stays c.args.t still in
     let is : IsGate (gate_at new c.args.place) = c.lawful-2.ensures.design.gates c.args.place blank_gate c.requires.there in
-    (off, state, subst (CanStore c.args.t) (sym state) (can_store answer new laws.answer_pending laws.answer_near (gate_at new c.args.place) is c.args.t))
+    let low : c.args.t < TIME_END = let h = c.requires.within in let end = c.lawful.ensures.design.horizon in omega arith in
+    (off, state, subst (CanStore c.args.t) (sym state) (can_store answer new laws.answer_pending laws.answer_near (gate_at new c.args.place) is c.args.t low))
 
 pub new-requires : goal.new-requires
 new-requires g c =

@@ -1,5 +1,6 @@
 use Rattle.std.proofs.Common.{◌∙◌, ◌<◌, ◌-◌, ap, suc, arith, ℕ}
 use Rattle.design.specs.Keys.{netlist}
+use Rattle.waveform.specs.declared.times.TheConstants.{TIME_END}
 use Rattle.scratch.specs.Run.{state_after, state_before}
 use Rattle.rundiff.specs.Fronts.{named_state}
 use Rattle.rundiff.specs.Places.{blank_gate, gate_at}
@@ -26,4 +27,5 @@ returns-clause-state g c =
 pub returns-clause-ready : goal.returns-clause-ready
 returns-clause-ready g c =
     let some : 0 < c.args.t = let h = c.if-t-eq0.false in omega arith in
-    stored_ready c.args.t c.value_at.result some c.value_at.ensures.can
+    let low : c.args.t - 1 < TIME_END = let h = c.requires.within in let end = c.lawful.ensures.design.horizon in omega arith in
+    stored_ready c.args.t c.value_at.result some (c.value_at.ensures.can low)

@@ -9,6 +9,7 @@ use Rattle.gatestep.specs.Step.{State, due}
 use Rattle.event_queue.specs.Noted.{noted}
 use Rattle.design.specs.Keys.{netlist}
 use Rattle.waveform.specs.Entries.{same_state}
+use Rattle.waveform.specs.declared.times.TheConstants.{TIME_END}
 use Rattle.waveform.specs.Patches.{Keeps, PatchRecord}
 use Rattle.waveform.specs.Timelines.{end_of}
 use Rattle.scratch.specs.Run.{state_after}
@@ -57,7 +58,8 @@ put_states-requires-clause-can g c =
     let test = is_working answer (netlist c.args.old.now) new t in
     let held = contains nat_cmp c.args.self.now.held in
     let those = c.requires.answers ∙ ap (map (λ h. state_after answer new h t)) c.requires.front.tasks ∙ map_twice (gate_at new) (λ h. state_after answer new h t) c.args.self.now.working.items in
-    stored_each answer new laws.answer_pending laws.answer_near c.lawful-2.ensures.design t c.args.self.now.working.items
+    let low : t < TIME_END = let h = c.requires.within in let end = c.lawful.ensures.design.horizon in omega arith in
+    stored_each answer new laws.answer_pending laws.answer_near c.lawful-2.ensures.design t low c.args.self.now.working.items
     (λ p among. c.requires.front.drivers.gates p (both (held p) (test p) (sym (c.requires.front.places.all p) ∙ among)).0) c.args.answers.now those
 
 pub note_events-requires-clause-many : goal.note_events-requires-clause-many
@@ -73,8 +75,9 @@ note_events-requires-clause-later g c =
     let test = is_working answer (netlist c.args.old.now) new t in
     let held = contains nat_cmp c.args.self.now.held in
     let those = c.requires.answers ∙ ap (map (λ h. state_after answer new h t)) c.requires.front.tasks ∙ map_twice (gate_at new) (λ h. state_after answer new h t) c.args.self.now.working.items in
+    let low : t < TIME_END = let h = c.requires.within in let end = c.lawful.ensures.design.horizon in omega arith in
     stored_later t c.args.answers.now
-    (stored_each answer new laws.answer_pending laws.answer_near c.lawful-2.ensures.design t c.args.self.now.working.items
+    (stored_each answer new laws.answer_pending laws.answer_near c.lawful-2.ensures.design t low c.args.self.now.working.items
     (λ p among. c.requires.front.drivers.gates p (both (held p) (test p) (sym (c.requires.front.places.all p) ∙ among)).0) c.args.answers.now those)
 
 pub overflow_add-self : goal.overflow_add-self
