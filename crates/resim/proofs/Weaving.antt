@@ -51,7 +51,7 @@ at_passing {X} test d a (x ∷ xs) ys is =
       | false ↦ λ off. rw off later
     ] refl
 
-map_map : {X Y Z : Type 0} (h : X → Y) (f : Y → Z) (xs : List X) → map f (map h xs) ≡ map (λ x. f (h x)) xs
+pub map_map : {X Y Z : Type 0} (h : X → Y) (f : Y → Z) (xs : List X) → map f (map h xs) ≡ map (λ x. f (h x)) xs
 map_map h f [] = refl
 map_map h f (x ∷ xs) = ap (λ l. f (h x) ∷ l) (map_map h f xs)
 

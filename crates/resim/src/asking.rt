@@ -4,11 +4,12 @@ ghost use Rattle.std.specs.Prelude.{◌≡◌, ◌<◌, ◌≤◌, ◌+◌, ◌+
 ghost use Rattle.std.specs.List.{flat_map};
 ghost use Rattle.fourstate.specs.declared.limits.TheConstants.{MAX_TIME};
 ghost use Rattle.gatestep.specs.Faults.{is_lost};
+ghost use Rattle.gatestep.specs.Record.{at_moment};
 ghost use Rattle.gatestep.specs.Tasks.{IsReady, PendingFrom};
 ghost use Rattle.design.specs.Keys.{netlist};
 ghost use Rattle.scratch.specs.Kept.{IsWiring};
 ghost use Rattle.scratch.specs.Places.{passing};
-ghost use Rattle.scratch.specs.Run.{state_before, value};
+ghost use Rattle.scratch.specs.Run.{state_after, state_before, value};
 ghost use Rattle.scratch.specs.Work.{HasGrownOrNot, is_stirred, stirred_at};
 ghost use Rattle.rundiff.specs.Dirty.{rework_at};
 ghost use Rattle.rundiff.specs.OldLines.{AreOldLines, known_at};
@@ -114,6 +115,80 @@ fn weave(
     Ok(())
 }
 
+/// The state after the moment `t` of the gate at a place: the old run has it, or where the gate is dirty the stepper evaluates it.
+#[inline(always)]
+fn answer_one<S: Stepper>(
+    lines: &mut OldLines,
+    old: &Design,
+    new: &Design,
+    wiring: &Wiring,
+    values: &[Value],
+    states: &[Driver],
+    place: usize,
+    stepper: &mut S,
+    t: u64,
+) -> Driver
+    requires lines { AreOldLines S.answer (netlist old.now) (netlist new.now) lines.old }
+    requires wired { IsWiring (netlist new.now) wiring.now }
+    requires values { values.now ≡ map (λ n. value S.answer (netlist new.now) n t) (netlist new.now).nets }
+    requires states { states.now ≡ map (state_before S.answer (netlist new.now) t) (netlist new.now).gates }
+    requires ready { All (PendingFrom t) states.now }
+    requires there { place < length (netlist new.now).gates }
+    requires within { t ≤ (netlist old.now).horizon }
+    requires early { t ≤ MAX_TIME }
+    ensures lines { AreOldLines S.answer (netlist old.now) (netlist new.now) lines.new }
+    ensures answer { result ≡ state_after S.answer (netlist new.now) (gate_at (netlist new.now) place) t }
+    ensures asked { S.asked stepper.new ≡ S.asked stepper.old ++ at_moment t (dirty_task S.answer (netlist old.now) (netlist new.now) t place) }
+    ensures lost { S.losses stepper.new ≡ S.losses stepper.old }
+{
+    let cell = &wiring.cells[place];
+    let state = states[place];
+    match lines.known_state::<S>(old, new, cell, place, state, values, t) {
+        Some(known) => known,
+        None => {
+            let task = task_at::<S>(new, wiring, values, states, place, t);
+            stepper.evaluate(&task, t)
+        }
+    }
+}
+
+/// The answers of the gates at some places, one after another. It fails only where nothing was asked.
+fn answer_each<S: Stepper>(
+    lines: &mut OldLines,
+    old: &Design,
+    new: &Design,
+    wiring: &Wiring,
+    values: &[Value],
+    states: &[Driver],
+    gates: &[usize],
+    stepper: &mut S,
+    t: u64,
+    answers: &mut Vec<Driver>,
+) -> Result<(), AllocError>
+    requires lines { AreOldLines S.answer (netlist old.now) (netlist new.now) lines.old }
+    requires wired { IsWiring (netlist new.now) wiring.now }
+    requires values { values.now ≡ map (λ n. value S.answer (netlist new.now) n t) (netlist new.now).nets }
+    requires states { states.now ≡ map (state_before S.answer (netlist new.now) t) (netlist new.now).gates }
+    requires ready { All (PendingFrom t) states.now }
+    requires there { All (λ place. place < length (netlist new.now).gates) gates.now }
+    requires within { t ≤ (netlist old.now).horizon }
+    requires early { t ≤ MAX_TIME }
+    ensures lines { AreOldLines S.answer (netlist old.now) (netlist new.now) lines.new }
+    ensures answers { OnOk result (answers.new.items ≡ map (λ place. state_after S.answer (netlist new.now) (gate_at (netlist new.now) place) t) gates.now) }
+    ensures asked { OnOk result (S.asked stepper.new ≡ S.asked stepper.old ++ at_moment t (flat_map (dirty_task S.answer (netlist old.now) (netlist new.now) t) gates.now)) }
+    ensures err { OnErr result (S.asked stepper.new ≡ S.asked stepper.old) }
+    ensures lost { S.losses stepper.new ≡ S.losses stepper.old }
+{
+    answers.clear();
+    answers.reserve(gates.len())?;
+    for i in 0..gates.len() {
+        let place = gates[i];
+        let answer = answer_one(lines, old, new, wiring, values, states, place, stepper, t);
+        answers.push_reserved(answer);
+    }
+    Ok(())
+}
+
 /// The answers of the gates that are stirred at the moment `t`, which are at these places: only the dirty ones are asked.
 pub fn ask_dirty<S: Stepper>(
     lines: &mut OldLines,
@@ -144,6 +219,12 @@ pub fn ask_dirty<S: Stepper>(
     ensures lost { S.losses stepper.new ≡ S.losses stepper.old + (if is_lost result then 1 else 0) }
 {
     old.lawful();
+    if !stepper.deals(gates.len()) {
+        answer_each(
+            lines, old, new, wiring, values, states, gates, stepper, t, answers,
+        )?;
+        return Ok(());
+    }
     weigh_all::<S>(
         lines, old, new, wiring, values, states, gates, t, tasks, known,
     )?;

@@ -139,6 +139,7 @@ fn pass_beside<S: Stepper>(
     ensures part { OnErr result (HasGrownOrNot (S.asked stepper.old) (S.asked stepper.new) (rework_at S.answer (netlist old.now) (netlist new.now) t)) }
     ensures lost { S.losses stepper.new ≡ S.losses stepper.old + (if loses_a_worker result then 1 else 0) }
 {
+    old.lawful();
     engine.stir::<S>(alloc, new, wiring, t)?;
     ask_dirty(
         lines,
@@ -199,5 +200,5 @@ fn sweep_on<S: Stepper>(
         )?;
         t = engine.advance::<S>(new, t + 1);
     }
-    Ok(engine.finish::<S>(alloc, new)?)
+    Ok(engine.finish::<S>(alloc, new, wiring)?)
 }

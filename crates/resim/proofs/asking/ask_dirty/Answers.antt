@@ -1,11 +1,28 @@
-use Rattle.std.proofs.Common.{◌≡◌, ◌++◌, ◌∙◌, ap, map, inr, add-one}
+use Rattle.std.proofs.Common.{◌≡◌, ◌++◌, ◌∙◌, ap, sym, map, inr, add-one}
 use Rattle.gatestep.specs.Record.{at_moment}
 use Rattle.design.specs.Keys.{netlist}
 use Rattle.scratch.specs.Run.{state_after}
 use Rattle.rundiff.specs.Dirty.{working_at}
+use Rattle.rundiff.specs.Places.{gate_at}
 use Rattle.resim.proofs.Asked.{answers_are, held_err}
-use Rattle.resim.proofs.Weaving.{places_below, tasks_are, woven_are}
+use Rattle.resim.proofs.Weaving.{are_stirred, map_map, places_below, tasks_are, woven_are}
 use Rattle.resim.proofs.asking.ask_dirty.Goals as goal
+
+pub answer_each-requires-clause-there : goal.answer_each-requires-clause-there
+answer_each-requires-clause-there g c =
+    places_below g.S.Stepper.answer (netlist c.args.old.now) (netlist c.args.new.now) c.args.t c.args.gates.now c.requires.gates
+
+pub returns-then-not-deals-clause-answers : goal.returns-then-not-deals-clause-answers
+returns-then-not-deals-clause-answers g c =
+    let answer = g.S.Stepper.answer in let old = netlist c.args.old.now in let new = netlist c.args.new.now in let t = c.args.t in
+    rw add-one
+    (c.in_ok-answer_each.ensures.answers ∙ sym (map_map (gate_at new) (λ gate. state_after answer new gate t) c.args.gates.now)
+    ∙ ap (map (λ gate. state_after answer new gate t)) (are_stirred answer old new t c.args.gates.now c.requires.gates))
+
+pub returns-then-not-deals-clause-asked : goal.returns-then-not-deals-clause-asked
+returns-then-not-deals-clause-asked g c =
+    let answer = g.S.Stepper.answer in let old = netlist c.args.old.now in let new = netlist c.args.new.now in let t = c.args.t in
+    c.in_ok-answer_each.ensures.asked ∙ ap (λ l. g.S.Stepper.asked c.args.stepper.now ++ at_moment t l) (tasks_are answer old new t c.args.gates.now c.requires.gates)
 
 pub weigh_all-requires-clause-there : goal.weigh_all-requires-clause-there
 weigh_all-requires-clause-there g c =

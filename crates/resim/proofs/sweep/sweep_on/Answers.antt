@@ -41,8 +41,8 @@ loop-t-preserved g c =
       losses = grind (arith, common_steps);
     }
 
-pub finish-requires : goal.finish-requires
-finish-requires g c =
+pub finish-requires-clause-stands : goal.finish-requires-clause-stands
+finish-requires-clause-stands g c =
     let new = netlist c.args.new.now in
     let last : c.loop-t.t ≡ suc new.horizon = let past = c.loop-t-test.false in let within = c.loop-t.invariant.within in let is = c.horizon-horizon.ensures.horizon in omega arith in
     subst (Stands g.S.Stepper.answer new c.loop-t.engine) last c.loop-t.invariant.stands
