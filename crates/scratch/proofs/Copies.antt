@@ -47,18 +47,6 @@ trace_there answer d run is k key at =
     ∙ ap (option_map (λ g. trace_of answer (netlist d) (entry_in d.nets g))) (sym at)
     ∙ sym (is.traces key)
 
-module _ {X L : Type 0} (f : X → L) (cut : L → L) (whole : (x : X) → cut (f x) ≡ f x) (xs : List X) (k : ℕ) (line : L) (old new : List L) where
-  one_by : (o : Option X) → slice_get xs k ≡ o → option_map f o ≡ Some line → old ≡ map f (take k xs) → new ≡ old ++ cut line ∷ [] → new ≡ map f (take (k + 1) xs)
-  one_by None at is was more = absurd (cc)
-  one_by (Some x) at is was more =
-      let same : line ≡ f x = cc in
-      more ∙ ap (λ l. l ++ cut line ∷ []) was ∙ ap (λ y. map f (take k xs) ++ y ∷ []) (ap cut same ∙ whole x)
-      ∙ sym (map-append f (take k xs) (x ∷ [])) ∙ ap (map f) (sym (take_next xs k x at))
-
-  -- a copy of one line more
-  pub one_copied : option_map f (slice_get xs k) ≡ Some line → old ≡ map f (take k xs) → new ≡ old ++ cut line ∷ [] → new ≡ map f (take (k + 1) xs)
-  one_copied is was more = one_by (slice_get xs k) refl is was more
-
 -- what is found from one line more
 pub one_found : {X L Y : Type 0} (f : X → L) (h : X → Y) (xs : List X) (k : ℕ) (line : L) (y : Y) (old new : List Y) → ((x : X) → slice_get xs k ≡ Some x → line ≡ f x → y ≡ h x) →
     option_map f (slice_get xs k) ≡ Some line → old ≡ map h (take k xs) → new ≡ old ++ y ∷ [] → new ≡ map h (take (k + 1) xs)

@@ -155,7 +155,7 @@ module _ (answer : Evaluation → ℕ → State) (d : Netlist) (t : ℕ) where
               cc
 
           -- a net that changes goes on, with what is recorded of it
-          goes_on : (ws : List (List (ℕ × Value))) → ((k : ℕ) → Between (done ++ p ∷ []) (slice_get (waves_of t)) (slice_get (waves_of (t + 1))) (slice_get ws)) → length ws ≡ length d.nets →
+          goes_on : (ws : List (List (ℕ × Value))) → Between (done ++ p ∷ []) (slice_get (waves_of t)) (slice_get (waves_of (t + 1))) (slice_get ws) → length ws ≡ length d.nets →
               Part (done ++ p ∷ []) (set values p v) ws (changed ++ p ∷ [])
           goes_on ws are as_many =
               let in_nets = slice_get_within d.nets p n here in
@@ -163,7 +163,7 @@ module _ (answer : Evaluation → ℕ → State) (d : Netlist) (t : ℕ) where
               let on : changes p ≡ true = change_is not_done ∙ other in
               record {
                 values = write done (values_of (t - 1)) (values_of t) values part.values p v new_value in_values;
-                waves = are 0;
+                waves = are;
                 changed = step done (λ k. false) changes (λ k. has k changed) part.changed p (λ k. has k (changed ++ p ∷ []))
                     (has_more p p changed ∙ ap (λ (b : Bool). has p changed || b) (nat_itself p) ∙ or_true (has p changed) ∙ sym on)
                     (λ k e. has_more k p changed ∙ ap (λ (b : Bool). has k changed || b) e ∙ or_false (has k changed));
@@ -179,7 +179,7 @@ module _ (answer : Evaluation → ℕ → State) (d : Netlist) (t : ℕ) where
               ∙ slice_get-map (λ n. recorded_below answer d n t) d.nets p ∙ ap (option_map (λ n. recorded_below answer d n t)) here
               ∙ ap (λ x. Some x) (recorded_alone answer d n t k alone ∙ sym (recorded_alone answer d n (t + 1) k alone))
               ∙ sym (slice_get-map (λ n. recorded_below answer d n (t + 1)) d.nets p ∙ ap (option_map (λ n. recorded_below answer d n (t + 1))) here) in
-              goes_on waves (λ _. pass done (waves_of t) (waves_of (t + 1)) waves part.waves p same) part.as_many_waves
+              goes_on waves (pass done (waves_of t) (waves_of (t + 1)) waves part.waves p same) part.as_many_waves
 
           -- of another one its new value is
           module _ (whole : lone_driver d n ≡ None) (w : List (ℕ × Value)) (there : slice_get waves p ≡ Some w) where
@@ -204,7 +204,7 @@ module _ (answer : Evaluation → ℕ → State) (d : Netlist) (t : ℕ) where
                 slice_get-map (λ n. recorded_below answer d n (t + 1)) d.nets p ∙ ap (option_map (λ n. recorded_below answer d n (t + 1))) here
                 ∙ ap (λ x. Some x) (recorded_whole answer d n (t + 1) whole ∙ sym one ∙ ap (λ x. pushed same_value standing x t (value answer d n t)) wave_is ∙ ap (pushed same_value standing w t) (sym is)) in
                 goes_on (set waves p (pushed same_value standing w t v))
-                (λ _. write done (waves_of t) (waves_of (t + 1)) waves part.waves p (pushed same_value standing w t v) new_wave in_waves)
+                (write done (waves_of t) (waves_of (t + 1)) waves part.waves p (pushed same_value standing w t v) new_wave in_waves)
                 (length_set waves p (pushed same_value standing w t v) ∙ part.as_many_waves)
 
 -- the drivers that stand at the place of a net

@@ -3,17 +3,16 @@ use Rattle.std.proofs.Common.{◌≡◌, ◌<◌, ap, refl, Bool, ℕ, zero, suc
 use Rattle.std.proofs.lemmas.List.{length-map}
 use Rattle.std.proofs.lemmas.List.Elements.{All-cons, All-nil, All-head, All-map, All-tail, All-weaker}
 use Rattle.fourstate.specs.declared.limits.TheConstants.{MAX_DELAY}
-use Rattle.fourstate.specs.Values.{same_value}
 use Rattle.gatestep.specs.Step.{State, Evaluation, due}
 use Rattle.gatestep.specs.StepLaws.{not_due}
 use Rattle.gatestep.specs.Tasks.{IsTask, NothingDue, PendingBefore, PendingFrom}
 use Rattle.design.specs.Lawful.{IsGate}
 use Rattle.design.specs.Netlist.{GateEntry, Netlist}
-use Rattle.waveform.specs.Changes.{wave_changes_below, trace_below}
-use Rattle.waveform.specs.Entries.{CanStore, same_state, standing}
+use Rattle.waveform.specs.Changes.{trace_below}
+use Rattle.waveform.specs.Entries.{CanStore, same_state}
 use Rattle.waveform.specs.Timelines.{IsAlwaysSettled, changes_below, is_reached, pushed}
 use Rattle.waveform.specs.declared.times.TheConstants.{TIME_END}
-use Rattle.scratch.specs.Run.{evaluation_at, state_after, state_before, value}
+use Rattle.scratch.specs.Run.{evaluation_at, state_after, state_before}
 
 -- two maps agree on a list if they do on the elements of which P holds
 pub map_where : {A B : Type 0} (P : A → Type 0) (f g : A → B) → ((x : A) → P x → f x ≡ g x) → (xs : List A) → All P xs → map f xs ≡ map g xs
@@ -85,9 +84,6 @@ module _ (answer : Evaluation → ℕ → State) (d : Netlist) where
           rw (those, add-one)
           (All-map (CanStore t) (state_before answer d (suc t)) d.gates
           (All-weaker IsGate (λ g. CanStore t (state_before answer d (suc t) g)) (λ g is. can_store g is t low) d.gates are))
-
-  pub waves_early : LieBefore same_value standing → (t : ℕ) → All (All (λ e. e.0 < t)) (map (λ n. wave_changes_below (value answer d n) t) d.nets)
-  waves_early early t = all_map (All (λ e. e.0 < t)) (λ n. wave_changes_below (value answer d n) t) (λ n. early (value answer d n) t) d.nets
 
   pub traces_early : LieBefore same_state due → (t : ℕ) → All (All (λ e. e.0 < t)) (map (λ g. trace_below (state_after answer d g) t) d.gates)
   traces_early early t = all_map (All (λ e. e.0 < t)) (λ g. trace_below (state_after answer d g) t) (λ g. early (state_after answer d g) t) d.gates

@@ -1,4 +1,4 @@
-use Rattle.std.proofs.Common.{◌≡◌, ◌<◌, ◌+◌, ◌∙◌, ℕ, suc, ap, sym, subst, All, Option, Some, None, IfSome, length, slice_get, arith}
+use Rattle.std.proofs.Common.{◌≡◌, ◌<◌, ◌+◌, ◌∙◌, ℕ, suc, ap, sym, subst, All, Some, None, length, slice_get, arith}
 use Rattle.std.proofs.lemmas.List.{length-map}
 use Rattle.gatestep.specs.Step.{State}
 use Rattle.design.specs.Keys.{netlist}
@@ -8,18 +8,10 @@ use Rattle.scratch.specs.Kept.{lone_driver}
 use Rattle.scratch.specs.Recorded.{recorded_below}
 use Rattle.scratch.specs.Run.{state_after, trace_of, wave_of}
 use Rattle.scratch.proofs.Complete.{begins, found, goes_on, is_whole, lone_within}
-use Rattle.scratch.proofs.Lists.{some_at}
+use Rattle.scratch.proofs.Lists.{if_there, of_there, some_at}
 use Rattle.scratch.proofs.NetSteps.{listed_at}
 use Rattle.scratch.proofs.Recorded.{recorded_whole}
 use Rattle.scratch.proofs.completing.complete_wave.Goals as goal
-
--- what holds of what is there holds if there is one, and the other way round
-if_there : {X : Type 0} (o : Option X) (x : X) (P : X → Type 0) → o ≡ Some x → P x → IfSome o P
-if_there o x P e p = rw e p
-
-of_there : {X : Type 0} (o : Option X) (x : X) (P : X → Type 0) → o ≡ Some x → IfSome o P → P x
-of_there None x P e p = cc
-of_there (Some y) x P e p = let same : y ≡ x = cc in subst P same p
 
 pub bounds-traces-driver : goal.bounds-traces-driver
 bounds-traces-driver g c =

@@ -1,17 +1,13 @@
-use Rattle.std.proofs.Common.{◌≡◌, ◌<◌, ◌∙◌, sym, ap, refl, Option, Some, None, IfSome, length, slice_get, arith}
+use Rattle.std.proofs.Common.{◌≡◌, ◌<◌, ◌∙◌, sym, ap, refl, Some, None, length, slice_get, arith}
 use Rattle.std.proofs.lemmas.List.{length-map}
 use Rattle.std.proofs.lemmas.Option.{slice_get_read}
 use Rattle.fourstate.specs.Nets.{net_of}
 use Rattle.design.specs.Keys.{netlist}
 use Rattle.design.specs.Places.{driver_places}
 use Rattle.scratch.specs.Kept.{currents_of, driven_kind, net_from, values_at}
-use Rattle.scratch.proofs.Lists.{some_at}
+use Rattle.scratch.proofs.Lists.{if_there, some_at}
 use Rattle.scratch.proofs.NetSteps.{driven_is, drivers_at, kind_there, lone_gives, lone_there, stimulus_is}
 use Rattle.scratch.proofs.resolving.resolved.Goals as goal
-
--- what holds of what is there holds if there is one
-if_there : {X : Type 0} (o : Option X) (x : X) (P : X → Type 0) → o ≡ Some x → P x → IfSome o P
-if_there o x P e p = rw e p
 
 pub returns-in-Some : goal.returns-in-Some
 returns-in-Some c =

@@ -3,13 +3,14 @@ use Rattle.std.proofs.lemmas.List.{take_all}
 use Rattle.design.specs.Keys.{netlist}
 use Rattle.waveform.specs.Timelines.{entries_until}
 use Rattle.scratch.specs.Run.{trace_of}
-use Rattle.scratch.proofs.Copies.{one_copied, whole_trace}
+use Rattle.scratch.proofs.Copies.{one_found, whole_trace}
 use Rattle.scratch.proofs.resuming.copy_traces.Goals as goal
 
 pub loop-place-preserved : goal.loop-place-preserved
 loop-place-preserved g c =
     let answer = g.S.Stepper.answer in let d = netlist c.args.design.now in let h = c.horizon-horizon.result in let trace = c.trace_at-trace.result.now in let old = c.loop-place.traces.items in
-    one_copied (trace_of answer d) (λ line. entries_until line h) (whole_trace answer d h c.horizon-horizon.ensures.horizon c.cut_of_changes.ensures) d.gates c.loop-place.place trace old c.push.new.self.items
+    one_found (trace_of answer d) (trace_of answer d) d.gates c.loop-place.place trace (entries_until trace h) old c.push.new.self.items
+    (λ gate at same. ap (λ line. entries_until line h) same ∙ whole_trace answer d h c.horizon-horizon.ensures.horizon c.cut_of_changes.ensures gate)
     (c.trace_at-trace.ensures answer c.requires.run) c.loop-place.invariant (c.in_ok-push.ensures.items ∙ ap (λ line. old ++ line ∷ []) c.in_ok-fork.ensures.entries)
 
 pub returns : goal.returns
