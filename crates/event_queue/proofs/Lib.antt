@@ -1,3 +1,4 @@
 pub mod Changes
 pub mod Moments
+pub mod PageRows
 pub mod Rows
