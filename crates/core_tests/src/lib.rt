@@ -8,8 +8,6 @@ mod bit_sets;
 #[cfg(test)]
 mod bytes;
 #[cfg(test)]
-mod cached;
-#[cfg(test)]
 mod calls;
 #[cfg(test)]
 mod catalogs;
@@ -35,6 +33,8 @@ mod floors;
 mod patches;
 #[cfg(test)]
 mod pools;
+#[cfg(test)]
+mod replays;
 #[cfg(test)]
 mod reruns;
 #[cfg(test)]

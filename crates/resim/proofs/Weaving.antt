@@ -1,10 +1,13 @@
 -- The answers of the stirred gates of a moment, some known and some asked.
-use Rattle.std.proofs.Common.{◌≡◌, ◌∙◌, ◌<◌, ◌≤◌, ◌+◌, ◌-◌, ap, sym, subst, refl, ℕ, zero, suc, List, [], ◌∷◌, ◌++◌, append_assoc, append-nil, Bool, true, false, cond, map, drop, take, length, Option, Some, None, All, add-one, arith}
-use Rattle.std.specs.Prelude.{IfSome, is_some, slice_get, ◌&&◌}
+use Rattle.std.proofs.Common.{◌≡◌, ◌∙◌, ◌<◌, ◌≤◌, ◌+◌, ◌-◌, ap, sym, subst, refl, ℕ, zero, suc, List, [], ◌∷◌, ◌++◌, append_assoc, append-nil, Bool, true, false, map, drop, take, length, not, Option, Some, None, All, add-one, Bor, arith}
+use Rattle.std.specs.Prelude.{IfSome, slice_get, unwrap_or, ◌&&◌}
 use Rattle.std.proofs.lemmas.List.Elements.{All-cons}
+use Rattle.std.proofs.lemmas.Option.{slice_get_past}
 use Rattle.std.specs.List.{filter, flat_map, slice_index_or}
+use Rattle.std.specs.Option.{option_copied}
+use Rattle.std.specs.Slice.{IsItemAt}
 use Rattle.gatestep.specs.Record.{at_moment}
-use Rattle.gatestep.specs.Step.{State, Evaluation}
+use Rattle.gatestep.specs.Step.{State, Evaluation, initial}
 use Rattle.design.specs.Netlist.{GateEntry, Netlist}
 use Rattle.scratch.specs.Places.{passing}
 use Rattle.scratch.specs.Run.{state_after}
@@ -51,7 +54,7 @@ at_passing {X} test d a (x ∷ xs) ys is =
       | false ↦ λ off. rw off later
     ] refl
 
-pub map_map : {X Y Z : Type 0} (h : X → Y) (f : Y → Z) (xs : List X) → map f (map h xs) ≡ map (λ x. f (h x)) xs
+map_map : {X Y Z : Type 0} (h : X → Y) (f : Y → Z) (xs : List X) → map f (map h xs) ≡ map (λ x. f (h x)) xs
 map_map h f [] = refl
 map_map h f (x ∷ xs) = ap (λ l. f (h x) ∷ l) (map_map h f xs)
 
@@ -74,7 +77,7 @@ filter_twice {X} p q (x ∷ xs) =
 
 module _ (answer : Evaluation → ℕ → State) (old new : Netlist) (t : ℕ) where
   -- the stirred gates, by their places
-  pub are_stirred : (gates : List ℕ) → gates ≡ passing (λ g. is_stirred answer new g t) 0 new.gates → map (gate_at new) gates ≡ stirred_at answer new t
+  are_stirred : (gates : List ℕ) → gates ≡ passing (λ g. is_stirred answer new g t) 0 new.gates → map (gate_at new) gates ≡ stirred_at answer new t
   are_stirred gates is = ap (map (gate_at new)) is ∙ at_passing (λ g. is_stirred answer new g t) blank_gate 0 new.gates new.gates refl
 
   abbrev dirty : GateEntry → Bool
@@ -134,14 +137,14 @@ module _ (answer : Evaluation → ℕ → State) (old new : Netlist) (t : ℕ) w
   pub places_below : (gates : List ℕ) → gates ≡ passing (λ g. is_stirred answer new g t) 0 new.gates → All (λ p. p < length new.gates) gates
   places_below gates is = subst (All (λ p. p < length new.gates)) (sym is) (below_by 0 (length new.gates) new.gates (λ g. is_stirred answer new g t) (omega arith))
 
--- a state is known of what is not dirty, and of nothing else
-pub dirty_by : (b : Bool) (s : State) (k : Option State) → k ≡ cond b None (Some s) → is_some k ≡ false → b ≡ true
-dirty_by true s k is none = refl
-dirty_by false s k is none = let no : true ≡ false = sym (ap is_some is) ∙ none in absurd (cc)
+-- what is not clean is dirty, and the other way round
+pub dirty_by : (b r : Bool) → r ≡ not b → r ≡ false → b ≡ true
+dirty_by true r is off = refl
+dirty_by false r is off = let no : true ≡ false = sym is ∙ off in absurd (cc)
 
-pub clean_by : (b : Bool) (s : State) (k : Option State) → k ≡ cond b None (Some s) → is_some k ≡ true → b ≡ false
-clean_by true s k is some = let no : false ≡ true = sym (ap is_some is) ∙ some in absurd (cc)
-clean_by false s k is some = refl
+pub clean_by : (b r : Bool) → r ≡ not b → r ≡ true → b ≡ false
+clean_by true r is on = let no : false ≡ true = sym is ∙ on in absurd (cc)
+clean_by false r is on = refl
 
 -- the task of the gate at a place
 pub task_of : (answer : Evaluation → ℕ → State) (d : Netlist) (t p : ℕ) (task : Evaluation) → p < length d.gates → IfSome (slice_get d.gates p) (λ g. task ≡ task_at answer d g t) → task ≡ task_at answer d (gate_at d p) t
@@ -156,6 +159,46 @@ pub map_more : {X Y : Type 0} (f : X → Y) (xs : List X) (i : ℕ) (d : X) (y :
     after ≡ map f (take (i + 1) xs)
 map_more {X} {Y} f xs i d y before after low more is so_far =
     more ∙ ap (λ (z : Y). before ++ z ∷ []) is ∙ ap (λ (l : List Y). l ++ f (slice_index_or xs i d) ∷ []) so_far ∙ map_step f xs i (slice_index_or xs i d) (there xs i d low)
+
+-- one answer more is woven: a known one, or else the next one that was asked
+pub woven_known : (known : List (Option State)) (fresh : List State) (i next : ℕ) (s : State) → slice_get known i ≡ Some (Some s) →
+    woven (drop i known) (drop next fresh) ≡ s ∷ woven (drop (i + 1) known) (drop next fresh)
+woven_known [] fresh i next s at = absurd (cc)
+woven_known (k ∷ ks) fresh zero next s at = let e : k ≡ Some s = cc in ap (λ (o : Option State). woven (o ∷ ks) (drop next fresh)) e
+woven_known (k ∷ ks) fresh (suc i) next s at = rw add-one (rw add-one at (woven_known ks fresh i next s at))
+
+woven_first : (ks : List (Option State)) (fresh : List State) (next : ℕ) →
+    woven (None ∷ ks) (drop next fresh) ≡ unwrap_or (slice_get fresh next) initial ∷ woven ks (drop (next + 1) fresh)
+woven_first ks [] zero = refl
+woven_first ks [] (suc next) = rw add-one refl
+woven_first ks (s ∷ fresh) zero = refl
+woven_first ks (s ∷ fresh) (suc next) = rw add-one (rw add-one at (woven_first ks fresh next))
+
+pub woven_asked : (known : List (Option State)) (fresh : List State) (i next : ℕ) → slice_get known i ≡ Some None →
+    woven (drop i known) (drop next fresh) ≡ unwrap_or (slice_get fresh next) initial ∷ woven (drop (i + 1) known) (drop (next + 1) fresh)
+woven_asked [] fresh i next at = absurd (cc)
+woven_asked (k ∷ ks) fresh zero next at = let e : k ≡ None = cc in ap (λ (o : Option State). woven (o ∷ ks) (drop next fresh)) e ∙ woven_first ks fresh next
+woven_asked (k ∷ ks) fresh (suc i) next at = rw add-one (rw add-one at (woven_asked ks fresh i next at))
+
+pub one_woven : (whole out after left rest : List State) (s : State) → whole ≡ out ++ left → left ≡ s ∷ rest → after ≡ out ++ s ∷ [] → whole ≡ after ++ rest
+one_woven whole out after left rest s so_far first more =
+    so_far ∙ ap (λ l. out ++ l) first ∙ sym (append_assoc out (s ∷ []) rest) ∙ ap (λ l. l ++ rest) (sym more)
+
+-- the element at a place that was lent and copied, or another one where there is none
+pub copied_or : {X : Type 0} (xs : List X) (i : ℕ) (r : Option (Bor X)) (d : X) → IsItemAt xs i r → unwrap_or (option_copied r) d ≡ unwrap_or (slice_get xs i) d
+copied_or {X} xs i None d is = ap (λ (o : Option X). unwrap_or o d) (sym (slice_get_past xs i is.3))
+copied_or {X} xs i (Some x) d is = is.1 ∙ ap (λ (o : Option X). unwrap_or o d) (sym (there xs i x.now is.3.0))
+
+-- what is mapped, at a place
+pub index_map : {X Y : Type 0} (f : X → Y) (xs : List X) (i : ℕ) (d : X) (e : Y) → i < length xs → slice_index_or (map f xs) i e ≡ f (slice_index_or xs i d)
+index_map f [] i d e low = absurd (omega arith)
+index_map f (x ∷ xs) zero d e low = refl
+index_map f (x ∷ xs) (suc i) d e low = index_map f xs i d e (omega arith)
+
+pub map_at : {X Y : Type 0} (f : X → Y) (xs : List X) (i : ℕ) (d : X) → i < length xs → slice_get (map f xs) i ≡ Some (f (slice_index_or xs i d))
+map_at f [] i d low = absurd (omega arith)
+map_at f (x ∷ xs) zero d low = refl
+map_at f (x ∷ xs) (suc i) d low = map_at f xs i d (omega arith)
 
 module _ (answer : Evaluation → ℕ → State) (old new : Netlist) where
   idle_for : (n k : ℕ) → ((w : ℕ) → n ≤ w → w < n + k → stirred_at answer new w ≡ []) → rework_below answer old new (n + k) ≡ rework_below answer old new n

@@ -10,7 +10,7 @@ ghost use Rattle.scratch.specs.Run.{IsRun};
 ghost use Rattle.scratch.specs.Stands.{Stands};
 ghost use Rattle.scratch.specs.Work.{HasGrownOrNot};
 ghost use Rattle.rundiff.specs.Dirty.{rework_at, rework_below};
-ghost use Rattle.rundiff.specs.OldLines.{AreOldLines};
+ghost use Rattle.rundiff.specs.OldLines.{AreOldLines, traces_done, waves_done};
 
 use crate::asking::ask_dirty;
 use design::Design;
@@ -53,8 +53,9 @@ fn sweep_beside<S: Stepper>(
     stepper: &mut S,
 ) -> Result<Run, StepFault>
     requires lines { AreOldLines S.answer (netlist old.now) (netlist new.now) lines.old }
+    requires waves { waves_done lines.old ≡ 0 }
+    requires traces { traces_done lines.old ≡ 0 }
     requires horizon { (netlist new.now).horizon ≤ (netlist old.now).horizon }
-    ensures lines { AreOldLines S.answer (netlist old.now) (netlist new.now) lines.new }
     ensures run { IfOk result (IsRun S.answer new.now) }
     ensures asked { OnOk result (S.asked stepper.new ≡ S.asked stepper.old
         ++ rework_below S.answer (netlist old.now) (netlist new.now) (suc (netlist new.now).horizon)) }
@@ -64,7 +65,7 @@ fn sweep_beside<S: Stepper>(
 {
     let wiring = wire(alloc, new)?;
     let mut room = Room {
-        known: Vec::new(alloc),
+        clean: Vec::new(alloc),
         fresh: Vec::new(alloc),
     };
     let engine = open_beside(alloc, lines, old, new, &wiring, stepper, &mut room)?;
@@ -74,7 +75,7 @@ fn sweep_beside<S: Stepper>(
 /// The lists of one moment, which live through a run.
 #[derive(Drop)]
 struct Room {
-    known: Vec<Option<Driver>>,
+    clean: Vec<bool>,
     fresh: Vec<Driver>,
 }
 
@@ -89,15 +90,21 @@ fn open_beside<S: Stepper>(
     room: &mut Room,
 ) -> Result<Engine, StepFault>
     requires lines { AreOldLines S.answer (netlist old.now) (netlist new.now) lines.old }
+    requires waves { waves_done lines.old ≡ 0 }
+    requires traces { traces_done lines.old ≡ 0 }
     requires wired { IsWiring (netlist new.now) wiring.now }
-    ensures lines { AreOldLines S.answer (netlist old.now) (netlist new.now) lines.new }
+    ensures lines { OnOk result (AreOldLines S.answer (netlist old.now) (netlist new.now) lines.new) }
+    ensures waves { OnOk result (waves_done lines.new ≡ 1) }
+    ensures traces { OnOk result (traces_done lines.new ≡ 1) }
     ensures stands { IfOk result (λ engine. Stands S.answer (netlist new.now) engine 1) }
     ensures asked { OnOk result (S.asked stepper.new ≡ S.asked stepper.old ++ rework_at S.answer (netlist old.now) (netlist new.now) 0) }
     ensures part { OnErr result (HasGrownOrNot (S.asked stepper.old) (S.asked stepper.new) (rework_at S.answer (netlist old.now) (netlist new.now) 0)) }
     ensures lost { S.losses stepper.new ≡ S.losses stepper.old + (if loses_a_worker result then 1 else 0) }
 {
     let mut opening = Opening::before::<S>(alloc, new, wiring)?;
+    lines.advance::<S>(alloc, old, new, 0)?;
     ask_dirty(
+        alloc,
         lines,
         old,
         new,
@@ -108,7 +115,7 @@ fn open_beside<S: Stepper>(
         stepper,
         0,
         &mut opening.tasks,
-        &mut room.known,
+        &mut room.clean,
         &mut room.fresh,
         &mut opening.answers,
     )?;
@@ -130,10 +137,14 @@ fn pass_beside<S: Stepper>(
     room: &mut Room,
 ) -> Result<(), StepFault>
     requires lines { AreOldLines S.answer (netlist old.now) (netlist new.now) lines.old }
+    requires waves { waves_done lines.old ≤ t }
+    requires traces { traces_done lines.old ≤ t }
     requires wired { IsWiring (netlist new.now) wiring.now }
     requires stands { Stands S.answer (netlist new.now) engine.old t }
     requires within { t ≤ (netlist old.now).horizon }
-    ensures lines { AreOldLines S.answer (netlist old.now) (netlist new.now) lines.new }
+    ensures lines { OnOk result (AreOldLines S.answer (netlist old.now) (netlist new.now) lines.new) }
+    ensures waves { OnOk result (waves_done lines.new ≡ suc t) }
+    ensures traces { OnOk result (traces_done lines.new ≡ suc t) }
     ensures stands { OnOk result (Stands S.answer (netlist new.now) engine.new (t + 1)) }
     ensures asked { OnOk result (S.asked stepper.new ≡ S.asked stepper.old ++ rework_at S.answer (netlist old.now) (netlist new.now) t) }
     ensures part { OnErr result (HasGrownOrNot (S.asked stepper.old) (S.asked stepper.new) (rework_at S.answer (netlist old.now) (netlist new.now) t)) }
@@ -141,7 +152,9 @@ fn pass_beside<S: Stepper>(
 {
     old.lawful();
     engine.stir::<S>(alloc, new, wiring, t)?;
+    lines.advance::<S>(alloc, old, new, t)?;
     ask_dirty(
+        alloc,
         lines,
         old,
         new,
@@ -152,7 +165,7 @@ fn pass_beside<S: Stepper>(
         stepper,
         t,
         &mut engine.tasks,
-        &mut room.known,
+        &mut room.clean,
         &mut room.fresh,
         &mut engine.answers,
     )?;
@@ -172,10 +185,11 @@ fn sweep_on<S: Stepper>(
     room: &mut Room,
 ) -> Result<Run, StepFault>
     requires lines { AreOldLines S.answer (netlist old.now) (netlist new.now) lines.old }
+    requires waves { waves_done lines.old ≤ 1 }
+    requires traces { traces_done lines.old ≤ 1 }
     requires wired { IsWiring (netlist new.now) wiring.now }
     requires stands { Stands S.answer (netlist new.now) engine 1 }
     requires horizon { (netlist new.now).horizon ≤ (netlist old.now).horizon }
-    ensures lines { AreOldLines S.answer (netlist old.now) (netlist new.now) lines.new }
     ensures run { IfOk result (IsRun S.answer new.now) }
     ensures asked { OnOk result ((was : List (Evaluation × ℕ)) → S.asked stepper.old ≡ was ++ rework_below S.answer (netlist old.now) (netlist new.now) 1 →
         S.asked stepper.new ≡ was ++ rework_below S.answer (netlist old.now) (netlist new.now) (suc (netlist new.now).horizon)) }

@@ -1,6 +1,6 @@
 -- Lines of the old run by the places of the new design.
-use Rattle.std.proofs.Common.{◌≡◌, ◌∙◌, ap, sym, subst, refl, ℕ, zero, suc, ◌+◌, List, [], ◌∷◌, ◌++◌, Some, length, arith}
-use Rattle.std.specs.Prelude.{IfSome, slice_get}
+use Rattle.std.proofs.Common.{◌≡◌, ◌<◌, ◌∙◌, ap, sym, subst, refl, ℕ, zero, suc, ◌+◌, List, [], ◌∷◌, ◌++◌, Some, length, arith}
+use Rattle.std.specs.Prelude.{IfSome, slice_get, slice_index_or}
 use Rattle.rundiff.specs.OldLines.{HoldsEach}
 
 pub holds_more : {X : Type 0} (P : ℕ → X → Type 0) (xs : List X) (x : X) → HoldsEach xs P → P (length xs) x → HoldsEach (xs ++ x ∷ []) P
@@ -16,6 +16,12 @@ grown P xs ys x k more count each here =
 
 pub holds_at : {X : Type 0} (P : ℕ → X → Type 0) (xs : List X) (k : ℕ) (x : X) → HoldsEach xs P → slice_get xs k ≡ Some x → P k x
 holds_at P xs k x each is = subst (λ o. IfSome o (P k)) is (each k)
+
+-- the same, where there is such a place
+pub holds_index : {X : Type 0} (P : ℕ → X → Type 0) (xs : List X) (k : ℕ) (d : X) → HoldsEach xs P → k < length xs → P k (slice_index_or xs k d)
+holds_index P [] k d each low = absurd (omega arith)
+holds_index P (x ∷ xs) zero d each low = each zero
+holds_index P (x ∷ xs) (suc k) d each low = holds_index (λ q. P (suc q)) xs k d (λ q. each (suc q)) (omega arith)
 
 pub one_longer : {X : Type 0} (xs ys : List X) (x : X) (k : ℕ) → ys ≡ xs ++ x ∷ [] → length xs ≡ k → length ys ≡ k + 1
 one_longer xs ys x k more count = ap length more ∙ longer xs x ∙ ap (λ n. n + 1) count

@@ -34,7 +34,6 @@ pub mod Reaching
 pub mod ReadBefore
 pub mod ReaderKeys
 pub mod Readers
-pub mod Rereading
 pub mod Resting
 pub mod Rows
 pub mod Sets

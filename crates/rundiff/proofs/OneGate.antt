@@ -10,7 +10,7 @@ use Rattle.waveform.specs.Entries.{same_state}
 use Rattle.scratch.specs.Run.{state_after, state_before}
 use Rattle.rundiff.specs.Dirty.{is_dirty, is_new, same_task}
 use Rattle.scratch.specs.Work.{is_due, is_stirred, same_values, task_at}
-use Rattle.rundiff.proofs.Still.{neither, still_after}
+use Rattle.rundiff.proofs.Still.{neither, not_false, still_after}
 
 early : (t h : ℕ) → t ≤ h → nat_le t h ≡ true
 early t h le = grind (arith, nat_tests)
@@ -18,6 +18,10 @@ early t h le = grind (arith, nat_tests)
 pub and_false : (a : Bool) → (a && false) ≡ false
 and_false true = refl
 and_false false = refl
+
+not_not : (a : Bool) → not (not a) ≡ a
+not_not true = refl
+not_not false = refl
 
 or_false : (a : Bool) → (a || false) ≡ a
 or_false true = refl
@@ -69,11 +73,29 @@ module _ (answer : Evaluation → ℕ → State) (old new : Netlist) (g : GateEn
     pub new_decides : same_values vs ws ≡ true → is_new old g ≡ is_dirty answer old new g t
     new_decides same = unless_new within (is_new old g) (λ fresh. fresh) (λ known. known ∙ sym (ap not same) ∙ inputs_decide known)
 
+  -- a gate of both designs with the same state in both runs is clean where it reads the same in both
+  pub known_decides : t ≤ old.horizon → is_new old g ≡ false → (o s : State) → o ≡ state_before answer old t g → s ≡ state_before answer new t g → same_state o s ≡ true →
+      (vs ws : List Value) → vs ≡ (task_at answer old g t).inputs → ws ≡ (task_at answer new g t).inputs → same_values vs ws ≡ not (is_dirty answer old new g t)
+  known_decides within known o s of_old of_new on vs ws read_old read_new =
+      sym (not_not (same_values vs ws))
+      ∙ ap not (inputs_decide within o s (λ k. of_old) of_new on vs ws read_old read_new known ∙ sym (ap (λ (b : Bool). b || not (same_task (task_at answer old g t) (task_at answer new g t))) known) ∙ sym (by_task within))
+
+  -- a new gate is dirty
+  pub new_dirty : t ≤ old.horizon → is_new old g ≡ true → true ≡ is_dirty answer old new g t
+  new_dirty within new = unless_new within true (λ fresh. refl) (λ known. let no : true ≡ false = sym new ∙ known in absurd (cc))
+
   -- a gate that is not dirty is not new
   pub clean_known : is_dirty answer old new g t ≡ false → is_new old g ≡ false
   clean_known off =
       let o = task_at answer old g t in let n = task_at answer new g t in
       (neither (is_new old g) (not (same_task o n)) (neither (not (nat_le t old.horizon)) (is_new old g || not (same_task o n)) off).1).0
+
+  -- nor has the old run ended
+  pub clean_within : is_dirty answer old new g t ≡ false → t ≤ old.horizon
+  clean_within off =
+      let o = task_at answer old g t in let n = task_at answer new g t in
+      let early = not_false (nat_le t old.horizon) (neither (not (nat_le t old.horizon)) (is_new old g || not (same_task o n)) off).0 in
+      grind (arith, nat_tests)
 
 module _ (answer : Evaluation → ℕ → State) (d : Netlist) (g : GateEntry) where
   -- after moment 0, and with nothing due, the inputs decide

@@ -25,12 +25,20 @@ HasPlace new (Fixed v) = Unit {0}
 
 -- the lines of the old run: those of the nets and of the gates with the names of the new ones, and which gates are new
 pub record AreOldLines (answer : Evaluation → ℕ → State) (old new : Netlist) (lines : OldLines) : Type 0 where
-  pub wave_count : length lines.waves.items ≡ length new.nets
-  pub trace_count : length lines.traces.items ≡ length new.gates
+  pub wave_count : length lines.waves.lines ≡ length new.nets
+  pub trace_count : length lines.traces.lines ≡ length new.gates
   pub other_count : length lines.others.items ≡ length new.gates
-  pub waves : HoldsEach lines.waves.items (λ p wave. wave ≡ wave_changes_below (read_at answer old (to_net (net_at new p).name)) (suc old.horizon))
-  pub traces : HoldsEach lines.traces.items (λ p trace. trace ≡ trace_below (named_state answer old (gate_at new p).name) (suc old.horizon))
+  pub waves : HoldsEach lines.waves.lines (λ p wave. wave ≡ wave_changes_below (read_at answer old (to_net (net_at new p).name)) (suc old.horizon))
+  pub traces : HoldsEach lines.traces.lines (λ p trace. trace ≡ trace_below (named_state answer old (gate_at new p).name) (suc old.horizon))
   pub others : HoldsEach lines.others.items (λ p other. other ≡ is_new old (gate_at new p))
+
+-- so many moments of the waves are done
+abbrev pub waves_done : OldLines → ℕ
+waves_done lines = lines.waves.done
+
+-- and so many of the traces
+abbrev pub traces_done : OldLines → ℕ
+traces_done lines = lines.traces.done
 
 -- what an input of a gate of the new design reads in the old run
 abbrev pub former_value : (Evaluation → ℕ → State) → (old new : Netlist) → ℕ → Input → Value

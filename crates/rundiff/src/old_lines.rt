@@ -1,18 +1,19 @@
 //! What the old run has of the nets and gates of the new design, by their places there, so that no name is looked at again.
-//! The lines are read as time goes on, and each keeps what was found in it last: a reading leaves the same lines.
+//! The lines are read together as time goes on: at a moment `t` the values of the nets at it, and first the states of the
+//! gates before it, then those after it.
 
-ghost use Rattle.std.specs.Prelude.{◌≡◌, ◌<◌, ◌≤◌, ℕ, suc, false, [], ◌∷◌, All, IfOk, IfSome, OnOk, length, map, slice_get};
+ghost use Rattle.std.specs.Prelude.{◌≡◌, ◌<◌, ◌≤◌, ℕ, suc, false, not, [], ◌∷◌, All, IfOk, IfSome, OnOk, length, map, slice_get};
 ghost use Rattle.gatestep.specs.Step.{Evaluation, initial};
 ghost use Rattle.design.specs.Connections.{to_net};
 ghost use Rattle.design.specs.Keys.{netlist};
 ghost use Rattle.waveform.specs.Changes.{trace_below, wave_changes_below};
 ghost use Rattle.scratch.specs.Kept.{cell_of, evaluation_from, input_value};
-ghost use Rattle.scratch.specs.Run.{IsRun, state_before};
+ghost use Rattle.scratch.specs.Run.{IsRun, state_after, state_before};
 ghost use Rattle.scratch.specs.Work.{same_values, task_at};
-ghost use Rattle.rundiff.specs.Dirty.{is_new};
+ghost use Rattle.rundiff.specs.Dirty.{is_dirty, is_new};
 ghost use Rattle.rundiff.specs.Fronts.{named_state};
 ghost use Rattle.rundiff.specs.Kept.{read_at};
-ghost use Rattle.rundiff.specs.OldLines.{AreOldLines, HasPlace, HoldsEach, former_value, known_at};
+ghost use Rattle.rundiff.specs.OldLines.{AreOldLines, HasPlace, HoldsEach, former_value, traces_done, waves_done};
 ghost use Rattle.rundiff.specs.Places.{gate_at, net_at};
 
 use crate::old::{old_trace, old_wave};
@@ -22,7 +23,7 @@ use fourstate::Value;
 use gatestep::{Driver, Stepper};
 use scratch::{Cell, Input, read_input};
 use std::alloc::{AllocError, Global};
-use waveform::{CachedTimeline, Lines, Run, Sample, Trace, Wave, laws};
+use waveform::{Lines, Replay, Run, Sample, Trace, Wave, laws};
 
 /// One entry of so many is spare in the room that is made for a new line beside an old one (own).
 const SPARE: usize = 8;
@@ -31,15 +32,15 @@ const SPARE: usize = 8;
 #[derive(Drop)]
 pub struct OldLines<'a> {
     /// Of each net, the wave of the net of its name.
-    waves: Vec<CachedTimeline<'a, Value>>,
+    waves: Replay<'a, Value>,
     /// Of each gate, the trace of the gate of its name.
-    traces: Vec<CachedTimeline<'a, Driver>>,
+    traces: Replay<'a, Driver>,
     /// Of each gate, whether the old design has no such gate.
     others: Vec<bool>,
 }
 
 impl<'a> OldLines<'a> {
-    /// The lines of the old run, and the blank ones where the old design has nothing of a name.
+    /// The lines of the old run, and the blank ones where the old design has nothing of a name. No moment is done.
     pub fn find<S: Stepper>(
         alloc: Global,
         old: &Design,
@@ -51,7 +52,9 @@ impl<'a> OldLines<'a> {
         requires run { IsRun S.answer old.now run.now }
         requires blank_wave { blank_wave.now ≡ (0, Value.Unknown) ∷ [] }
         requires blank_trace { blank_trace.now ≡ (0, initial) ∷ [] }
-        ensures { IfOk result (AreOldLines S.answer (netlist old.now) (netlist new.now)) }
+        ensures lines { IfOk result (AreOldLines S.answer (netlist old.now) (netlist new.now)) }
+        ensures waves { IfOk result (λ lines. waves_done lines ≡ 0) }
+        ensures traces { IfOk result (λ lines. traces_done lines ≡ 0) }
     {
         let waves = old_waves::<S>(alloc, old, run, new, blank_wave)?;
         let traces = old_traces::<S>(alloc, old, run, new, blank_trace)?;
@@ -73,42 +76,89 @@ impl<'a> OldLines<'a> {
         ensures waves { OnOk result (waves.new ≡ waves.old) }
         ensures traces { OnOk result (traces.new ≡ traces.old) }
     {
-        make_room_beside(self.waves.as_slice(), waves)?;
-        make_room_beside(self.traces.as_slice(), traces)?;
+        make_room_beside(&self.waves, waves)?;
+        make_room_beside(&self.traces, traces)?;
         Ok(())
     }
 
-    /// What an input of a gate of the new design reads in the old run.
-    fn value<S: Stepper>(&mut self, old: &Design, new: &Design, input: Input, t: u64) -> Value
+    /// Goes on to the moment `t`: then the values of the nets at it are known, and the states of the gates before it. It fails
+    /// where memory runs out, and then the lines are to be dropped.
+    pub fn advance<S: Stepper>(
+        &mut self,
+        alloc: Global,
+        old: &Design,
+        new: &Design,
+        t: u64,
+    ) -> Result<(), AllocError>
         requires lines { AreOldLines S.answer (netlist old.now) (netlist new.now) self.old }
+        requires waves { waves_done self.old ≤ t }
+        requires traces { traces_done self.old ≤ t }
+        requires within { t ≤ (netlist old.now).horizon }
+        ensures lines { OnOk result (AreOldLines S.answer (netlist old.now) (netlist new.now) self.new) }
+        ensures waves { OnOk result (waves_done self.new ≡ suc t) }
+        ensures traces { OnOk result (traces_done self.new ≡ t) }
+    {
+        old.lawful();
+        let _new = new;
+        self.waves.advance(alloc, t + 1)?;
+        self.traces.advance(alloc, t)?;
+        Ok(())
+    }
+
+    /// Goes past the moment `t` with the gates: then their states after it are known. It fails where memory runs out, and then
+    /// the lines are to be dropped.
+    pub fn pass<S: Stepper>(
+        &mut self,
+        alloc: Global,
+        old: &Design,
+        new: &Design,
+        t: u64,
+    ) -> Result<(), AllocError>
+        requires lines { AreOldLines S.answer (netlist old.now) (netlist new.now) self.old }
+        requires traces { traces_done self.old ≤ suc t }
+        requires within { t ≤ (netlist old.now).horizon }
+        ensures lines { OnOk result (AreOldLines S.answer (netlist old.now) (netlist new.now) self.new) }
+        ensures waves { OnOk result (waves_done self.new ≡ waves_done self.old) }
+        ensures traces { OnOk result (traces_done self.new ≡ suc t) }
+    {
+        old.lawful();
+        let _new = new;
+        self.traces.advance(alloc, t + 1)?;
+        Ok(())
+    }
+
+    /// What an input of a gate of the new design reads in the old run at the moment `t`.
+    #[inline(always)]
+    fn value<S: Stepper>(&self, old: &Design, new: &Design, input: Input, t: u64) -> Value
+        requires lines { AreOldLines S.answer (netlist old.now) (netlist new.now) self.now }
+        requires waves { waves_done self.now ≡ suc t }
         requires place { HasPlace (netlist new.now) input }
         requires within { t ≤ (netlist old.now).horizon }
-        ensures value { result ≡ former_value S.answer (netlist old.now) (netlist new.now) t input }
-        ensures lines { AreOldLines S.answer (netlist old.now) (netlist new.now) self.new }
+        ensures { result ≡ former_value S.answer (netlist old.now) (netlist new.now) t input }
     {
         let _old = old;
         let _new = new;
         laws::value_of_changes::<Value>();
         match input {
-            Input::At(place) => self.waves[place as usize].at(t),
+            Input::At(place) => self.waves.at(place as usize, t),
             Input::Fixed(value) => value,
         }
     }
 
     /// Whether the inputs of a gate of the new design read in the old run what they read where the nets have these values.
     fn are_read<S: Stepper>(
-        &mut self,
+        &self,
         old: &Design,
         new: &Design,
         cell: &Cell,
         values: &[Value],
         t: u64,
     ) -> bool
-        requires lines { AreOldLines S.answer (netlist old.now) (netlist new.now) self.old }
+        requires lines { AreOldLines S.answer (netlist old.now) (netlist new.now) self.now }
+        requires waves { waves_done self.now ≡ suc t }
         requires places { All (HasPlace (netlist new.now)) cell.now.inputs }
         requires within { t ≤ (netlist old.now).horizon }
-        ensures lines { AreOldLines S.answer (netlist old.now) (netlist new.now) self.new }
-        ensures same { result ≡ same_values (map (former_value S.answer (netlist old.now) (netlist new.now) t) cell.now.inputs) (map (input_value values.now) cell.now.inputs) }
+        ensures { result ≡ same_values (map (former_value S.answer (netlist old.now) (netlist new.now) t) cell.now.inputs) (map (input_value values.now) cell.now.inputs) }
     {
         let inputs = cell.inputs();
         for i in 0..inputs.len() {
@@ -123,19 +173,14 @@ impl<'a> OldLines<'a> {
     }
 
     /// The state before the moment `t`, in the old run, of the gate at a place, which the old design has.
-    fn state_before<S: Stepper>(
-        &mut self,
-        old: &Design,
-        new: &Design,
-        place: usize,
-        t: u64,
-    ) -> Driver
-        requires lines { AreOldLines S.answer (netlist old.now) (netlist new.now) self.old }
+    #[inline(always)]
+    fn state_before<S: Stepper>(&self, old: &Design, new: &Design, place: usize, t: u64) -> Driver
+        requires lines { AreOldLines S.answer (netlist old.now) (netlist new.now) self.now }
+        requires traces { traces_done self.now ≡ t }
         requires there { place < length (netlist new.now).gates }
         requires within { t ≤ (netlist old.now).horizon }
         requires known { is_new (netlist old.now) (gate_at (netlist new.now) place) ≡ false }
-        ensures lines { AreOldLines S.answer (netlist old.now) (netlist new.now) self.new }
-        ensures state { result ≡ state_before S.answer (netlist old.now) t (gate_at (netlist new.now) place) }
+        ensures { result ≡ state_before S.answer (netlist old.now) t (gate_at (netlist new.now) place) }
     {
         old.lawful();
         let _design = new;
@@ -143,13 +188,14 @@ impl<'a> OldLines<'a> {
         if t == 0 {
             return Driver::start();
         }
-        self.traces[place].at(t - 1)
+        self.traces.at(place, t - 1)
     }
 
-    /// The state after the moment `t` of the gate at a place, where it is not dirty then; given are its state before the moment
-    /// and the values of the nets at it.
-    pub fn known_state<S: Stepper>(
-        &mut self,
+    /// Whether the gate at a place is not dirty at the moment `t`; given are its state before the moment and the values of the
+    /// nets at it.
+    #[inline(always)]
+    pub fn is_clean<S: Stepper>(
+        &self,
         old: &Design,
         new: &Design,
         cell: &Cell,
@@ -157,41 +203,56 @@ impl<'a> OldLines<'a> {
         state: Driver,
         values: &[Value],
         t: u64,
-    ) -> Option<Driver>
-        requires lines { AreOldLines S.answer (netlist old.now) (netlist new.now) self.old }
+    ) -> bool
+        requires lines { AreOldLines S.answer (netlist old.now) (netlist new.now) self.now }
+        requires waves { waves_done self.now ≡ suc t }
+        requires traces { traces_done self.now ≡ t }
         requires there { place < length (netlist new.now).gates }
         requires within { t ≤ (netlist old.now).horizon }
         requires cell { cell.now ≡ cell_of (netlist new.now) (gate_at (netlist new.now) place) }
         requires task { evaluation_from values.now cell.now state ≡ task_at S.answer (netlist new.now) (gate_at (netlist new.now) place) t }
-        ensures known { result ≡ known_at S.answer (netlist old.now) (netlist new.now) t (gate_at (netlist new.now) place) }
-        ensures lines { AreOldLines S.answer (netlist old.now) (netlist new.now) self.new }
+        ensures { result ≡ not (is_dirty S.answer (netlist old.now) (netlist new.now) (gate_at (netlist new.now) place) t) }
     {
         old.lawful();
         new.lawful();
-        laws::value_of_changes::<Driver>();
         if self.others[place] {
-            return None;
+            return false;
         }
         if !self.state_before::<S>(old, new, place, t).is_same(state) {
-            return None;
+            return false;
         }
-        if !self.are_read::<S>(old, new, cell, values, t) {
-            return None;
-        }
-        Some(self.traces[place].at(t))
+        self.are_read::<S>(old, new, cell, values, t)
+    }
+
+    /// The state after the moment `t` of the gate at a place, which is not dirty then.
+    #[inline(always)]
+    pub fn state_after<S: Stepper>(
+        &self,
+        old: &Design,
+        new: &Design,
+        place: usize,
+        t: u64,
+    ) -> Driver
+        requires lines { AreOldLines S.answer (netlist old.now) (netlist new.now) self.now }
+        requires traces { traces_done self.now ≡ suc t }
+        requires there { place < length (netlist new.now).gates }
+        requires clean { is_dirty S.answer (netlist old.now) (netlist new.now) (gate_at (netlist new.now) place) t ≡ false }
+        ensures { result ≡ state_after S.answer (netlist new.now) (gate_at (netlist new.now) place) t }
+    {
+        old.lawful();
+        let _design = new;
+        laws::value_of_changes::<Driver>();
+        self.traces.at(place, t)
     }
 }
 
 /// Makes room in each line for as many entries as the old one at its place has, and a few more.
-fn make_room_beside<V: Sample>(
-    olds: &[CachedTimeline<V>],
-    lines: &mut Lines<V>,
-) -> Result<(), AllocError>
+fn make_room_beside<V: Sample>(olds: &Replay<V>, lines: &mut Lines<V>) -> Result<(), AllocError>
     ensures { OnOk result (lines.new ≡ lines.old) }
 {
     for place in 0..lines.len() {
         if place < olds.len() {
-            let count = olds[place].len();
+            let count = olds.entry_count(place);
             lines.make_room(place, count.saturating_add(count / SPARE))?;
         }
     }
@@ -205,18 +266,19 @@ fn old_waves<'a, S: Stepper>(
     run: &'a Run,
     new: &Design,
     blank: &'a Wave,
-) -> Result<Vec<CachedTimeline<'a, Value>>, AllocError>
+) -> Result<Replay<'a, Value>, AllocError>
     requires run { IsRun S.answer old.now run.now }
     requires blank { blank.now ≡ (0, Value.Unknown) ∷ [] }
-    ensures count { IfOk result (λ waves. length waves.items ≡ length (netlist new.now).nets) }
-    ensures each { IfOk result (λ waves. HoldsEach waves.items (λ place wave.
+    ensures count { IfOk result (λ waves. length waves.lines ≡ length (netlist new.now).nets) }
+    ensures each { IfOk result (λ waves. HoldsEach waves.lines (λ place wave.
         wave ≡ wave_changes_below (read_at S.answer (netlist old.now) (to_net (net_at (netlist new.now) place).name)) (suc (netlist old.now).horizon))) }
+    ensures done { IfOk result (λ waves. waves.done ≡ 0) }
 {
-    let mut waves = Vec::with_capacity(alloc, new.net_count())?;
+    let mut waves = Replay::new(alloc)?;
     for place in 0..new.net_count() {
         let key = new.net_key_at(place);
         let name = new.net_at(place).name().as_str();
-        waves.push(CachedTimeline::new(old_wave(old, run, key, name, blank)))?;
+        waves.push(alloc, old_wave(old, run, key, name, blank))?;
     }
     Ok(waves)
 }
@@ -228,18 +290,19 @@ fn old_traces<'a, S: Stepper>(
     run: &'a Run,
     new: &Design,
     blank: &'a Trace,
-) -> Result<Vec<CachedTimeline<'a, Driver>>, AllocError>
+) -> Result<Replay<'a, Driver>, AllocError>
     requires run { IsRun S.answer old.now run.now }
     requires blank { blank.now ≡ (0, initial) ∷ [] }
-    ensures count { IfOk result (λ traces. length traces.items ≡ length (netlist new.now).gates) }
-    ensures each { IfOk result (λ traces. HoldsEach traces.items (λ place trace.
+    ensures count { IfOk result (λ traces. length traces.lines ≡ length (netlist new.now).gates) }
+    ensures each { IfOk result (λ traces. HoldsEach traces.lines (λ place trace.
         trace ≡ trace_below (named_state S.answer (netlist old.now) (gate_at (netlist new.now) place).name) (suc (netlist old.now).horizon))) }
+    ensures done { IfOk result (λ traces. traces.done ≡ 0) }
 {
-    let mut traces = Vec::with_capacity(alloc, new.gate_count())?;
+    let mut traces = Replay::new(alloc)?;
     for place in 0..new.gate_count() {
         let key = new.gate_key_at(place);
         let name = new.gate_at(place).name().as_str();
-        traces.push(CachedTimeline::new(old_trace(old, run, key, name, blank)))?;
+        traces.push(alloc, old_trace(old, run, key, name, blank))?;
     }
     Ok(traces)
 }

@@ -8,6 +8,10 @@ pub mod Gaps
 pub mod Joins
 pub mod Lists
 pub mod Noting
+pub mod PagedLines
+pub mod PagedMoments
+pub mod PagedRows
+pub mod PagedValues
 pub mod Patching
 pub mod Places
 pub mod Pushes

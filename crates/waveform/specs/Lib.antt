@@ -5,7 +5,9 @@ pub mod Entries
 pub mod Joins
 pub mod Links
 pub mod Notes
+pub mod Paging
 pub mod Patches
+pub mod Replays
 pub mod Runs
 pub mod SampleLaws
 pub mod StoredChanges

@@ -1,6 +1,6 @@
 -- A timeline: a function of time, kept as entries. An entry (t, a) says that from t on, up to the next entry, the value at u
 -- is `drift a u`. A drift says how a value moves by itself while time goes on; of a value that stands it is `λ v t. v` (own).
-use Rattle.std.specs.Prelude.{◌≡◌, ◌<◌, ◌≤◌, ℕ, zero, suc, Bool, true, false, not, ◌&&◌, nat_lt, nat_le, if◌then◌else◌, Option, Some, None, List, [], ◌∷◌, ◌++◌, map, length, max}
+use Rattle.std.specs.Prelude.{◌≡◌, ◌<◌, ℕ, zero, suc, Bool, true, false, not, ◌&&◌, nat_lt, nat_le, if◌then◌else◌, Option, Some, None, List, [], ◌∷◌, ◌++◌, map, length, max}
 use Rattle.std.specs.List.{filter, find, last_or}
 use Rattle.std.specs.Option.{option_map_or}
 
@@ -50,10 +50,6 @@ value_by drift start entries t = option_map_or (λ e. drift e.1 t) (latest entri
 -- the first entry after t
 abbrev pub first_after : {A : Type 0} → List (ℕ × A) → ℕ → Option (ℕ × A)
 first_after entries t = find (λ e. nat_lt t e.0) entries
-
--- from s on, before u, no entry changes the value a: it merely drifts
-abbrev pub StandsBetween : {A : Type 0} → (A → ℕ → A) → A → List (ℕ × A) → A → ℕ → ℕ → Type 0
-StandsBetween drift start entries a s u = (t : ℕ) → s ≤ t → t < u → value_by drift start entries t ≡ drift a t
 
 -- the last entry before t
 abbrev pub last_before : {A : Type 0} → List (ℕ × A) → ℕ → Option (ℕ × A)

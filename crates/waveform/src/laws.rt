@@ -74,20 +74,7 @@ pub fn changes_of_timeline<V: Sample>()
         xs ≡ changes_below V.same V.drift (value_by V.drift V.start xs) (suc t) }
 {}
 
-/// From a moment `t` on, while no entry comes, the entries so far stay the same. The next entry, if there is one, lies at `u`
-/// or later.
-pub fn entries_between<V: Sample>()
-    ensures { (xs : List (ℕ × V)) → IsTimeline V.same V.drift xs → (t k u : ℕ) → t ≤ k → k < u →
-        IfSome (first_after xs t) (λ e. u ≤ e.0) → entries_until xs k ≡ entries_until xs t }
-{}
-
-/// And the value merely drifts: a wave's stands.
-pub fn value_between<V: Sample>()
-    ensures { (xs : List (ℕ × V)) → IsTimeline V.same V.drift xs → (t k u : ℕ) → t ≤ k → k < u →
-        IfSome (first_after xs t) (λ e. u ≤ e.0) → value_by V.drift V.start xs k ≡ V.drift (value_by V.drift V.start xs t) k }
-{}
-
-/// So a function merely drifts up to its next change.
+/// A function merely drifts from a moment `t` on, up to its next change. That one, if there is one, lies at `u` or later.
 pub fn drift_between<V: Sample>()
     ensures { (f : ℕ → V) → IsAlwaysSettled V.drift f → (n t k u : ℕ) → t ≤ k → k < u → u ≤ suc n →
         IfSome (first_after (changes_below V.same V.drift f (suc n)) t) (λ e. u ≤ e.0) → f k ≡ V.drift (f t) k }

@@ -1,7 +1,6 @@
 //! Stored waves of nets and traces of drivers: functions of time, kept as the entries at which they change.
 #![tactic(auto)]
 
-mod cached;
 mod change;
 mod currents;
 mod digits;
@@ -10,6 +9,7 @@ mod entry;
 pub mod laws;
 mod lines;
 mod patch;
+mod replay;
 mod run;
 mod sample;
 mod table;
@@ -19,12 +19,12 @@ mod trace;
 mod wave;
 mod writing;
 
-pub use cached::CachedTimeline;
 pub use change::Change;
 pub use currents::append_currents;
 pub use entry::TraceEntry;
 pub use lines::Lines;
 pub use patch::Patch;
+pub use replay::Replay;
 pub use run::Run;
 pub use sample::Sample;
 pub use timeline::Timeline;

@@ -1,11 +1,16 @@
-use Rattle.std.proofs.Common.{◌≡◌, ◌≤◌, ◌++◌, drop}
+use Rattle.std.proofs.Common.{◌≡◌, ◌≤◌, ◌++◌, drop, map}
+use Rattle.design.specs.Keys.{netlist}
+use Rattle.rundiff.specs.OldLines.{known_at}
+use Rattle.rundiff.specs.Places.{gate_at}
 use Rattle.resim.specs.Asking.{woven}
 use Rattle.resim.proofs.asking.weave.Given as goal
 
 -- what is woven so far, and what is left
 abbrev pub invariant-loop-i : goal.invariant-loop-i
-invariant-loop-i l =
+invariant-loop-i g l =
+    let old = netlist l.old in let new = netlist l.new in
+    let known = map (λ place. known_at g.S.Stepper.answer old new l.t (gate_at new place)) l.gates in
     record {
-      woven : woven l.known l.fresh ≡ l.out.items ++ woven (drop l.i l.known) (drop l.next l.fresh);
+      woven : woven known l.fresh ≡ l.out.items ++ woven (drop l.i known) (drop l.next l.fresh);
       next : l.next ≤ l.i;
     }

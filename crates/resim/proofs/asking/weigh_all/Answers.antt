@@ -1,7 +1,5 @@
 use Rattle.design.specs.Keys.{netlist}
-use Rattle.rundiff.specs.OldLines.{known_at}
-use Rattle.rundiff.specs.Places.{gate_at}
-use Rattle.resim.specs.Asking.{dirty_task}
+use Rattle.resim.specs.Asking.{dirty_task, is_clean}
 use Rattle.resim.proofs.Weaving.{flat_more, map_more}
 use Rattle.resim.proofs.asking.weigh_all.Goals as goal
 
@@ -10,8 +8,7 @@ loop-i-preserved g c =
     let answer = g.S.Stepper.answer in let old = netlist c.args.old.now in let new = netlist c.args.new.now in let t = c.args.t in
     let i = c.loop-i.i in let gates = c.args.gates.now in
     record {
-      known = map_more (λ p. known_at answer old new t (gate_at new p)) gates i _ c.in_ok-state.state c.loop-i.known.items c.push.new.self.items c.loop-i-test.true c.in_ok-push.ensures.items c.in_ok-state.ensures.known c.loop-i.invariant.known;
-      tasks = flat_more (dirty_task answer old new t) gates i _ c.loop-i.tasks.items c.weigh.new.tasks.items c.loop-i-test.true c.in_ok-state.ensures.tasks c.loop-i.invariant.tasks;
-      ready = c.in_ok-state.ensures.ready c.loop-i.invariant.ready;
-      lines = c.weigh.ensures.lines;
+      clean = map_more (is_clean answer old new t) gates i _ c.in_ok-is_clean.is_clean c.loop-i.clean.items c.push.new.self.items c.loop-i-test.true c.in_ok-push.ensures.items c.in_ok-is_clean.ensures.clean c.loop-i.invariant.clean;
+      tasks = flat_more (dirty_task answer old new t) gates i _ c.loop-i.tasks.items c.weigh.new.tasks.items c.loop-i-test.true c.in_ok-is_clean.ensures.tasks c.loop-i.invariant.tasks;
+      ready = c.in_ok-is_clean.ensures.ready c.loop-i.invariant.ready;
     }

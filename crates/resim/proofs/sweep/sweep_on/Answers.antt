@@ -15,6 +15,8 @@ loop-t-init g c =
       within = let is = c.horizon-horizon.ensures.horizon in let within = c.advance-t.ensures.within in omega arith;
       asked = λ was is. is ∙ ap (λ l. was ++ l) (sym (rework_idle answer old new 1 c.advance-t.result c.advance-t.ensures.from c.advance-t.ensures.quiet));
       lines = c.requires.lines;
+      waves = let from = c.advance-t.ensures.from in let done = c.requires.waves in omega (arith, from, done);
+      traces = let from = c.advance-t.ensures.from in let done = c.requires.traces in omega (arith, from, done);
       losses = refl;
     }
 
@@ -37,7 +39,9 @@ loop-t-preserved g c =
       asked = λ was began.
           one_more answer old new was (g.S.Stepper.asked c.loop-t.stepper) (g.S.Stepper.asked c.pass_beside.new.stepper) t (c.loop-t.invariant.asked was began) c.in_ok-pass_beside.ensures.asked
           ∙ ap (λ l. was ++ l) (sym (rework_idle answer old new (suc t) next.result (rw add-one at next.ensures.from) (rw add-one at next.ensures.quiet)));
-      lines = c.pass_beside.ensures.lines;
+      lines = c.in_ok-pass_beside.ensures.lines;
+      waves = let from = next.ensures.from in let done = c.in_ok-pass_beside.ensures.waves in omega (arith, from, done);
+      traces = let from = next.ensures.from in let done = c.in_ok-pass_beside.ensures.traces in omega (arith, from, done);
       losses = grind (arith, common_steps);
     }
 

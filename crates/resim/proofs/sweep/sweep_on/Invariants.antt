@@ -3,7 +3,7 @@ use Rattle.gatestep.specs.Step.{Evaluation}
 use Rattle.design.specs.Keys.{netlist}
 use Rattle.scratch.specs.Stands.{Stands}
 use Rattle.rundiff.specs.Dirty.{rework_below}
-use Rattle.rundiff.specs.OldLines.{AreOldLines}
+use Rattle.rundiff.specs.OldLines.{AreOldLines, traces_done, waves_done}
 use Rattle.resim.proofs.sweep.sweep_on.Given as goal
 
 -- the moments below `t` are done
@@ -16,6 +16,8 @@ invariant-loop-t g l =
       within : l.t ≤ suc l.horizon;
       asked : (was : List (Evaluation × ℕ)) → g.S.Stepper.asked l.fn.stepper ≡ was ++ rework_below answer old new 1 → g.S.Stepper.asked l.stepper ≡ was ++ rework_below answer old new l.t;
       lines : AreOldLines answer old new l.lines;
+      waves : waves_done l.lines ≤ l.t;
+      traces : traces_done l.lines ≤ l.t;
       losses : g.S.Stepper.losses l.stepper ≡ g.S.Stepper.losses l.fn.stepper;
     }
 

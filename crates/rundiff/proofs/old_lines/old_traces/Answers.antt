@@ -14,8 +14,9 @@ loop-place-preserved g c =
     let at : gate_at new place ≡ entry_in keyed.nets c.gate_at.result.now = at_place new.gates place blank_gate (entry_in keyed.nets c.gate_at.result.now) c.gate_at.ensures.named in
     let named : c.as_str-name.result.now ≡ (gate_at new place).name = c.as_str-name.ensures ∙ c.name.ensures ∙ ap (λ (g : GateEntry). g.name) (sym at) in
     record {
-      count = one_longer c.loop-place.traces.items c.push.new.self.items c.new.result place c.in_ok-push.ensures.items c.loop-place.invariant.count;
+      count = one_longer c.loop-place.traces.lines c.push.new.self.lines c.old_trace.result.now place c.in_ok-push.ensures.lines c.loop-place.invariant.count;
       each = grown (λ p trace. trace ≡ trace_below (named_state answer old (gate_at new p).name) (suc old.horizon))
-          c.loop-place.traces.items c.push.new.self.items c.new.result place c.in_ok-push.ensures.items c.loop-place.invariant.count c.loop-place.invariant.each
-          (c.new.ensures ∙ c.old_trace.ensures answer c.requires.run ∙ ap (λ (name : List ℕ). trace_below (named_state answer old name) (suc old.horizon)) named);
+          c.loop-place.traces.lines c.push.new.self.lines c.old_trace.result.now place c.in_ok-push.ensures.lines c.loop-place.invariant.count c.loop-place.invariant.each
+          (c.old_trace.ensures answer c.requires.run ∙ ap (λ (name : List ℕ). trace_below (named_state answer old name) (suc old.horizon)) named);
+      done = c.push.ensures.done;
     }

@@ -11,6 +11,7 @@ abbrev pub invariant-loop-place : goal.invariant-loop-place
 invariant-loop-place g l =
     let old = netlist l.old in let new = netlist l.new in
     record {
-      count : length l.traces.items ≡ l.place;
-      each : HoldsEach l.traces.items (λ p trace. trace ≡ trace_below (named_state g.S.Stepper.answer old (gate_at new p).name) (suc old.horizon));
+      count : length l.traces.lines ≡ l.place;
+      each : HoldsEach l.traces.lines (λ p trace. trace ≡ trace_below (named_state g.S.Stepper.answer old (gate_at new p).name) (suc old.horizon));
+      done : l.traces.done ≡ 0;
     }

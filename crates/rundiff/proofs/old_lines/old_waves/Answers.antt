@@ -15,8 +15,9 @@ loop-place-preserved g c =
     let at : net_at new place ≡ c.net_at.result.now = at_place new.nets place blank_net c.net_at.result.now c.net_at.ensures in
     let named : c.as_str-name.result.now ≡ (net_at new place).name = c.as_str-name.ensures ∙ c.name.ensures ∙ ap (λ (n : NetEntry). n.name) (sym at) in
     record {
-      count = one_longer c.loop-place.waves.items c.push.new.self.items c.new.result place c.in_ok-push.ensures.items c.loop-place.invariant.count;
+      count = one_longer c.loop-place.waves.lines c.push.new.self.lines c.old_wave.result.now place c.in_ok-push.ensures.lines c.loop-place.invariant.count;
       each = grown (λ p wave. wave ≡ wave_changes_below (read_at answer old (to_net (net_at new p).name)) (suc old.horizon))
-          c.loop-place.waves.items c.push.new.self.items c.new.result place c.in_ok-push.ensures.items c.loop-place.invariant.count c.loop-place.invariant.each
-          (c.new.ensures ∙ c.old_wave.ensures answer c.requires.run ∙ ap (λ (name : List ℕ). wave_changes_below (read_at answer old (to_net name)) (suc old.horizon)) named);
+          c.loop-place.waves.lines c.push.new.self.lines c.old_wave.result.now place c.in_ok-push.ensures.lines c.loop-place.invariant.count c.loop-place.invariant.each
+          (c.old_wave.ensures answer c.requires.run ∙ ap (λ (name : List ℕ). wave_changes_below (read_at answer old (to_net name)) (suc old.horizon)) named);
+      done = c.push.ensures.done;
     }

@@ -12,6 +12,7 @@ abbrev pub invariant-loop-place : goal.invariant-loop-place
 invariant-loop-place g l =
     let old = netlist l.old in let new = netlist l.new in
     record {
-      count : length l.waves.items ≡ l.place;
-      each : HoldsEach l.waves.items (λ p wave. wave ≡ wave_changes_below (read_at g.S.Stepper.answer old (to_net (net_at new p).name)) (suc old.horizon));
+      count : length l.waves.lines ≡ l.place;
+      each : HoldsEach l.waves.lines (λ p wave. wave ≡ wave_changes_below (read_at g.S.Stepper.answer old (to_net (net_at new p).name)) (suc old.horizon));
+      done : l.waves.done ≡ 0;
     }

@@ -10,15 +10,15 @@ use Rattle.rundiff.specs.OldLines.{former_value}
 use Rattle.rundiff.proofs.Known.{match_more, mismatch}
 use Rattle.rundiff.proofs.old_lines.OldLines.are_read.Goals as goal
 
-pub returns-then-not-is_same-clause-same : goal.returns-then-not-is_same-clause-same
-returns-then-not-is_same-clause-same g c =
+pub returns-then-not-is_same : goal.returns-then-not-is_same
+returns-then-not-is_same g c =
     let former = former_value g.S.Stepper.answer (netlist c.args.old.now) (netlist c.args.new.now) c.args.t in
     let i = c.loop-i.i in let inputs = c.args.cell.now.inputs in let read = input_value c.args.values.now in
     let x = c.index-inputs-i.result in
     let at = subst (λ (xs : List Input). slice_get xs i ≡ Some x) c.inputs-inputs.ensures.inputs (slice_get_read c.inputs-inputs.result.now (length c.inputs-inputs.result.now) i x refl c.loop-i-test.true c.index-inputs-i.is) in
     let off : same_value (former x) (read x) ≡ false =
     ap (λ (input : Input). same_value (former input) (read input)) (sym c.get-input.ensures)
-    ∙ ap (λ (v : Value). same_value v (read c.get-input.result)) (sym c.value-former.ensures.value) ∙ ap (same_value c.value-former.result) (sym c.read_input-value.ensures) ∙ sym c.is_same.ensures ∙ c.if-not-is_same.true in
+    ∙ ap (λ (v : Value). same_value v (read c.get-input.result)) (sym c.value-former.ensures) ∙ ap (same_value c.value-former.result) (sym c.read_input-value.ensures) ∙ sym c.is_same.ensures ∙ c.if-not-is_same.true in
     sym (mismatch same_value former read x x inputs inputs i at at off)
 
 pub loop-i-preserved : goal.loop-i-preserved
@@ -29,8 +29,5 @@ loop-i-preserved g c =
     let at = subst (λ (xs : List Input). slice_get xs i ≡ Some x) c.inputs-inputs.ensures.inputs (slice_get_read c.inputs-inputs.result.now (length c.inputs-inputs.result.now) i x refl c.loop-i-test.true c.index-inputs-i.is) in
     let on : same_value (former x) (read x) ≡ true =
     ap (λ (input : Input). same_value (former input) (read input)) (sym c.get-input.ensures)
-    ∙ ap (λ (v : Value). same_value v (read c.get-input.result)) (sym c.value-former.ensures.value) ∙ ap (same_value c.value-former.result) (sym c.read_input-value.ensures) ∙ sym c.is_same.ensures ∙ c.if-not-is_same.false in
-    record {
-      same = match_more same_value former read x x inputs inputs i at at c.loop-i.invariant.same on;
-      lines = c.value-former.ensures.lines;
-    }
+    ∙ ap (λ (v : Value). same_value v (read c.get-input.result)) (sym c.value-former.ensures) ∙ ap (same_value c.value-former.result) (sym c.read_input-value.ensures) ∙ sym c.is_same.ensures ∙ c.if-not-is_same.false in
+    match_more same_value former read x x inputs inputs i at at c.loop-i.invariant on
