@@ -5,12 +5,13 @@ use Rattle.std.specs.List.{filter, last_or}
 use Rattle.event_queue.specs.Noted.{noted}
 use Rattle.event_queue.specs.Pages.{PageRecord, IsBlank, items_at}
 use Rattle.event_queue.specs.declared.page.TheConstants.{PAGE}
+use Rattle.waveform.specs.Notes as notes
 use Rattle.waveform.specs.Timelines.{IsTimeline}
 use Rattle.waveform.specs.declared.replay.reading.Reading.{Reading}
 
 -- the items of a place among those of a moment
 abbrev pub items_of : {E : Type 0} → ℕ → List (ℕ × E) → List E
-items_of p row = map (λ item. item.1) (filter (λ item. nat_eq item.0 p) row)
+items_of p row = notes.entries_at p row
 
 -- the entries at a moment
 abbrev pub entries_at : {E A : Type 0} → (E → ℕ × A) → List E → ℕ → List E

@@ -1,6 +1,6 @@
 //! Timelines of a run that are read together, from moment to moment.
 
-ghost use Rattle.std.specs.Prelude.{◌≡◌, ◌<◌, ◌≤◌, ℕ, suc, [], ◌∷◌, ◌++◌, length, IfOk, OnOk, map, slice_index_or};
+ghost use Rattle.std.specs.Prelude.{◌≡◌, ◌<◌, ◌≤◌, ℕ, suc, [], ◌∷◌, ◌++◌, length, IfOk, OnErr, OnOk, map, slice_index_or};
 ghost use Rattle.waveform.specs.Paging.{AreInHand, HaveValues, readings};
 ghost use Rattle.waveform.specs.Timelines.{value_by};
 ghost use Rattle.waveform.specs.declared.times.TheConstants.{TIME_END};
@@ -69,6 +69,7 @@ impl<'a, V: Sample> Replay<'a, V> {
     pub fn push(&mut self, alloc: Global, line: &'a Timeline<V>) -> Result<(), AllocError>
         requires begin { self.old.done ≡ 0 }
         ensures lines { OnOk result (self.new.lines ≡ self.old.lines ++ line.now ∷ []) }
+        ensures err { OnErr result (self.new.lines ≡ self.old.lines) }
         ensures done { self.new.done ≡ 0 }
     {
         let entries = line.stored();
@@ -93,6 +94,7 @@ impl<'a, V: Sample> Replay<'a, V> {
     /// How many entries the timeline at a place has.
     pub fn entry_count(&self, place: usize) -> usize
         requires { place < length self.now.lines }
+        ensures { result ≡ length (slice_index_or self.now.lines place []) }
     {
         self.lines[place].entries.len()
     }
@@ -104,6 +106,7 @@ impl<'a, V: Sample> Replay<'a, V> {
         requires within { done ≤ TIME_END }
         ensures lines { OnOk result (self.new.lines ≡ self.old.lines) }
         ensures done { OnOk result (self.new.done ≡ done) }
+        ensures err { OnErr result (self.new.lines ≡ []) }
     {
         if done == self.done {
             return Ok(());
@@ -165,6 +168,7 @@ fn read_until<V: Sample>(
 {
     let pages = (until + (PAGE - 1)) / PAGE;
     let mut done = from;
+    // The pages below it are read, so there are ever fewer to come.
     let mut next = 0;
     while let Some(number) = first_below(turns, pages) {
         let start = number * PAGE;
