@@ -18,6 +18,7 @@ use crate::task::{Task, next};
 #[derive(Drop)]
 pub struct Serial {
     history: Record,
+    ghost none_lost: { history.losses ≡ 0 },
 }
 
 impl Serial {

@@ -1,6 +1,7 @@
 //! Who evaluates gates.
 
 ghost use Rattle.std.specs.Prelude.{◌≡◌, ℕ, ◌+◌, ◌<◌, ◌≤◌, List, [], ◌∷◌, ◌++◌, length, map, All, OnOk, OnErr, if◌then◌else◌};
+ghost use Rattle.std.specs.Bool.{OnFalse};
 ghost use Rattle.fourstate.specs.declared.limits.TheConstants.{MAX_DELAY, MAX_TIME};
 ghost use Rattle.gatestep.specs.Faults.{is_lost};
 ghost use Rattle.gatestep.specs.Record.{at_moment};
@@ -34,12 +35,15 @@ pub trait Stepper {
         ensures recorded { asked self.new ≡ asked self.old ++ at_moment t tasks.now }
         ensures lost { losses self.new ≡ losses self.old + (if is_lost result then 1 else 0) };
 
-    /// Whether a step of so many tasks is to be asked in one piece, since its tasks are dealt to others. No answer
-    /// depends on it.
-    fn deals(&self, tasks: usize) -> bool;
+    /// Whether a step of so many tasks is to be asked in one piece, since its tasks are dealt to others or a worker was
+    /// lost. No answer depends on it.
+    fn deals(&self, tasks: usize) -> bool
+        ensures { OnFalse result (losses self.now ≡ 0) };
 
     /// Evaluates a task at the moment `t`, in time units, on the caller's thread, and never fails. It counts as asked.
+    /// Who lost a worker can only be asked by a step.
     fn evaluate(&mut self, task: &Task, t: u64) -> Driver
+        requires none_lost { losses self.old ≡ 0 }
         requires ready { IsReady t task.now }
         requires within { t ≤ MAX_TIME }
         ensures answer { result ≡ answer task.now t }

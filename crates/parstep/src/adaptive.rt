@@ -13,7 +13,7 @@ ghost use Rattle.parstep.specs.declared.limits.TheConstants.{MAX_WORKERS};
 use crate::limits::MAX_WORKERS;
 use crate::pool::Pool;
 use crate::worker::Probe;
-use gatestep::{Driver, Record, Serial, StepFault, Stepper, Task};
+use gatestep::{Driver, Record, Serial, StepFault, Stepper, Task, next};
 use std::alloc::Global;
 use std::sync::Wait;
 use std::thread::Threads;
@@ -89,8 +89,7 @@ impl<P: Probe, R: Wait + Drop> Stepper for Adaptive<P, R> {
         result
     }
 
-    /// It deals the steps of `LEAST_DEALT` tasks or more. Once a worker was lost it says so of every step: who asks this
-    /// first then asks by `step`, which answers that a worker was lost.
+    /// It deals the steps of `LEAST_DEALT` tasks or more, and once a worker was lost all, since `step` answers so.
     #[inline(always)]
     fn deals(&self, tasks: usize) -> bool
         ensures { IsTrue result ↔ ((0 < ⟦<Adaptive<P, R> as Stepper>⟧.losses self.now) ⊎ (LEAST_DEALT ≤ tasks)) }
@@ -101,7 +100,7 @@ impl<P: Probe, R: Wait + Drop> Stepper for Adaptive<P, R> {
     #[inline(always)]
     fn evaluate(&mut self, task: &Task, t: u64) -> Driver {
         self.history.add_one(task, t);
-        self.alone.evaluate(task, t)
+        next(task, t)
     }
 
     ghost answer_current = { advance_current };

@@ -135,6 +135,7 @@ fn ask_one<S: Stepper>(
     t: u64,
     fresh: &mut Vec<Driver>,
 ) -> bool
+    requires none_lost { S.losses stepper.old ≡ 0 }
     requires lines { AreOldLines S.answer (netlist old.now) (netlist new.now) lines.now }
     requires waves { waves_done lines.now ≡ suc t }
     requires traces { traces_done lines.now ≡ t }
@@ -176,6 +177,7 @@ fn ask_each<S: Stepper>(
     clean: &mut Vec<bool>,
     fresh: &mut Vec<Driver>,
 ) -> Result<(), AllocError>
+    requires none_lost { S.losses stepper.old ≡ 0 }
     requires lines { AreOldLines S.answer (netlist old.now) (netlist new.now) lines.now }
     requires waves { waves_done lines.now ≡ suc t }
     requires traces { traces_done lines.now ≡ t }

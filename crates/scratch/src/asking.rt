@@ -49,6 +49,7 @@ fn evaluate_each<S: Stepper>(
     t: u64,
     answers: &mut Vec<Driver>,
 ) -> Result<(), AllocError>
+    requires none_lost { S.losses stepper.old ≡ 0 }
     requires beside { length wiring.now.cells.items ≡ length states.now }
     requires there { All (λ k. k < length states.now) places.now }
     requires ready { All (PendingFrom t) states.now }
