@@ -298,6 +298,19 @@ fn a_wave_with_one_other_value(rt: HostRuntime) {
     drop(old);
 }
 
+// At the last moment that can be stored; the former wave's change at the one before stays.
+#[test]
+fn a_wave_with_another_value_at_the_last_moment(rt: HostRuntime) {
+    let (before, last) = (1_152_920_351_684, 1_152_920_351_685);
+    let mut old = two_values(&rt, rt.alloc(), One);
+    old.push(before, Zero).expect(&rt, "room");
+    let wave = with_one_other_value(rt.alloc(), &old, last, Unknown, last + 1).expect(&rt, "room");
+    let changes = [(0, HighZ), (2, One), (before, Zero), (last, Unknown)];
+    check_changes(&rt, &wave, &changes);
+    drop(wave);
+    drop(old);
+}
+
 /// The moment of the next entry after `t`, or `end` where that comes first. Up to it the function whose changes the timeline
 /// keeps moves by itself alone.
 fn quiet_until<V: Sample>(line: &Timeline<V>, t: u64, end: u64) -> u64

@@ -92,6 +92,37 @@ fn waves_read_together(rt: HostRuntime) {
     drop(first);
 }
 
+// Beside a wave that changes at the last moment that can be stored, which ends no page.
+#[test]
+fn waves_read_to_the_last_moment(rt: HostRuntime) {
+    let alloc = rt.alloc();
+    let mut first = pulse(&rt, alloc);
+    first
+        .push(1_152_920_351_685, Value::One)
+        .expect(&rt, "room");
+    let second = edges(&rt, alloc);
+    let mut replay = replayed(&rt, alloc, &first, &second);
+    check_at(
+        &rt,
+        alloc,
+        &mut replay,
+        1_152_920_351_684,
+        Value::Zero,
+        Value::One,
+    );
+    check_at(
+        &rt,
+        alloc,
+        &mut replay,
+        1_152_920_351_685,
+        Value::One,
+        Value::One,
+    );
+    drop(replay);
+    drop(second);
+    drop(first);
+}
+
 // The states of a driver of x that falls at 3 and, by an entry at 7, rises at 12, beside the same; a moment is read twice.
 #[test]
 fn traces_read_together(rt: HostRuntime) {

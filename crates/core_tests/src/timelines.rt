@@ -145,6 +145,30 @@ fn repeated_values_are_not_stored(rt: HostRuntime) {
     drop(wave);
 }
 
+/// The moment 2^40, and the last one that can be stored.
+const LATE: u64 = 1_099_511_627_776;
+
+const LAST: u64 = 1_152_920_351_685;
+
+#[test]
+fn a_wave_changes_at_the_last_moments(rt: HostRuntime) {
+    let mut wave = Wave::open(rt.alloc(), Value::Zero).expect(&rt, "room");
+    wave.push(LATE, Value::One).expect(&rt, "room");
+    wave.push(LAST - 1, Value::Unknown).expect(&rt, "room");
+    wave.push(LAST, Value::HighZ).expect(&rt, "room");
+    let changes = [
+        (0, Value::Zero),
+        (LATE, Value::One),
+        (LAST - 1, Value::Unknown),
+        (LAST, Value::HighZ),
+    ];
+    check_changes(&rt, &wave, &changes);
+    equal(&rt, "before 2^40", wave.at(LATE - 1), Value::Zero);
+    equal(&rt, "at 2^40", wave.at(LATE), Value::One);
+    equal(&rt, "at the last", wave.at(LAST), Value::HighZ);
+    drop(wave);
+}
+
 /// The timeline with the values of another one from a moment to another.
 fn spliced<V: Sample>(
     rt: &impl Abort,
@@ -254,6 +278,35 @@ fn an_entry_has_its_moment_and_its_state(rt: HostRuntime) {
     let entry = TraceEntry::new(7, rising);
     equal(&rt, "time", entry.time(), 7);
     equal(&rt, "state", entry.state(), rising);
+}
+
+/// A driver of 1 that goes to x the greatest delay after 2^40, and from there to z the greatest delay after the last moment.
+fn late_events(rt: &impl Abort, alloc: Global) -> Trace {
+    let mut trace = Trace::open(alloc, standing(Value::One)).expect(rt, "room");
+    let unknown = moving(Value::One, Value::Unknown, 1_099_512_627_776);
+    trace.push(LATE, unknown).expect(rt, "room");
+    let floating = moving(Value::Unknown, Value::HighZ, 1_152_921_351_685);
+    trace.push(LAST, floating).expect(rt, "room");
+    trace
+}
+
+#[test]
+fn a_trace_has_entries_at_the_last_moments(rt: HostRuntime) {
+    let trace = late_events(&rt, rt.alloc());
+    let unknown = moving(Value::One, Value::Unknown, 1_099_512_627_776);
+    let floating = moving(Value::Unknown, Value::HighZ, 1_152_921_351_685);
+    let entries = [(0, standing(Value::One)), (LATE, unknown), (LAST, floating)];
+    check_entries(&rt, &trace, &entries);
+    for (t, state) in [
+        (LATE - 1, standing(Value::One)),
+        (1_099_512_627_775, unknown),
+        (1_099_512_627_776, standing(Value::Unknown)),
+        (LAST - 1, standing(Value::Unknown)),
+        (LAST, floating),
+    ] {
+        equal(&rt, t, trace.at(t), state);
+    }
+    drop(trace);
 }
 
 #[test]

@@ -8,13 +8,8 @@ use gatestep::Driver;
 use std::marker::Model;
 use std::mem::size_of;
 
-/// How many delays an entry tells apart.
-const DELAYS: u64 = 1 << 20;
-
-/// How many numbers keep such a delay and two values.
-const RESTS: u64 = DELAYS * VALUES * VALUES;
-
-const _: () = prove!(MAX_DELAY < DELAYS);
+/// How many numbers keep the rest of an entry: a distance of up to the greatest delay, and two values.
+pub const RESTS: u64 = (MAX_DELAY + 1) * VALUES * VALUES;
 
 const _: () = prove!(size_of::<TraceEntry>() == 8);
 
@@ -22,8 +17,8 @@ const _: () = prove!(size_of::<TraceEntry>() == 8);
 /// falls due becomes current by itself, so it has no entry of its own. Contracts see the pair of the moment and the state.
 #[derive(Clone, Copy, Debug)]
 pub struct TraceEntry {
-    // The moment, then 20 bits for how long after it what is pending is due, 0 where nothing is, two for the value that is
-    // pending, and two for the current one: so an entry has 8 bytes, and fewer of them go through a processor's cache.
+    // The moment times `RESTS`, and the rest of the entry: how long after the moment what is pending is due, 0 where nothing
+    // is, the value that is pending, and the current one. So an entry has 8 bytes, and fewer go through a processor's cache.
     number: u64,
 }
 

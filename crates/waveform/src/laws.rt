@@ -1,14 +1,14 @@
 //! Laws of functions of time and of their timelines: each function does nothing, and its contract is the law.
 
-ghost use Rattle.std.specs.Prelude.{◌≡◌, ◌<◌, ◌≤◌, ◌-◌, ◌^◌, ℕ, suc, false, List, All, IfSome};
+ghost use Rattle.std.specs.Prelude.{◌≡◌, ◌<◌, ◌≤◌, ◌-◌, ℕ, suc, false, List, All, IfSome};
 ghost use Rattle.waveform.specs.Timelines.{IsAlwaysSettled, IsTimeline, changes_below, entries_until, first_after, is_change, is_reached, pushed, value_by};
 ghost use Rattle.waveform.specs.declared.times.TheConstants.{TIME_END};
 
 use crate::sample::Sample;
 
-/// The moments that can be stored have 40 bits.
+/// How many moments can be stored.
 pub fn stored_moments()
-    ensures { TIME_END ≡ 2 ^ 40 }
+    ensures { TIME_END ≡ 1152920351686 }
 {}
 
 /// The changes of a function below a moment give its value at each moment before that one.

@@ -1,8 +1,10 @@
 //! Which moments can be stored.
 
+use crate::entry::RESTS;
 use fourstate::MAX_TIME;
 
-/// The moments that can be stored lie below this one (own): they have 40 bits, so that an entry has 8 bytes.
-pub const TIME_END: u64 = 1 << 40;
+/// The moments that can be stored lie below this one (own): so many fit into the 8 bytes of an entry, beside the rest of it.
+pub const TIME_END: u64 = u64::MAX / RESTS;
 
-const _: () = prove!(MAX_TIME < TIME_END);
+// The last horizon lies there, and the moment behind it, at which what is spliced up to the horizon goes on.
+const _: () = prove!(MAX_TIME + 2 <= TIME_END);
