@@ -6,7 +6,7 @@ ghost use Rattle.edits.specs.Touched.{IsTouched};
 ghost use Rattle.gatestep.specs.Step.{advance};
 ghost use Rattle.scratch.specs.Run.{IsRun};
 
-use crate::reruns::counting::Counting;
+use crate::counting::Counting;
 use design::Design;
 use edits::{Edit, Touched, apply_all_with_touched};
 use gatestep::Stepper;

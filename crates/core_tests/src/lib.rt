@@ -16,6 +16,8 @@ mod chunks;
 #[cfg(test)]
 mod compare;
 #[cfg(test)]
+mod counting;
+#[cfg(test)]
 mod designs;
 #[cfg(test)]
 mod dice;
@@ -49,5 +51,7 @@ mod tables;
 mod timelines;
 #[cfg(test)]
 mod tokens;
+#[cfg(test)]
+mod twenty;
 #[cfg(test)]
 mod waves;

@@ -1,6 +1,5 @@
 //! Runs from former runs, beside runs worked out by hand and beside a reference implementation.
 
-pub mod counting;
 mod definition;
 mod horizons;
 mod many_points;

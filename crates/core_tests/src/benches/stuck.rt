@@ -1,73 +1,23 @@
 //! Benches whose stepper loses its worker.
 
-ghost use Rattle.gatestep.specs.Step.{advance};
-ghost use Rattle.gatestep.specs.StepLaws.{advance_current, advance_later, advance_near, advance_stays};
-
 use super::opened::{check, check_commit};
 use crate::compare::equal;
+use crate::counting::Counting;
 use crate::edit_lists::lines::design_of;
+use crate::twenty::twenty;
 use bench::{Bench, CommitFault};
 use edits::EditFault;
-use gatestep::{Driver, Record, Serial, StepFault, Stepper, Task};
+use gatestep::StepFault;
 use std::alloc::Global;
 use std::process::Abort;
 
-// Answers as `Serial` does, until `left` steps are made; from then on its worker is lost.
-#[derive(Drop)]
-struct Losing {
-    serial: Serial,
-    history: Record,
-    left: u32,
-}
-
-impl Stepper for Losing {
-    ghost answer = { advance };
-
-    ghost asked = { λ s. s.history.asked };
-
-    ghost losses = { λ s. s.history.losses };
-
-    fn step(&mut self, tasks: &[Task], t: u64, out: &mut Vec<Driver>) -> Result<(), StepFault> {
-        let lost = self.left == 0;
-        self.history.add(tasks, t, lost);
-        if lost {
-            return Err(StepFault::WorkerLost);
-        }
-        self.left -= 1;
-        match self.serial.step(tasks, t, out) {
-            Ok(()) => Ok(()),
-            Err(_) => Err(StepFault::OutOfMemory),
-        }
-    }
-
-    // So that each moment is asked by `step`, which counts down.
-    fn deals(&self, _tasks: usize) -> bool {
-        true
-    }
-
-    fn evaluate(&mut self, task: &Task, t: u64) -> Driver {
-        self.history.add_one(task, t);
-        self.serial.evaluate(task, t)
-    }
-
-    ghost answer_current = { advance_current };
-
-    ghost answer_pending = { advance_later };
-
-    ghost answer_near = { advance_near };
-
-    ghost answer_stays = { advance_stays };
-}
+const LOST: Result<u64, CommitFault> = Err(CommitFault::WorkerLost);
 
 const INVERTER: [&str; 3] = ["input a", "net y wire", "gate g not 1 1 y a"];
 
 /// A bench of the inverter up to moment 0, which takes a step for each commit.
-fn open(rt: &impl Abort, alloc: Global, left: u32) -> Result<Bench<Losing>, StepFault> {
-    let stepper = Losing {
-        serial: Serial::new(),
-        history: Record::new(),
-        left,
-    };
+fn open(rt: &impl Abort, alloc: Global, left: u64) -> Result<Bench<Counting>, StepFault> {
+    let stepper = Counting::losing(0, left);
     Bench::open(alloc, design_of(rt, alloc, &INVERTER), stepper)
 }
 
@@ -85,8 +35,7 @@ fn at_the_opening(rt: HostRuntime) {
 fn at_a_commit(rt: HostRuntime) {
     let mut bench = open(&rt, rt.alloc(), 2).expect(&rt, "a bench");
     check_commit(&rt, rt.alloc(), &mut bench, &["stim a 0 0"], Ok(1));
-    let lost = Err(CommitFault::WorkerLost);
-    check_commit(&rt, rt.alloc(), &mut bench, &["unstim a 0"], lost);
+    check_commit(&rt, rt.alloc(), &mut bench, &["unstim a 0"], LOST);
     equal(&rt, "version", bench.snapshot().version(), 1);
     check(&rt, rt.alloc(), &bench, "a", " 0:0");
     drop(bench);
@@ -106,4 +55,56 @@ fn behind_a_refused_edit(rt: HostRuntime) {
     );
     check_commit(&rt, rt.alloc(), &mut bench, &["stim a 0 0"], Ok(1));
     drop(bench);
+}
+
+/// A bench whose stepper deals the steps of so many tasks and makes so many steps.
+fn open_twenty(
+    rt: &impl Abort,
+    alloc: Global,
+    least_dealt: usize,
+    left: u64,
+) -> Result<Bench<Counting>, StepFault> {
+    Bench::open(
+        alloc,
+        twenty(rt, alloc),
+        Counting::losing(least_dealt, left),
+    )
+}
+
+// Edits that touch gates and change none, so that a commit goes through the whole design.
+const TOUCHING: [&str; 3] = ["delay h 2 2", "delay g0 1 1", "delay g1 1 1"];
+
+fn check_wide(
+    rt: &impl Abort,
+    alloc: Global,
+    bench: &mut Bench<Counting>,
+    moved: [&str; 2],
+    wanted: Result<u64, CommitFault>,
+) {
+    let lines = [moved[0], moved[1], TOUCHING[0], TOUCHING[1], TOUCHING[2]];
+    check_commit(rt, alloc, bench, &lines, wanted);
+}
+
+/// The opening takes so many steps, and a commit that stirs one gate so many more. One that stirs 20 gates loses the worker
+/// then, and so does each behind it that stirs a gate, whichever way it asks.
+fn check_twenty(rt: &impl Abort, alloc: Global, least_dealt: usize, opening: u64, small: u64) {
+    let fault = open_twenty(rt, alloc, least_dealt, opening.saturating_sub(1)).err();
+    equal(rt, "opening", fault, Some(StepFault::WorkerLost));
+    let left = opening.saturating_add(small);
+    let mut bench = open_twenty(rt, alloc, least_dealt, left).expect(rt, "a bench");
+    check_wide(rt, alloc, &mut bench, ["unstim b 20", "stim b 25 1"], Ok(1));
+    check_wide(rt, alloc, &mut bench, ["unstim a 10", "stim a 12 1"], LOST);
+    check_wide(rt, alloc, &mut bench, ["unstim b 25", "stim b 30 1"], LOST);
+    check_commit(rt, alloc, &mut bench, &["stim b 30 0"], LOST);
+    check_commit(rt, alloc, &mut bench, &["horizon 50"], LOST);
+    check_commit(rt, alloc, &mut bench, &["horizon 44"], Ok(2));
+    check(rt, alloc, &bench, "y", " 0:x 1:1 11:0");
+    check(rt, alloc, &bench, "z", " 0:x 2:0 27:1");
+    drop(bench);
+}
+
+#[test]
+fn twenty_gates_at_a_moment(rt: HostRuntime) {
+    check_twenty(&rt, rt.alloc(), 0, 7, 2);
+    check_twenty(&rt, rt.alloc(), 20, 4, 0);
 }

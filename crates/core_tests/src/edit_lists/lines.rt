@@ -161,7 +161,11 @@ pub fn empty(rt: &impl Abort, alloc: Global) -> Design {
 
 /// The design that the edits of lines make of one with no nets and no gates.
 pub fn design_of(rt: &impl Abort, alloc: Global, lines: &[&str]) -> Design {
-    let edits = edits(rt, alloc, lines);
+    made_of(rt, alloc, edits(rt, alloc, lines))
+}
+
+/// The same of a list of edits.
+pub fn made_of(rt: &impl Abort, alloc: Global, edits: Vec<Edit>) -> Design {
     let start = empty(rt, alloc);
     let design = carried_out(rt, alloc, &start, &edits);
     drop(start);

@@ -1,12 +1,15 @@
 //! Probes that hold pieces or end workers.
 
-use parstep::Probe;
+use crate::compare::equal;
+use parstep::{MAX_WORKERS, Probe};
+use std::alloc::Global;
+use std::process::Abort;
 use std::sync::atomic::{AtomicBool, AtomicU64, Ordering};
 use std::sync::{Arc, Wait};
 use std::time::Duration;
 
 /// How often a wait looks before it gives up.
-const MOST_LOOKS: u32 = 1_000;
+const MOST_LOOKS: u32 = 200;
 
 /// Sleeps until a count is so high, for some seconds at most. Each change of the count wakes it.
 fn reach(rt: &impl Wait, count: &AtomicU64, wanted: u32) -> bool {
@@ -20,6 +23,12 @@ fn reach(rt: &impl Wait, count: &AtomicU64, wanted: u32) -> bool {
         count.park_timeout(rt, now, Duration::from_millis(50));
     }
     false
+}
+
+/// Counts one more, and wakes who waits for it.
+fn raise(count: &AtomicU64) {
+    count.fetch_add(1, Ordering::SeqCst);
+    count.wake_all();
 }
 
 /// Ends the worker of one piece while a flag is set.
@@ -37,59 +46,77 @@ impl Probe for Ending {
     fn done(&self, _piece: u32) {}
 }
 
-/// Holds piece 0 until piece 1 is done.
+/// How often workers came to each piece, and how often each was done.
 #[derive(Drop)]
-pub struct Behind<R: Wait + Drop> {
-    rt: R,
-    done: AtomicU64,
+pub struct Calls {
+    came: Vec<AtomicU64>,
+    done: Vec<AtomicU64>,
+    all_came: AtomicU64,
 }
 
-impl<R: Wait + Drop> Behind<R> {
-    pub fn new(rt: R) -> Behind<R> {
-        Behind {
-            rt,
-            done: AtomicU64::new(0),
+fn counts(rt: &impl Abort, alloc: Global) -> Vec<AtomicU64> {
+    let mut counts = Vec::new(alloc);
+    for _ in 0..MAX_WORKERS {
+        counts.push(AtomicU64::new(0)).expect(rt, "one count more");
+    }
+    counts
+}
+
+impl Calls {
+    pub fn new(rt: &impl Abort, alloc: Global) -> Calls {
+        Calls {
+            came: counts(rt, alloc),
+            done: counts(rt, alloc),
+            all_came: AtomicU64::new(0),
+        }
+    }
+
+    /// A worker came to each of so many pieces once, each was done once, and there was no other.
+    pub fn check(&self, rt: &impl Abort, pieces: usize) {
+        for (of, counts) in [("came", &self.came), ("done", &self.done)] {
+            for (piece, count) in counts.iter().enumerate() {
+                let wanted = u64::from(piece < pieces);
+                equal(rt, (of, piece), count.load(Ordering::SeqCst), wanted);
+            }
         }
     }
 }
 
-impl<R: Wait + Drop> Probe for Behind<R> {
+/// What pieces wait for.
+#[derive(Clone, Copy)]
+pub enum Hold {
+    /// Piece 0 until piece 1 is done.
+    ForTheNext,
+    /// Each until so many have come.
+    ForAll(u32),
+}
+
+/// Counts its calls and holds pieces.
+#[derive(Drop)]
+pub struct Holding<R: Wait + Drop> {
+    pub rt: R,
+    pub calls: Arc<Calls>,
+    pub hold: Hold,
+}
+
+impl<R: Wait + Drop> Probe for Holding<R> {
     fn at(&self, piece: u32) -> bool {
-        piece != 0 || reach(&self.rt, &self.done, 1)
+        if let Some(count) = self.calls.came.get(piece as usize) {
+            raise(count);
+        }
+        raise(&self.calls.all_came);
+        match self.hold {
+            Hold::ForAll(wanted) => reach(&self.rt, &self.calls.all_came, wanted),
+            Hold::ForTheNext => match self.calls.done.get(1) {
+                Some(next) if piece == 0 => reach(&self.rt, next, 1),
+                _ => true,
+            },
+        }
     }
 
     fn done(&self, piece: u32) {
-        if piece == 1 {
-            self.done.fetch_add(1, Ordering::SeqCst);
-            self.done.wake_all();
+        if let Some(count) = self.calls.done.get(piece as usize) {
+            raise(count);
         }
     }
-}
-
-/// Holds each piece until so many have come.
-#[derive(Drop)]
-pub struct Together<R: Wait + Drop> {
-    rt: R,
-    entered: AtomicU64,
-    wanted: u32,
-}
-
-impl<R: Wait + Drop> Together<R> {
-    pub fn new(rt: R, wanted: u32) -> Together<R> {
-        Together {
-            rt,
-            entered: AtomicU64::new(0),
-            wanted,
-        }
-    }
-}
-
-impl<R: Wait + Drop> Probe for Together<R> {
-    fn at(&self, _piece: u32) -> bool {
-        self.entered.fetch_add(1, Ordering::SeqCst);
-        self.entered.wake_all();
-        reach(&self.rt, &self.entered, self.wanted)
-    }
-
-    fn done(&self, _piece: u32) {}
 }

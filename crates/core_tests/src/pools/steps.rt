@@ -15,7 +15,7 @@ use std::sync::Wait;
 use std::thread::Threads;
 
 /// A step of so many random tasks has the answers of `Serial`.
-fn compare<S: Stepper>(
+pub fn compare<S: Stepper>(
     rt: &impl Abort,
     alloc: Global,
     dice: &mut Dice,
@@ -83,12 +83,10 @@ fn steps_by_a_parallel_map(rt: HostRuntime) {
     compare_many(&rt, rt.alloc(), &mut Bulk::open(rt, rt.alloc()), 30);
 }
 
-// Steps with fewer tasks than are dealt, and one with more.
 #[test]
-fn small_steps_and_a_large_one(rt: HostRuntime) {
+fn small_steps_beside_two_workers(rt: HostRuntime) {
     let mut stepper = Adaptive::open(rt, rt.alloc(), 2, Quiet).expect(&rt, "a stepper");
     compare_many(&rt, rt.alloc(), &mut stepper, 30);
-    compare(&rt, rt.alloc(), &mut Dice(5), &mut stepper, 70_000);
 }
 
 // `LEAST_DEALT` is one more than a design has gates, and stands in a crate that knows no designs.

@@ -3,16 +3,16 @@
 ghost use Rattle.std.specs.Prelude.{◌<◌, ◌≤◌};
 ghost use Rattle.parstep.specs.declared.limits.TheConstants.{MAX_WORKERS};
 
-use super::probes::{Behind, Together};
+use super::probes::{Calls, Hold, Holding};
+use super::steps::compare;
 use super::tasks::{MOMENT, tasks};
-use crate::compare::equal;
 use crate::dice::Dice;
 use crossbeam_channel::{Sender, bounded};
-use gatestep::{Serial, Stepper};
-use parstep::{Pool, Probe, Quiet};
+use gatestep::Stepper;
+use parstep::{Adaptive, LEAST_DEALT, Pool, Probe, Quiet};
 use std::alloc::Global;
 use std::process::Abort;
-use std::sync::Wait;
+use std::sync::{Arc, Wait};
 use std::thread;
 use std::thread::Threads;
 
@@ -25,33 +25,72 @@ fn step<
     requires few { workers ≤ MAX_WORKERS }
 {
     let mut pool = Pool::open(rt, alloc, workers, probe).expect(&rt, "a pool");
-    let tasks = tasks(&rt, alloc, &mut Dice(2), count);
-    let mut wanted = Vec::new(alloc);
-    equal(
-        &rt,
-        "step",
-        Serial::new().step(&tasks, MOMENT, &mut wanted),
-        Ok(()),
-    );
-    let mut answers = Vec::new(alloc);
-    equal(&rt, "step", pool.step(&tasks, MOMENT, &mut answers), Ok(()));
-    equal(&rt, "answers", answers.as_slice(), wanted.as_slice());
+    compare(&rt, alloc, &mut Dice(2), &mut pool, count);
+}
+
+/// A probe that holds pieces, and the counts of its calls.
+fn holding<R: Wait + Abort + Copy + Drop>(
+    rt: R,
+    alloc: Global,
+    hold: Hold,
+) -> (Holding<R>, Arc<Calls>) {
+    let calls = Arc::new(alloc, Calls::new(&rt, alloc)).expect(&rt, "counts");
+    let shared = Arc::try_clone(&calls).expect(&rt, "a share of the counts");
+    let probe = Holding {
+        rt,
+        calls: shared,
+        hold,
+    };
+    (probe, calls)
+}
+
+/// A step of so many tasks or more by so many workers: each computes a piece, which is held.
+fn step_held<R: Threads + Wait + Abort + Copy + Drop + Send + Sync + 'static>(
+    rt: R,
+    alloc: Global,
+    workers: u32,
+    count: u64,
+    hold: Hold,
+)
+    requires some { 0 < workers }
+    requires few { workers ≤ MAX_WORKERS }
+{
+    let (probe, calls) = holding(rt, alloc, hold);
+    step(rt, alloc, workers, count, probe);
+    calls.check(&rt, workers as usize);
+    drop(calls);
 }
 
 // Piece 0 is held until piece 1 is done, so they are not computed one after another.
 #[test]
 fn the_second_piece_is_done_first(rt: HostRuntime) {
-    step(rt, rt.alloc(), 2, 2, Behind::new(rt));
+    step_held(rt, rt.alloc(), 2, 2, Hold::ForTheNext);
+    step_held(rt, rt.alloc(), 2, 4_096, Hold::ForTheNext);
 }
 
 #[test]
 fn each_piece_waits_for_the_other(rt: HostRuntime) {
-    step(rt, rt.alloc(), 2, 2, Together::new(rt, 2));
+    step_held(rt, rt.alloc(), 2, 2, Hold::ForAll(2));
+    step_held(rt, rt.alloc(), 2, 4_096, Hold::ForAll(2));
 }
 
 #[test]
 fn sixty_four_pieces_at_once(rt: HostRuntime) {
-    step(rt, rt.alloc(), 64, 130, Together::new(rt, 64));
+    step_held(rt, rt.alloc(), 64, 130, Hold::ForAll(64));
+    step_held(rt, rt.alloc(), 64, 4_096, Hold::ForAll(64));
+}
+
+// A worker gets a piece of the steps that are dealt alone, and of these each computes one at once with the other.
+#[test]
+fn a_small_step_and_a_large_one(rt: HostRuntime) {
+    let (probe, calls) = holding(rt, rt.alloc(), Hold::ForAll(2));
+    let mut stepper = Adaptive::open(rt, rt.alloc(), 2, probe).expect(&rt, "a stepper");
+    let least = LEAST_DEALT as u64;
+    compare(&rt, rt.alloc(), &mut Dice(5), &mut stepper, least - 1);
+    calls.check(&rt, 0);
+    compare(&rt, rt.alloc(), &mut Dice(5), &mut stepper, least);
+    calls.check(&rt, 2);
+    drop(calls);
 }
 
 /// Keeps an end of a channel for as long as a worker lives.

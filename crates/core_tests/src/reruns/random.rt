@@ -5,10 +5,10 @@ ghost use Rattle.std.specs.Prelude.{IfSome};
 ghost use Rattle.gatestep.specs.Step.{advance};
 ghost use Rattle.scratch.specs.Run.{IsRun};
 
-use super::counting::Counting;
 use super::definition::{Side, count};
 use super::plain::{Row, rows};
 use crate::compare::equal;
+use crate::counting::Counting;
 use crate::dice::Dice;
 use crate::edit_lists::lines::{design_of, edit};
 use design::Design;
@@ -213,7 +213,7 @@ fn commit(rt: &impl Abort, alloc: Global, old: &State, edits: &[Edit]) -> Option
     let Ok((design, touched)) = apply_all_with_touched(alloc, &old.design, edits) else {
         return None;
     };
-    let mut stepper = Counting::new();
+    let mut stepper = Counting::new(0);
     let made = rerun_touched(
         alloc,
         &old.design,
@@ -223,17 +223,16 @@ fn commit(rt: &impl Abort, alloc: Global, old: &State, edits: &[Edit]) -> Option
         &mut stepper,
     );
     let run = made.expect(rt, "a run");
-    assert!(rt; stepper.steps <= stepper.tasks, "a step without a task");
-    Some((State { design, run }, stepper.tasks))
+    Some((State { design, run }, stepper.tasks(rt)))
 }
 
-/// The same where what differs is found by comparison.
+/// The same where what differs is found by comparison, and no step is dealt.
 fn check_compared(rt: &impl Abort, alloc: Global, old: &State, new: &State, tasks: u64)
     requires { IsRun advance old.now.design old.now.run }
 {
-    let mut stepper = Counting::new();
+    let mut stepper = Counting::new(usize::MAX);
     let run = rerun(alloc, &old.design, &old.run, &new.design, &mut stepper).expect(rt, "a run");
-    equal(rt, "tasks", stepper.tasks, tasks);
+    equal(rt, "tasks", stepper.tasks(rt), tasks);
     drop(run);
 }
 

@@ -3,10 +3,11 @@
 ghost use Rattle.gatestep.specs.Step.{advance};
 ghost use Rattle.scratch.specs.Run.{IsRun};
 
-use super::counting::Counting;
 use crate::calls::{changed, rerun, simulated};
 use crate::compare::equal;
-use crate::edit_lists::lines::{carried_out, edits, empty};
+use crate::counting::Counting;
+use crate::edit_lists::lines::{edits, made_of};
+use crate::twenty::twenty;
 use crate::waves::{Named, check_waves};
 use design::Design;
 use edits::Edit;
@@ -33,34 +34,36 @@ fn design_of(rt: &impl Abort, alloc: Global, case: &Case<'_>) -> Design {
     edits
         .push(Edit::Horizon { time })
         .expect(rt, "one edit more");
-    let start = empty(rt, alloc);
-    let design = carried_out(rt, alloc, &start, &edits);
-    drop(start);
-    drop(edits);
-    design
+    made_of(rt, alloc, edits)
 }
 
-/// The commit to the design, whose run is known.
-fn check_beside(rt: &impl Abort, alloc: Global, old: &Design, run: &Run, case: &Case<'_>)
+/// What the commit to the design, whose run is known, asks of the stepper.
+fn check_beside(
+    rt: &impl Abort,
+    alloc: Global,
+    old: &Design,
+    run: &Run,
+    case: &Case<'_>,
+    stepper: &mut Counting,
+)
     requires { IsRun advance old.now run.now }
 {
-    let mut stepper = Counting::new();
     let edits = edits(rt, alloc, case.edits);
     let (new, touched) = changed(alloc, old, &edits).expect(rt, "accepted edits");
-    let made = rerun(rt, alloc, old, run, &new, &touched, &mut stepper);
+    let made = rerun(rt, alloc, old, run, &new, &touched, stepper);
     check_waves(rt, alloc, &new, &made, case.waves);
     drop(made);
     drop(new);
     drop(touched);
     drop(edits);
-    assert!(rt; stepper.steps <= stepper.tasks, "a step without a task");
-    equal(rt, case.name, stepper.tasks, case.tasks);
+    equal(rt, case.name, stepper.tasks(rt), case.tasks);
 }
 
 fn check(rt: &impl Abort, alloc: Global, case: &Case<'_>) {
     let old = design_of(rt, alloc, case);
     let run = simulated(rt, alloc, &old, &mut Serial::new());
-    check_beside(rt, alloc, &old, &run, case);
+    check_beside(rt, alloc, &old, &run, case, &mut Counting::new(0));
+    check_beside(rt, alloc, &old, &run, case, &mut Counting::new(usize::MAX));
     drop(run);
     drop(old);
 }
@@ -224,4 +227,56 @@ const COMMITS: [Case<'static>; 9] = [
 #[test]
 fn commits_with_their_tasks(rt: HostRuntime) {
     check_all(&rt, rt.alloc(), &COMMITS);
+}
+
+// What moves from 10 to 12 stirs 20 gates there and a moment later, what moves from 20 to 25 one gate there and at 27.
+const TWO_POINTS_MOVED: Case<'static> = Case {
+    name: "two points moved",
+    first: &[],
+    horizon: 40,
+    edits: &["unstim a 10", "stim a 12 1", "unstim b 20", "stim b 25 1"],
+    waves: &[("y", " 0:x 1:1 13:0"), ("z", " 0:x 2:0 27:1")],
+    tasks: 42,
+};
+
+// The same in a run that goes through the whole design, since three gates are touched.
+const AND_GATES_TOUCHED: Case<'static> = Case {
+    edits: &[
+        "unstim a 10",
+        "stim a 12 1",
+        "unstim b 20",
+        "stim b 25 1",
+        "delay h 2 2",
+        "delay g0 1 1",
+        "delay g1 1 1",
+    ],
+    ..TWO_POINTS_MOVED
+};
+
+/// What the commit asks of a stepper that deals the steps of so many tasks.
+fn check_asked(
+    rt: &impl Abort,
+    alloc: Global,
+    case: &Case<'_>,
+    least_dealt: usize,
+    asked: (u64, u64, u64),
+) {
+    let old = twenty(rt, alloc);
+    let run = simulated(rt, alloc, &old, &mut Serial::new());
+    let mut stepper = Counting::new(least_dealt);
+    check_beside(rt, alloc, &old, &run, case, &mut stepper);
+    equal(rt, (case.name, least_dealt), stepper.asked(), asked);
+    drop(run);
+    drop(old);
+}
+
+// A run that follows what differs makes steps in any case.
+#[test]
+fn twenty_gates_at_a_moment(rt: HostRuntime) {
+    for least_dealt in [0, 20, 21] {
+        check_asked(&rt, rt.alloc(), &TWO_POINTS_MOVED, least_dealt, (4, 42, 0));
+    }
+    for (least_dealt, asked) in [(0, (4, 42, 0)), (20, (2, 40, 2)), (21, (0, 0, 42))] {
+        check_asked(&rt, rt.alloc(), &AND_GATES_TOUCHED, least_dealt, asked);
+    }
 }

@@ -2,20 +2,33 @@
 
 use crate::calls::simulated;
 use crate::compare::equal;
+use crate::counting::Counting;
 use crate::edit_lists::lines::design_of;
-use crate::reruns::counting::Counting;
+use crate::twenty::twenty;
+use design::Design;
 use std::alloc::Global;
 use std::process::Abort;
 
-/// The run of the design asks for so many steps, and for so many tasks in them all.
-fn check(rt: &impl Abort, alloc: Global, lines: &[&str], steps: u64, tasks: u64) {
-    let mut stepper = Counting::new();
-    let design = design_of(rt, alloc, lines);
-    let run = simulated(rt, alloc, &design, &mut stepper);
+/// The run of the design asks this of a stepper that deals the steps of so many tasks.
+fn check_kind(
+    rt: &impl Abort,
+    alloc: Global,
+    design: &Design,
+    least_dealt: usize,
+    asked: (u64, u64, u64),
+) {
+    let mut stepper = Counting::new(least_dealt);
+    let run = simulated(rt, alloc, design, &mut stepper);
     drop(run);
+    equal(rt, ("asked", least_dealt), stepper.asked(), asked);
+}
+
+/// The run of the design asks for so many steps, and for so many tasks in them all; where no step is dealt, for all of them alone.
+fn check(rt: &impl Abort, alloc: Global, lines: &[&str], steps: u64, tasks: u64) {
+    let design = design_of(rt, alloc, lines);
+    check_kind(rt, alloc, &design, 0, (steps, tasks, 0));
+    check_kind(rt, alloc, &design, usize::MAX, (0, 0, tasks));
     drop(design);
-    equal(rt, "steps", stepper.steps, steps);
-    equal(rt, "tasks", stepper.tasks, tasks);
 }
 
 /// A buffer whose input goes up at 10, down at 20 and up at 40: evaluated at 0, there, and 3 after each.
@@ -68,4 +81,13 @@ fn steps_and_tasks(rt: HostRuntime) {
     check(&rt, rt.alloc(), &A_POINT_THAT_CHANGES_NOTHING, 4, 4);
     check(&rt, rt.alloc(), &A_RING_AND_A_GATE_BEHIND_IT, 8, 14);
     check(&rt, rt.alloc(), &["horizon 1000"], 0, 0);
+}
+
+#[test]
+fn twenty_gates_at_a_moment(rt: HostRuntime) {
+    let design = twenty(&rt, rt.alloc());
+    check_kind(&rt, rt.alloc(), &design, 0, (7, 84, 0));
+    check_kind(&rt, rt.alloc(), &design, 20, (4, 81, 3));
+    check_kind(&rt, rt.alloc(), &design, 21, (1, 21, 63));
+    drop(design);
 }

@@ -4,11 +4,12 @@ ghost use Rattle.std.specs.Prelude.{◌≡◌};
 
 use crate::calls::simulated;
 use crate::compare::equal;
+use crate::counting::Counting;
 use crate::edit_lists::lines::design_of;
-use crate::reruns::counting::Counting;
 use crate::waves::{Named, check_waves};
 use design::Design;
 use fourstate::MAX_TIME;
+use gatestep::Serial;
 use scratch::extend;
 use std::alloc::Global;
 use std::process::Abort;
@@ -23,7 +24,7 @@ fn ending_at(rt: &impl Abort, design: &Design, horizon: u64) -> Design
 }
 
 /// Runs the design up to an earlier horizon and from there to its own: then the waves are these, and after the earlier one
-/// so many tasks were asked, each in a step of so many.
+/// so many steps were made, with so many tasks in them all. Where no step is dealt, all were asked alone.
 fn check_design(
     rt: &impl Abort,
     alloc: Global,
@@ -34,15 +35,17 @@ fn check_design(
 ) {
     let former = ending_at(rt, design, horizon);
     assert!(rt; former.horizon() <= design.horizon());
-    let run = simulated(rt, alloc, &former, &mut Counting::new());
-    let mut stepper = Counting::new();
-    let longer = extend(alloc, &former, &run, design, &mut stepper).expect(rt, "a longer run");
-    equal(rt, "horizon", longer.horizon(), design.horizon());
-    check_waves(rt, alloc, design, &longer, waves);
-    drop(longer);
+    let run = simulated(rt, alloc, &former, &mut Serial::new());
+    for (least_dealt, asked) in [(0, (asked.0, asked.1, 0)), (usize::MAX, (0, 0, asked.1))] {
+        let mut stepper = Counting::new(least_dealt);
+        let longer = extend(alloc, &former, &run, design, &mut stepper).expect(rt, "a longer run");
+        equal(rt, "horizon", longer.horizon(), design.horizon());
+        check_waves(rt, alloc, design, &longer, waves);
+        drop(longer);
+        equal(rt, ("asked", least_dealt), stepper.asked(), asked);
+    }
     drop(run);
     drop(former);
-    equal(rt, "steps and tasks", (stepper.steps, stepper.tasks), asked);
 }
 
 fn check(
