@@ -2,8 +2,8 @@
 
 use crate::compare::equal;
 use fourstate::{
-    DelayTimes, Delays, GateKind, Inputs, MAX_INPUTS, NetKind, Value, delay, fits, gate_value,
-    resolve,
+    DelayTimes, Delays, GateKind, Inputs, MAX_INPUTS, NetKind, NetRule, Value, delay, fits,
+    gate_value, resolve,
 };
 use std::process::Abort;
 
@@ -163,6 +163,24 @@ const NETS: [(NetKind, Table); 6] = [
 fn nets_of_two_drivers(rt: HostRuntime) {
     for (kind, table) in NETS {
         check_net(&rt, kind, table);
+    }
+}
+
+#[test]
+fn nets_of_one_driver(rt: HostRuntime) {
+    for (kind, rule) in [
+        (NetKind::Wire, NetRule::Wire),
+        (NetKind::Tri, NetRule::Wire),
+        (NetKind::Wand, NetRule::Wand),
+        (NetKind::Triand, NetRule::Wand),
+        (NetKind::Wor, NetRule::Wor),
+        (NetKind::Trior, NetRule::Wor),
+    ] {
+        equal(&rt, kind, kind.rule(), rule);
+        equal(&rt, kind, kind.passes_lone_driver(), true);
+        for value in ORDER {
+            equal(&rt, (kind, value), resolve(kind, &[value]), value);
+        }
     }
 }
 

@@ -3,6 +3,7 @@ pub mod Delays
 pub mod GateLaws
 pub mod Gates
 pub mod Keywords
+pub mod NetLaws
 pub mod Nets
 pub mod PlaneLaws
 pub mod Planes

@@ -1,11 +1,13 @@
 -- What a net has from the values that its drivers give (IEEE 1364-2005, 4.6.1 and 4.6.2): it depends only on which
 -- values other than z are among them.
-use Rattle.std.specs.Prelude.{Bool, ◌&&◌, ◌||◌, if◌then◌else◌, List}
+use Rattle.std.specs.Prelude.{Bool, true, false, ◌&&◌, ◌||◌, if◌then◌else◌, List}
 use Rattle.fourstate.specs.Values.{occurs}
 use Rattle.fourstate.specs.declared.value.Value.{Value}
 use Rattle.fourstate.specs.declared.value.Value.TheVariants.{Zero, One, Unknown, HighZ}
 use Rattle.fourstate.specs.declared.net.NetKind.{NetKind}
 use Rattle.fourstate.specs.declared.net.NetKind.TheVariants.{Wire, Tri, Wand, Triand, Wor, Trior}
+use Rattle.fourstate.specs.declared.net.NetRule.{NetRule}
+use Rattle.fourstate.specs.declared.net.NetRule.TheVariants as rules
 
 -- an x, or a 0 beside a 1, gives x; else the one value that occurs; none gives z
 abbrev pub wire_of : (zero one unknown : Bool) → Value
@@ -20,15 +22,37 @@ wand_of zero one unknown = if zero then Zero else (if unknown then Unknown else 
 abbrev pub wor_of : (zero one unknown : Bool) → Value
 wor_of zero one unknown = if one then One else (if unknown then Unknown else (if zero then Zero else HighZ))
 
--- what a net of this kind has where these values other than z occur
-abbrev pub resolved : NetKind → (zero one unknown : Bool) → Value
-resolved Wire = wire_of
-resolved Tri = wire_of
-resolved Wand = wand_of
-resolved Triand = wand_of
-resolved Wor = wor_of
-resolved Trior = wor_of
+-- by which rule nets of a kind resolve several drivers
+abbrev pub rule_of : NetKind → NetRule
+rule_of Wire = rules.Wire
+rule_of Tri = rules.Wire
+rule_of Wand = rules.Wand
+rule_of Triand = rules.Wand
+rule_of Wor = rules.Wor
+rule_of Trior = rules.Wor
+
+-- the rules are the same
+abbrev pub same_rule : NetRule → NetRule → Bool
+same_rule rules.Wire rules.Wire = true
+same_rule rules.Wand rules.Wand = true
+same_rule rules.Wor rules.Wor = true
+same_rule _ _ = false
+
+-- what a net has by a rule where these values other than z occur
+abbrev pub resolved : NetRule → (zero one unknown : Bool) → Value
+resolved rules.Wire = wire_of
+resolved rules.Wand = wand_of
+resolved rules.Wor = wor_of
 
 -- what a net of this kind has from the values of its drivers
 abbrev pub net_of : NetKind → List Value → Value
-net_of kind values = resolved kind (occurs Zero values) (occurs One values) (occurs Unknown values)
+net_of kind values = resolved (rule_of kind) (occurs Zero values) (occurs One values) (occurs Unknown values)
+
+-- a net of this kind always has what its driver gives, where it has one alone
+abbrev pub passes_lone_driver : NetKind → Bool
+passes_lone_driver Wire = true
+passes_lone_driver Tri = true
+passes_lone_driver Wand = true
+passes_lone_driver Triand = true
+passes_lone_driver Wor = true
+passes_lone_driver Trior = true

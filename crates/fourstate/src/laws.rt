@@ -1,10 +1,10 @@
 //! Laws of the tables of gates, nets, delays and words: each function does nothing, and its contract is the law.
 
-ghost use Rattle.std.specs.Prelude.{◌≡◌, ◌≤◌, [], ◌∷◌, map, Some};
+ghost use Rattle.std.specs.Prelude.{◌≡◌, ◌≤◌, [], ◌∷◌, IsTrue, map, Some};
 ghost use Rattle.fourstate.specs.Delays.{AreDelays, IsDelay, delay_to};
 ghost use Rattle.fourstate.specs.Gates.{gate_of};
 ghost use Rattle.fourstate.specs.Keywords.{gate_keyword, gate_kind_of, net_keyword, net_kind_of};
-ghost use Rattle.fourstate.specs.Nets.{net_of};
+ghost use Rattle.fourstate.specs.Nets.{net_of, passes_lone_driver};
 ghost use Rattle.fourstate.specs.Values.{AreSameSet, inverse, reading, symbol_of, value_of_symbol};
 ghost use Rattle.fourstate.specs.declared.value.Value as values;
 
@@ -20,6 +20,13 @@ use crate::value::Value;
 pub fn resolution_reads_a_set(kind: NetKind, values: &[Value], others: &[Value])
     requires { AreSameSet values.now others.now }
     ensures { net_of kind values.now ≡ net_of kind others.now }
+{}
+
+/// One driver alone gives a net what it drives, where the net's kind passes it.
+#[tactic(auto, using(crate::specs::NetLaws::lone_driver_passes))]
+pub fn lone_driver_passes(kind: NetKind, value: Value)
+    requires { IsTrue (passes_lone_driver kind) }
+    ensures { net_of kind (value ∷ []) ≡ value }
 {}
 
 /// A gate reads z as x: it gives the same where each z among its inputs is an x.

@@ -18,6 +18,6 @@ pub use delays::{Delays, delay};
 pub use gate::{GateKind, fits, gate_value};
 pub use inputs::Inputs;
 pub use limits::{MAX_DELAY, MAX_INPUTS, MAX_TIME};
-pub use net::{NetKind, resolve};
+pub use net::{NetKind, NetRule, resolve};
 pub use unit::{Magnitude, TimeUnit, Unit};
 pub use value::Value;

@@ -1,7 +1,7 @@
 //! Nets (IEEE 1364-2005, 4.6).
 
 ghost use Rattle.std.specs.Prelude.{◌≡◌};
-ghost use Rattle.fourstate.specs.Nets.{net_of, wand_of, wire_of, wor_of};
+ghost use Rattle.fourstate.specs.Nets.{net_of, passes_lone_driver, rule_of, wand_of, wire_of, wor_of};
 ghost use Rattle.fourstate.specs.Keywords.{net_keyword, net_kind_of};
 
 use crate::survey::Survey;
@@ -52,6 +52,40 @@ impl NetKind {
             .copied()
             .find(|kind| kind.keyword().as_bytes() == word)
     }
+
+    /// The rule by which it resolves its drivers.
+    #[inline(always)]
+    pub fn rule(self) -> NetRule
+        ensures { result ≡ rule_of self }
+    {
+        match self {
+            NetKind::Wire | NetKind::Tri => NetRule::Wire,
+            NetKind::Wand | NetKind::Triand => NetRule::Wand,
+            NetKind::Wor | NetKind::Trior => NetRule::Wor,
+        }
+    }
+
+    /// Whether a net of this kind always has what its driver gives, where it has one alone.
+    pub fn passes_lone_driver(self) -> bool
+        ensures { result ≡ passes_lone_driver self }
+    {
+        match self {
+            NetKind::Wire | NetKind::Tri => true,
+            NetKind::Wand | NetKind::Triand => true,
+            NetKind::Wor | NetKind::Trior => true,
+        }
+    }
+}
+
+/// The rules by which nets resolve several drivers (IEEE 1364-2005, 4.6.1 and 4.6.2).
+#[derive(Clone, Copy, Debug, PartialEq, Eq, Hash)]
+pub enum NetRule {
+    /// Different values give x.
+    Wire,
+    /// A 0 gives 0.
+    Wand,
+    /// A 1 gives 1.
+    Wor,
 }
 
 /// The value of a net from the values of its drivers, z without one (IEEE 1364-2005, 4.6.1 and 4.6.2).
@@ -60,10 +94,10 @@ pub fn resolve(kind: NetKind, values: &[Value]) -> Value
     ensures { result ≡ net_of kind values.now }
 {
     let seen = Survey::of(values);
-    match kind {
-        NetKind::Wire | NetKind::Tri => wire_value(&seen),
-        NetKind::Wand | NetKind::Triand => wand_value(&seen),
-        NetKind::Wor | NetKind::Trior => wor_value(&seen),
+    match kind.rule() {
+        NetRule::Wire => wire_value(&seen),
+        NetRule::Wand => wand_value(&seen),
+        NetRule::Wor => wor_value(&seen),
     }
 }
 
