@@ -4,11 +4,12 @@ use Rattle.std.specs.Prelude.{IfSome, IsSome, IsSomeAnd}
 use Rattle.std.specs.Option.{option_map_or}
 use Rattle.std.proofs.lemmas.List.{length-map}
 use Rattle.fourstate.specs.declared.gate.GateKind.{GateKind}
+use Rattle.fourstate.specs.declared.gate.GateKind.TheVariants.{Buf}
 use Rattle.fourstate.specs.Gates.{takes_inputs}
 use Rattle.design.specs.Keys.{Keyed, KeyedGate, connection_in, entry_in, gate_by_key, net_by_key, netlist}
 use Rattle.design.specs.Netlist.{GateEntry, NetEntry, gate_named, is_used}
 use Rattle.edits.specs.Changes.{FindsGate, FindsNet}
-use Rattle.edits.specs.Checks.{gate_takes, kind_fits}
+use Rattle.edits.specs.Checks.{kind_fits, kind_named}
 
 -- Nets.
 
@@ -37,5 +38,5 @@ kind_fits_of d name key kind g f is =
     ap (λ (o : Option GateEntry). option_map_or (λ h. takes_inputs kind (length h.inputs)) o false) (entry_named d name key g f is)
     ∙ ap (takes_inputs kind) (length-map g.inputs (connection_in d.nets))
 
-pub gate_takes_of : (d : Keyed) (name : List ℕ) (key n : ℕ) (g : KeyedGate) → FindsGate d name key → gate_by_key d key ≡ Some g → gate_takes (netlist d) name n ≡ takes_inputs g.kind n
-gate_takes_of d name key n g f is = ap (λ (o : Option GateEntry). option_map_or (λ h. takes_inputs h.kind n) o false) (entry_named d name key g f is)
+pub kind_named_of : (d : Keyed) (name : List ℕ) (key : ℕ) (g : KeyedGate) → FindsGate d name key → gate_by_key d key ≡ Some g → kind_named (netlist d) name ≡ g.kind
+kind_named_of d name key g f is = ap (λ (o : Option GateEntry). option_map_or (λ h. h.kind) o Buf) (entry_named d name key g f is)

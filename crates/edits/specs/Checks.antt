@@ -5,6 +5,7 @@ use Rattle.std.specs.Option.{option_map_or}
 use Rattle.fourstate.specs.declared.delay_times.DelayTimes.{DelayTimes}
 use Rattle.fourstate.specs.declared.limits.TheConstants.{MAX_TIME}
 use Rattle.fourstate.specs.declared.gate.GateKind.{GateKind}
+use Rattle.fourstate.specs.declared.gate.GateKind.TheVariants.{Buf}
 use Rattle.fourstate.specs.Delays.{exceeds_limit, has_zero}
 use Rattle.fourstate.specs.Gates.{takes_inputs}
 use Rattle.design.specs.declared.limits.TheConstants.{MAX_NETS, MAX_GATES, MAX_POINTS}
@@ -31,9 +32,9 @@ is_point d name t = option_map_or (λ n. has_point n.points t) (net_named d name
 abbrev pub is_known : Netlist → Pin → Bool
 is_known d input = is_readable d (connection_of input)
 
--- a gate of this name may have this many inputs
-abbrev pub gate_takes : Netlist → List ℕ → ℕ → Bool
-gate_takes d name n = option_map_or (λ g. takes_inputs g.kind n) (gate_named d name) false
+-- the kind of the gate of this name, a buf without one
+abbrev pub kind_named : Netlist → List ℕ → GateKind
+kind_named d name = option_map_or (λ g. g.kind) (gate_named d name) Buf
 
 -- the inputs of a gate of this name fit the kind
 abbrev pub kind_fits : Netlist → List ℕ → GateKind → Bool
@@ -57,8 +58,9 @@ abbrev pub new_gate_checks : Netlist → List ℕ → List (Bool × EditFault)
 new_gate_checks d name =
     (not (is_name name), BadName) ∷ (has_gate d name, DuplicateName) ∷ (nat_le MAX_GATES (length d.gates), TooMany) ∷ []
 
-abbrev pub delay_checks : DelayTimes → List (Bool × EditFault)
-delay_checks delays = (has_zero delays, ZeroDelay) ∷ (exceeds_limit delays, DelayTooLarge) ∷ []
+-- of the delays of a gate of this kind
+abbrev pub delay_checks : GateKind → DelayTimes → List (Bool × EditFault)
+delay_checks kind delays = (has_zero delays, ZeroDelay) ∷ (exceeds_limit delays, DelayTooLarge) ∷ []
 
 -- whether the number of inputs fits is asked first
 abbrev pub wiring_checks : Netlist → Bool → List ℕ → List Pin → List (Bool × EditFault)
@@ -77,12 +79,12 @@ checks d (AddInput name) = new_net_checks d name
 checks d (DropNet name) = net_there d name ∷ (is_used d name, NetInUse) ∷ []
 checks d (SetNetKind name kind) = net_there d name ∷ []
 checks d (AddGate name kind delays output inputs) =
-    new_gate_checks d name ++ (delay_checks delays ++ wiring_checks d (takes_inputs kind (length inputs)) output inputs)
+    new_gate_checks d name ++ (delay_checks kind delays ++ wiring_checks d (takes_inputs kind (length inputs)) output inputs)
 checks d (DropGate name) = gate_there d name ∷ []
-checks d (SetDelay name delays) = gate_there d name ∷ delay_checks delays
+checks d (SetDelay name delays) = gate_there d name ∷ delay_checks (kind_named d name) delays
 checks d (SetGateKind name kind) = gate_there d name ∷ (not (kind_fits d name kind), WrongArity) ∷ []
 checks d (Rewire name output inputs) =
-    gate_there d name ∷ wiring_checks d (gate_takes d name (length inputs)) output inputs
+    gate_there d name ∷ wiring_checks d (takes_inputs (kind_named d name) (length inputs)) output inputs
 checks d (Stim net time v) =
     input_checks d net
     ++ ((nat_lt MAX_TIME time, TimeTooLarge) ∷ (not (is_point d net time) && nat_le MAX_POINTS (point_total d.nets), TooMany) ∷ [])

@@ -30,7 +30,7 @@ pub fn resolve_add_gate<'e>(
     ensures { Resolves design.now (edit.AddGate name.now kind delays output.now inputs.now) result }
 {
     check_new_gate(design, name)?;
-    let delays = delays_of(delays)?;
+    let delays = check_delays(kind, delays)?;
     let output = find_wiring(design, fits(kind, inputs.len()), output, inputs)?;
     Ok(Change::AddGate {
         name,
@@ -56,9 +56,9 @@ fn check_new_gate(design: &Design, name: &str) -> Result<(), EditFault>
     }
 }
 
-/// The delays of these times.
-fn delays_of(times: DelayTimes) -> Result<Delays, EditFault>
-    ensures { Passes (delay_checks times) result (λ delays. delays ≡ times) }
+/// The delays of these times, where a gate of the kind may have them.
+fn check_delays(_kind: GateKind, times: DelayTimes) -> Result<Delays, EditFault>
+    ensures { Passes (delay_checks _kind times) result (λ delays. delays ≡ times) }
 {
     match Delays::from_times(times) {
         Some(delays) => Ok(delays),
@@ -105,6 +105,7 @@ pub fn drop_gate(design: Design, gate: GateKey) -> Result<(Design, Touch), Alloc
     Ok((new, Touch::Driver { gate, output }))
 }
 
+#[tactic(auto, using(crate::proofs::ChangeLemmas::kind_named_of))]
 pub fn resolve_delay<'e>(
     design: &Design,
     name: &str,
@@ -113,7 +114,7 @@ pub fn resolve_delay<'e>(
     ensures { Resolves design.now (edit.SetDelay name.now delays) result }
 {
     let gate = find_gate(design, name)?;
-    let delays = delays_of(delays)?;
+    let delays = check_delays(design.gate_of(gate).kind(), delays)?;
     Ok(Change::SetDelays(gate, delays))
 }
 
@@ -161,7 +162,7 @@ pub fn set_gate_kind(
     Ok((new, Touch::Gate(gate)))
 }
 
-#[tactic(auto, using(crate::proofs::ChangeLemmas::gate_takes_of))]
+#[tactic(auto, using(crate::proofs::ChangeLemmas::kind_named_of))]
 pub fn resolve_rewire<'e>(
     design: &Design,
     name: &str,
