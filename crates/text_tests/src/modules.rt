@@ -4,7 +4,7 @@
 use crate::compare::equal;
 use design::NameHasher;
 use edits::EditFault;
-use fourstate::{DelayTimes, Magnitude, NetKind, TimeUnit, Unit, Value};
+use fourstate::{Delays, Magnitude, NetKind, TimeUnit, Unit, Value, delay};
 use lexing::MAX_TEXT;
 use std::alloc::Global;
 use std::process::Abort;
@@ -71,7 +71,9 @@ fn add_gate(rt: &impl Abort, alloc: Global, shown: &mut String, names: &Names, g
     add(rt, shown, " / ");
     add_gate_name(rt, alloc, shown, names, gate);
     let kind = gate.kind().keyword();
-    let DelayTimes { rise, fall } = gate.delays();
+    let delays = Delays::from_times(gate.delays()).expect(rt, "delays");
+    let rise = delay(&delays, Value::One);
+    let fall = delay(&delays, Value::Zero);
     write!(shown, "={kind} #({rise},{fall}) ").expect(rt, "room");
     add_terminal(rt, shown, names, gate.output());
     for input in gate.inputs() {

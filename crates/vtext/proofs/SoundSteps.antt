@@ -6,6 +6,7 @@ use Rattle.vtext.specs.declared.cause.Cause.{Cause}
 use Rattle.vtext.specs.declared.cause.Cause.TheVariants.{DuplicateName}
 use Rattle.vtext.specs.declared.gate.Terminal.TheVariants.{Net, Bit, Constant}
 use Rattle.vtext.specs.declared.net.Net as nets
+use Rattle.vtext.specs.declared.parser_state.DelayNumber.TheVariants as number
 use Rattle.vtext.specs.declared.parser_state.Indexed.{Indexed}
 use Rattle.vtext.specs.declared.parser_state.Indexed.TheVariants as indexed
 use Rattle.vtext.specs.declared.parser_state.ParserState.{ParserState}
@@ -47,7 +48,7 @@ module _ (names : List (List ℕ)) (room : ℕ) (next : Option Word) (r : Readin
   gate_start Hash good s h = (less names room r s, h.0)
   gate_start w good s h = instance_start w good s (h.0, h.1 refl)
 
-  rise_delay : (w : Word) → IsSoFar names room r → IsWithin names r → StandsAfter names room (turns.rise_delay state.RiseEnd r w) next
+  rise_delay : (w : Word) → IsSoFar names room r → IsWithin names r → StandsAfter names room (turns.delay_number number.Rise state.RiseEnd r w) next
   rise_delay (Number n) s h = unless_stands names room next (delay_cause n) _ (λ none. (s, (h, uniform_in_range n (good_delay n none))))
   rise_delay w s h = tt
 
@@ -61,7 +62,7 @@ module _ (names : List (List ℕ)) (room : ℕ) (next : Option Word) (r : Readin
   rise_end Close s h = (s, h)
   rise_end w s h = tt
 
-  fall_delay : (w : Word) → IsSoFar names room r → IsAt names state.FallDelay (Some w) r → StandsAfter names room (turns.fall_delay r w) next
+  fall_delay : (w : Word) → IsSoFar names room r → IsAt names state.FallDelay (Some w) r → StandsAfter names room (turns.delay_number number.Fall state.FallEnd r w) next
   fall_delay (Number n) s h =
       unless_stands names room next (delay_cause n) _ (λ none. (s, (h.0, with_fall_in_range r.delays n h.1 (good_delay n none))))
   fall_delay w s h = tt

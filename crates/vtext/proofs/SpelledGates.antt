@@ -2,6 +2,7 @@
 use Rattle.std.proofs.Common.{◌≡◌, ◌⊎◌, inl, inr, ℕ, List, [], ◌∷◌, Option, Some, None, refl}
 use Rattle.fourstate.specs.Delays.{uniform_delays, with_fall}
 use Rattle.vtext.specs.declared.gate.Terminal.TheVariants.{Net, Bit, Constant}
+use Rattle.vtext.specs.declared.parser_state.DelayNumber.TheVariants as number
 use Rattle.vtext.specs.declared.parser_state.Indexed.TheVariants as indexed
 use Rattle.vtext.specs.declared.parser_state.ParserState.TheVariants as state
 use Rattle.vtext.specs.declared.word.Word.{Word}
@@ -12,7 +13,7 @@ use Rattle.vtext.specs.Instances.{completed}
 use Rattle.vtext.specs.Notes.{name_instance, note_index, use_terminal}
 use Rattle.vtext.specs.Readings.{Reading}
 use Rattle.vtext.specs.Trees.Delay.{no_delay, one_delay, enclosed_delay, two_delays}
-use Rattle.vtext.specs.Turns.{delay, fall_delay, fall_end, gate_start, index_name, instance_open, instance_start, list_next, plain_terminal, rise_delay, rise_end, terminal_end, terminal_start}
+use Rattle.vtext.specs.Turns.{delay, delay_number, fall_end, gate_start, index_name, instance_open, instance_start, list_next, plain_terminal, rise_end, terminal_end, terminal_start}
 use Rattle.vtext.proofs.RestTrees.{Setting}
 use Rattle.vtext.proofs.Rests.{Rest, RestIn, either, through}
 
@@ -63,7 +64,7 @@ module _ (s : Setting) (r : Reading) (start : ℕ) where
   risen d words none (inl (gates, e)) = ((enclosed_delay d, (none, gates)), λ hash paren. ((refl, tt), ((refl, tt), ((refl, tt), e))))
   risen d words none (inr ((fall, (free, gates)), e)) = ((two_delays d fall, ((none, free), gates)), λ hash paren. ((refl, tt), ((refl, tt), ((refl, tt), e))))
 
-  pub rise_delay_back : (w : Word) (words : List Placed) → RestIn s (rise_delay state.RiseEnd r w) words → Rest s state.RiseDelay r (record { word = w; start = start } ∷ words)
+  pub rise_delay_back : (w : Word) (words : List Placed) → RestIn s (delay_number number.Rise state.RiseEnd r w) words → Rest s state.RiseDelay r (record { word = w; start = start } ∷ words)
   rise_delay_back (Number d) words rest = let x = through s (delay_cause d) state.RiseEnd (record r { delays = uniform_delays d }) words rest in risen d words x.0 x.1
   rise_delay_back w words rest = absurd rest
 
@@ -72,7 +73,7 @@ module _ (s : Setting) (r : Reading) (start : ℕ) where
   rise_end_back Close words (rest, e) = inl (rest, ((refl, tt), e))
   rise_end_back w words rest = absurd rest
 
-  pub fall_delay_back : (w : Word) (words : List Placed) → RestIn s (fall_delay r w) words → Rest s state.FallDelay r (record { word = w; start = start } ∷ words)
+  pub fall_delay_back : (w : Word) (words : List Placed) → RestIn s (delay_number number.Fall state.FallEnd r w) words → Rest s state.FallDelay r (record { word = w; start = start } ∷ words)
   fall_delay_back (Number f) words rest =
       let x = through s (delay_cause f) state.FallEnd (record r { delays = with_fall r.delays f }) words rest in ((f, (x.0, x.1.0)), ((refl, tt), x.1.1))
   fall_delay_back w words rest = absurd rest

@@ -2,11 +2,14 @@
 -- itself is in Trees.antt.
 use Rattle.std.specs.Prelude.{◌≡◌, true, ℕ, List, Option, Some, None, if◌then◌else◌, option_map, unwrap_or, Result, Ok, Err}
 use Rattle.fourstate.specs.Delays.{uniform_delays, with_fall}
+use Rattle.fourstate.specs.declared.delay_times.DelayTimes.{DelayTimes}
 use Rattle.vtext.specs.declared.cause.Cause.{Cause}
 use Rattle.vtext.specs.declared.cause.Cause.TheVariants.{BadName}
 use Rattle.vtext.specs.declared.gate.Terminal.TheVariants.{Constant, Net}
 use Rattle.vtext.specs.declared.parser_state.Declared.{Declared}
 use Rattle.vtext.specs.declared.parser_state.Declared.TheVariants as declared
+use Rattle.vtext.specs.declared.parser_state.DelayNumber.{DelayNumber}
+use Rattle.vtext.specs.declared.parser_state.DelayNumber.TheVariants as number
 use Rattle.vtext.specs.declared.parser_state.Indexed.{Indexed}
 use Rattle.vtext.specs.declared.parser_state.Indexed.TheVariants as indexed
 use Rattle.vtext.specs.declared.range.Range.{Range}
@@ -204,23 +207,23 @@ abbrev pub gate_start : Reading → Word → Result Walk Cause
 gate_start r Hash = goes state.Delay r
 gate_start r word = instance_start r word
 
--- the first number of a delay, and the second one too where none follows
-abbrev pub rise_delay : ParserState → Reading → Word → Result Walk Cause
-rise_delay to r (Number n) = unless (delay_cause n) (goes to (record r { delays = uniform_delays n }))
-rise_delay to r word = Err (misfit word)
+-- the first number of a delay is the second one too where none follows
+abbrev pub with_number : DelayTimes → DelayNumber → ℕ → DelayTimes
+with_number delays number.Rise n = uniform_delays n
+with_number delays number.Fall n = with_fall delays n
+
+abbrev pub delay_number : DelayNumber → ParserState → Reading → Word → Result Walk Cause
+delay_number of to r (Number n) = unless (delay_cause n) (goes to (record r { delays = with_number r.delays of n }))
+delay_number of to r word = Err (misfit word)
 
 abbrev pub delay : Reading → Word → Result Walk Cause
 delay r Open = goes state.RiseDelay r
-delay r word = rise_delay state.InstanceStart r word
+delay r word = delay_number number.Rise state.InstanceStart r word
 
 abbrev pub rise_end : Reading → Word → Result Walk Cause
 rise_end r Comma = goes state.FallDelay r
 rise_end r Close = goes state.InstanceStart r
 rise_end r word = Err (misfit word)
-
-abbrev pub fall_delay : Reading → Word → Result Walk Cause
-fall_delay r (Number n) = unless (delay_cause n) (goes state.FallEnd (record r { delays = with_fall r.delays n }))
-fall_delay r word = Err (misfit word)
 
 abbrev pub fall_end : Reading → Word → Result Walk Cause
 fall_end r Close = goes state.InstanceStart r
@@ -338,9 +341,9 @@ turn default names r (state.RightBound of) next after = right_bound of r next.wo
 turn default names r (state.RangeEnd of) next after = range_end of r next.word
 turn default names r state.GateStart next after = gate_start r next.word
 turn default names r state.Delay next after = delay r next.word
-turn default names r state.RiseDelay next after = rise_delay state.RiseEnd r next.word
+turn default names r state.RiseDelay next after = delay_number number.Rise state.RiseEnd r next.word
 turn default names r state.RiseEnd next after = rise_end r next.word
-turn default names r state.FallDelay next after = fall_delay r next.word
+turn default names r state.FallDelay next after = delay_number number.Fall state.FallEnd r next.word
 turn default names r state.FallEnd next after = fall_end r next.word
 turn default names r state.InstanceStart next after = instance_start r next.word
 turn default names r state.InstanceOpen next after = instance_open r next.word

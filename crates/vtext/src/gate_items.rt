@@ -1,15 +1,15 @@
 //! What gate items do with a word, in each state of the parser.
 
-ghost use Rattle.std.specs.Prelude.{◌<◌, ◌-◌, ◌^◌, IfOk};
+ghost use Rattle.std.specs.Prelude.{◌≡◌, ◌<◌, ◌-◌, ◌^◌, IfOk};
 ghost use Rattle.vtext.specs.Readings.{view};
-ghost use Rattle.vtext.specs.Turns.{IsTurn, delay, fall_delay, fall_end, gate_start, instance_open, instance_start, plain_terminal, rise_delay, rise_end, terminal_end, terminal_start};
+ghost use Rattle.vtext.specs.Turns.{IsTurn, delay, delay_number, fall_end, gate_start, instance_open, instance_start, plain_terminal, rise_end, terminal_end, terminal_start, with_number};
 
 use crate::cause::Cause;
 use crate::causes::{delay_cause, is_index, misfit};
 use crate::draft::Draft;
 use crate::gate::Terminal;
 use crate::names::Names;
-use crate::parser_state::{Indexed, ParserState};
+use crate::parser_state::{DelayNumber, Indexed, ParserState};
 use crate::turn::Turn;
 use crate::word::Word;
 use fourstate::DelayTimes;
@@ -32,20 +32,20 @@ impl Draft {
     {
         match word {
             Word::Open => Turn::To(ParserState::RiseDelay),
-            other => self.rise_delay(ParserState::InstanceStart, other),
+            other => self.delay_number(DelayNumber::Rise, ParserState::InstanceStart, other),
         }
     }
 
-    /// Where the first number of a delay is wanted.
-    pub fn rise_delay(&mut self, to: ParserState, word: Word) -> Turn
-        ensures { IsTurn result (view self.new) (rise_delay to (view self.old) word) }
+    /// Where a number of a delay is wanted.
+    pub fn delay_number(&mut self, of: DelayNumber, to: ParserState, word: Word) -> Turn
+        ensures { IsTurn result (view self.new) (delay_number of to (view self.old) word) }
     {
         match word {
             Word::Number(time) => {
                 if let Some(cause) = delay_cause(time) {
                     return Turn::Refused(cause);
                 }
-                self.item.delays = DelayTimes::uniform(u64::from(time));
+                self.item.delays = with_number(self.item.delays, of, u64::from(time));
                 Turn::To(to)
             }
             other => Turn::Refused(misfit(other)),
@@ -59,22 +59,6 @@ impl Draft {
         match word {
             Word::Comma => Turn::To(ParserState::FallDelay),
             Word::Close => Turn::To(ParserState::InstanceStart),
-            other => Turn::Refused(misfit(other)),
-        }
-    }
-
-    /// Behind the comma of a delay.
-    pub fn fall_delay(&mut self, word: Word) -> Turn
-        ensures { IsTurn result (view self.new) (fall_delay (view self.old) word) }
-    {
-        match word {
-            Word::Number(time) => {
-                if let Some(cause) = delay_cause(time) {
-                    return Turn::Refused(cause);
-                }
-                self.item.delays = self.item.delays.with_fall(u64::from(time));
-                Turn::To(ParserState::FallEnd)
-            }
             other => Turn::Refused(misfit(other)),
         }
     }
@@ -180,5 +164,14 @@ impl Draft {
             }
             other => Ok(Turn::Refused(misfit(other))),
         }
+    }
+}
+
+fn with_number(delays: DelayTimes, of: DelayNumber, time: u64) -> DelayTimes
+    ensures { result ≡ with_number delays of time }
+{
+    match of {
+        DelayNumber::Rise => DelayTimes::uniform(time),
+        DelayNumber::Fall => delays.with_fall(time),
     }
 }

@@ -11,6 +11,13 @@ pub enum Declared {
     Net,
 }
 
+/// Which number of a delay. The first one is each delay where no other follows.
+#[derive(Clone, Copy, Debug, PartialEq, Eq)]
+pub enum DelayNumber {
+    Rise,
+    Fall,
+}
+
 /// What a terminal with an index is written in.
 #[derive(Clone, Copy, Debug, PartialEq, Eq)]
 pub enum Indexed {

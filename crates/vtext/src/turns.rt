@@ -9,7 +9,7 @@ ghost use Rattle.vtext.specs.Walks.{word_at};
 use crate::bits::BitName;
 use crate::draft::Draft;
 use crate::names::Names;
-use crate::parser_state::ParserState;
+use crate::parser_state::{DelayNumber, ParserState};
 use crate::turn::Turn;
 use crate::word::{Placed, Word};
 use std::alloc::{AllocError, Global};
@@ -68,9 +68,13 @@ impl Draft {
             ParserState::RangeEnd(of) => Ok(self.range_end(of, next.word)),
             ParserState::GateStart => self.gate_start(next.word),
             ParserState::Delay => Ok(self.delay(next.word)),
-            ParserState::RiseDelay => Ok(self.rise_delay(ParserState::RiseEnd, next.word)),
+            ParserState::RiseDelay => {
+                Ok(self.delay_number(DelayNumber::Rise, ParserState::RiseEnd, next.word))
+            }
             ParserState::RiseEnd => Ok(self.rise_end(next.word)),
-            ParserState::FallDelay => Ok(self.fall_delay(next.word)),
+            ParserState::FallDelay => {
+                Ok(self.delay_number(DelayNumber::Fall, ParserState::FallEnd, next.word))
+            }
             ParserState::FallEnd => Ok(self.fall_end(next.word)),
             ParserState::InstanceStart => self.instance_start(next.word),
             ParserState::InstanceOpen => Ok(self.instance_open(next.word)),
