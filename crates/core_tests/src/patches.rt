@@ -9,7 +9,7 @@ ghost use Rattle.waveform.specs.Timelines.{IsAlwaysSettled, changes_below, end_o
 ghost use Rattle.waveform.specs.declared.times.TheConstants.{TIME_END};
 
 use crate::compare::equal;
-use crate::timelines::{check_changes, check_entries, moving, pulse, standing};
+use crate::timelines::{LAST, check_changes, check_entries, late_changes, moving, pulse, standing};
 use fourstate::Value;
 use fourstate::Value::{HighZ, One, Unknown, Zero};
 use gatestep::Driver;
@@ -298,15 +298,14 @@ fn a_wave_with_one_other_value(rt: HostRuntime) {
     drop(old);
 }
 
-// At the last moment that can be stored; the former wave's change at the one before stays.
+// At the last moment that can be stored.
 #[test]
 fn a_wave_with_another_value_at_the_last_moment(rt: HostRuntime) {
-    let (before, last) = (1_152_920_351_684, 1_152_920_351_685);
-    let mut old = two_values(&rt, rt.alloc(), One);
-    old.push(before, Zero).expect(&rt, "room");
-    let wave = with_one_other_value(rt.alloc(), &old, last, Unknown, last + 1).expect(&rt, "room");
-    let changes = [(0, HighZ), (2, One), (before, Zero), (last, Unknown)];
-    check_changes(&rt, &wave, &changes);
+    let old = late_changes(&rt, rt.alloc());
+    let wave = with_one_other_value(rt.alloc(), &old, LAST, Zero, LAST + 1).expect(&rt, "room");
+    equal(&rt, "number of changes", wave.changes().len(), 4);
+    equal(&rt, "before", wave.at(LAST - 1), Unknown);
+    equal(&rt, "last", wave.last(), (LAST, Zero));
     drop(wave);
     drop(old);
 }

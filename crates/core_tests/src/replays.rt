@@ -4,7 +4,7 @@ ghost use Rattle.std.specs.Prelude.{◌≡◌, ◌<◌, ◌≤◌, ◌+◌, leng
 ghost use Rattle.waveform.specs.declared.times.TheConstants.{TIME_END};
 
 use crate::compare::equal;
-use crate::timelines::{fall_and_rise, moving, pulse, standing};
+use crate::timelines::{LAST, fall_and_rise, late_changes, moving, pulse, standing};
 use fourstate::Value;
 use gatestep::Driver;
 use std::alloc::Global;
@@ -92,32 +92,22 @@ fn waves_read_together(rt: HostRuntime) {
     drop(first);
 }
 
-// Beside a wave that changes at the last moment that can be stored, which ends no page.
+// Beside a wave that changes at the last moments that can be stored, which end no page.
 #[test]
 fn waves_read_to_the_last_moment(rt: HostRuntime) {
     let alloc = rt.alloc();
-    let mut first = pulse(&rt, alloc);
-    first
-        .push(1_152_920_351_685, Value::One)
-        .expect(&rt, "room");
-    let second = edges(&rt, alloc);
+    let (first, second) = (late_changes(&rt, alloc), edges(&rt, alloc));
     let mut replay = replayed(&rt, alloc, &first, &second);
+    check_at(&rt, alloc, &mut replay, LAST - 2, Value::One, Value::One);
     check_at(
         &rt,
         alloc,
         &mut replay,
-        1_152_920_351_684,
-        Value::Zero,
+        LAST - 1,
+        Value::Unknown,
         Value::One,
     );
-    check_at(
-        &rt,
-        alloc,
-        &mut replay,
-        1_152_920_351_685,
-        Value::One,
-        Value::One,
-    );
+    check_at(&rt, alloc, &mut replay, LAST, Value::HighZ, Value::One);
     drop(replay);
     drop(second);
     drop(first);

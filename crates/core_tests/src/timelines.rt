@@ -148,14 +148,20 @@ fn repeated_values_are_not_stored(rt: HostRuntime) {
 /// The moment 2^40, and the last one that can be stored.
 const LATE: u64 = 1_099_511_627_776;
 
-const LAST: u64 = 1_152_920_351_685;
+pub const LAST: u64 = 1_152_920_351_685;
+
+/// The wave `0 0 / 1099511627776 1 / 1152920351684 x / 1152920351685 z`.
+pub fn late_changes(rt: &impl Abort, alloc: Global) -> Wave {
+    let mut wave = Wave::open(alloc, Value::Zero).expect(rt, "room");
+    wave.push(LATE, Value::One).expect(rt, "room");
+    wave.push(LAST - 1, Value::Unknown).expect(rt, "room");
+    wave.push(LAST, Value::HighZ).expect(rt, "room");
+    wave
+}
 
 #[test]
 fn a_wave_changes_at_the_last_moments(rt: HostRuntime) {
-    let mut wave = Wave::open(rt.alloc(), Value::Zero).expect(&rt, "room");
-    wave.push(LATE, Value::One).expect(&rt, "room");
-    wave.push(LAST - 1, Value::Unknown).expect(&rt, "room");
-    wave.push(LAST, Value::HighZ).expect(&rt, "room");
+    let wave = late_changes(&rt, rt.alloc());
     let changes = [
         (0, Value::Zero),
         (LATE, Value::One),
@@ -163,9 +169,13 @@ fn a_wave_changes_at_the_last_moments(rt: HostRuntime) {
         (LAST, Value::HighZ),
     ];
     check_changes(&rt, &wave, &changes);
-    equal(&rt, "before 2^40", wave.at(LATE - 1), Value::Zero);
-    equal(&rt, "at 2^40", wave.at(LATE), Value::One);
-    equal(&rt, "at the last", wave.at(LAST), Value::HighZ);
+    for (t, value) in [
+        (LATE - 1, Value::Zero),
+        (LATE, Value::One),
+        (LAST, Value::HighZ),
+    ] {
+        equal(&rt, t, wave.at(t), value);
+    }
     drop(wave);
 }
 
