@@ -1,18 +1,16 @@
 -- Where the entry under each key stands.
-use Rattle.std.specs.Prelude.{◌≡◌, ◌<◌, ℕ, List, Option, None, Some, slice_get}
-use Rattle.catalog.specs.declared.slots.Slot.{Slot}
-use Rattle.catalog.specs.declared.slots.Slot.TheVariants.{At, Free}
+use Rattle.std.specs.Prelude.{ℕ, Option, None, Some, nat_lt, if◌then◌else◌}
+use Rattle.std.specs.Arc.{arc_value}
+use Rattle.std.specs.Global.{Global}
+use Rattle.std.specs.declared.sync.Arc.{Arc}
+use Rattle.slab.specs.Slab.{Slab, get}
+use Rattle.catalog.specs.declared.slots.Slots.{Slots}
 
--- the index that is kept
-abbrev pub index_in : Option Slot → Option ℕ
-index_in None = None
-index_in (Some (At index)) = Some index
-index_in (Some (Free before)) = None
+-- the index that a slab has of a key
+abbrev pub index_in : Option (Arc (Slab ℕ) Global) → ℕ → Option ℕ
+index_in None key = None
+index_in (Some slab) key = get (arc_value slab) key
 
 -- the index of a key in the order
-abbrev pub slot_at : List Slot → ℕ → Option ℕ
-slot_at slots key = index_in (slice_get slots key)
-
--- so many of the first keys are each the index of its own entry
-abbrev pub AreStraight : ℕ → List Slot → Type 0
-AreStraight count keys = (key : ℕ) → key < count → slice_get keys key ≡ Some (At key)
+abbrev pub slot_at : Slots → ℕ → Option ℕ
+slot_at slots key = if nat_lt key slots.straight then Some key else index_in slots.slab key

@@ -1,7 +1,7 @@
 //! The places of the entries in an order that may have gaps.
 
 ghost use Rattle.std.specs.Prelude.{◌≡◌, ◌≤◌, ◌<◌, ◌∷◌, [], ◌++◌, ℕ, Some, IfOk, OnOk, filter, is_some, length, option_map, slice_get, take};
-ghost use Rattle.catalog.specs.Columns.{AreApart, AreKnown, ArePlaced, cell_at, entries_in};
+ghost use Rattle.catalog.specs.Columns.{ArePlaced, cell_at, entries_in};
 ghost use Rattle.catalog.specs.Slots.{slot_at};
 
 use crate::key::Key;
@@ -89,7 +89,7 @@ pub(crate) fn close_up<R: Drop>(
     ensures placed { IfOk result (λ closed. ArePlaced (slot_at closed.0) closed.1) }
 {
     let closed = without_gaps(alloc, &order)?;
-    number(&mut slots, &closed)?;
+    slots.number(alloc, &closed)?;
     Ok((slots, closed))
 }
 
@@ -112,19 +112,4 @@ fn push_copy<R: Drop>(order: &mut Order<R>, entry: &Entry<R>) -> Result<(), Allo
 {
     let copy = entry.clone()?;
     order.push(Some(copy))
-}
-
-/// Writes where each key stands.
-fn number<R: Drop>(slots: &mut Slots, order: &Order<R>) -> Result<(), AllocError>
-    requires apart { AreApart order.now }
-    requires known { AreKnown (slot_at slots.old) order.now }
-    ensures there { OnOk result ((index : ℕ) (e : ℕ × R) → cell_at order.now index ≡ Some e → slot_at slots.new e.0 ≡ Some index) }
-    ensures same { OnOk result ((key : ℕ) → is_some (slot_at slots.new key) ≡ is_some (slot_at slots.old key)) }
-{
-    for index in 0..order.len() {
-        if let Some(key) = order::key_at(order, index) {
-            slots.set(key, index)?;
-        }
-    }
-    Ok(())
 }

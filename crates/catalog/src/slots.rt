@@ -1,56 +1,38 @@
 //! Where the entry under each key stands.
 
-ghost use Rattle.std.specs.Prelude.{◌≡◌, ◌≢◌, ℕ, None, Some, true, IfOk, IfSome, IsSome, OnOk, slice_get};
-ghost use Rattle.catalog.specs.Slots.{slot_at};
+ghost use Rattle.std.specs.Prelude.{◌≡◌, ◌≢◌, ◌<◌, ℕ, None, Some, true, if◌then◌else◌, nat_lt, IfOk, IsSome, OnOk, is_some};
+ghost use Rattle.std.specs.Arc.{arc_value};
+ghost use Rattle.std.specs.Option.{ForSome};
+ghost use Rattle.slab.specs.Slab.{get, ContainsKey, Updates};
+ghost use Rattle.catalog.specs.Columns.{AreApart, AreKnown, cell_at};
 
 use crate::key::Key;
-use chunked::{Chunked, ExactClone};
+use crate::order::{self, Order};
+use slab::Slab;
 use std::alloc::{AllocError, Global};
-use std::marker::Model;
+use std::sync::Arc;
 
-/// What is under a key.
-#[derive(Clone, Copy, Debug)]
-pub(crate) enum Slot {
-    /// An entry, which stands at this index of the order.
-    At(usize),
-    /// No entry any more. The key is to be used again, and then this one, which became free before.
-    Free(Option<Key>),
-}
-
-impl ExactClone for Slot {
-    ghost exact = { λ _ _ same. same };
-}
-
-/// The index of each key in the order, and the key that became free last. Contracts see what is under each key.
+/// The index of each key in the order. Until a key is taken away the keys are the numbers from 0 on, each the index of its
+/// own entry. From then on a slab gives them, which copies share.
 #[derive(Drop)]
 pub(crate) struct Slots {
-    keys: Chunked<Slot>,
-    free: Option<Key>,
-    // So many of the first keys are each the index of its own entry, and so are known without a look at `keys`.
+    // So many of the first keys are each the index of its own entry, and so are known without a look.
     straight: Key,
-}
-
-impl Model for Slots {
-    ghost use Rattle.std.specs.Prelude.{List};
-    ghost use Rattle.catalog.specs.Slots.{AreStraight};
-    ghost use Rattle.catalog.specs.declared.slots.Slot.{Slot};
-
-    ghost Value = { List Slot };
-
-    ghost view = { λ a. a.keys };
-
-    ghost invariant = { λ a. AreStraight a.straight a.keys };
+    // The index of each key. There is none while these are all keys.
+    slab: Option<Arc<Slab<usize>>>,
+    ghost agree: { ForSome slab (λ s. (key : ℕ) → key < straight → get (arc_value s) key ≡ Some key) },
 }
 
 impl Slots {
+    ghost use Rattle.catalog.specs.Slots.{slot_at};
+
     /// No key. It takes no memory.
-    pub(crate) fn new(alloc: Global) -> Slots
+    pub(crate) fn new() -> Slots
         ensures { (key : ℕ) → slot_at result key ≡ None }
     {
         Slots {
-            keys: Chunked::new(alloc),
-            free: None,
             straight: 0,
+            slab: None,
         }
     }
 
@@ -58,11 +40,10 @@ impl Slots {
     pub(crate) fn try_clone(&self) -> Result<Slots, AllocError>
         ensures { IfOk result (λ copy. (key : ℕ) → slot_at copy key ≡ slot_at self.now key) }
     {
-        let keys = self.keys.try_clone()?;
+        let slab = self.slab.clone()?;
         Ok(Slots {
-            keys,
-            free: self.free,
             straight: self.straight,
+            slab,
         })
     }
 
@@ -70,12 +51,12 @@ impl Slots {
     pub(crate) fn get(&self, key: Key) -> Option<usize>
         ensures { result ≡ slot_at self.now key }
     {
-        if self.is_straight(key) {
+        if key < self.straight {
             return Some(key as usize);
         }
-        match self.keys.get(key as usize) {
-            Some(Slot::At(index)) => Some(*index),
-            _ => None,
+        match &self.slab {
+            Some(slab) => slab.get(key as usize).copied(),
+            None => None,
         }
     }
 
@@ -88,60 +69,99 @@ impl Slots {
     }
 
     /// Puts the index under a key that had none, and gives that key. It fails where memory runs out, or all keys are in use.
-    pub(crate) fn insert(&mut self, index: usize) -> Result<Key, AllocError>
+    pub(crate) fn insert(&mut self, alloc: Global, index: usize) -> Result<Key, AllocError>
         ensures fresh { IfOk result (λ key. slot_at self.old key ≡ None) }
         ensures there { IfOk result (λ key. slot_at self.new key ≡ Some index) }
         ensures others { IfOk result (λ key. (other : ℕ) → other ≢ key → slot_at self.new other ≡ slot_at self.old other) }
     {
-        if let Some((key, before)) = self.free_key() {
-            self.keys.set(key as usize, Slot::At(index))?;
-            self.free = before;
+        if self.slab.is_none() && index == self.straight as usize {
+            let key = self.straight;
+            self.straight = key.checked_add(1).ok_or(AllocError)?;
             return Ok(key);
         }
-        let Ok(key) = Key::try_from(self.keys.len()) else {
+        let mut slab = self.take_slab(alloc)?;
+        let Ok(key) = Key::try_from(slab.insert(index)?) else {
             return Err(AllocError);
         };
-        let more = key.checked_add(1).ok_or(AllocError)?;
-        self.keys.push(Slot::At(index))?;
-        if index == key as usize && self.straight == key {
-            self.straight = more;
-        }
+        self.slab = Some(Arc::new(alloc, slab)?);
         Ok(key)
     }
 
-    /// Takes a key away.
-    pub(crate) fn remove(&mut self, key: Key) -> Result<(), AllocError>
+    /// Takes a key away. It fails where memory runs out.
+    pub(crate) fn remove(&mut self, alloc: Global, key: Key) -> Result<(), AllocError>
         requires { IsSome (slot_at self.old key) }
         ensures gone { OnOk result (slot_at self.new key ≡ None) }
         ensures others { OnOk result ((other : ℕ) → other ≢ key → slot_at self.new other ≡ slot_at self.old other) }
     {
+        let mut slab = self.take_slab(alloc)?;
+        slab.remove(key as usize);
         self.straight = self.straight.min(key);
-        self.keys.set(key as usize, Slot::Free(self.free))?;
-        self.free = Some(key);
+        self.slab = Some(Arc::new(alloc, slab)?);
         Ok(())
     }
 
-    /// Writes the index of a key.
-    pub(crate) fn set(&mut self, key: Key, index: usize) -> Result<(), AllocError>
-        requires { IsSome (slot_at self.old key) }
-        ensures there { OnOk result (slot_at self.new key ≡ Some index) }
-        ensures others { OnOk result ((other : ℕ) → other ≢ key → slot_at self.new other ≡ slot_at self.old other) }
+    /// Writes where each key of an order stands. It fails where memory runs out.
+    pub(crate) fn number<R: Drop>(
+        &mut self,
+        alloc: Global,
+        order: &Order<R>,
+    ) -> Result<(), AllocError>
+        requires apart { AreApart order.now }
+        requires known { AreKnown (slot_at self.old) order.now }
+        ensures there { OnOk result ((index : ℕ) (e : ℕ × R) → cell_at order.now index ≡ Some e → slot_at self.new e.0 ≡ Some index) }
+        ensures same { OnOk result ((key : ℕ) → is_some (slot_at self.new key) ≡ is_some (slot_at self.old key)) }
     {
-        if index != key as usize {
-            self.straight = self.straight.min(key);
+        let mut slab = self.take_slab(alloc)?;
+        let mut straight = self.straight;
+        for index in 0..order.len() {
+            if let Some(key) = order::key_at(order, index) {
+                straight = set(&mut slab, straight, key, index);
+            }
         }
-        self.keys.set(key as usize, Slot::At(index))?;
+        *self = Slots {
+            straight,
+            slab: Some(Arc::new(alloc, slab)?),
+        };
         Ok(())
     }
 
-    /// The key that became free last, and the one before.
-    fn free_key(&self) -> Option<(Key, Option<Key>)>
-        ensures { IfSome result (λ free. slice_get self.now free.0 ≡ Some (Slot.Free free.1)) }
+    /// The index of each key, which no copy shares. It is to be put back.
+    fn take_slab(&mut self, alloc: Global) -> Result<Slab<usize>, AllocError>
+        ensures slab { IfOk result (λ slab. (key : ℕ) → get slab key ≡ slot_at self.old key) }
+        ensures straight { self.new.straight ≡ self.old.straight }
     {
-        let key = self.free?;
-        match self.keys.get(key as usize) {
-            Some(Slot::Free(before)) => Some((key, *before)),
-            _ => None,
+        match self.slab.take() {
+            Some(slab) => Arc::unwrap_or_clone(slab),
+            None => first_keys(alloc, self.straight),
         }
+    }
+}
+
+/// So many keys, the first ones, each the index of its own entry.
+fn first_keys(alloc: Global, count: Key) -> Result<Slab<usize>, AllocError>
+    ensures { IfOk result (λ slab. (key : ℕ) → get slab key ≡ (if nat_lt key count then Some key else None)) }
+{
+    let mut slab = Slab::with_capacity(alloc, count as usize)?;
+    for key in 0..count as usize {
+        // A slab from which nothing was taken gives the next number.
+        if slab.insert_reserved(key) != key {
+            return Err(AllocError);
+        }
+    }
+    Ok(slab)
+}
+
+/// Writes the index of a key, and says how many of the first keys are each their own index then, where so many were.
+fn set(slab: &mut Slab<usize>, straight: Key, key: Key, index: usize) -> Key
+    requires there { ContainsKey slab.old key }
+    requires straight { (other : ℕ) → other < straight → get slab.old other ≡ Some other }
+    ensures updates { Updates slab.old slab.new key (Some index) }
+    ensures straight { (other : ℕ) → other < result → get slab.new other ≡ Some other }
+{
+    slab[key as usize] = index;
+    if index == key as usize {
+        straight
+    } else {
+        straight.min(key)
     }
 }

@@ -224,13 +224,13 @@ fn changed(
     rt: &impl Abort,
     alloc: Global,
     catalog: Catalog<Item>,
-    change: u64,
+    is_removal: bool,
     name: &str,
     value: u32,
 ) -> Catalog<Item> {
     match catalog.key(name) {
         None => add(rt, alloc, catalog, name, value).0,
-        Some(key) if change < 5 => take(rt, catalog, key),
+        Some(key) if is_removal => take(rt, catalog, key),
         Some(key) => put(rt, alloc, catalog, key, name, value),
     }
 }
@@ -240,13 +240,13 @@ fn plain_changed(
     rt: &impl Abort,
     alloc: Global,
     plain: PlainCatalog<Item>,
-    change: u64,
+    is_removal: bool,
     name: &str,
     value: u32,
 ) -> PlainCatalog<Item> {
     match plain.key(name) {
         None => plain_add(rt, alloc, plain, name, value),
-        Some(key) if change < 5 => plain_take(rt, plain, key),
+        Some(key) if is_removal => plain_take(rt, plain, key),
         Some(key) => plain_put(rt, alloc, plain, key, name, value),
     }
 }
@@ -259,37 +259,71 @@ fn check_same(rt: &impl Abort, catalog: &Catalog<Item>, plain: &PlainCatalog<Ite
     }
 }
 
-#[test]
-fn random_changes_make_of_a_catalog_what_they_make_of_its_plain_form(rt: HostRuntime) {
-    let alloc = rt.alloc();
-    let mut catalog = Catalog::new(alloc, NameHasher::fixed());
-    let mut plain = PlainCatalog::new(alloc, NameHasher::fixed());
-    let mut old = copy(&rt, &catalog);
-    let mut old_plain = plain_copy(&rt, &plain);
-    let mut seed = 20_261u64;
-    for i in 0..600u32 {
+/// A catalog, and its plain form.
+#[derive(Drop)]
+struct Pair {
+    catalog: Catalog<Item>,
+    plain: PlainCatalog<Item>,
+}
+
+fn copied(rt: &impl Abort, pair: &Pair) -> Pair {
+    Pair {
+        catalog: copy(rt, &pair.catalog),
+        plain: plain_copy(rt, &pair.plain),
+    }
+}
+
+/// So many random changes of both, of which so many of eight take a record away where there is one of that name. They are the
+/// same then.
+fn go_on(
+    rt: &impl Abort,
+    alloc: Global,
+    pair: Pair,
+    start: u64,
+    count: u32,
+    removals: u64,
+) -> Pair {
+    let Pair {
+        mut catalog,
+        mut plain,
+    } = pair;
+    let mut seed = start;
+    for i in 0..count {
         seed = seed
             .wrapping_mul(6_364_136_223_846_793_005)
             .wrapping_add(1_442_695_040_888_963_407);
-        let name = numbered(&rt, alloc, "n", (seed >> 33) % 24);
-        let change = (seed >> 48) % 8;
-        catalog = changed(&rt, alloc, catalog, change, name.as_str(), i);
-        plain = plain_changed(&rt, alloc, plain, change, name.as_str(), i);
+        let name = numbered(rt, alloc, "n", (seed >> 33) % 24);
+        let is_removal = (seed >> 48) % 8 < removals;
+        catalog = changed(rt, alloc, catalog, is_removal, name.as_str(), i);
+        plain = plain_changed(rt, alloc, plain, is_removal, name.as_str(), i);
         if i % 16 == 15 {
-            catalog = closed_up(&rt, catalog);
-            check_same(&rt, &catalog, &plain);
-        }
-        if i % 50 == 49 {
-            check_same(&rt, &old, &old_plain);
-            drop(old);
-            drop(old_plain);
-            old = copy(&rt, &catalog);
-            old_plain = plain_copy(&rt, &plain);
+            catalog = closed_up(rt, catalog);
+            check_same(rt, &catalog, &plain);
         }
     }
-    check_same(&rt, &catalog, &plain);
-    drop(old);
-    drop(old_plain);
-    drop(catalog);
-    drop(plain);
+    check_same(rt, &catalog, &plain);
+    Pair { catalog, plain }
+}
+
+/// A copy is held while nothing was taken away yet, and one later. Each goes on, with changes of its own.
+#[test]
+fn random_changes_make_of_copies_what_they_make_of_their_plain_forms(rt: HostRuntime) {
+    let alloc = rt.alloc();
+    let pair = Pair {
+        catalog: Catalog::new(alloc, NameHasher::fixed()),
+        plain: PlainCatalog::new(alloc, NameHasher::fixed()),
+    };
+    let grown = go_on(&rt, alloc, pair, 20_261, 40, 0);
+    let first = copied(&rt, &grown);
+    let pair = go_on(&rt, alloc, grown, 20_262, 200, 5);
+    let second = copied(&rt, &pair);
+    let pair = go_on(&rt, alloc, pair, 20_263, 200, 5);
+    let second = go_on(&rt, alloc, second, 20_264, 200, 5);
+    let first = go_on(&rt, alloc, first, 20_265, 40, 0);
+    let first = go_on(&rt, alloc, first, 20_266, 200, 5);
+    check_same(&rt, &pair.catalog, &pair.plain);
+    check_same(&rt, &second.catalog, &second.plain);
+    drop(first);
+    drop(second);
+    drop(pair);
 }

@@ -17,6 +17,6 @@ returns-clause-entries g c = ap entries_in c.in_ok-closed.ensures ∙ entries_fi
 
 pub returns-clause-placed : goal.returns-clause-placed
 returns-clause-placed g c =
-    let new = slot_at c.number.new.slots in
+    let new = slot_at c.number.new.self in
     subst (ArePlaced new) (sym c.in_ok-closed.ensures)
     (numbered_placed (slot_at c.args.slots) new c.args.order c.requires (λ i e at. c.in_ok-number.ensures.there i e (ap (λ l. cell_at l i) c.in_ok-closed.ensures ∙ at)) c.in_ok-number.ensures.same)
