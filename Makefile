@@ -1,11 +1,11 @@
 # The tasks of the repository; each works on a machine that has only the toolchain.
 
-.PHONY: all test try demo programs scripts faults mutants speed fmt
+.PHONY: all test try demo programs scripts refusals faults mutants speed fmt
 
 all: try
 
-# CI: every proof from nothing, a few mutants of each crate, the tests, the examples, and the tests of the programs and of
-# the Python package; it fails if no test ran, and says at its end where the processor's time went.
+# CI: every proof from nothing, a few mutants of each crate, the tests, the examples, refused allocations, and the tests of
+# the programs and of the Python package; it fails if no test ran, and says at its end where the processor's time went.
 test:
 	@tools/ci
 
@@ -24,6 +24,10 @@ programs:
 # Runs the tests of the Python package with bin/gatebench, after a demo; tools/scripts runs one of them alone.
 scripts:
 	@tools/scripts
+
+# Refuses each allocation of bin/gatebench over the examples, alone and with all after it, after a demo.
+refusals:
+	@tools/refusals
 
 # Finds the stuck-at faults that the stimulus of two circuits shows, with bin/gatebench, after a demo.
 faults:
