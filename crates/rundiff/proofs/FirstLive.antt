@@ -22,7 +22,7 @@ use Rattle.rundiff.proofs.ByPlace.{live_at, map_twice, position_at, same_put}
 use Rattle.rundiff.proofs.Filtering.{map_filter}
 use Rattle.rundiff.proofs.Lists.{filter_where, name_itself}
 use Rattle.rundiff.proofs.NetsDone.{same_default}
-use Rattle.rundiff.proofs.ReaderKeys.{entry_at, found_at, net_entry_at, placed, same_number}
+use Rattle.rundiff.proofs.ReaderKeys.{entry_at, found_at, keyed_at, net_entry_at, placed, same_number}
 use Rattle.rundiff.proofs.Still.{map_all}
 
 connection_itself : (c : Connection) → same_connection c c ≡ true
@@ -166,21 +166,20 @@ module _ (old new : Keyed) (old_keys : AreKeys old) (keys : AreKeys new) (distin
                 ∙ sym (new_drivers key there) ∙ ap (drivers_of (netlist new)) named;
           }
 
-  pub first_closed : (none : ℕ × KeyedGate) (blank : ℕ × NetEntry) → IsClosed (netlist old) (netlist new) (is_live (netlist new) live)
-  first_closed none blank =
+  pub first_closed : IsClosed (netlist old) (netlist new) (is_live (netlist new) live)
+  first_closed =
       record {
         gates = λ k d low off.
             let at = same_default (netlist new).gates k d blank_gate low in
-            let one = entry_at new keys none k low in
-            let key : ℕ = one.0 in
-            let g : KeyedGate = one.1 in
-            let facts = one.2 in
+            let key = (keyed_at new k).0 in
+            let g = (keyed_at new k).1 in
+            let facts = entry_at new keys k low in
             let entry = at ∙ facts.entry in
             let free = gate_untouched key g facts.found facts.there (sym (ap (λ (h : GateEntry). is_live (netlist new) live h.output) entry) ∙ off) in
             let was = some_mapped (entry_in old.nets) (gate_by_key old key) (entry_in new.nets g) (sym (ap (option_map (entry_in new.nets)) facts.found) ∙ touched.names_stay key free) in
             ap (is_new (netlist old)) (entry ∙ was.2) ∙ known_by_key old key was.0 was.1;
         nets = λ k d low off.
             let at = same_default (netlist new).nets k d blank_net low in
-            let one = net_entry_at new keys blank k low in
+            let one = net_entry_at new keys k low in
             subst (IsSameNet (netlist old) (netlist new)) (sym at) (same_net k low (sym (ap (λ (n : NetEntry). is_live (netlist new) live n.name) at) ∙ off) one.0 one.1);
       }

@@ -2,9 +2,12 @@
 use Rattle.std.proofs.Common.{◌≡◌, ℕ, zero, suc, ◌+◌, ◌<◌, ◌∙◌, ap, sym, refl, subst, List, [], ◌∷◌, Bool, true, false, cond, map, length, Option, Some, None, arith, All}
 use Rattle.std.specs.Prelude.{slice_index_or, ◌||◌, ◌==◌, ◌≢◌, AllPairs, IsSome, IsSomeAnd}
 use Rattle.std.specs.List.{filter, find, list_any, position_from}
-use Rattle.std.specs.Option.{option_map}
+use Rattle.std.specs.Option.{option_map, option_map_or}
 use Rattle.std.proofs.lemmas.Bool.Decides.{nat_tests}
+use Rattle.std.proofs.lemmas.List.{length-map}
 use Rattle.std.proofs.lemmas.List.Elements.{All-head, All-tail}
+use Rattle.fourstate.specs.Delays.{uniform_delays}
+use Rattle.fourstate.specs.declared.gate.GateKind.TheVariants.{Buf}
 use Rattle.catalog.specs.Catalog.{keys_of, place_of, record_at, records_of}
 use Rattle.design.specs.declared.terminal.Terminal.{Terminal}
 use Rattle.design.specs.declared.terminal.Terminal.TheVariants.{Net, Constant}
@@ -14,6 +17,13 @@ use Rattle.design.specs.Netlist.{GateEntry, NetEntry, is_at_net, reads}
 use Rattle.rundiff.specs.Places.{blank_gate, blank_net, gate_at, is_among, net_at}
 use Rattle.rundiff.proofs.Lists.{same_name_equal}
 use Rattle.rundiff.proofs.Readers.{position_found}
+
+-- what stands in for an entry that is not there
+abbrev no_net : ℕ × NetEntry
+no_net = (0, blank_net)
+
+abbrev no_gate : ℕ × KeyedGate
+no_gate = (0, record { name = []; kind = Buf; delays = uniform_delays 0; output = 0; inputs = [] })
 
 pub same_number : (k p : ℕ) → (k == p) ≡ true → k ≡ p
 same_number k p h = grind (arith, nat_tests)
@@ -39,21 +49,21 @@ or_true false b h = h
 or_left : (a b : Bool) → a ≡ true → (a || b) ≡ true
 or_left a b on = rw on refl
 
-module _ (d : Keyed) (law : (key : ℕ) → IsSome (net_by_key d key) → position_from (λ n. same_name n.name (name_of d.nets key)) 0 (netlist d).nets ≡ place_of d.nets key) (blank : ℕ × NetEntry) where
+module _ (d : Keyed) (law : (key : ℕ) → IsSome (net_by_key d key) → position_from (λ n. same_name n.name (name_of d.nets key)) 0 (netlist d).nets ≡ place_of d.nets key) where
   -- two keys of one name are one key
   same_key : (k l : ℕ) → IsSome (net_by_key d k) → IsSome (net_by_key d l) → name_of d.nets k ≡ name_of d.nets l → k ≡ l
   same_key k l there too names =
       let one = placed (λ e. e.0 == k) d.nets 0 there in
       let same : place_of d.nets k ≡ place_of d.nets l = sym (law k there) ∙ ap (λ (name : List ℕ). position_from (λ n. same_name n.name name) 0 (netlist d).nets) names ∙ law l too in
       let q : ℕ = one.0 in
-      let first = position_found (λ e. e.0 == k) d.nets 0 q blank one.1 in
-      let other = position_found (λ e. e.0 == l) d.nets 0 q blank (sym same ∙ one.1) in
+      let first = position_found (λ e. e.0 == k) d.nets 0 q no_net one.1 in
+      let other = position_found (λ e. e.0 == l) d.nets 0 q no_net (sym same ∙ one.1) in
       let i : ℕ = first.0 in let j : ℕ = other.0 in
       let at : q ≡ 0 + i = first.1 in let as_well : q ≡ 0 + j = other.1 in
       let e : j ≡ i = omega arith in
-      let mine : (slice_index_or d.nets i blank).0 ≡ k = same_number (slice_index_or d.nets i blank).0 k first.3 in
-      let theirs : (slice_index_or d.nets j blank).0 ≡ l = same_number (slice_index_or d.nets j blank).0 l other.3 in
-      sym mine ∙ ap (λ (n : ℕ). (slice_index_or d.nets n blank).0) (sym e) ∙ theirs
+      let mine : (slice_index_or d.nets i no_net).0 ≡ k = same_number (slice_index_or d.nets i no_net).0 k first.3 in
+      let theirs : (slice_index_or d.nets j no_net).0 ≡ l = same_number (slice_index_or d.nets j no_net).0 l other.3 in
+      sym mine ∙ ap (λ (n : ℕ). (slice_index_or d.nets n no_net).0) (sym e) ∙ theirs
 
   at_key : (t : Terminal) (key : ℕ) → IsThere d.nets t → IsSome (net_by_key d key) → is_at_net (name_of d.nets key) (connection_in d.nets t) ≡ true → is_at t key ≡ true
   at_key (Net k) key is there on =
@@ -120,86 +130,58 @@ pub some_of : {X : Type 0} (o : Option X) (P : X → Type 0) → IsSomeAnd o P �
 some_of None P is = absurd is
 some_of (Some x) P is = refl
 
--- the gate at a place, and its key
-pub record IsReader (d : Keyed) (key place k : ℕ) (g : KeyedGate) : Type 0 where
-  pub found : gate_by_key d k ≡ Some g
-  pub among : is_among (reader_keys d key) k ≡ true
-  pub position : place_of d.gates k ≡ Some place
-  pub entry : gate_at (netlist d) place ≡ entry_in d.nets g
-  pub there : IsSome (net_by_key d g.output)
+-- the gate at a place, with its key
+abbrev pub keyed_at : Keyed → ℕ → ℕ × KeyedGate
+keyed_at d place = slice_index_or d.gates place no_gate
 
-pub reader_at : (d : Keyed) → AreKeys d → ((key : ℕ) → IsSome (net_by_key d key) → position_from (λ n. same_name n.name (name_of d.nets key)) 0 (netlist d).nets ≡ place_of d.nets key) → (blank : ℕ × NetEntry) (none : ℕ × KeyedGate) →
-    (key place : ℕ) → IsSome (net_by_key d key) → place < length (netlist d).gates → reads (gate_at (netlist d) place) (name_of d.nets key) ≡ true → (k : ℕ) × (g : KeyedGate) × IsReader d key place k g
+pub record IsEntry (d : Keyed) (place : ℕ) : Type 0 where
+  pub found : gate_by_key d (keyed_at d place).0 ≡ Some (keyed_at d place).1
+  pub position : place_of d.gates (keyed_at d place).0 ≡ Some place
+  pub entry : gate_at (netlist d) place ≡ entry_in d.nets (keyed_at d place).1
+  pub connected : IsConnected d.nets (keyed_at d place).1
+  pub there : IsSome (net_by_key d (keyed_at d place).1.output)
+
+-- a place below the number of gates is one of the gates with their keys
+inside_at : (d : Keyed) (place : ℕ) → place < length (netlist d).gates → place < length d.gates
 unfolding netlist
-reader_at d keys law blank none key place there low reading =
-    let e : ℕ × KeyedGate = slice_index_or d.gates place none in
-    let inside : place < length d.gates = lengths d.gates place low in
-    let entry : gate_at (netlist d) place ≡ entry_in d.nets e.1 =
-    index_map (λ (p : ℕ × GateEntry). p.1) (map (λ p. (p.0, entry_in d.nets p.1)) d.gates) place (0, blank_gate) blank_gate (more d.gates place inside)
-    ∙ ap (λ (p : ℕ × GateEntry). p.1) (index_map (λ (p : ℕ × KeyedGate). (p.0, entry_in d.nets p.1)) d.gates place none (0, blank_gate) inside) in
-    let connected : IsConnected d.nets e.1 =
-    subst (IsConnected d.nets) (index_map (λ (p : ℕ × KeyedGate). p.1) d.gates place none none.1 inside) (keys.connected place none.1 (records d.gates place inside)) in
-    let on : reads_key e.1 key ≡ true = any_at_key d law blank e.1.inputs key connected.inputs there (sym (ap (λ (g : GateEntry). reads g (name_of d.nets key)) entry) ∙ reading) in
-    let zero_on : 0 + place ≡ place = omega arith in
-    (e.0, e.1, record { found = found_at d.gates place none keys.distinct_gates inside; position = position_key d.gates 0 place none keys.distinct_gates inside ∙ ap (λ (i : ℕ). Some i) zero_on; among = listed_at (λ p. reads_key p.1 key) d.gates place none inside on; entry = entry; there = some_of (net_by_key d e.1.output) (λ n. n.is_input ≡ false) connected.output })
-  where
-    lengths : (es : List (ℕ × KeyedGate)) (p : ℕ) → p < length (map (λ (q : ℕ × GateEntry). q.1) (map (λ q. (q.0, entry_in d.nets q.1)) es)) → p < length es
-    lengths [] p low = absurd (omega arith)
-    lengths (x ∷ es) zero low = omega arith
-    lengths (x ∷ es) (suc p) low = let rest = lengths es p (omega arith) in omega arith
+inside_at d place low =
+    let name : ℕ × KeyedGate → ℕ × GateEntry = λ p. (p.0, entry_in d.nets p.1) in
+    let named = length-map d.gates name in let records = length-map (map name d.gates) (λ p. p.1) in omega (arith, low, named, records)
 
-    more : (es : List (ℕ × KeyedGate)) (p : ℕ) → p < length es → p < length {A = ℕ × GateEntry} (map (λ q. (q.0, entry_in d.nets q.1)) es)
-    more [] p low = absurd (omega arith)
-    more (x ∷ es) zero low = omega arith
-    more (x ∷ es) (suc p) low = let rest = more es p (omega arith) in omega arith
-
-    records : (es : List (ℕ × KeyedGate)) (p : ℕ) → p < length es → p < length (records_of es)
-    records [] p low = absurd (omega arith)
-    records (x ∷ es) zero low = omega arith
-    records (x ∷ es) (suc p) low = let rest = records es p (omega arith) in omega arith
-
--- a gate, under its key
-pub record IsEntry (d : Keyed) (place k : ℕ) (g : KeyedGate) : Type 0 where
-  pub found : gate_by_key d k ≡ Some g
-  pub entry : gate_at (netlist d) place ≡ entry_in d.nets g
-  pub there : IsSome (net_by_key d g.output)
-
-pub entry_at : (d : Keyed) → AreKeys d → (none : ℕ × KeyedGate) (place : ℕ) → place < length (netlist d).gates → (k : ℕ) × (g : KeyedGate) × IsEntry d place k g
+pub entry_at : (d : Keyed) → AreKeys d → (place : ℕ) → place < length (netlist d).gates → IsEntry d place
 unfolding netlist
-entry_at d keys none place low =
-    let e : ℕ × KeyedGate = slice_index_or d.gates place none in
-    let inside : place < length d.gates = lengths d.gates place low in
-    let entry : gate_at (netlist d) place ≡ entry_in d.nets e.1 =
-    index_map (λ (p : ℕ × GateEntry). p.1) (map (λ p. (p.0, entry_in d.nets p.1)) d.gates) place (0, blank_gate) blank_gate (more d.gates place inside)
-    ∙ ap (λ (p : ℕ × GateEntry). p.1) (index_map (λ (p : ℕ × KeyedGate). (p.0, entry_in d.nets p.1)) d.gates place none (0, blank_gate) inside) in
-    let connected : IsConnected d.nets e.1 =
-    subst (IsConnected d.nets) (index_map (λ (p : ℕ × KeyedGate). p.1) d.gates place none none.1 inside) (keys.connected place none.1 (records d.gates place inside)) in
-    (e.0, e.1, record { found = found_at d.gates place none keys.distinct_gates inside; entry = entry; there = some_of (net_by_key d e.1.output) (λ n. n.is_input ≡ false) connected.output })
-  where
-    lengths : (es : List (ℕ × KeyedGate)) (p : ℕ) → p < length (map (λ (q : ℕ × GateEntry). q.1) (map (λ q. (q.0, entry_in d.nets q.1)) es)) → p < length es
-    lengths [] p low = absurd (omega arith)
-    lengths (x ∷ es) zero low = omega arith
-    lengths (x ∷ es) (suc p) low = let rest = lengths es p (omega arith) in omega arith
+entry_at d keys place low =
+    let inside = inside_at d place low in
+    let name : ℕ × KeyedGate → ℕ × GateEntry = λ p. (p.0, entry_in d.nets p.1) in
+    let more : place < length (map name d.gates) = let same = length-map d.gates name in omega (arith, inside, same) in
+    let below : place < length (records_of d.gates) = let same = length-map d.gates (λ p. p.1) in omega (arith, inside, same) in
+    let connected : IsConnected d.nets (keyed_at d place).1 =
+    subst (IsConnected d.nets) (index_map (λ (p : ℕ × KeyedGate). p.1) d.gates place no_gate no_gate.1 inside) (keys.connected place no_gate.1 below) in
+    let from : 0 + place ≡ place = omega arith in
+    record {
+      found = found_at d.gates place no_gate keys.distinct_gates inside;
+      position = position_key d.gates 0 place no_gate keys.distinct_gates inside ∙ ap (λ (i : ℕ). Some i) from;
+      entry =
+          index_map (λ (p : ℕ × GateEntry). p.1) (map name d.gates) place (0, blank_gate) blank_gate more
+          ∙ ap (λ (p : ℕ × GateEntry). p.1) (index_map name d.gates place no_gate (0, blank_gate) inside);
+      connected = connected;
+      there = some_of (net_by_key d (keyed_at d place).1.output) (λ n. n.is_input ≡ false) connected.output;
+    }
 
-    more : (es : List (ℕ × KeyedGate)) (p : ℕ) → p < length es → p < length {A = ℕ × GateEntry} (map (λ q. (q.0, entry_in d.nets q.1)) es)
-    more [] p low = absurd (omega arith)
-    more (x ∷ es) zero low = omega arith
-    more (x ∷ es) (suc p) low = let rest = more es p (omega arith) in omega arith
-
-    records : (es : List (ℕ × KeyedGate)) (p : ℕ) → p < length es → p < length (records_of es)
-    records [] p low = absurd (omega arith)
-    records (x ∷ es) zero low = omega arith
-    records (x ∷ es) (suc p) low = let rest = records es p (omega arith) in omega arith
+-- the gate at a place is a reader of a net by key where it reads it by name
+pub reader_at : (d : Keyed) → AreKeys d → ((key : ℕ) → IsSome (net_by_key d key) → position_from (λ n. same_name n.name (name_of d.nets key)) 0 (netlist d).nets ≡ place_of d.nets key) →
+    (key place : ℕ) (n : NetEntry) → net_by_key d key ≡ Some n → place < length (netlist d).gates → reads (gate_at (netlist d) place) n.name ≡ true → is_among (reader_keys d key) (keyed_at d place).0 ≡ true
+reader_at d keys law key place n found low reading =
+    let facts = entry_at d keys place low in
+    let there : IsSome (net_by_key d key) = subst (λ (o : Option NetEntry). IsSome o) (sym found) refl in
+    let named : name_of d.nets key ≡ n.name = ap (λ (o : Option NetEntry). option_map_or (λ m. m.name) o []) found in
+    let reads_it : reads (entry_in d.nets (keyed_at d place).1) (name_of d.nets key) ≡ true =
+    ap (λ (g : GateEntry). reads g (name_of d.nets key)) (sym facts.entry) ∙ ap (reads (gate_at (netlist d) place)) named ∙ reading in
+    listed_at (λ p. reads_key p.1 key) d.gates place no_gate (inside_at d place low) (any_at_key d law (keyed_at d place).1.inputs key facts.connected.inputs there reads_it)
 
 -- a net, under its key
-pub net_entry_at : (d : Keyed) → AreKeys d → (blank : ℕ × NetEntry) (place : ℕ) → place < length (netlist d).nets → (k : ℕ) × (net_by_key d k ≡ Some (net_at (netlist d) place))
+pub net_entry_at : (d : Keyed) → AreKeys d → (place : ℕ) → place < length (netlist d).nets → (k : ℕ) × (net_by_key d k ≡ Some (net_at (netlist d) place))
 unfolding netlist
-net_entry_at d keys blank place low =
-    let e : ℕ × NetEntry = slice_index_or d.nets place blank in
-    let inside : place < length d.nets = lengths d.nets place low in
-    (e.0, found_at d.nets place blank keys.distinct_nets inside ∙ ap (λ (n : NetEntry). Some n) (sym (index_map (λ (p : ℕ × NetEntry). p.1) d.nets place blank blank_net inside)))
-  where
-    lengths : (es : List (ℕ × NetEntry)) (p : ℕ) → p < length (records_of es) → p < length es
-    lengths [] p low = absurd (omega arith)
-    lengths (x ∷ es) zero low = omega arith
-    lengths (x ∷ es) (suc p) low = let rest = lengths es p (omega arith) in omega arith
+net_entry_at d keys place low =
+    let inside : place < length d.nets = let same = length-map d.nets (λ p. p.1) in omega (arith, low, same) in
+    ((slice_index_or d.nets place no_net).0, found_at d.nets place no_net keys.distinct_nets inside ∙ ap (λ (n : NetEntry). Some n) (sym (index_map (λ (p : ℕ × NetEntry). p.1) d.nets place no_net blank_net inside)))

@@ -1,5 +1,6 @@
 -- Rows worked out by hand: the moments at which gates are evaluated, by computing the definitions.
 use Rattle.std.proofs.Common.{◌≡◌, ℕ, List, [], ◌∷◌, map, refl, false, true}
+use Rattle.fourstate.specs.Delays.{uniform_delays}
 use Rattle.fourstate.specs.declared.gate.GateKind.TheVariants.{Buf}
 use Rattle.fourstate.specs.declared.net.NetKind.TheVariants.{Wire}
 use Rattle.fourstate.specs.declared.unit.TimeUnit.{TimeUnit}
@@ -37,7 +38,7 @@ wire name = record { name = name ∷ []; kind = Wire; is_input = false; points =
 
 abbrev buffer : ℕ → ℕ → ℕ → ℕ → GateEntry
 buffer delay name output from =
-    record { name = name ∷ []; kind = Buf; delays = record { rise = delay; fall = delay }; output = output ∷ []; inputs = to_net (from ∷ []) ∷ [] }
+    record { name = name ∷ []; kind = Buf; delays = uniform_delays delay; output = output ∷ []; inputs = to_net (from ∷ []) ∷ [] }
 
 module _ (unit : TimeUnit) where
   -- one buffer from a to y

@@ -2,6 +2,7 @@
 use Rattle.std.specs.Prelude.{◌==◌, Bool, false, ℕ, List, []}
 use Rattle.std.specs.List.{list_any, position_from, slice_index_or}
 use Rattle.std.specs.Option.{option_map_or}
+use Rattle.fourstate.specs.Delays.{uniform_delays}
 use Rattle.fourstate.specs.declared.gate.GateKind.TheVariants.{Buf}
 use Rattle.fourstate.specs.declared.net.NetKind.TheVariants.{Wire}
 use Rattle.design.specs.Names.{same_name}
@@ -11,7 +12,7 @@ abbrev pub blank_net : NetEntry
 blank_net = record { name = []; kind = Wire; is_input = false; points = [] }
 
 abbrev pub blank_gate : GateEntry
-blank_gate = record { name = []; kind = Buf; delays = record { rise = 0; fall = 0 }; output = []; inputs = [] }
+blank_gate = record { name = []; kind = Buf; delays = uniform_delays 0; output = []; inputs = [] }
 
 abbrev pub net_at : Netlist → ℕ → NetEntry
 net_at d p = slice_index_or d.nets p blank_net

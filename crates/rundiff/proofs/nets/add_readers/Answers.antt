@@ -3,15 +3,14 @@ use Rattle.std.specs.Prelude.{◌||◌, nat_eq}
 use Rattle.std.specs.Option.{option_map_or}
 use Rattle.std.proofs.lemmas.Bool.Decides.{nat_tests}
 use Rattle.catalog.specs.Catalog.{place_of}
-use Rattle.design.specs.Keys.{KeyedGate, gate_by_key, name_of, net_by_key, netlist}
-use Rattle.fourstate.specs.declared.gate.GateKind.TheVariants.{Buf}
+use Rattle.design.specs.Keys.{KeyedGate, gate_by_key, net_by_key, netlist}
 use Rattle.design.specs.Netlist.{GateEntry, NetEntry, reads}
 use Rattle.rundiff.specs.Places.{blank_net, gate_at, is_among, is_live, net_at}
 use Rattle.rundiff.proofs.ByPlace.{get_at}
 use Rattle.rundiff.proofs.Driven.{is_there, read_get, take_whole}
 use Rattle.rundiff.proofs.NamedLines.{some_equal}
 use Rattle.rundiff.proofs.Outcoming.{all_more}
-use Rattle.rundiff.proofs.ReaderKeys.{reader_at}
+use Rattle.rundiff.proofs.ReaderKeys.{entry_at, keyed_at, reader_at}
 use Rattle.rundiff.proofs.Steps.{among_more, among_push, or_splits, same_place}
 use Rattle.rundiff.proofs.nets.add_readers.Goals as goal
 
@@ -55,14 +54,12 @@ returns-clause-readers c = λ q low reading.
     let key = c.net_key_at.result in
     let n = net_at d c.args.place in
     let there : net_by_key keyed key ≡ Some n = c.net_key_at.ensures.net ∙ get_at d.nets c.args.place blank_net c.requires.there in
-    let named : name_of keyed.nets key ≡ n.name = ap (λ (o : Option NetEntry). option_map_or (λ m. m.name) o []) there in
     let whole = take_whole c.fanout-readers.result.now c.loop-reader.reader-index c.loop-reader-test.false in
-    let reader = reader_at keyed c.lawful.ensures.keys c.places_are_keys.ensures.nets (0, blank_net) (0, record { name = []; kind = Buf; delays = record { rise = 0; fall = 0 }; output = 0; inputs = [] })
-    key q (is_there (net_by_key keyed key) n there) low (ap (reads (gate_at d q)) named ∙ reading) in
-    let k : ℕ = reader.0 in
-    let gate : KeyedGate = reader.1 in
-    let facts = reader.2 in
-    let out = c.loop-reader.invariant.readers k (ap (λ (l : List ℕ). is_among l k) (whole ∙ c.fanout-readers.ensures.readers) ∙ facts.among) gate facts.found in
+    let k = (keyed_at keyed q).0 in
+    let gate = (keyed_at keyed q).1 in
+    let facts = entry_at keyed c.lawful.ensures.keys q low in
+    let among = reader_at keyed c.lawful.ensures.keys c.places_are_keys.ensures.nets key q n there low reading in
+    let out = c.loop-reader.invariant.readers k (ap (λ (l : List ℕ). is_among l k) (whole ∙ c.fanout-readers.ensures.readers) ∙ among) gate facts.found in
     ap (λ (g : GateEntry). is_live d (is_among c.loop-reader.found.items) g.output) facts.entry
     ∙ ap (λ (o : Option ℕ). option_map_or (is_among c.loop-reader.found.items) o false) (c.places_are_keys.ensures.nets gate.output facts.there ∙ out.1)
     ∙ out.2

@@ -2,7 +2,6 @@ use Rattle.std.proofs.Common.{◌≡◌, ◌∙◌, ap, sym, subst, refl, ℕ, L
 use Rattle.std.specs.BTreeSet.{contains}
 use Rattle.std.specs.Option.{option_map_or}
 use Rattle.std.specs.Ordering.{nat_cmp}
-use Rattle.fourstate.specs.declared.gate.GateKind.TheVariants.{Buf}
 use Rattle.fourstate.specs.Values.{same_value}
 use Rattle.gatestep.specs.Step.{State, due}
 use Rattle.event_queue.specs.Noted.{noted}
@@ -12,7 +11,7 @@ use Rattle.waveform.specs.Entries.{same_state, standing}
 use Rattle.waveform.specs.Patches.{Keeps, PatchRecord}
 use Rattle.scratch.specs.Run.{state_after, value}
 use Rattle.rundiff.specs.Fronts.{named_state}
-use Rattle.rundiff.specs.Places.{blank_net, gate_at, is_among, net_at}
+use Rattle.rundiff.specs.Places.{gate_at, is_among, net_at}
 use Rattle.rundiff.specs.Kept.{read_at}
 use Rattle.rundiff.proofs.Awaited.{opened_noted}
 use Rattle.rundiff.proofs.FirstLive.{first_closed}
@@ -58,14 +57,12 @@ returns-clause-front c = λ answer.
           first_closed c.args.old.now c.args.new.now c.lawful.ensures.keys c.lawful-2.ensures.keys c.lawful-2.ensures.design.distinct_nets c.places_are_keys.ensures.nets
           c.names_are_keys.ensures.nets c.names_are_keys.ensures.drivers c.names_are_keys-2.ensures.drivers
           c.args.touched.now.nets.items c.args.touched.now.gates.items places c.requires c.in_ok-found.ensures.touched fixed
-          (λ p among. fixed_is p ∙ among)
-          (0, record { name = []; kind = Buf; delays = record { rise = 0; fall = 0 }; output = 0; inputs = [] }) (0, blank_net);
+          (λ p among. fixed_is p ∙ among);
       fixed_live = λ p on. covers p (sym (fixed_is p) ∙ on);
       closed =
           first_closed c.args.old.now c.args.new.now c.lawful.ensures.keys c.lawful-2.ensures.keys c.lawful-2.ensures.design.distinct_nets c.places_are_keys.ensures.nets
           c.names_are_keys.ensures.nets c.names_are_keys.ensures.drivers c.names_are_keys-2.ensures.drivers
-          c.args.touched.now.nets.items c.args.touched.now.gates.items places c.requires c.in_ok-found.ensures.touched later covers
-          (0, record { name = []; kind = Buf; delays = record { rise = 0; fall = 0 }; output = 0; inputs = [] }) (0, blank_net);
+          c.args.touched.now.nets.items c.args.touched.now.gates.items places c.requires c.in_ok-found.ensures.touched later covers;
       agrees = record { states = λ k d low off. refl; inputs = λ k d low off i e within. tt; nets = λ k d low off. tt };
       waves = λ p low. keeps_first same_value standing (value answer new (net_at new p)) (read_at answer old (to_net (net_at new p).name)) _ (no_wave p);
       traces = λ p low. keeps_first same_state due (state_after answer new (gate_at new p)) (named_state answer old (gate_at new p).name) _ (no_trace p);
