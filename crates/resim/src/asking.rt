@@ -322,7 +322,7 @@ pub fn ask_dirty<S: Stepper>(
     ask_some(
         lines, old, new, wiring, values, states, gates, stepper, t, tasks, clean, fresh,
     )?;
-    lines.pass::<S>(alloc, old, new, t)?;
+    lines.pass(alloc, t)?;
     weave::<S>(
         lines,
         old,

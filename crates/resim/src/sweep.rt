@@ -102,7 +102,7 @@ fn open_beside<S: Stepper>(
     ensures lost { S.losses stepper.new ≡ S.losses stepper.old + (if loses_a_worker result then 1 else 0) }
 {
     let mut opening = Opening::before::<S>(alloc, new, wiring)?;
-    lines.advance::<S>(alloc, old, new, 0)?;
+    lines.advance(alloc, 0)?;
     ask_dirty(
         alloc,
         lines,
@@ -152,7 +152,7 @@ fn pass_beside<S: Stepper>(
 {
     old.lawful();
     engine.stir::<S>(alloc, new, wiring, t)?;
-    lines.advance::<S>(alloc, old, new, t)?;
+    lines.advance(alloc, t)?;
     ask_dirty(
         alloc,
         lines,

@@ -1,38 +1,34 @@
--- What a gate of the new design reads in the old run, by the places of its nets.
-use Rattle.std.proofs.Common.{◌≡◌, ◌∙◌, ◌<◌, ◌+◌, ap, sym, subst, refl, ℕ, List, [], ◌∷◌, Bool, true, false, cond, map, length, Option, Some, None, arith, All}
+-- What the lines of the old run say of the gates of the new design.
+use Rattle.std.proofs.Common.{◌≡◌, ◌∙◌, ◌<◌, ◌≤◌, ◌+◌, ap, sym, refl, ℕ, zero, suc, List, [], ◌∷◌, Bool, true, false, cond, map, length, Option, Some, None, arith, All}
 use Rattle.std.specs.Prelude.{◌||◌}
 use Rattle.std.specs.List.{list_any, position_from}
 use Rattle.std.specs.Option.{option_map_or}
 use Rattle.std.proofs.lemmas.List.Elements.{All-cons, All-nil, All-head, All-tail}
+use Rattle.fourstate.specs.declared.value.Value.{Value}
 use Rattle.fourstate.specs.declared.value.Value.TheVariants.{Unknown}
-use Rattle.gatestep.specs.Step.{State, Evaluation}
+use Rattle.gatestep.specs.Step.{State, Evaluation, due, initial}
+use Rattle.gatestep.specs.Tasks.{IsTask, NothingDue}
 use Rattle.design.specs.Connections.{Connection, to_net, to_constant}
+use Rattle.design.specs.Lawful.{IsDesign}
 use Rattle.design.specs.Names.{same_name}
 use Rattle.design.specs.Netlist.{Netlist, is_readable}
+use Rattle.waveform.specs.Changes.{state_at, trace_below, wave_at, wave_changes_below}
+use Rattle.waveform.specs.Entries.{standing}
+use Rattle.waveform.specs.Timelines.{IsAlwaysSettled}
 use Rattle.scratch.specs.Kept.{input_of}
+use Rattle.scratch.specs.Run.{state_after, state_before}
 use Rattle.scratch.specs.declared.wiring.Input.TheVariants.{At, Fixed}
+use Rattle.rundiff.specs.Dirty.{is_new}
+use Rattle.rundiff.specs.Fronts.{named_state}
 use Rattle.rundiff.specs.Kept.{read_at}
-use Rattle.rundiff.specs.OldLines.{HasPlace, former_value}
-use Rattle.rundiff.specs.Places.{blank_net, net_at}
+use Rattle.rundiff.specs.OldLines.{AreOldLines, HasWave, former_state, former_value}
+use Rattle.rundiff.specs.Places.{blank_net, gate_at, net_at}
+use Rattle.rundiff.specs.declared.old_lines.OldLines.{OldLines}
+use Rattle.rundiff.proofs.EachPlace.{holds_index}
+use Rattle.rundiff.proofs.Known.{known_gate}
 use Rattle.rundiff.proofs.Lists.{same_name_equal}
 use Rattle.rundiff.proofs.Readers.{position_found}
-
-module _ (new : Netlist) where
-  -- an input that reads a net reads one that there is
-  placed_by : (name : List ℕ) (o : Option ℕ) → position_from (λ n. same_name n.name name) 0 new.nets ≡ o → HasPlace new (option_map_or At o (Fixed Unknown))
-  placed_by name None is = tt
-  placed_by name (Some p) is =
-      let found = position_found (λ n. same_name n.name name) new.nets 0 p blank_net is in
-      let same : p ≡ found.0 = let e = found.1 in omega (arith, e) in
-      subst (λ q. q < length new.nets) (sym same) found.2
-
-  pub placed : (terminal : Connection) → HasPlace new (input_of new terminal)
-  placed (to_net name) = placed_by name (position_from (λ n. same_name n.name name) 0 new.nets) refl
-  placed (to_constant v) = tt
-
-  pub all_placed : (terminals : List Connection) → All (HasPlace new) (map (input_of new) terminals)
-  all_placed [] = All-nil (HasPlace new)
-  all_placed (x ∷ xs) = All-cons (HasPlace new) (input_of new x) (map (input_of new) xs) (placed x) (all_placed xs)
+use Rattle.rundiff.proofs.Tasks.{old_settled}
 
 no_position : {X : Type 0} (test : X → Bool) (start : ℕ) (xs : List X) → position_from test start xs ≡ None → list_any test xs ≡ false
 no_position test start [] none = refl
@@ -42,25 +38,56 @@ no_position {X} test start (x ∷ xs) none =
       | false ↦ λ off later. rw off (no_position test (start + 1) xs later)
     ] refl none
 
-module _ (answer : Evaluation → ℕ → State) (old new : Netlist) (t : ℕ) where
-  read_by : (name : List ℕ) (o : Option ℕ) → position_from (λ n. same_name n.name name) 0 new.nets ≡ o → is_readable new (to_net name) ≡ true →
-      former_value answer old new t (option_map_or At o (Fixed Unknown)) ≡ read_at answer old (to_net name) t
-  read_by name None none there = let no : false ≡ true = sym (no_position (λ n. same_name n.name name) 0 new.nets none) ∙ there in absurd (cc)
-  read_by name (Some p) is there =
+module _ (answer : Evaluation → ℕ → State) (old new : Netlist) (lines : OldLines) (right : AreOldLines answer old new lines) where
+  -- an input that reads a net reads one that there is
+  placed_by : (name : List ℕ) (o : Option ℕ) → position_from (λ n. same_name n.name name) 0 new.nets ≡ o → HasWave lines (option_map_or At o (Fixed Unknown))
+  placed_by name None is = tt
+  placed_by name (Some p) is =
       let found = position_found (λ n. same_name n.name name) new.nets 0 p blank_net is in
-      let same : p ≡ found.0 = let e = found.1 in omega (arith, e) in
-      let named : (net_at new p).name ≡ name = ap (λ (q : ℕ). (net_at new q).name) same ∙ same_name_equal (net_at new found.0).name name found.3 in
-      ap (λ (n : List ℕ). read_at answer old (to_net n) t) named
+      let same = found.1 in let low = found.2 in let count = right.wave_count in omega (arith, same, low, count)
 
-  -- an input reads what its terminal reads
-  pub reads_same : (terminal : Connection) → is_readable new terminal ≡ true → former_value answer old new t (input_of new terminal) ≡ read_at answer old terminal t
-  reads_same (to_net name) there = read_by name (position_from (λ n. same_name n.name name) 0 new.nets) refl there
-  reads_same (to_constant v) there = refl
+  placed : (terminal : Connection) → HasWave lines (input_of new terminal)
+  placed (to_net name) = placed_by name (position_from (λ n. same_name n.name name) 0 new.nets) refl
+  placed (to_constant v) = tt
 
-  pub all_read : (terminals : List Connection) → All (λ x. is_readable new x ≡ true) terminals →
-      map (former_value answer old new t) (map (input_of new) terminals) ≡ map (λ x. read_at answer old x t) terminals
-  all_read [] there = refl
-  all_read (x ∷ xs) there =
-      let P : Connection → Type 0 = λ x. is_readable new x ≡ true in
-      let one = reads_same x (All-head P x xs there) in let rest = all_read xs (All-tail P x xs there) in
-      λ i. one i ∷ rest i
+  pub all_placed : (terminals : List Connection) → All (HasWave lines) (map (input_of new) terminals)
+  all_placed [] = All-nil (HasWave lines)
+  all_placed (x ∷ xs) = All-cons (HasWave lines) (input_of new x) (map (input_of new) xs) (placed x) (all_placed xs)
+
+  module _ (law : (f : ℕ → Value) → IsAlwaysSettled standing f → (t n : ℕ) → t < n → wave_at (wave_changes_below f n) t ≡ f t) (t : ℕ) (within : t ≤ old.horizon) where
+    read_by : (name : List ℕ) (o : Option ℕ) → position_from (λ n. same_name n.name name) 0 new.nets ≡ o → is_readable new (to_net name) ≡ true →
+        former_value lines t (option_map_or At o (Fixed Unknown)) ≡ read_at answer old (to_net name) t
+    read_by name None none there = let no : false ≡ true = sym (no_position (λ n. same_name n.name name) 0 new.nets none) ∙ there in absurd (cc)
+    read_by name (Some p) is there =
+        let found = position_found (λ n. same_name n.name name) new.nets 0 p blank_net is in
+        let same : p ≡ found.0 = let e = found.1 in omega (arith, e) in
+        let low : p < length lines.waves.lines = let below = found.2 in let count = right.wave_count in omega (arith, same, below, count) in
+        let stored = holds_index (λ p wave. wave ≡ wave_changes_below (read_at answer old (to_net (net_at new p).name)) (suc old.horizon)) lines.waves.lines p [] right.waves low in
+        let named : (net_at new p).name ≡ name = ap (λ (q : ℕ). (net_at new q).name) same ∙ same_name_equal (net_at new found.0).name name found.3 in
+        ap (λ (wave : List (ℕ × Value)). wave_at wave t) stored ∙ law (read_at answer old (to_net (net_at new p).name)) (λ u. refl) t (suc old.horizon) (omega arith)
+        ∙ ap (λ (n : List ℕ). read_at answer old (to_net n) t) named
+
+    -- an input reads what its terminal reads
+    reads_same : (terminal : Connection) → is_readable new terminal ≡ true → former_value lines t (input_of new terminal) ≡ read_at answer old terminal t
+    reads_same (to_net name) there = read_by name (position_from (λ n. same_name n.name name) 0 new.nets) refl there
+    reads_same (to_constant v) there = refl
+
+    pub all_read : (terminals : List Connection) → All (λ x. is_readable new x ≡ true) terminals →
+        map (former_value lines t) (map (input_of new) terminals) ≡ map (λ x. read_at answer old x t) terminals
+    all_read [] there = refl
+    all_read (x ∷ xs) there =
+        let P : Connection → Type 0 = λ x. is_readable new x ≡ true in
+        let one = reads_same x (All-head P x xs there) in let rest = all_read xs (All-tail P x xs there) in
+        λ i. one i ∷ rest i
+
+  -- the state of a gate that the old design has
+  module _ (law : (f : ℕ → State) → IsAlwaysSettled due f → (t n : ℕ) → t < n → state_at (trace_below f n) t ≡ f t) (pending : (e : Evaluation) (t : ℕ) → IsTask e → NothingDue t (answer e t))
+      (is : IsDesign old) (p : ℕ) (there : p < length new.gates) (known : is_new old (gate_at new p) ≡ false) where
+    pub state_read : (t : ℕ) → t ≤ suc old.horizon → former_state lines p t ≡ state_before answer old t (gate_at new p)
+    state_read zero within = refl
+    state_read (suc t) within =
+        let name = (gate_at new p).name in
+        let low : p < length lines.traces.lines = let count = right.trace_count in omega (arith, count, there) in
+        let stored = holds_index (λ p trace. trace ≡ trace_below (named_state answer old (gate_at new p).name) (suc old.horizon)) lines.traces.lines p [] right.traces low in
+        ap (λ (trace : List (ℕ × State)). state_at trace t) stored ∙ law (named_state answer old name) (old_settled answer old pending name is.gates) t (suc old.horizon) (omega arith)
+        ∙ ap (λ o. option_map_or (λ h. state_after answer old h t) o initial) (known_gate old is (gate_at new p) known)

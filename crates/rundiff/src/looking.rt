@@ -1,6 +1,6 @@
 //! What comes of one gate at one moment: whether it is dirty, whether it is stirred, and its task or its state.
 
-ghost use Rattle.std.specs.Prelude.{◌≡◌, ◌<◌, ◌≤◌, ℕ, suc, false, [], ◌∷◌, Some, map, length, slice_get};
+ghost use Rattle.std.specs.Prelude.{◌≡◌, ◌<◌, ◌≤◌, ℕ, suc, false, [], ◌∷◌, Some, map, length};
 ghost use Rattle.std.specs.BTreeSet.{contains};
 ghost use Rattle.std.specs.Ordering.{nat_cmp};
 ghost use Rattle.gatestep.specs.Step.{initial};
@@ -113,15 +113,10 @@ fn is_dirty<S: Stepper>(
     touched && is_new_gate(old, new, key, gate)
 }
 
-/// Whether edits touched the net that the gate at a place drives, or a gate that drives it; else the old design has the gate.
-fn is_touched(fixed: &PlaceSet, old: &Design, new: &Design, place: usize, gate: &Gate) -> bool
-    requires there { place < length (netlist new.now).gates }
-    requires gate { slice_get (netlist new.now).gates place ≡ Some (entry_in new.now.nets gate.now) }
-    requires base { IsClosed (netlist old.now) (netlist new.now) (is_live (netlist new.now) (contains nat_cmp fixed.now)) }
-    ensures { result ≡ false → is_new (netlist old.now) (entry_in new.now.nets gate.now) ≡ false }
+/// Whether edits touched the net that a gate drives, or a gate that drives it.
+fn is_touched(fixed: &PlaceSet, new: &Design, gate: &Gate) -> bool
+    ensures { result ≡ false → is_live (netlist new.now) (contains nat_cmp fixed.now) (entry_in new.now.nets gate.now).output ≡ false }
 {
-    let _old = old;
-    let _place = place;
     new.places_are_keys();
     match new.net_place_of(gate.output()) {
         Some(output) => fixed.contains(output),
@@ -199,7 +194,7 @@ pub fn look<S: Stepper>(
     let gate = new.gate_at(place);
     let state = gate_state::<S>(traces, blank_trace, old, run, new, place, t);
     let inputs = inputs_at::<S>(waves, blank_wave, old, run, new, gate, t, t);
-    let touched = is_touched(fixed, old, new, place, gate);
+    let touched = is_touched(fixed, new, gate);
     if !is_dirty::<S>(
         blank_wave,
         blank_trace,

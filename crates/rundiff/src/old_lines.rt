@@ -3,17 +3,19 @@
 //! gates before it, then those after it.
 
 ghost use Rattle.std.specs.Prelude.{◌≡◌, ◌<◌, ◌≤◌, ℕ, suc, false, not, [], ◌∷◌, All, IfOk, IfSome, OnOk, length, map, slice_get};
-ghost use Rattle.gatestep.specs.Step.{Evaluation, initial};
+ghost use Rattle.fourstate.specs.declared.limits.TheConstants.{MAX_TIME};
+ghost use Rattle.gatestep.specs.Step.{Evaluation, State, initial};
 ghost use Rattle.design.specs.Connections.{to_net};
 ghost use Rattle.design.specs.Keys.{netlist};
+ghost use Rattle.design.specs.Netlist.{Netlist};
 ghost use Rattle.waveform.specs.Changes.{trace_below, wave_changes_below};
 ghost use Rattle.scratch.specs.Kept.{cell_of, evaluation_from, input_value};
-ghost use Rattle.scratch.specs.Run.{IsRun, state_after, state_before};
+ghost use Rattle.scratch.specs.Run.{IsRun, state_after};
 ghost use Rattle.scratch.specs.Work.{same_values, task_at};
 ghost use Rattle.rundiff.specs.Dirty.{is_dirty, is_new};
 ghost use Rattle.rundiff.specs.Fronts.{named_state};
 ghost use Rattle.rundiff.specs.Kept.{read_at};
-ghost use Rattle.rundiff.specs.OldLines.{AreOldLines, HasPlace, HoldsEach, former_value, traces_done, waves_done};
+ghost use Rattle.rundiff.specs.OldLines.{AreOldLines, HasWave, HoldsEach, former_state, former_value, traces_done, waves_done};
 ghost use Rattle.rundiff.specs.Places.{gate_at, net_at};
 
 use crate::old::{old_trace, old_wave};
@@ -83,23 +85,14 @@ impl<'a> OldLines<'a> {
 
     /// Goes on to the moment `t`: then the values of the nets at it are known, and the states of the gates before it. It fails
     /// where memory runs out, and then the lines are to be dropped.
-    pub fn advance<S: Stepper>(
-        &mut self,
-        alloc: Global,
-        old: &Design,
-        new: &Design,
-        t: u64,
-    ) -> Result<(), AllocError>
-        requires lines { AreOldLines S.answer (netlist old.now) (netlist new.now) self.old }
+    pub fn advance(&mut self, alloc: Global, t: u64) -> Result<(), AllocError>
         requires waves { waves_done self.old ≤ t }
         requires traces { traces_done self.old ≤ t }
-        requires within { t ≤ (netlist old.now).horizon }
-        ensures lines { OnOk result (AreOldLines S.answer (netlist old.now) (netlist new.now) self.new) }
+        requires within { t ≤ MAX_TIME }
+        ensures lines { OnOk result ((answer : Evaluation → ℕ → State) (old new : Netlist) → AreOldLines answer old new self.old → AreOldLines answer old new self.new) }
         ensures waves { OnOk result (waves_done self.new ≡ suc t) }
         ensures traces { OnOk result (traces_done self.new ≡ t) }
     {
-        old.lawful();
-        let _new = new;
         self.waves.advance(alloc, t + 1)?;
         self.traces.advance(alloc, t)?;
         Ok(())
@@ -107,38 +100,24 @@ impl<'a> OldLines<'a> {
 
     /// Goes past the moment `t` with the gates: then their states after it are known. It fails where memory runs out, and then
     /// the lines are to be dropped.
-    pub fn pass<S: Stepper>(
-        &mut self,
-        alloc: Global,
-        old: &Design,
-        new: &Design,
-        t: u64,
-    ) -> Result<(), AllocError>
-        requires lines { AreOldLines S.answer (netlist old.now) (netlist new.now) self.old }
+    pub fn pass(&mut self, alloc: Global, t: u64) -> Result<(), AllocError>
         requires traces { traces_done self.old ≤ suc t }
-        requires within { t ≤ (netlist old.now).horizon }
-        ensures lines { OnOk result (AreOldLines S.answer (netlist old.now) (netlist new.now) self.new) }
+        requires within { t ≤ MAX_TIME }
+        ensures lines { OnOk result ((answer : Evaluation → ℕ → State) (old new : Netlist) → AreOldLines answer old new self.old → AreOldLines answer old new self.new) }
         ensures waves { OnOk result (waves_done self.new ≡ waves_done self.old) }
         ensures traces { OnOk result (traces_done self.new ≡ suc t) }
     {
-        old.lawful();
-        let _new = new;
         self.traces.advance(alloc, t + 1)?;
         Ok(())
     }
 
     /// What an input of a gate of the new design reads in the old run at the moment `t`.
     #[inline(always)]
-    fn value<S: Stepper>(&self, old: &Design, new: &Design, input: Input, t: u64) -> Value
-        requires lines { AreOldLines S.answer (netlist old.now) (netlist new.now) self.now }
+    fn value(&self, input: Input, t: u64) -> Value
         requires waves { waves_done self.now ≡ suc t }
-        requires place { HasPlace (netlist new.now) input }
-        requires within { t ≤ (netlist old.now).horizon }
-        ensures { result ≡ former_value S.answer (netlist old.now) (netlist new.now) t input }
+        requires there { HasWave self.now input }
+        ensures { result ≡ former_value self.now t input }
     {
-        let _old = old;
-        let _new = new;
-        laws::value_of_changes::<Value>();
         match input {
             Input::At(place) => self.waves.at(place as usize, t),
             Input::Fixed(value) => value,
@@ -146,25 +125,16 @@ impl<'a> OldLines<'a> {
     }
 
     /// Whether the inputs of a gate of the new design read in the old run what they read where the nets have these values.
-    fn are_read<S: Stepper>(
-        &self,
-        old: &Design,
-        new: &Design,
-        cell: &Cell,
-        values: &[Value],
-        t: u64,
-    ) -> bool
-        requires lines { AreOldLines S.answer (netlist old.now) (netlist new.now) self.now }
+    fn are_read(&self, cell: &Cell, values: &[Value], t: u64) -> bool
         requires waves { waves_done self.now ≡ suc t }
-        requires places { All (HasPlace (netlist new.now)) cell.now.inputs }
-        requires within { t ≤ (netlist old.now).horizon }
-        ensures { result ≡ same_values (map (former_value S.answer (netlist old.now) (netlist new.now) t) cell.now.inputs) (map (input_value values.now) cell.now.inputs) }
+        requires there { All (HasWave self.now) cell.now.inputs }
+        ensures { result ≡ same_values (map (former_value self.now t) cell.now.inputs) (map (input_value values.now) cell.now.inputs) }
     {
         let inputs = cell.inputs();
         for i in 0..inputs.len() {
             let input = inputs[i].get();
             let value = read_input(values, input);
-            let former = self.value::<S>(old, new, input, t);
+            let former = self.value(input, t);
             if !former.is_same(value) {
                 return false;
             }
@@ -172,19 +142,13 @@ impl<'a> OldLines<'a> {
         true
     }
 
-    /// The state before the moment `t`, in the old run, of the gate at a place, which the old design has.
+    /// The state before the moment `t`, in the old run, of the gate at a place.
     #[inline(always)]
-    fn state_before<S: Stepper>(&self, old: &Design, new: &Design, place: usize, t: u64) -> Driver
-        requires lines { AreOldLines S.answer (netlist old.now) (netlist new.now) self.now }
+    fn state_before(&self, place: usize, t: u64) -> Driver
         requires traces { traces_done self.now ≡ t }
-        requires there { place < length (netlist new.now).gates }
-        requires within { t ≤ (netlist old.now).horizon }
-        requires known { is_new (netlist old.now) (gate_at (netlist new.now) place) ≡ false }
-        ensures { result ≡ state_before S.answer (netlist old.now) t (gate_at (netlist new.now) place) }
+        requires there { place < length self.now.traces.lines }
+        ensures { result ≡ former_state self.now place t }
     {
-        old.lawful();
-        let _design = new;
-        laws::value_of_changes::<Driver>();
         if t == 0 {
             return Driver::start();
         }
@@ -215,13 +179,15 @@ impl<'a> OldLines<'a> {
     {
         old.lawful();
         new.lawful();
+        laws::value_of_changes::<Value>();
+        laws::value_of_changes::<Driver>();
         if self.others[place] {
             return false;
         }
-        if !self.state_before::<S>(old, new, place, t).is_same(state) {
+        if !self.state_before(place, t).is_same(state) {
             return false;
         }
-        self.are_read::<S>(old, new, cell, values, t)
+        self.are_read(cell, values, t)
     }
 
     /// The state after the moment `t` of the gate at a place, which is not dirty then.

@@ -20,6 +20,12 @@ pub weave-requires-clause-there : goal.weave-requires-clause-there
 weave-requires-clause-there g c =
     places_below g.S.Stepper.answer (netlist c.args.old.now) (netlist c.args.new.now) c.args.t c.args.gates.now c.requires.gates
 
+pub weave-requires-clause-lines : goal.weave-requires-clause-lines
+weave-requires-clause-lines g c = c.in_ok-pass.ensures.lines g.S.Stepper.answer (netlist c.args.old.now) (netlist c.args.new.now) c.requires.lines
+
+pub returns-clause-lines : goal.returns-clause-lines
+returns-clause-lines g c = c.in_ok-pass.ensures.lines g.S.Stepper.answer (netlist c.args.old.now) (netlist c.args.new.now) c.requires.lines
+
 pub returns-in_err-ask_some-clause-part : goal.returns-in_err-ask_some-clause-part
 returns-in_err-ask_some-clause-part g c =
     let answer = g.S.Stepper.answer in let asked = g.S.Stepper.asked in let old = netlist c.args.old.now in let new = netlist c.args.new.now in let t = c.args.t in

@@ -1,28 +1,21 @@
-use Rattle.std.proofs.Common.{◌≡◌, ◌∙◌, ap, sym, subst, ℕ, Option, Some, false}
+use Rattle.std.proofs.Common.{◌≡◌, ◌∙◌, ap, sym, ℕ, Option, Some, false}
 use Rattle.std.specs.BTreeSet.{contains}
 use Rattle.std.specs.Ordering.{nat_cmp}
 use Rattle.std.specs.Option.{option_map_or}
 use Rattle.catalog.specs.Catalog.{place_of}
-use Rattle.design.specs.Keys.{entry_in, net_by_key, netlist}
-use Rattle.design.specs.Netlist.{GateEntry}
-use Rattle.rundiff.specs.Dirty.{is_new}
-use Rattle.rundiff.specs.Places.{blank_gate, blank_net, gate_at, is_live, net_at}
-use Rattle.rundiff.proofs.ByPlace.{at_place, get_at}
+use Rattle.design.specs.Keys.{net_by_key, netlist}
+use Rattle.rundiff.specs.Places.{blank_net, net_at}
+use Rattle.rundiff.proofs.ByPlace.{get_at}
 use Rattle.rundiff.proofs.Driven.{is_there}
 use Rattle.rundiff.proofs.looking.is_touched.Goals as goal
 
 pub returns-in-Some : goal.returns-in-Some
 returns-in-Some c = λ off.
-    let keyed = c.args.new.now in let old = netlist c.args.old.now in let new = netlist keyed in
+    let keyed = c.args.new.now in let new = netlist keyed in
     let fixed = contains nat_cmp c.args.fixed.now in
-    let gate = entry_in keyed.nets c.args.gate.now in
-    let at : gate_at new c.args.place ≡ gate = at_place new.gates c.args.place blank_gate gate c.requires.gate in
     let output = c.in-Some.output in let key = c.args.gate.now.output in
     let net : net_by_key keyed key ≡ Some (net_at new output) =
     ap (net_by_key keyed) (sym c.output.ensures) ∙ sym c.in-Some.ensures.net ∙ get_at new.nets output blank_net c.in-Some.ensures.within in
     let place : place_of keyed.nets key ≡ Some output = ap (place_of keyed.nets) (sym c.output.ensures) ∙ sym c.in-Some.ensures.place in
-    let away : is_live new fixed gate.output ≡ false =
     ap (λ (o : Option ℕ). option_map_or fixed o false) (c.places_are_keys.ensures.nets key (is_there (net_by_key keyed key) (net_at new output) net) ∙ place)
-    ∙ sym c.contains.ensures ∙ off in
-    subst (λ (g : GateEntry). is_new old g ≡ false) at
-    (c.requires.base.gates c.args.place blank_gate c.requires.there (ap (λ (g : GateEntry). is_live new fixed g.output) at ∙ away))
+    ∙ sym c.contains.ensures ∙ off

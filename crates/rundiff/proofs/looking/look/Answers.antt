@@ -1,5 +1,7 @@
 use Rattle.std.proofs.Common.{◌≡◌, ◌∙◌, ◌<◌, ap, sym, subst, Some, Bool, true, false, List, length, arith}
 use Rattle.std.specs.Prelude.{◌&&◌}
+use Rattle.std.specs.BTreeSet.{contains}
+use Rattle.std.specs.Ordering.{nat_cmp}
 use Rattle.std.proofs.lemmas.List.{length-map}
 use Rattle.fourstate.specs.declared.value.Value.{Value}
 use Rattle.gatestep.specs.Tasks.{IsReady}
@@ -9,9 +11,9 @@ use Rattle.design.specs.Netlist.{GateEntry, gate_named}
 use Rattle.waveform.specs.Entries.{CanStore}
 use Rattle.waveform.specs.declared.times.TheConstants.{TIME_END}
 use Rattle.scratch.specs.Run.{state_after, state_before}
-use Rattle.rundiff.specs.Dirty.{is_dirty}
+use Rattle.rundiff.specs.Dirty.{is_dirty, is_new}
 use Rattle.rundiff.specs.Fronts.{is_working}
-use Rattle.rundiff.specs.Places.{blank_gate, gate_at}
+use Rattle.rundiff.specs.Places.{blank_gate, gate_at, is_live}
 use Rattle.rundiff.specs.Kept.{read_at}
 use Rattle.scratch.specs.Work.{is_stirred, task_at}
 use Rattle.rundiff.proofs.Clean.{clean_after}
@@ -20,6 +22,15 @@ use Rattle.rundiff.proofs.OneGate.{and_false, clean_known, rests}
 use Rattle.rundiff.proofs.ByPlace.{at_place, map_twice}
 use Rattle.rundiff.proofs.Tasks.{can_store}
 use Rattle.rundiff.proofs.looking.look.Goals as goal
+
+pub is_dirty-requires-clause-known : goal.is_dirty-requires-clause-known
+is_dirty-requires-clause-known g c = λ off.
+    let old = netlist c.args.old.now in
+    let keyed = c.args.new.now in let new = netlist keyed in
+    let gate = entry_in keyed.nets c.gate_at-gate.result.now in
+    let at : gate_at new c.args.place ≡ gate = at_place new.gates c.args.place blank_gate gate c.gate_at-gate.ensures.named in
+    ap (is_new old) (sym at)
+    ∙ c.requires.base.gates c.args.place blank_gate c.requires.there (ap (λ (h : GateEntry). is_live new (contains nat_cmp c.args.fixed.now) h.output) at ∙ c.is_touched-touched.ensures off)
 
 pub is_dirty-requires-clause-inputs : goal.is_dirty-requires-clause-inputs
 is_dirty-requires-clause-inputs g c =

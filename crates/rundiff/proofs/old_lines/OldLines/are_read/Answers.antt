@@ -3,7 +3,6 @@ use Rattle.std.proofs.lemmas.Option.{slice_get_read}
 use Rattle.std.specs.Prelude.{slice_get}
 use Rattle.fourstate.specs.declared.value.Value.{Value}
 use Rattle.fourstate.specs.Values.{same_value}
-use Rattle.design.specs.Keys.{netlist}
 use Rattle.scratch.specs.Kept.{input_value}
 use Rattle.scratch.specs.declared.wiring.Input.{Input}
 use Rattle.rundiff.specs.OldLines.{former_value}
@@ -11,8 +10,8 @@ use Rattle.rundiff.proofs.Known.{match_more, mismatch}
 use Rattle.rundiff.proofs.old_lines.OldLines.are_read.Goals as goal
 
 pub returns-then-not-is_same : goal.returns-then-not-is_same
-returns-then-not-is_same g c =
-    let former = former_value g.S.Stepper.answer (netlist c.args.old.now) (netlist c.args.new.now) c.args.t in
+returns-then-not-is_same c =
+    let former = former_value c.args.self.now c.args.t in
     let i = c.loop-i.i in let inputs = c.args.cell.now.inputs in let read = input_value c.args.values.now in
     let x = c.index-inputs-i.result in
     let at = subst (λ (xs : List Input). slice_get xs i ≡ Some x) c.inputs-inputs.ensures.inputs (slice_get_read c.inputs-inputs.result.now (length c.inputs-inputs.result.now) i x refl c.loop-i-test.true c.index-inputs-i.is) in
@@ -22,8 +21,8 @@ returns-then-not-is_same g c =
     sym (mismatch same_value former read x x inputs inputs i at at off)
 
 pub loop-i-preserved : goal.loop-i-preserved
-loop-i-preserved g c =
-    let former = former_value g.S.Stepper.answer (netlist c.args.old.now) (netlist c.args.new.now) c.args.t in
+loop-i-preserved c =
+    let former = former_value c.args.self.now c.args.t in
     let i = c.loop-i.i in let inputs = c.args.cell.now.inputs in let read = input_value c.args.values.now in
     let x = c.index-inputs-i.result in
     let at = subst (λ (xs : List Input). slice_get xs i ≡ Some x) c.inputs-inputs.ensures.inputs (slice_get_read c.inputs-inputs.result.now (length c.inputs-inputs.result.now) i x refl c.loop-i-test.true c.index-inputs-i.is) in
