@@ -110,8 +110,8 @@ fn pass<S: Stepper>(
     ensures lost { S.losses stepper.new ≡ S.losses stepper.old + (if loses_a_worker result then 1 else 0) }
 {
     old.lawful();
-    let tasks = front.due::<S>(alloc, old, run, new, t)?;
-    step_some(stepper, tasks.as_slice(), t, answers)?;
+    front.due::<S>(alloc, old, run, new, t)?;
+    step_some(stepper, front.tasks(), t, answers)?;
     front.settle::<S>(alloc, old, run, new, t, answers.as_slice())?;
     Ok(())
 }

@@ -104,6 +104,10 @@ held_in front = contains nat_cmp front.held
 abbrev pub fixed_in : Front → ℕ → Bool
 fixed_in front = contains nat_cmp front.fixed
 
+-- the tasks of the gates that are evaluated
+abbrev pub tasks_in : Front → List Evaluation
+tasks_in front = front.outcomes.tasks.items
+
 -- what is blank
 pub record AreBlank (front : Front) : Type 0 where
   pub wave : front.blank_wave ≡ (0, Unknown) ∷ []
@@ -175,9 +179,9 @@ pub record IsWaiting (answer : Evaluation → ℕ → State) (old new : Netlist)
   pub other_waves : (p : ℕ) → live_in front p ≡ false → IsFree (kept_at front.waves p)
   pub other_traces : (p : ℕ) → held_in front p ≡ false → IsFree (kept_at front.traces p)
   pub blank : AreBlank front
-  pub places : ArePlaces front.working.items (λ p. held_in front p && is_working answer old new t p)
-  pub tasks : working_at answer old new t ≡ map (gate_at new) front.working.items
-  pub same : All (IsClean answer old new t) front.clean.items
+  pub places : ArePlaces front.outcomes.working.items (λ p. held_in front p && is_working answer old new t p)
+  pub tasks : working_at answer old new t ≡ map (gate_at new) front.outcomes.working.items
+  pub same : All (IsClean answer old new t) front.outcomes.clean.items
   pub awaits : IsNoted answer old new (live_in front) (resting_in answer old new front t) (held_in front) (suc t) (noted front.events) (noted front.inputs) (noted front.nets) (suc t)
 
 -- what comes of the gate at a place at t: it is evaluated, or it is not, and its state after t is known; where it is not dirty

@@ -1,15 +1,15 @@
 //! What differs at the present moment.
 
-ghost use Rattle.std.specs.Prelude.{◌≡◌, ◌≤◌, ◌+◌, suc, All, IfOk, OnOk, map};
+ghost use Rattle.std.specs.Prelude.{◌≡◌, ◌≤◌, ◌+◌, suc, All, OnOk, map};
 ghost use Rattle.gatestep.specs.Tasks.{IsReady};
 ghost use Rattle.design.specs.Keys.{netlist};
 ghost use Rattle.scratch.specs.Run.{IsRun, state_after};
 ghost use Rattle.rundiff.specs.Dirty.{working_at};
-ghost use Rattle.rundiff.specs.Fronts.{IsClean, IsFront, IsWaiting};
+ghost use Rattle.rundiff.specs.Fronts.{IsClean, IsFront, IsWaiting, tasks_in};
 ghost use Rattle.scratch.specs.Work.{task_at};
 
 use crate::gate_notes::note_events;
-use crate::gates::put_states;
+use crate::gates::{Outcomes, put_states};
 use crate::place_map::PlaceMap;
 use crate::place_set::PlaceSet;
 use design::Design;
@@ -42,10 +42,12 @@ pub struct Front {
     pub nets: EventQueue,
     /// In `due`, the gates that are looked at.
     pub gates: Vec<usize>,
-    /// Between `due` and `settle`, the gates that are evaluated.
-    pub working: Vec<usize>,
-    /// Between `due` and `settle`, the gates that are not dirty, of those that are looked at.
-    pub clean: Vec<usize>,
+    /// In `due`, the nets that are looked at.
+    pub net_places: Vec<usize>,
+    /// In `due`, the nets that become live.
+    pub found: Vec<usize>,
+    /// Between `due` and `settle`, what comes of the gates that are looked at.
+    pub outcomes: Outcomes,
     /// The wave of a net that the old design has not.
     pub blank_wave: Wave,
     /// The trace of a gate that the old design has not.
@@ -55,8 +57,8 @@ pub struct Front {
 }
 
 impl Front {
-    /// The tasks of the gates that are dirty and stirred at the moment `t`, where all before `t` is done. It fails where
-    /// memory runs out, and then the front is to be dropped.
+    /// Finds the tasks of the gates that are dirty and stirred at the moment `t`, where all before `t` is done. It fails
+    /// where memory runs out, and then the front is to be dropped.
     pub fn due<S: Stepper>(
         &mut self,
         alloc: Global,
@@ -64,16 +66,23 @@ impl Front {
         run: &Run,
         new: &Design,
         t: u64,
-    ) -> Result<Vec<Task>, AllocError>
+    ) -> Result<(), AllocError>
         requires run { IsRun S.answer old.now run.now }
         requires front { IsFront S.answer (netlist old.now) (netlist new.now) self.old t }
         requires within { t ≤ (netlist old.now).horizon }
-        ensures tasks { IfOk result (λ tasks. tasks.items ≡ map (λ g. task_at S.answer (netlist new.now) g t) (working_at S.answer (netlist old.now) (netlist new.now) t)) }
-        ensures ready { IfOk result (λ tasks. All (IsReady t) tasks.items) }
+        ensures tasks { OnOk result (tasks_in self.new ≡ map (λ g. task_at S.answer (netlist new.now) g t) (working_at S.answer (netlist old.now) (netlist new.now) t)) }
+        ensures ready { OnOk result (All (IsReady t) (tasks_in self.new)) }
         ensures front { OnOk result (IsWaiting S.answer (netlist old.now) (netlist new.now) self.new t) }
     {
         self.look_at_nets::<S>(alloc, old, run, new, t)?;
         self.look_at_gates::<S>(alloc, old, run, new, t)
+    }
+
+    /// The tasks that `due` found, in the order of their gates.
+    pub fn tasks(&self) -> &[Task]
+        ensures { result.now ≡ tasks_in self.now }
+    {
+        self.outcomes.tasks.as_slice()
     }
 
     /// Takes the answers to the tasks of the moment `t`, which is done then. It fails where memory runs out, and then the
@@ -113,7 +122,7 @@ impl Front {
         requires within { t ≤ (netlist old.now).horizon }
         requires answers { answers.now ≡ map (λ g. state_after S.answer (netlist new.now) g t) (working_at S.answer (netlist old.now) (netlist new.now) t) }
         ensures front { OnOk result (IsFront S.answer (netlist old.now) (netlist new.now) self.new (suc t)) }
-        ensures clean { OnOk result (All (IsClean S.answer (netlist old.now) (netlist new.now) t) self.new.clean.items) }
+        ensures clean { OnOk result (All (IsClean S.answer (netlist old.now) (netlist new.now) t) self.new.outcomes.clean.items) }
         ensures done { OnOk result (self.new.done ≡ t + 1) }
     {
         old.lawful();
@@ -125,11 +134,17 @@ impl Front {
             old,
             run,
             new,
-            self.working.as_slice(),
+            self.outcomes.working.as_slice(),
             answers,
             t,
         )?;
-        note_events(alloc, &mut self.events, self.working.as_slice(), answers, t)?;
+        note_events(
+            alloc,
+            &mut self.events,
+            self.outcomes.working.as_slice(),
+            answers,
+            t,
+        )?;
         self.done = t + 1;
         Ok(())
     }

@@ -1,18 +1,18 @@
 //! What comes of gates at the present moment.
 
-ghost use Rattle.std.specs.Prelude.{◌≡◌, ◌≤◌, All, IfOk, OnOk, map};
+ghost use Rattle.std.specs.Prelude.{◌≡◌, ◌≤◌, All, OnOk, map};
 ghost use Rattle.gatestep.specs.Tasks.{IsReady};
 ghost use Rattle.design.specs.Keys.{netlist};
 ghost use Rattle.scratch.specs.Run.{IsRun};
 ghost use Rattle.rundiff.specs.Dirty.{working_at};
-ghost use Rattle.rundiff.specs.Fronts.{AreNetsDone, IsWaiting};
+ghost use Rattle.rundiff.specs.Fronts.{AreNetsDone, IsWaiting, tasks_in};
 ghost use Rattle.scratch.specs.Work.{task_at};
 
 use crate::front::Front;
 use crate::gate_notes::{note_all_inputs, note_events};
-use crate::gates::{Outcomes, look_at, put_states};
+use crate::gates::{look_at, put_states};
 use design::Design;
-use gatestep::{Driver, Stepper, Task};
+use gatestep::{Driver, Stepper};
 use std::alloc::{AllocError, Global};
 use waveform::{Run, laws};
 
@@ -26,18 +26,17 @@ impl Front {
         run: &Run,
         new: &Design,
         t: u64,
-    ) -> Result<Vec<Task>, AllocError>
+    ) -> Result<(), AllocError>
         requires run { IsRun S.answer old.now run.now }
         requires front { AreNetsDone S.answer (netlist old.now) (netlist new.now) self.old t }
         requires within { t ≤ (netlist old.now).horizon }
-        ensures tasks { IfOk result (λ tasks. tasks.items ≡ map (λ g. task_at S.answer (netlist new.now) g t) (working_at S.answer (netlist old.now) (netlist new.now) t)) }
-        ensures ready { IfOk result (λ tasks. All (IsReady t) tasks.items) }
+        ensures tasks { OnOk result (tasks_in self.new ≡ map (λ g. task_at S.answer (netlist new.now) g t) (working_at S.answer (netlist old.now) (netlist new.now) t)) }
+        ensures ready { OnOk result (All (IsReady t) (tasks_in self.new)) }
         ensures front { OnOk result (IsWaiting S.answer (netlist old.now) (netlist new.now) self.new t) }
     {
         old.lawful();
         new.lawful();
         laws::no_change_by_drift::<Driver>();
-        let mut out = Outcomes::new(alloc);
         look_at::<S>(
             &self.waves,
             &self.traces,
@@ -49,15 +48,8 @@ impl Front {
             &self.fixed,
             self.gates.as_slice(),
             t,
-            &mut out,
+            &mut self.outcomes,
         )?;
-        let Outcomes {
-            tasks,
-            working,
-            clean,
-            resting,
-            states,
-        } = out;
         put_states::<S>(
             alloc,
             &mut self.traces,
@@ -65,15 +57,15 @@ impl Front {
             old,
             run,
             new,
-            resting.as_slice(),
-            states.as_slice(),
+            self.outcomes.resting.as_slice(),
+            self.outcomes.states.as_slice(),
             t,
         )?;
         note_events(
             alloc,
             &mut self.events,
-            resting.as_slice(),
-            states.as_slice(),
+            self.outcomes.resting.as_slice(),
+            self.outcomes.states.as_slice(),
             t,
         )?;
         note_all_inputs::<S>(
@@ -87,8 +79,6 @@ impl Front {
             self.gates.as_slice(),
             t,
         )?;
-        self.working = working;
-        self.clean = clean;
-        Ok(tasks)
+        Ok(())
     }
 }

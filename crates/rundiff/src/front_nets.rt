@@ -38,7 +38,6 @@ impl Front {
     {
         new.lawful();
         laws::no_change::<Value>();
-        let mut nets = Vec::new(alloc);
         choose_nets(
             &mut self.events,
             &mut self.nets,
@@ -47,7 +46,7 @@ impl Front {
             new,
             t,
             &mut self.gates,
-            &mut nets,
+            &mut self.net_places,
         )?;
         put_values::<S>(
             alloc,
@@ -58,7 +57,7 @@ impl Front {
             old,
             run,
             new,
-            nets.as_slice(),
+            self.net_places.as_slice(),
             t,
         )?;
         add_changed::<S>(
@@ -67,27 +66,27 @@ impl Front {
             old,
             run,
             new,
-            nets.as_slice(),
+            self.net_places.as_slice(),
             t,
             &mut self.gates,
         )?;
-        let mut found = find_differing::<S>(
-            alloc,
+        find_differing::<S>(
             &self.waves,
             &self.blank_wave,
             old,
             run,
             new,
-            nets.as_slice(),
+            self.net_places.as_slice(),
             &self.live,
             t,
+            &mut self.found,
         )?;
         hold_found(
             &mut self.live,
             &mut self.held,
             new,
-            &mut found,
-            &mut nets,
+            &mut self.found,
+            &mut self.net_places,
             &mut self.gates,
         )?;
         choose_gates(&mut self.inputs, &self.held, t, &mut self.gates)?;
@@ -98,7 +97,7 @@ impl Front {
             old,
             run,
             new,
-            nets.as_slice(),
+            self.net_places.as_slice(),
             t,
         )?;
         Ok(())

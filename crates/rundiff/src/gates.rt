@@ -45,9 +45,7 @@ pub struct Outcomes {
 
 impl Outcomes {
     /// What comes of no gate.
-    pub fn new(alloc: Global) -> Outcomes
-        ensures { (answer : Evaluation → ℕ → State) (old new : Netlist) (t : ℕ) → AreOutcomes answer old new t [] result }
-    {
+    pub fn new(alloc: Global) -> Outcomes {
         Outcomes {
             tasks: Vec::new(alloc),
             working: Vec::new(alloc),
@@ -55,6 +53,17 @@ impl Outcomes {
             resting: Vec::new(alloc),
             states: Vec::new(alloc),
         }
+    }
+
+    /// Leaves what comes of no gate.
+    fn clear(&mut self)
+        ensures { (answer : Evaluation → ℕ → State) (old new : Netlist) (t : ℕ) → AreOutcomes answer old new t [] self.new }
+    {
+        self.tasks.clear();
+        self.working.clear();
+        self.clean.clear();
+        self.resting.clear();
+        self.states.clear();
     }
 }
 
@@ -80,9 +89,9 @@ pub fn look_at<S: Stepper>(
     requires base { IsClosed (netlist old.now) (netlist new.now) (is_live (netlist new.now) (contains nat_cmp fixed.now)) }
     requires waves { AreWaves S.answer (netlist old.now) (netlist new.now) waves.now (suc t) }
     requires traces { AreTraces S.answer (netlist old.now) (netlist new.now) traces.now t }
-    requires empty { AreOutcomes S.answer (netlist old.now) (netlist new.now) t [] out.old }
     ensures { OnOk result (AreOutcomes S.answer (netlist old.now) (netlist new.now) t held.now out.new) }
 {
+    out.clear();
     for place in held {
         let outcome = look::<S>(
             waves,

@@ -1,7 +1,6 @@
 //! Nets and gates that go along with the old run again leave what is live.
 
 ghost use Rattle.std.specs.Prelude.{◌≡◌, ◌<◌, ◌≤◌, ℕ, suc, true, false, [], ◌∷◌, All, IfSome, OnOk, length};
-ghost use Rattle.std.specs.Option.{IsSomeAnd};
 ghost use Rattle.event_queue.specs.Noted.{noted};
 ghost use Rattle.design.specs.Connections.{to_net};
 ghost use Rattle.design.specs.Keys.{netlist};
@@ -12,12 +11,11 @@ ghost use Rattle.scratch.specs.Run.{IsRun};
 ghost use Rattle.rundiff.specs.Dirty.{is_dirty};
 ghost use Rattle.rundiff.specs.Fronts.{IsClean, IsFront};
 ghost use Rattle.rundiff.specs.Noting.{old_moves};
-ghost use Rattle.rundiff.specs.Places.{gate_at, is_among, net_at};
+ghost use Rattle.rundiff.specs.Places.{gate_at, net_at};
 
 use crate::front::Front;
 use crate::noting::{next_old_change, note};
 use crate::patches::leave;
-use crate::spreading::add_readers;
 use design::Design;
 use event_queue::EventQueue;
 use fourstate::Value;
@@ -39,12 +37,12 @@ impl Front {
         requires run { IsRun S.answer old.now run.now }
         requires front { IsFront S.answer (netlist old.now) (netlist new.now) self.old (suc t) }
         requires within { t ≤ (netlist old.now).horizon }
-        requires clean { All (IsClean S.answer (netlist old.now) (netlist new.now) t) self.old.clean.items }
+        requires clean { All (IsClean S.answer (netlist old.now) (netlist new.now) t) self.old.outcomes.clean.items }
         ensures front { OnOk result (IsFront S.answer (netlist old.now) (netlist new.now) self.new (suc t)) }
         ensures done { OnOk result (self.new.done ≡ self.old.done) }
     {
-        for i in 0..self.clean.len() {
-            let gate = self.clean[i];
+        for i in 0..self.outcomes.clean.len() {
+            let gate = self.outcomes.clean[i];
             self.let_go_gate::<S>(alloc, old, run, new, gate, t)?;
         }
         Ok(())
@@ -65,7 +63,7 @@ impl Front {
         requires within { t ≤ (netlist old.now).horizon }
         requires gate { IsClean S.answer (netlist old.now) (netlist new.now) t gate }
         ensures front { OnOk result (IsFront S.answer (netlist old.now) (netlist new.now) self.new (suc t)) }
-        ensures clean { OnOk result (self.new.clean ≡ self.old.clean) }
+        ensures outcomes { OnOk result (self.new.outcomes ≡ self.old.outcomes) }
         ensures done { OnOk result (self.new.done ≡ self.old.done) }
     {
         let Some(net) = lone_output(new, gate) else {
@@ -134,29 +132,17 @@ fn note_readers<S: Stepper>(
     ensures kept { OnOk result (Keeps (noted queue.old) (noted queue.new)) }
     ensures early { OnOk result ((u : ℕ) → u ≤ t → noted queue.new u ≡ noted queue.old u) }
 {
-    let mut readers = Vec::new(alloc);
-    add_readers(new, net, &mut readers)?;
+    new.lawful();
+    new.places_are_keys();
     let key = new.net_key_at(net);
     let name = new.net_at(net).name().as_str();
     let change = next_old_change::<S>(blank, old, run, key, name, t);
-    note_each(alloc, queue, readers.as_slice(), change, t)
-}
-
-/// Notes each of some gates for the moment `next`, which lies after `t`, if there is one.
-fn note_each(
-    alloc: Global,
-    queue: &mut EventQueue,
-    gates: &[usize],
-    next: Option<u64>,
-    t: u64,
-) -> Result<(), AllocError>
-    requires { IfSome next (λ m. t < m) }
-    ensures next { OnOk result ((q u : ℕ) → is_among gates.now q ≡ true → IsSomeAnd next (λ m. m ≤ u) → IsNotedWithin (noted queue.new) q (suc t) u) }
-    ensures kept { OnOk result (Keeps (noted queue.old) (noted queue.new)) }
-    ensures early { OnOk result ((u : ℕ) → u ≤ t → noted queue.new u ≡ noted queue.old u) }
-{
-    for gate in gates {
-        note(alloc, queue, *gate, next, t)?;
+    let readers = new.fanout(key);
+    for reader in readers {
+        let Some(gate) = new.gate_place_of(*reader) else {
+            unreachable!();
+        };
+        note(alloc, queue, gate, change, t)?;
     }
     Ok(())
 }

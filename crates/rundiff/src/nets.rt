@@ -1,6 +1,6 @@
 //! The live nets at one moment: what they have, and whose readers differ.
 
-ghost use Rattle.std.specs.Prelude.{◌≡◌, ◌<◌, ◌≤◌, ◌||◌, ℕ, suc, true, false, nat_eq, [], ◌∷◌, All, AllPairs, IfOk, OnOk, length};
+ghost use Rattle.std.specs.Prelude.{◌≡◌, ◌<◌, ◌≤◌, ◌||◌, ℕ, suc, true, false, nat_eq, [], ◌∷◌, All, AllPairs, OnOk, length};
 ghost use Rattle.std.specs.BTreeSet.{contains};
 ghost use Rattle.std.specs.Option.{ForSome};
 ghost use Rattle.std.specs.Ordering.{nat_cmp};
@@ -103,10 +103,9 @@ fn put_value<S: Stepper>(
     put(waves, alloc, place, former, t, value)
 }
 
-/// The nets that the readers of those of these nets drive that have another value at the moment `t` than in the old run. Where
-/// they are live already they may be left out.
+/// Finds the nets that the readers of those of these nets drive that have another value at the moment `t` than in the old run.
+/// Where they are live already they may be left out.
 pub fn find_differing<S: Stepper>(
-    alloc: Global,
     waves: &PlaceMap<Patch<Value>>,
     blank: &Wave,
     old: &Design,
@@ -115,20 +114,21 @@ pub fn find_differing<S: Stepper>(
     live: &[usize],
     all_live: &PlaceSet,
     t: u64,
-) -> Result<Vec<usize>, AllocError>
+    found: &mut Vec<usize>,
+) -> Result<(), AllocError>
     requires blank { blank.now ≡ (0, Value.Unknown) ∷ [] }
     requires there { (p : ℕ) → is_among live.now p ≡ true → p < length (netlist new.now).nets }
     requires within { t ≤ (netlist old.now).horizon }
     requires run { IsRun S.answer old.now run.now }
     requires waves { (p : ℕ) → is_among live.now p ≡ true → IsWave S.answer (netlist old.now) (netlist new.now) waves.now p (suc t) }
-    ensures there { IfOk result (λ found. All (λ p. p < length (netlist new.now).nets) found.items) }
-    ensures alike { IfOk result (λ found. (p : ℕ) → is_among live.now p ≡ true → IsAlike S.answer (netlist old.now) (netlist new.now) (λ q. is_among found.items q || contains nat_cmp all_live.now q) t p) }
+    ensures there { OnOk result (All (λ p. p < length (netlist new.now).nets) found.new.items) }
+    ensures alike { OnOk result ((p : ℕ) → is_among live.now p ≡ true → IsAlike S.answer (netlist old.now) (netlist new.now) (λ q. is_among found.new.items q || contains nat_cmp all_live.now q) t p) }
 {
-    let mut found = Vec::new(alloc);
+    found.clear();
     for place in live {
-        add_differing::<S>(waves, blank, old, run, new, *place, all_live, t, &mut found)?;
+        add_differing::<S>(waves, blank, old, run, new, *place, all_live, t, found)?;
     }
-    Ok(found)
+    Ok(())
 }
 
 /// Adds the nets that the readers of a net drive, where it has another value at the moment `t` than in the old run, unless all

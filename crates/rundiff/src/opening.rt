@@ -13,6 +13,7 @@ ghost use Rattle.rundiff.specs.Places.{is_among};
 ghost use Rattle.scratch.specs.Places.{has};
 
 use crate::front::Front;
+use crate::gates::Outcomes;
 use crate::holding::hold;
 use crate::place_map::PlaceMap;
 use crate::place_set::PlaceSet;
@@ -65,8 +66,9 @@ impl Front {
             inputs,
             nets,
             gates: Vec::new(alloc),
-            working: Vec::new(alloc),
-            clean: Vec::new(alloc),
+            net_places: Vec::new(alloc),
+            found,
+            outcomes: Outcomes::new(alloc),
             blank_wave,
             blank_trace,
             done: 0,

@@ -99,7 +99,7 @@ fn changes<S: Stepper>(
 }
 
 /// Adds the gates that read a net.
-pub fn add_readers(new: &Design, place: usize, gates: &mut Vec<usize>) -> Result<(), AllocError>
+fn add_readers(new: &Design, place: usize, gates: &mut Vec<usize>) -> Result<(), AllocError>
     requires there { place < length (netlist new.now).nets }
     ensures more { OnOk result ((q : ℕ) → is_among gates.old.items q ≡ true → is_among gates.new.items q ≡ true) }
     ensures readers { OnOk result ((q : ℕ) → q < length (netlist new.now).gates → reads (gate_at (netlist new.now) q) (net_at (netlist new.now) place).name ≡ true → is_among gates.new.items q ≡ true) }

@@ -13,6 +13,9 @@ look-outcome-requires-clause-there g c =
     let xs = c.args.held.now in let i = c.loop-place.place-index in
     c.requires.there (slice_index_or xs i 0) (is_one xs i (slice_index_or xs i 0) (get_at xs i 0 c.loop-place-test.true))
 
+pub loop-place-init : goal.loop-place-init
+loop-place-init g c = c.clear.ensures g.S.Stepper.answer (netlist c.args.old.now) (netlist c.args.new.now) c.args.t
+
 pub loop-place-preserved : goal.loop-place-preserved
 loop-place-preserved g c =
     let xs = c.args.held.now in let i = c.loop-place.place-index in let x = slice_index_or xs i 0 in

@@ -1,20 +1,53 @@
-use Rattle.std.proofs.Common.{◌≡◌, ◌∙◌, ap, sym, ℕ, List}
+use Rattle.std.proofs.Common.{◌≡◌, ◌∙◌, ap, sym, subst, refl, ℕ, suc, List, [], true, false, take, Option, Some}
+use Rattle.std.specs.Prelude.{nat_eq}
+use Rattle.std.specs.Option.{option_map_or}
+use Rattle.catalog.specs.Catalog.{place_of}
+use Rattle.event_queue.specs.Noted.{noted}
 use Rattle.design.specs.Connections.{to_net}
-use Rattle.design.specs.Keys.{netlist}
-use Rattle.design.specs.Netlist.{NetEntry}
+use Rattle.design.specs.Keys.{net_by_key, netlist}
+use Rattle.design.specs.Netlist.{NetEntry, reads}
+use Rattle.scratch.specs.Places.{IsNotedWithin}
 use Rattle.rundiff.specs.Noting.{old_moves}
-use Rattle.rundiff.specs.Places.{blank_net, is_among, net_at}
-use Rattle.rundiff.proofs.ByPlace.{at_place}
-use Rattle.rundiff.proofs.Steps.{mapped}
+use Rattle.rundiff.specs.Places.{blank_net, gate_at, is_among, net_at}
+use Rattle.rundiff.proofs.ByPlace.{at_place, get_at}
+use Rattle.rundiff.proofs.Driven.{is_there, read_get, take_whole}
+use Rattle.rundiff.proofs.NamedLines.{some_equal}
+use Rattle.rundiff.proofs.ReaderKeys.{entry_at, keyed_at, reader_at}
+use Rattle.rundiff.proofs.Steps.{among_more, or_splits, same_place}
 use Rattle.rundiff.proofs.letting.note_readers.Goals as goal
 
+pub loop-reader-preserved : goal.loop-reader-preserved
+loop-reader-preserved g c =
+    let keys = c.fanout-readers.result.now in let i = c.loop-reader.reader-index in let x = c.reader-item.result in
+    let at = read_get keys i x c.loop-reader-test.true c.reader-item.is in
+    let gates = c.args.new.now.gates in
+    let gate = c.in-Some.gate in
+    let now = noted c.note.new.queue in
+    let done = c.in_ok-note.ensures in
+    record {
+      next = λ key among q u place some.
+          elim (nat_eq x key) as (λ b. nat_eq x key ≡ b → IsNotedWithin now q (suc c.args.t) u) [
+            | true ↦ λ same.
+                let e : gate ≡ q = some_equal gate q (c.in-Some.ensures.place ∙ ap (place_of gates) (same_place x key same) ∙ place) in
+                subst (λ k. IsNotedWithin now k (suc c.args.t) u) e (done.next u some)
+            | false ↦ λ apart.
+                let old = c.loop-reader.invariant.next key (or_splits (is_among (take i keys) key) (nat_eq x key) (sym (among_more keys i x key at) ∙ among) apart) q u place some in
+                (old.0, old.1, old.2, done.kept q old.0 old.3)
+          ] refl;
+      kept = λ k u h. done.kept k u (c.loop-reader.invariant.kept k u h);
+      early = λ u low. done.early u low ∙ c.loop-reader.invariant.early u low;
+    }
+
 pub returns-clause-next : goal.returns-clause-next
-returns-clause-next g c = mapped c.note_each.result c.note_each.ensures.next (λ noted q u low reading later moves.
-    let new = netlist c.args.new.now in
-    let n = c.net_at.result.now in
-    let at : net_at new c.args.net ≡ n = at_place new.nets c.args.net blank_net n c.net_at.ensures in
-    let named : c.as_str-name.result.now ≡ n.name = c.as_str-name.ensures ∙ c.name.ensures in
-    noted q u
-    (ap (λ (l : List ℕ). is_among l q) c.as_slice.ensures.value ∙ c.in_ok-add_readers.ensures.readers q low reading)
-    (c.next_old_change-change.ensures.first new u later
-    (ap (λ (m : List ℕ). old_moves g.S.Stepper.answer (netlist c.args.old.now) new (to_net m) u) (named ∙ ap (λ (x : NetEntry). x.name) (sym at)) ∙ moves)))
+returns-clause-next g c = λ q u low reading later moves.
+    let keyed = c.args.new.now in let d = netlist keyed in
+    let key = c.net_key_at-key.result in
+    let n = net_at d c.args.net in
+    let there : net_by_key keyed key ≡ Some n = c.net_key_at-key.ensures.net ∙ get_at d.nets c.args.net blank_net c.requires.there in
+    let whole = take_whole c.fanout-readers.result.now c.loop-reader.reader-index c.loop-reader-test.false in
+    let k = (keyed_at keyed q).0 in
+    let among = reader_at keyed c.lawful.ensures.keys c.places_are_keys.ensures.nets key q n there low reading in
+    let net = c.net_at.result.now in
+    let name : c.as_str-name.result.now ≡ n.name = c.as_str-name.ensures ∙ c.name.ensures ∙ ap (λ (m : NetEntry). m.name) (sym (at_place d.nets c.args.net blank_net net c.net_at.ensures)) in
+    c.loop-reader.invariant.next k (ap (λ (l : List ℕ). is_among l k) (whole ∙ c.fanout-readers.ensures.readers) ∙ among) q u (entry_at keyed c.lawful.ensures.keys q low).position
+    (c.next_old_change-change.ensures.first d u later (ap (λ (m : List ℕ). old_moves g.S.Stepper.answer (netlist c.args.old.now) d (to_net m) u) name ∙ moves))

@@ -7,6 +7,6 @@ use Rattle.rundiff.proofs.front.Front.let_go.Given as goal
 abbrev pub invariant-loop-i : goal.invariant-loop-i
 invariant-loop-i g l = record {
   front : IsFront g.S.Stepper.answer (netlist l.old) (netlist l.new) l.self (suc l.t);
-  clean : l.self.clean ≡ l.fn.self.clean;
+  outcomes : l.self.outcomes ≡ l.fn.self.outcomes;
   done : l.self.done ≡ l.fn.self.done;
 }

@@ -30,9 +30,6 @@ pub look_at-requires-clause-there : goal.look_at-requires-clause-there
 look_at-requires-clause-there g c = λ p among.
     c.requires.front.drivers.gates p (c.requires.front.chosen_held p (ap (λ (l : List ℕ). is_among l p) (sym c.as_slice.ensures.value) ∙ among))
 
-pub look_at-requires-clause-empty : goal.look_at-requires-clause-empty
-look_at-requires-clause-empty g c = c.new-out.ensures g.S.Stepper.answer (netlist c.args.old.now) (netlist c.args.new.now) c.args.t
-
 pub put_states-requires-clause-there : goal.put_states-requires-clause-there
 put_states-requires-clause-there g c = λ p among.
     let test = is_working g.S.Stepper.answer (netlist c.args.old.now) (netlist c.args.new.now) c.args.t in

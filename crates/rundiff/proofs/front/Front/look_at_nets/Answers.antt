@@ -48,7 +48,7 @@ find_differing-requires-clause-waves g c = λ p among.
     c.in_ok-put_values.ensures.put p (ap (λ (l : List ℕ). is_among l p) (c.as_slice.ensures.value ∙ sym c.as_slice-3.ensures.value) ∙ among)
 
 pub hold_found-requires-clause-there : goal.hold_found-requires-clause-there
-hold_found-requires-clause-there g c = c.in_ok-found.ensures.there
+hold_found-requires-clause-there g c = c.in_ok-find_differing.ensures.there
 
 pub note_nets-requires-clause-there : goal.note_nets-requires-clause-there
 note_nets-requires-clause-there g c = λ p among.
@@ -82,14 +82,14 @@ returns g c =
     let looked = is_among c.choose_nets.new.nets.items in
     let marked = is_among c.add_changed.new.gates.items in
     let chosen = is_among c.choose_gates.new.gates.items in
-    let found = is_among c.in_ok-found.found.items in
+    let found = is_among c.find_differing.new.found.items in
     let events_at = noted front.events in let inputs_at = noted front.inputs in let nets_at = noted front.nets in
     let are : AreLookedAt answer old new live held events_at inputs_at nets_at t looked =
     record { within = c.requires.within; drivers = before.drivers; closed = before.closed; agrees = before.agrees; awaits = before.awaits; noted = chose.noted; driven = chose.driven } in
     let grows : (p : ℕ) → live p ≡ true → later p ≡ true = λ p on. holds.live p ∙ or_second (found p) (live p) on in
     let alike : (p : ℕ) → live p ≡ true → IsAlike answer old new later t p =
     alike_all answer old new current pending is live held events_at inputs_at nets_at looked t are later grows
-    (λ p at. alike_grows answer old new (λ q. found q || live q) later t p (λ q on. holds.live q ∙ on) (c.in_ok-found.ensures.alike p (ap (λ (l : List ℕ). is_among l p) c.as_slice-3.ensures.value ∙ at))) in
+    (λ p at. alike_grows answer old new (λ q. found q || live q) later t p (λ q on. holds.live q ∙ on) (c.in_ok-find_differing.ensures.alike p (ap (λ (l : List ℕ). is_among l p) c.as_slice-3.ensures.value ∙ at))) in
     let steady : (p : ℕ) → looked p ≡ true → IsSteady answer new marked t p = λ p at. marks.steady p (ap (λ (l : List ℕ). is_among l p) c.as_slice-2.ensures.value ∙ at) in
     let passed : (q : ℕ) → (kept q && not (chosen q)) ≡ true → IsPassed held marked (events_at t) (inputs_at t) q =
     passed_by held kept marked (is_among c.hold_found.new.gates.items) chosen (events_at t) (inputs_at t) (λ q on there. marks.more q (chose.gates q on there)) holds.gates_more holds.gates gates.more gates.noted in

@@ -49,7 +49,7 @@ pub put_states-requires-clause-states : goal.put_states-requires-clause-states
 put_states-requires-clause-states g c =
     let answer = g.S.Stepper.answer in let new = netlist c.args.new.now in let t = c.args.t in
     c.requires.answers ∙ ap (map (λ h. state_after answer new h t)) c.requires.front.tasks
-    ∙ map_twice (gate_at new) (λ h. state_after answer new h t) c.args.self.now.working.items
+    ∙ map_twice (gate_at new) (λ h. state_after answer new h t) c.args.self.now.outcomes.working.items
     ∙ ap (map (λ p. state_after answer new (gate_at new p) t)) (sym c.as_slice.ensures.value)
 
 pub put_states-requires-clause-can : goal.put_states-requires-clause-can
@@ -57,15 +57,15 @@ put_states-requires-clause-can g c =
     let answer = g.S.Stepper.answer in let laws = g.met.S.Stepper in let new = netlist c.args.new.now in let t = c.args.t in
     let test = is_working answer (netlist c.args.old.now) new t in
     let held = contains nat_cmp c.args.self.now.held in
-    let those = c.requires.answers ∙ ap (map (λ h. state_after answer new h t)) c.requires.front.tasks ∙ map_twice (gate_at new) (λ h. state_after answer new h t) c.args.self.now.working.items in
+    let those = c.requires.answers ∙ ap (map (λ h. state_after answer new h t)) c.requires.front.tasks ∙ map_twice (gate_at new) (λ h. state_after answer new h t) c.args.self.now.outcomes.working.items in
     let low : t < TIME_END = let h = c.requires.within in let end = c.lawful.ensures.design.horizon in omega arith in
-    stored_each answer new laws.answer_pending laws.answer_near c.lawful-2.ensures.design t low c.args.self.now.working.items
+    stored_each answer new laws.answer_pending laws.answer_near c.lawful-2.ensures.design t low c.args.self.now.outcomes.working.items
     (λ p among. c.requires.front.drivers.gates p (both (held p) (test p) (sym (c.requires.front.places.all p) ∙ among)).0) c.args.answers.now those
 
 pub note_events-requires-clause-many : goal.note_events-requires-clause-many
 note_events-requires-clause-many g c =
     let answer = g.S.Stepper.answer in let new = netlist c.args.new.now in let t = c.args.t in
-    let gates = c.args.self.now.working.items in
+    let gates = c.args.self.now.outcomes.working.items in
     let those = c.requires.answers ∙ ap (map (λ h. state_after answer new h t)) c.requires.front.tasks ∙ map_twice (gate_at new) (λ h. state_after answer new h t) gates in
     ap (λ (l : List State). length l) those ∙ length-map gates (λ p. state_after answer new (gate_at new p) t) ∙ ap (λ (l : List ℕ). length l) (sym c.as_slice-2.ensures.value)
 
@@ -74,10 +74,10 @@ note_events-requires-clause-later g c =
     let answer = g.S.Stepper.answer in let laws = g.met.S.Stepper in let new = netlist c.args.new.now in let t = c.args.t in
     let test = is_working answer (netlist c.args.old.now) new t in
     let held = contains nat_cmp c.args.self.now.held in
-    let those = c.requires.answers ∙ ap (map (λ h. state_after answer new h t)) c.requires.front.tasks ∙ map_twice (gate_at new) (λ h. state_after answer new h t) c.args.self.now.working.items in
+    let those = c.requires.answers ∙ ap (map (λ h. state_after answer new h t)) c.requires.front.tasks ∙ map_twice (gate_at new) (λ h. state_after answer new h t) c.args.self.now.outcomes.working.items in
     let low : t < TIME_END = let h = c.requires.within in let end = c.lawful.ensures.design.horizon in omega arith in
     stored_later t c.args.answers.now
-    (stored_each answer new laws.answer_pending laws.answer_near c.lawful-2.ensures.design t low c.args.self.now.working.items
+    (stored_each answer new laws.answer_pending laws.answer_near c.lawful-2.ensures.design t low c.args.self.now.outcomes.working.items
     (λ p among. c.requires.front.drivers.gates p (both (held p) (test p) (sym (c.requires.front.places.all p) ∙ among)).0) c.args.answers.now those)
 
 pub overflow_add-self : goal.overflow_add-self
@@ -92,7 +92,7 @@ returns-clause-front g c =
     let before = c.requires.front in
     let done = c.in_ok-put_states.ensures in
     let notes = c.in_ok-note_events.ensures in
-    let working = c.args.self.now.working.items in
+    let working = c.args.self.now.outcomes.working.items in
     let those = c.requires.answers ∙ ap (map (λ h. state_after answer new h t)) before.tasks ∙ map_twice (gate_at new) (λ h. state_after answer new h t) working in
     let slice = c.as_slice.result.now in
     let was : ℕ → Option (PatchRecord State) = kept_at c.args.self.now.traces in
