@@ -82,7 +82,7 @@ module _ (answer : Evaluation → ℕ → State) (old new : Netlist) (pending : 
   live = is_live new (live_in front)
 
   gate_on : (p : ℕ) → p < length new.gates → live (gate_at new p).output ≡ true → held_in front p ≡ true
-  gate_on p there on = right.drivers.drivers p there ∙ on
+  gate_on p there on = right.live.drivers.drivers p there ∙ on
 
   ready : (p : ℕ) → p < length new.gates → PendingFrom (suc r) (state_before answer new (suc r) (gate_at new p))
   ready p there = λ event some.

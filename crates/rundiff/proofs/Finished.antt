@@ -84,14 +84,14 @@ module _ (answer : Evaluation → ℕ → State) (old new : Keyed) (old_is : IsD
   wave_same law p low off =
       let x = net_at (netlist new) p in
       let free = not_before p off in
-      let same : IsSameNet (netlist old) (netlist new) x = right.closed.nets p blank_net low (live_at (netlist new) (live_in front) p is.distinct_nets low ∙ free) in
+      let same : IsSameNet (netlist old) (netlist new) x = right.live.closed.nets p blank_net low (live_at (netlist new) (live_in front) p is.distinct_nets low ∙ free) in
       let f : ℕ → Value = value answer (netlist new) x in
       let g : ℕ → Value = read_at answer (netlist old) (to_net x.name) in
       let end : ℕ = suc (netlist new).horizon in
       ap (λ (h : ℕ). wave_changes_below (value answer (netlist old) x) (suc h)) (sym same_end)
       ∙ law (value answer (netlist old) x) f end
       (λ t within.
-      sym (keeps_none same_value standing f g end _ (no_waves p low off) (right.waves p low) t within
+      sym (keeps_none same_value standing f g end _ (no_waves p low off) (right.live.waves p low) t within
       ∙ ap (λ (o : Option NetEntry). option_map_or (λ n. value answer (netlist old) n t) o Unknown) same.net))
 
   -- a gate that is not held has the trace of the old run
@@ -106,7 +106,7 @@ module _ (answer : Evaluation → ℕ → State) (old new : Keyed) (old_is : IsD
       ∙ law (state_after answer (netlist old) x) f end
       (λ t within.
       sym (keeps_none same_state due f g end _ (no_traces p low off) (right.traces p low) t within
-      ∙ ap (λ (o : Option GateEntry). option_map_or (λ h. state_after answer (netlist old) h t) o initial) (known_gate (netlist old) old_is x (right.closed.gates p blank_gate low dead))))
+      ∙ ap (λ (o : Option GateEntry). option_map_or (λ h. state_after answer (netlist old) h t) o initial) (known_gate (netlist old) old_is x (right.live.closed.gates p blank_gate low dead))))
 
   module _ (law : SameChanges same_value standing) (run copy made : List (Option (List (ℕ × Value)))) (stored : (key : ℕ) → line_at run key ≡ option_map (wave_of answer (netlist old)) (net_by_key old key))
       (cleared : AreCleared nets run copy) (shown : List ℕ) (all : (p : ℕ) → is_among shown p ≡ live p) (put : ArePut (new_wave answer new) (keys_of new.nets) shown copy made) where

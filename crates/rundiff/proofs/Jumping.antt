@@ -54,8 +54,8 @@ module _ (answer : Evaluation → ℕ → State) (old new : Netlist)
     (wave_law : NoChange same_value standing) (trace_law : NoChange same_state due) (is_old : IsDesign old) (is : IsDesign new)
     (front : Front) (r u l : ℕ) (right : IsFront answer old new front (suc r)) (clear : IsClear answer old new (is_live new (live_in front)) r u)
     (none : NoneBefore front u) (order : r ≤ l) (low : l < u) (within : u ≤ suc old.horizon) where
-  jumped : Jumped answer old new current stays (inputs_there new is) (is_live new (live_in front)) right.closed r l
-  jumped = jump answer old new current stays (inputs_there new is) (is_live new (live_in front)) right.closed r u clear l order low right.agrees
+  jumped : Jumped answer old new current stays (inputs_there new is) (is_live new (live_in front)) right.live.closed r l
+  jumped = jump answer old new current stays (inputs_there new is) (is_live new (live_in front)) right.live.closed r u clear l order low right.live.agrees
 
   wave_still : (p : ℕ) → p < length new.nets → live_in front p ≡ true → wave_changes_below (value answer new (net_at new p)) (suc l) ≡ wave_changes_below (value answer new (net_at new p)) (suc r)
   wave_still p there on = wave_law f (suc r) (suc l) (omega arith) step
@@ -82,14 +82,14 @@ module _ (answer : Evaluation → ℕ → State) (old new : Netlist)
       elim (live_in front p) as (λ b. live_in front p ≡ b → Keeps same_value standing g f o (suc l)) [
         | true ↦ λ on.
             ⊎_elim
-            (λ along. free_on same_value standing f g r l o (along_free o (suc r) along) (right.waves p there) order
+            (λ along. free_on same_value standing f g r l o (along_free o (suc r) along) (right.live.waves p there) order
             (λ m from until.
-            let had : f r ≡ g r = along_last same_value standing f g r o along (right.waves p there) in
+            let had : f r ≡ g r = along_last same_value standing f g r o along (right.live.waves p there) in
             jumped.values p blank_net there (at ∙ on) m (omega arith) until ∙ had ∙ sym (clear.waves p blank_net there (at ∙ on) m from (omega arith) (omega arith))))
-            (λ own. own_on same_value standing f g r l o own (right.waves p there) (wave_still p there on))
-            (right.kept_waves p on)
+            (λ own. own_on same_value standing f g r l o own (right.live.waves p there) (wave_still p there on))
+            (right.live.kept_waves p on)
         | false ↦ λ free.
-            free_on same_value standing f g r l o (right.other_waves p free) (right.waves p there) order
+            free_on same_value standing f g r l o (right.live.other_waves p free) (right.live.waves p there) order
             (λ m from until. sym (jumped.free_values p blank_net there (at ∙ free) m (omega arith) until))
       ] refl
 
@@ -100,7 +100,7 @@ module _ (answer : Evaluation → ℕ → State) (old new : Netlist)
       f = state_after answer new (gate_at new p)
 
       at : is_live new (live_in front) (gate_at new p).output ≡ true
-      at = sym (right.drivers.drivers p there) ∙ on
+      at = sym (right.live.drivers.drivers p there) ∙ on
 
       step : (k : ℕ) → suc r ≤ k → k < suc l → is_change same_state due f k ≡ false
       step zero from until = absurd (omega arith)
@@ -121,8 +121,8 @@ module _ (answer : Evaluation → ℕ → State) (old new : Netlist)
       elim (held_in front p) as (λ b. held_in front p ≡ b → Keeps same_state due g f o (suc l)) [
         | true ↦ λ on. ⊎_elim (λ never. absurd (omega arith)) (λ own. own_on same_state due f g r l o own (right.traces p there) (trace_still p there on)) (right.own_traces p on)
         | false ↦ λ free.
-            let off : is_live new (live_in front) gate.output ≡ false = sym (right.drivers.drivers p there) ∙ free in
-            let found = known_gate old is_old gate (right.closed.gates p blank_gate there off) in
+            let off : is_live new (live_in front) gate.output ≡ false = sym (right.live.drivers.drivers p there) ∙ free in
+            let found = known_gate old is_old gate (right.live.closed.gates p blank_gate there off) in
             free_on same_state due f g r l o (right.other_traces p free) (right.traces p there) order
             (λ m from until.
             sym (jumped.free_states p blank_gate there off m (omega arith) until) ∙ sym (ap (λ (q : Option GateEntry). option_map_or (λ h. state_after answer old h m) q initial) found))
@@ -135,8 +135,8 @@ module _ (answer : Evaluation → ℕ → State) (old new : Netlist)
         events = λ p t from wanted.
             let gate = gate_at new p in
             let parts = both (held_in front p) (pends (state_before answer new (suc l) gate) t) wanted in
-            let there = right.drivers.gates p parts.0 in
-            let same : state_before answer new (suc l) gate ≡ state_before answer new (suc r) gate = jumped.states p blank_gate there (sym (right.drivers.drivers p there) ∙ parts.0) l order (omega arith) in
+            let there = right.live.drivers.gates p parts.0 in
+            let same : state_before answer new (suc l) gate ≡ state_before answer new (suc r) gate = jumped.states p blank_gate there (sym (right.live.drivers.drivers p there) ∙ parts.0) l order (omega arith) in
             right.awaits.events p t (omega arith) (ap (λ (b : Bool). b && pends (state_before answer new (suc r) gate) t) parts.0 ∙ ap (λ (s : State). pends s t) (sym same) ∙ parts.1);
         inputs =
             later_announced (wants_gate answer old new (live_in front) (held_in front)) (noted front.inputs) (suc r) (suc l) right.awaits.inputs (omega arith)
@@ -151,18 +151,20 @@ module _ (answer : Evaluation → ℕ → State) (old new : Netlist)
   pub front_on : IsFront answer old new front (suc l)
   front_on =
       record {
-        drivers = right.drivers;
-        base = right.base;
-        fixed_live = right.fixed_live;
-        closed = right.closed;
-        agrees = jumped.agrees_on;
-        waves = wave_on;
+        live = record {
+          drivers = right.live.drivers;
+          base = right.live.base;
+          fixed_live = right.live.fixed_live;
+          closed = right.live.closed;
+          agrees = jumped.agrees_on;
+          waves = wave_on;
+          wave_ends = λ p patch at. let h = right.live.wave_ends p patch at in omega arith;
+          kept_waves = λ p on. ⊎_elim (λ along. inl (along_more (kept_at front.waves p) (suc r) (suc l) (omega arith) along)) (λ own. inr own) (right.live.kept_waves p on);
+          other_waves = right.live.other_waves;
+        };
         traces = trace_on;
-        wave_ends = λ p patch at. let h = right.wave_ends p patch at in omega arith;
         trace_ends = λ p patch at. let h = right.trace_ends p patch at in omega arith;
-        kept_waves = λ p on. ⊎_elim (λ along. inl (along_more (kept_at front.waves p) (suc r) (suc l) (omega arith) along)) (λ own. inr own) (right.kept_waves p on);
         own_traces = λ p on. ⊎_elim (λ never. absurd (omega arith)) (λ own. inr own) (right.own_traces p on);
-        other_waves = right.other_waves;
         other_traces = right.other_traces;
         blank = right.blank;
         awaits = awaits_on;

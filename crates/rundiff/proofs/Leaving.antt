@@ -11,12 +11,14 @@ use Rattle.design.specs.Lawful.{IsDesign}
 use Rattle.design.specs.Names.{same_name}
 use Rattle.design.specs.Netlist.{GateEntry, NetEntry, Netlist, is_at_net, reads}
 use Rattle.design.specs.Places.{driver_places}
+use Rattle.waveform.specs.Patches.{PatchRecord}
 use Rattle.scratch.specs.Places.{IsNotedWithin, Keeps}
 use Rattle.scratch.specs.Run.{state_before, value}
 use Rattle.rundiff.specs.Dirty.{is_dirty}
-use Rattle.rundiff.specs.Fronts.{AreDrivers}
+use Rattle.rundiff.specs.Fronts.{AreDrivers, AreLive}
 use Rattle.rundiff.specs.Kept.{Agrees, IsClosed, IsSameNet, read_at}
 use Rattle.rundiff.specs.Noting.{IsNoted, input_moves, is_at_live, net_moves, old_moves, pends}
+use Rattle.rundiff.specs.declared.place_map.PlaceMap.{PlaceMap}
 use Rattle.rundiff.specs.Places.{blank_gate, blank_net, gate_at, is_among, is_live, net_at}
 use Rattle.rundiff.proofs.Alike.{off_shrinks}
 use Rattle.rundiff.proofs.ByPlace.{live_at}
@@ -76,18 +78,26 @@ taken_off place more less law r same = law r ∙ ap (λ (b : Bool). cond b false
 pub stays_off : (place : ℕ) (more less : ℕ → Bool) → ((r : ℕ) → less r ≡ cond (r == place) false (more r)) → (r : ℕ) → nat_eq place r ≡ false → less r ≡ false → more r ≡ false
 stays_off place more less law r apart off = sym (law r ∙ ap (λ (b : Bool). cond b false (more r)) (other_number place r apart)) ∙ off
 
+-- what holds of what is live once they have left
+pub record AreLeft (answer : Evaluation → ℕ → State) (old new : Netlist) (live later held kept fixed : ℕ → Bool) (n : ℕ) : Type 0 where
+  pub drivers : AreDrivers new later kept
+  pub fixed_live : (r : ℕ) → fixed r ≡ true → later r ≡ true
+  pub closed : IsClosed old new (is_live new later)
+  pub agrees : Agrees answer old new (is_live new later) n
+  pub was_live : (r : ℕ) → later r ≡ true → live r ≡ true
+  pub was_held : (r : ℕ) → kept r ≡ true → held r ≡ true
+
 module _ (answer : Evaluation → ℕ → State) (old new : Netlist) (is : IsDesign new) (t p q : ℕ) (low : p < length new.nets) (there : q < length new.gates)
     (clean : is_dirty answer old new (gate_at new q) t ≡ false) (output : (gate_at new q).output ≡ (net_at new p).name) (alone : length (driver_places new.gates (net_at new p).name) ≡ 1)
     (live later held kept fixed : ℕ → Bool) (gone : (r : ℕ) → later r ≡ cond (r == p) false (live r)) (freed : (r : ℕ) → kept r ≡ cond (r == q) false (held r))
-    (lives : live p ≡ true) (unfixed : fixed p ≡ false) (fixed_live : (r : ℕ) → fixed r ≡ true → live r ≡ true) (base : IsClosed old new (is_live new fixed))
-    (drivers : AreDrivers new live held) (agrees : Agrees answer old new (is_live new live) (suc t)) where
+    (lives : live p ≡ true) (unfixed : fixed p ≡ false) (patches : PlaceMap (PatchRecord Value)) (right : AreLive answer old new live held fixed patches (suc t)) where
   abbrev name : List ℕ
   name = (net_at new p).name
 
-  pub was_live : (r : ℕ) → later r ≡ true → live r ≡ true
+  was_live : (r : ℕ) → later r ≡ true → live r ≡ true
   was_live r on = smaller (r == p) (live r) (later r) (gone r) on
 
-  pub was_held : (r : ℕ) → kept r ≡ true → held r ≡ true
+  was_held : (r : ℕ) → kept r ≡ true → held r ≡ true
   was_held r on = smaller (r == q) (held r) (kept r) (freed r) on
 
   adds : (r : ℕ) → live r ≡ (r == p || later r)
@@ -127,35 +137,35 @@ module _ (answer : Evaluation → ℕ → State) (old new : Netlist) (is : IsDes
         | false ↦ λ off. refl
       ] refl
 
-  pub drivers_now : AreDrivers new later kept
+  drivers_now : AreDrivers new later kept
   drivers_now =
       record {
-        nets = λ r on. drivers.nets r (was_live r on);
-        gates = λ r on. drivers.gates r (was_held r on);
+        nets = λ r on. right.drivers.nets r (was_live r on);
+        gates = λ r on. right.drivers.gates r (was_held r on);
         drivers = λ r within.
             elim (r == q) as (λ b. (r == q) ≡ b → kept r ≡ is_live new later (gate_at new r).output) [
               | true ↦ λ same.
                   let e = same_index r q same in
                   freed r ∙ ap (λ (b : Bool). cond b false (held r)) same ∙ sym (ap (λ (k : ℕ). is_live new later (gate_at new k).output) e ∙ ap (is_live new later) output ∙ p_off)
               | false ↦ λ apart.
-                  freed r ∙ ap (λ (b : Bool). cond b false (held r)) apart ∙ drivers.drivers r within ∙ names (gate_at new r).output
+                  freed r ∙ ap (λ (b : Bool). cond b false (held r)) apart ∙ right.drivers.drivers r within ∙ names (gate_at new r).output
                   ∙ ap (λ (b : Bool). b || is_live new later (gate_at new r).output) (other_output r within apart)
             ] refl;
       }
 
-  pub fixed_later : (r : ℕ) → fixed r ≡ true → later r ≡ true
+  fixed_later : (r : ℕ) → fixed r ≡ true → later r ≡ true
   fixed_later r on =
       gone r
       ∙ elim (r == p) as (λ b. (r == p) ≡ b → cond b false (live r) ≡ true) [
         | true ↦ λ same. let no : true ≡ false = sym on ∙ ap fixed (same_index r p same) ∙ unfixed in absurd (cc)
-        | false ↦ λ apart. fixed_live r on
+        | false ↦ λ apart. right.fixed_live r on
       ] refl
 
-  pub closed_now : IsClosed old new (is_live new later)
+  closed_now : IsClosed old new (is_live new later)
   closed_now =
       record {
-        gates = λ k d within off. base.gates k d within (off_shrinks new fixed later fixed_later (slice_index_or new.gates k d).output off);
-        nets = λ k d within off. base.nets k d within (off_shrinks new fixed later fixed_later (slice_index_or new.nets k d).name off);
+        gates = λ k d within off. right.base.gates k d within (off_shrinks new fixed later fixed_later (slice_index_or new.gates k d).output off);
+        nets = λ k d within off. right.base.nets k d within (off_shrinks new fixed later fixed_later (slice_index_or new.nets k d).name off);
       }
 
   -- the gate that drives the net
@@ -176,21 +186,21 @@ module _ (answer : Evaluation → ℕ → State) (old new : Netlist) (is : IsDes
   same_value_now : read_at answer old (to_net name) t ≡ value answer new (net_at new p) t
   same_value_now =
       let n = net_at new p in
-      let same : IsSameNet old new n = base.nets p blank_net low (live_at new fixed p is.distinct_nets low ∙ unfixed) in
+      let same : IsSameNet old new n = right.base.nets p blank_net low (live_at new fixed p is.distinct_nets low ∙ unfixed) in
       let P : GateEntry → Type 0 = λ g. state_before answer old t g ≡ state_before answer new t g in
       let states : All P _ = filter_where (λ g. same_name g.output name) P new.gates
       (λ k d within at. the_gate P same_before k d within (same_name_equal (slice_index_or new.gates k d).output name at)) in
       reads_net answer old name n t same.net ∙ same_net answer old new n t same.drivers states
 
-  pub agrees_now : Agrees answer old new (is_live new later) (suc t)
+  agrees_now : Agrees answer old new (is_live new later) (suc t)
   agrees_now =
       record {
         states = λ k d within off.
-            ⊎_elim (λ was. agrees.states k d within was)
+            ⊎_elim (λ was. right.agrees.states k d within was)
             (λ drives. the_gate (λ g. state_before answer old (suc t) g ≡ state_before answer new (suc t) g) (clean_after answer old new (gate_at new q) t clean) k d within drives)
             (off_or (slice_index_or new.gates k d).output off);
         inputs = λ k d within off.
-            ⊎_elim (λ was. agrees.inputs k d within was)
+            ⊎_elim (λ was. right.agrees.inputs k d within was)
             (λ drives. the_gate (λ g. All (λ connection. read_at answer old connection t ≡ read_at answer new connection t) g.inputs) same_inputs k d within drives)
             (off_or (slice_index_or new.gates k d).output off);
         nets = λ k d within off.
@@ -202,9 +212,12 @@ module _ (answer : Evaluation → ℕ → State) (old new : Netlist) (is : IsDes
                   let named = ap (λ (x : NetEntry). is_live new live x.name) same ∙ live_at new live k is.distinct_nets within in
                   let named_later = ap (λ (x : NetEntry). is_live new later x.name) same ∙ live_at new later k is.distinct_nets within in
                   let stays : later k ≡ live k = gone k ∙ ap (λ (b : Bool). cond b false (live k)) apart in
-                  agrees.nets k d within (named ∙ sym stays ∙ sym named_later ∙ off)
+                  right.agrees.nets k d within (named ∙ sym stays ∙ sym named_later ∙ off)
             ] refl;
       }
+
+  pub left_now : AreLeft answer old new live later held kept fixed (suc t)
+  left_now = record { drivers = drivers_now; fixed_live = fixed_later; closed = closed_now; agrees = agrees_now; was_live = was_live; was_held = was_held }
 
   -- What is noted.
 
@@ -247,7 +260,7 @@ module _ (answer : Evaluation → ℕ → State) (old new : Netlist) (is : IsDes
               let parts = both (kept r) (u == 0 || moves) h in
               ⊎_elim
               (λ was. within_on inputs after r (suc t) u keeps (before.inputs r u late (both_on (held r) (u == 0 || moved) (was_held r parts.0) (or_second (u == 0) moved was))))
-              (λ at. next r u (drivers.gates r (was_held r parts.0)) at.0 late at.1)
+              (λ at. next r u (right.drivers.gates r (was_held r parts.0)) at.0 late at.1)
               (split u (gate_at new r).inputs (not_first t u moves late parts.1));
           nets = λ r u late h.
               let moves = net_moves answer old new r u in

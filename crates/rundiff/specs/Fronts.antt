@@ -108,27 +108,35 @@ fixed_in front = contains nat_cmp front.fixed
 abbrev pub tasks_in : Front → List Evaluation
 tasks_in front = front.outcomes.tasks.items
 
+-- the nets that are live and the gates that drive them, where the values of the nets below n are known; all else is as in the
+-- old run
+pub record AreLive (answer : Evaluation → ℕ → State) (old new : Netlist) (live held fixed : ℕ → Bool) (patches : PlaceMap (PatchRecord Value)) (n : ℕ) : Type 0 where
+  pub drivers : AreDrivers new live held
+  pub base : IsClosed old new (is_live new fixed)
+  pub fixed_live : (p : ℕ) → fixed p ≡ true → live p ≡ true
+  pub closed : IsClosed old new (is_live new live)
+  pub agrees : Agrees answer old new (is_live new live) n
+  pub waves : AreWaves answer old new patches n
+  pub wave_ends : EndBy patches n
+  pub kept_waves : (p : ℕ) → live p ≡ true → GoesAlong (kept_at patches p) n ⊎ IsOwn (kept_at patches p)
+  pub other_waves : (p : ℕ) → live p ≡ false → IsFree (kept_at patches p)
+
+abbrev pub AreLiveIn : (Evaluation → ℕ → State) → (old new : Netlist) → Front → ℕ → Type 0
+AreLiveIn answer old new front n = AreLive answer old new (live_in front) (held_in front) (fixed_in front) front.waves n
+
 -- what is blank
-pub record AreBlank (front : Front) : Type 0 where
-  pub wave : front.blank_wave ≡ (0, Unknown) ∷ []
-  pub trace : front.blank_trace ≡ (0, initial) ∷ []
+pub record AreBlank (of_net : List (ℕ × Value)) (of_gate : List (ℕ × State)) : Type 0 where
+  pub wave : of_net ≡ (0, Unknown) ∷ []
+  pub trace : of_gate ≡ (0, initial) ∷ []
 
 -- the front is right, where the moments below n are done
 pub record IsFront (answer : Evaluation → ℕ → State) (old new : Netlist) (front : Front) (n : ℕ) : Type 0 where
-  pub drivers : AreDrivers new (live_in front) (held_in front)
-  pub base : IsClosed old new (is_live new (fixed_in front))
-  pub fixed_live : (p : ℕ) → fixed_in front p ≡ true → live_in front p ≡ true
-  pub closed : IsClosed old new (is_live new (live_in front))
-  pub agrees : Agrees answer old new (is_live new (live_in front)) n
-  pub waves : AreWaves answer old new front.waves n
+  pub live : AreLiveIn answer old new front n
   pub traces : AreTraces answer old new front.traces n
-  pub wave_ends : EndBy front.waves n
   pub trace_ends : EndBy front.traces n
   pub own_traces : (p : ℕ) → held_in front p ≡ true → (n ≡ 0) ⊎ IsOwn (kept_at front.traces p)
-  pub kept_waves : (p : ℕ) → live_in front p ≡ true → GoesAlong (kept_at front.waves p) n ⊎ IsOwn (kept_at front.waves p)
-  pub other_waves : (p : ℕ) → live_in front p ≡ false → IsFree (kept_at front.waves p)
   pub other_traces : (p : ℕ) → held_in front p ≡ false → IsFree (kept_at front.traces p)
-  pub blank : AreBlank front
+  pub blank : AreBlank front.blank_wave front.blank_trace
   pub awaits : IsNoted answer old new (live_in front) (held_in front) (held_in front) n (noted front.events) (noted front.inputs) (noted front.nets) n
 
 -- the held gates that are not looked at
@@ -137,20 +145,12 @@ passed_in front p = held_in front p && not (is_among front.gates.items p)
 
 -- the front is right at the moment t, at which all nets are done, and no gate; which gates are to be looked at is known
 pub record AreNetsDone (answer : Evaluation → ℕ → State) (old new : Netlist) (front : Front) (t : ℕ) : Type 0 where
-  pub drivers : AreDrivers new (live_in front) (held_in front)
-  pub base : IsClosed old new (is_live new (fixed_in front))
-  pub fixed_live : (p : ℕ) → fixed_in front p ≡ true → live_in front p ≡ true
-  pub closed : IsClosed old new (is_live new (live_in front))
-  pub agrees : Agrees answer old new (is_live new (live_in front)) (suc t)
+  pub live : AreLiveIn answer old new front (suc t)
   pub clean : (p : ℕ) → p < length new.gates → held_in front p ≡ false → is_dirty answer old new (gate_at new p) t ≡ false
-  pub waves : AreWaves answer old new front.waves (suc t)
   pub traces : AreTraces answer old new front.traces t
-  pub wave_ends : EndBy front.waves (suc t)
   pub trace_ends : EndBy front.traces t
-  pub kept_waves : (p : ℕ) → live_in front p ≡ true → GoesAlong (kept_at front.waves p) (suc t) ⊎ IsOwn (kept_at front.waves p)
-  pub other_waves : (p : ℕ) → live_in front p ≡ false → IsFree (kept_at front.waves p)
   pub other_traces : (p : ℕ) → held_in front p ≡ false → IsFree (kept_at front.traces p)
-  pub blank : AreBlank front
+  pub blank : AreBlank front.blank_wave front.blank_trace
   pub chosen : ArePlaces front.gates.items (is_among front.gates.items)
   pub chosen_held : (p : ℕ) → is_among front.gates.items p ≡ true → held_in front p ≡ true
   pub quiet : (p : ℕ) → p < length new.gates → passed_in front p ≡ true → is_stirred answer new (gate_at new p) t ≡ false
@@ -163,22 +163,14 @@ resting_in answer old new front t p = held_in front p && not (is_working answer 
 
 -- the front is right at the moment t, which is done but for the states of the gates that are evaluated
 pub record IsWaiting (answer : Evaluation → ℕ → State) (old new : Netlist) (front : Front) (t : ℕ) : Type 0 where
-  pub drivers : AreDrivers new (live_in front) (held_in front)
-  pub base : IsClosed old new (is_live new (fixed_in front))
-  pub fixed_live : (p : ℕ) → fixed_in front p ≡ true → live_in front p ≡ true
-  pub closed : IsClosed old new (is_live new (live_in front))
-  pub agrees : Agrees answer old new (is_live new (live_in front)) (suc t)
-  pub waves : AreWaves answer old new front.waves (suc t)
+  pub live : AreLiveIn answer old new front (suc t)
   pub rested : (p : ℕ) → p < length new.gates → is_working answer old new t p ≡ false → IsTrace answer old new front.traces p (suc t)
   pub working : (p : ℕ) → p < length new.gates → is_working answer old new t p ≡ true → IsTrace answer old new front.traces p t
   pub clean : (p : ℕ) → p < length new.gates → held_in front p ≡ false → is_working answer old new t p ≡ false
-  pub wave_ends : EndBy front.waves (suc t)
   pub trace_ends : (p : ℕ) → ForSome (kept_at front.traces p) (λ patch. (end_of patch.line ≤ suc t) × (is_working answer old new t p ≡ true → end_of patch.line ≤ t))
   pub own_traces : (p : ℕ) → held_in front p ≡ true → is_working answer old new t p ≡ false → IsOwn (kept_at front.traces p)
-  pub kept_waves : (p : ℕ) → live_in front p ≡ true → GoesAlong (kept_at front.waves p) (suc t) ⊎ IsOwn (kept_at front.waves p)
-  pub other_waves : (p : ℕ) → live_in front p ≡ false → IsFree (kept_at front.waves p)
   pub other_traces : (p : ℕ) → held_in front p ≡ false → IsFree (kept_at front.traces p)
-  pub blank : AreBlank front
+  pub blank : AreBlank front.blank_wave front.blank_trace
   pub places : ArePlaces front.outcomes.working.items (λ p. held_in front p && is_working answer old new t p)
   pub tasks : working_at answer old new t ≡ map (gate_at new) front.outcomes.working.items
   pub same : All (IsClean answer old new t) front.outcomes.clean.items

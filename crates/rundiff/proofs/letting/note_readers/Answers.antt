@@ -1,16 +1,15 @@
-use Rattle.std.proofs.Common.{◌≡◌, ◌∙◌, ap, sym, subst, refl, ℕ, suc, List, [], true, false, take, Option, Some}
+use Rattle.std.proofs.Common.{◌≡◌, ◌∙◌, ap, sym, subst, refl, ℕ, suc, List, true, false, take, Some}
 use Rattle.std.specs.Prelude.{nat_eq}
-use Rattle.std.specs.Option.{option_map_or}
 use Rattle.catalog.specs.Catalog.{place_of}
 use Rattle.event_queue.specs.Noted.{noted}
 use Rattle.design.specs.Connections.{to_net}
 use Rattle.design.specs.Keys.{net_by_key, netlist}
-use Rattle.design.specs.Netlist.{NetEntry, reads}
+use Rattle.design.specs.Netlist.{NetEntry}
 use Rattle.scratch.specs.Places.{IsNotedWithin}
 use Rattle.rundiff.specs.Noting.{old_moves}
-use Rattle.rundiff.specs.Places.{blank_net, gate_at, is_among, net_at}
+use Rattle.rundiff.specs.Places.{blank_net, is_among, net_at}
 use Rattle.rundiff.proofs.ByPlace.{at_place, get_at}
-use Rattle.rundiff.proofs.Driven.{is_there, read_get, take_whole}
+use Rattle.rundiff.proofs.Driven.{read_get, take_whole}
 use Rattle.rundiff.proofs.NamedLines.{some_equal}
 use Rattle.rundiff.proofs.ReaderKeys.{entry_at, keyed_at, reader_at}
 use Rattle.rundiff.proofs.Steps.{among_more, or_splits, same_place}

@@ -1,13 +1,13 @@
-use Rattle.std.proofs.Common.{◌≡◌, ◌∙◌, ◌<◌, ap, sym, subst, refl, ℕ, List, [], All, Bool, true, false, take, length, Option, Some, arith}
+use Rattle.std.proofs.Common.{◌≡◌, ◌∙◌, ◌<◌, ap, sym, subst, refl, ℕ, List, All, Bool, true, false, take, length, Option, Some, arith}
 use Rattle.std.specs.Prelude.{◌||◌, nat_eq}
 use Rattle.std.specs.Option.{option_map_or}
 use Rattle.std.proofs.lemmas.Bool.Decides.{nat_tests}
 use Rattle.catalog.specs.Catalog.{place_of}
 use Rattle.design.specs.Keys.{KeyedGate, gate_by_key, net_by_key, netlist}
-use Rattle.design.specs.Netlist.{GateEntry, NetEntry, reads}
-use Rattle.rundiff.specs.Places.{blank_net, gate_at, is_among, is_live, net_at}
+use Rattle.design.specs.Netlist.{GateEntry}
+use Rattle.rundiff.specs.Places.{blank_net, is_among, is_live, net_at}
 use Rattle.rundiff.proofs.ByPlace.{get_at}
-use Rattle.rundiff.proofs.Driven.{is_there, read_get, take_whole}
+use Rattle.rundiff.proofs.Driven.{read_get, take_whole}
 use Rattle.rundiff.proofs.NamedLines.{some_equal}
 use Rattle.rundiff.proofs.Outcoming.{all_more}
 use Rattle.rundiff.proofs.ReaderKeys.{entry_at, keyed_at, reader_at}

@@ -1,14 +1,14 @@
-use Rattle.std.proofs.Common.{◌≡◌, ◌∙◌, ap, sym, refl, ℕ, List, [], true, false, take, Option, Some}
+use Rattle.std.proofs.Common.{◌≡◌, ◌∙◌, ap, sym, refl, ℕ, List, true, false, take, Option, Some}
 use Rattle.std.specs.Prelude.{nat_eq}
 use Rattle.std.specs.BTreeSet.{contains}
 use Rattle.std.specs.Ordering.{nat_cmp}
 use Rattle.std.specs.Option.{option_map_or}
 use Rattle.catalog.specs.Catalog.{place_of}
 use Rattle.design.specs.Keys.{KeyedGate, gate_by_key, net_by_key, netlist}
-use Rattle.design.specs.Netlist.{GateEntry, NetEntry, reads}
-use Rattle.rundiff.specs.Places.{blank_net, gate_at, is_among, is_live, net_at}
+use Rattle.design.specs.Netlist.{GateEntry}
+use Rattle.rundiff.specs.Places.{blank_net, is_among, is_live, net_at}
 use Rattle.rundiff.proofs.ByPlace.{get_at}
-use Rattle.rundiff.proofs.Driven.{is_there, read_get, take_whole}
+use Rattle.rundiff.proofs.Driven.{read_get, take_whole}
 use Rattle.rundiff.proofs.NamedLines.{some_equal}
 use Rattle.rundiff.proofs.ReaderKeys.{entry_at, keyed_at, reader_at}
 use Rattle.rundiff.proofs.Steps.{among_more, or_splits, same_place}

@@ -1,13 +1,11 @@
-use Rattle.std.proofs.Common.{◌≡◌, ◌∙◌, ap, sym, refl, ℕ, List, [], true, false, take, Option, Some, arith}
+use Rattle.std.proofs.Common.{◌≡◌, ◌∙◌, ap, sym, refl, ℕ, List, true, false, take, Some, arith}
 use Rattle.std.specs.Prelude.{◌||◌, nat_eq}
-use Rattle.std.specs.Option.{option_map_or}
 use Rattle.std.proofs.lemmas.Bool.Decides.{nat_tests}
 use Rattle.catalog.specs.Catalog.{place_of}
 use Rattle.design.specs.Keys.{net_by_key, netlist}
-use Rattle.design.specs.Netlist.{NetEntry, reads}
-use Rattle.rundiff.specs.Places.{blank_net, gate_at, is_among, net_at}
+use Rattle.rundiff.specs.Places.{blank_net, is_among, net_at}
 use Rattle.rundiff.proofs.ByPlace.{get_at}
-use Rattle.rundiff.proofs.Driven.{is_there, read_get, take_whole}
+use Rattle.rundiff.proofs.Driven.{read_get, take_whole}
 use Rattle.rundiff.proofs.NamedLines.{some_equal}
 use Rattle.rundiff.proofs.ReaderKeys.{entry_at, keyed_at, reader_at}
 use Rattle.rundiff.proofs.Sets.{or_first, or_second}

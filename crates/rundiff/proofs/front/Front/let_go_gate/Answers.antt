@@ -17,7 +17,7 @@ use Rattle.rundiff.specs.Fronts.{GoesAlong, IsFree, IsOwn, named_state}
 use Rattle.rundiff.specs.Kept.{read_at}
 use Rattle.rundiff.specs.PlaceMaps.{kept_at}
 use Rattle.rundiff.specs.Places.{gate_at, net_at}
-use Rattle.rundiff.proofs.Leaving.{agrees_now, closed_now, drivers_now, fixed_later, noted_less, stays_off, taken_off, was_held, was_live}
+use Rattle.rundiff.proofs.Leaving.{left_now, noted_less, stays_off, taken_off}
 use Rattle.rundiff.proofs.Sets.{test_is}
 use Rattle.rundiff.proofs.Steps.{same_place}
 use Rattle.rundiff.proofs.front.Front.let_go_gate.Goals as goal
@@ -45,6 +45,7 @@ returns-clause-front g c =
     let freed : (r : ℕ) → kept r ≡ cond (r == q) false (held r) = λ r. c.remove-2.ensures.updates.0 r ∙ ap (λ (b : Bool). cond b false (held r)) (sym (test_is q r)) in
     let unfixed : fixed p ≡ false = sym c.contains.ensures ∙ c.if-contains.false in
     let lives : live p ≡ true = sym c.contains-2.ensures ∙ c.if-not-contains.false in
+    let after = left_now answer old new is t p q low there clean output alone live later held kept fixed gone freed lives unfixed front.waves right.live in
     let left = c.in_ok-leave.ensures in
     let quit = c.in_ok-leave-2.ensures in
     let was : ℕ → Option (PatchRecord Value) = kept_at front.waves in
@@ -58,31 +59,45 @@ returns-clause-front g c =
     let Wave : ℕ → Option (PatchRecord Value) → ℕ → Type 0 = λ r o n. Keeps same_value standing (f_old r) (f r) o n in
     let Trace : ℕ → Option (PatchRecord State) → ℕ → Type 0 = λ r o n. Keeps same_state due (s_old r) (s r) o n in
     record {
-      drivers = drivers_now answer old new is t p q low there clean output alone live later held kept fixed gone freed lives unfixed right.fixed_live right.base right.drivers right.agrees;
-      base = right.base;
-      fixed_live = fixed_later answer old new is t p q low there clean output alone live later held kept fixed gone freed lives unfixed right.fixed_live right.base right.drivers right.agrees;
-      closed = closed_now answer old new is t p q low there clean output alone live later held kept fixed gone freed lives unfixed right.fixed_live right.base right.drivers right.agrees;
-      agrees = agrees_now answer old new is t p q low there clean output alone live later held kept fixed gone freed lives unfixed right.fixed_live right.base right.drivers right.agrees;
-      waves = λ r within.
-          elim (nat_eq p r) as (λ b. nat_eq p r ≡ b → Wave r (now r) (suc t)) [
-            | true ↦ λ same.
-                subst (λ (k : ℕ). Wave k (now k) (suc t)) (same_place p r same)
-                (subst (λ (n : ℕ). Wave p (now p) n) one (left.made (f p) (f_old p) (subst (λ (n : ℕ). Wave p (was p) n) (sym one) (right.waves p low))))
-            | false ↦ λ apart. subst (λ (o : Option (PatchRecord Value)). Wave r o (suc t)) (sym (left.others r apart)) (right.waves r within)
-          ] refl;
+      live = record {
+        drivers = after.drivers;
+        base = right.live.base;
+        fixed_live = after.fixed_live;
+        closed = after.closed;
+        agrees = after.agrees;
+        waves = λ r within.
+            elim (nat_eq p r) as (λ b. nat_eq p r ≡ b → Wave r (now r) (suc t)) [
+              | true ↦ λ same.
+                  subst (λ (k : ℕ). Wave k (now k) (suc t)) (same_place p r same)
+                  (subst (λ (n : ℕ). Wave p (now p) n) one (left.made (f p) (f_old p) (subst (λ (n : ℕ). Wave p (was p) n) (sym one) (right.live.waves p low))))
+              | false ↦ λ apart. subst (λ (o : Option (PatchRecord Value)). Wave r o (suc t)) (sym (left.others r apart)) (right.live.waves r within)
+            ] refl;
+        wave_ends = λ r.
+            elim (nat_eq p r) as (λ b. nat_eq p r ≡ b → ForSome (now r) (λ patch. end_of patch.line ≤ suc t)) [
+              | true ↦ λ same.
+                  subst (λ (k : ℕ). ForSome (now k) (λ patch. end_of patch.line ≤ suc t)) (same_place p r same)
+                  (subst (λ (n : ℕ). ForSome (now p) (λ patch. end_of patch.line ≤ n)) one left.end)
+              | false ↦ λ apart. subst (λ (o : Option (PatchRecord Value)). ForSome o (λ patch. end_of patch.line ≤ suc t)) (sym (left.others r apart)) (right.live.wave_ends r)
+            ] refl;
+        kept_waves = λ r on.
+            elim (nat_eq p r) as (λ b. nat_eq p r ≡ b → GoesAlong (now r) (suc t) ⊎ IsOwn (now r)) [
+              | true ↦ λ same. let no : true ≡ false = sym on ∙ taken_off p live later gone r same in absurd (cc)
+              | false ↦ λ apart.
+                  subst (λ (o : Option (PatchRecord Value)). GoesAlong o (suc t) ⊎ IsOwn o) (sym (left.others r apart))
+                  (right.live.kept_waves r (after.was_live r on))
+            ] refl;
+        other_waves = λ r off.
+            elim (nat_eq p r) as (λ b. nat_eq p r ≡ b → IsFree (now r)) [
+              | true ↦ λ same. subst (λ (k : ℕ). IsFree (now k)) (same_place p r same) left.free
+              | false ↦ λ apart. subst (λ (o : Option (PatchRecord Value)). IsFree o) (sym (left.others r apart)) (right.live.other_waves r (stays_off p live later gone r apart off))
+            ] refl;
+      };
       traces = λ r within.
           elim (nat_eq q r) as (λ b. nat_eq q r ≡ b → Trace r (has_now r) (suc t)) [
             | true ↦ λ same.
                 subst (λ (k : ℕ). Trace k (has_now k) (suc t)) (same_place q r same)
                 (subst (λ (n : ℕ). Trace q (has_now q) n) one (quit.made (s q) (s_old q) (subst (λ (n : ℕ). Trace q (had q) n) (sym one) (right.traces q there))))
             | false ↦ λ apart. subst (λ (o : Option (PatchRecord State)). Trace r o (suc t)) (sym (quit.others r apart)) (right.traces r within)
-          ] refl;
-      wave_ends = λ r.
-          elim (nat_eq p r) as (λ b. nat_eq p r ≡ b → ForSome (now r) (λ patch. end_of patch.line ≤ suc t)) [
-            | true ↦ λ same.
-                subst (λ (k : ℕ). ForSome (now k) (λ patch. end_of patch.line ≤ suc t)) (same_place p r same)
-                (subst (λ (n : ℕ). ForSome (now p) (λ patch. end_of patch.line ≤ n)) one left.end)
-            | false ↦ λ apart. subst (λ (o : Option (PatchRecord Value)). ForSome o (λ patch. end_of patch.line ≤ suc t)) (sym (left.others r apart)) (right.wave_ends r)
           ] refl;
       trace_ends = λ r.
           elim (nat_eq q r) as (λ b. nat_eq q r ≡ b → ForSome (has_now r) (λ patch. end_of patch.line ≤ suc t)) [
@@ -96,27 +111,15 @@ returns-clause-front g c =
             | true ↦ λ same. let no : true ≡ false = sym on ∙ taken_off q held kept freed r same in absurd (cc)
             | false ↦ λ apart.
                 subst (λ (o : Option (PatchRecord State)). (suc t ≡ 0) ⊎ IsOwn o) (sym (quit.others r apart))
-                (right.own_traces r (was_held answer old new is t p q low there clean output alone live later held kept fixed gone freed lives unfixed right.fixed_live right.base right.drivers right.agrees r on))
-          ] refl;
-      kept_waves = λ r on.
-          elim (nat_eq p r) as (λ b. nat_eq p r ≡ b → GoesAlong (now r) (suc t) ⊎ IsOwn (now r)) [
-            | true ↦ λ same. let no : true ≡ false = sym on ∙ taken_off p live later gone r same in absurd (cc)
-            | false ↦ λ apart.
-                subst (λ (o : Option (PatchRecord Value)). GoesAlong o (suc t) ⊎ IsOwn o) (sym (left.others r apart))
-                (right.kept_waves r (was_live answer old new is t p q low there clean output alone live later held kept fixed gone freed lives unfixed right.fixed_live right.base right.drivers right.agrees r on))
-          ] refl;
-      other_waves = λ r off.
-          elim (nat_eq p r) as (λ b. nat_eq p r ≡ b → IsFree (now r)) [
-            | true ↦ λ same. subst (λ (k : ℕ). IsFree (now k)) (same_place p r same) left.free
-            | false ↦ λ apart. subst (λ (o : Option (PatchRecord Value)). IsFree o) (sym (left.others r apart)) (right.other_waves r (stays_off p live later gone r apart off))
+                (right.own_traces r (after.was_held r on))
           ] refl;
       other_traces = λ r off.
           elim (nat_eq q r) as (λ b. nat_eq q r ≡ b → IsFree (has_now r)) [
             | true ↦ λ same. subst (λ (k : ℕ). IsFree (has_now k)) (same_place q r same) quit.free
             | false ↦ λ apart. subst (λ (o : Option (PatchRecord State)). IsFree o) (sym (quit.others r apart)) (right.other_traces r (stays_off q held kept freed r apart off))
           ] refl;
-      blank = record { wave = right.blank.wave; trace = right.blank.trace };
+      blank = right.blank;
       awaits =
-          noted_less answer old new is t p q low there clean output alone live later held kept fixed gone freed lives unfixed right.fixed_live right.base right.drivers right.agrees
+          noted_less answer old new is t p q low there clean output alone live later held kept fixed gone freed lives unfixed front.waves right.live
           (noted front.events) (noted front.inputs) (noted front.nets) (noted c.note_readers.new.queue) c.in_ok-note_readers.ensures.kept c.in_ok-note_readers.ensures.early c.in_ok-note_readers.ensures.next right.awaits;
     }

@@ -28,14 +28,14 @@ use Rattle.rundiff.proofs.front.Front.look_at_gates.Goals as goal
 
 pub look_at-requires-clause-there : goal.look_at-requires-clause-there
 look_at-requires-clause-there g c = λ p among.
-    c.requires.front.drivers.gates p (c.requires.front.chosen_held p (ap (λ (l : List ℕ). is_among l p) (sym c.as_slice.ensures.value) ∙ among))
+    c.requires.front.live.drivers.gates p (c.requires.front.chosen_held p (ap (λ (l : List ℕ). is_among l p) (sym c.as_slice.ensures.value) ∙ among))
 
 pub put_states-requires-clause-there : goal.put_states-requires-clause-there
 put_states-requires-clause-there g c = λ p among.
     let test = is_working g.S.Stepper.answer (netlist c.args.old.now) (netlist c.args.new.now) c.args.t in
     let chosen = c.args.self.now.gates.items in
     let are = resting_held c.as_slice.result.now chosen c.as_slice-2.result.now c.look_at.new.out.resting.items (is_among chosen) test c.as_slice.ensures.value c.as_slice-2.ensures.value c.requires.front.chosen c.in_ok-look_at.ensures.resting in
-    c.requires.front.drivers.gates p (c.requires.front.chosen_held p (both (is_among chosen p) (not (test p)) (sym (are.all p) ∙ among)).0)
+    c.requires.front.live.drivers.gates p (c.requires.front.chosen_held p (both (is_among chosen p) (not (test p)) (sym (are.all p) ∙ among)).0)
 
 pub put_states-requires-clause-rising : goal.put_states-requires-clause-rising
 put_states-requires-clause-rising g c =
@@ -48,7 +48,7 @@ put_states-requires-clause-traces g c = λ p among.
     let test = is_working g.S.Stepper.answer (netlist c.args.old.now) (netlist c.args.new.now) c.args.t in
     let chosen = c.args.self.now.gates.items in
     let are = resting_held c.as_slice.result.now chosen c.as_slice-2.result.now c.look_at.new.out.resting.items (is_among chosen) test c.as_slice.ensures.value c.as_slice-2.ensures.value c.requires.front.chosen c.in_ok-look_at.ensures.resting in
-    c.requires.front.traces p (c.requires.front.drivers.gates p (c.requires.front.chosen_held p (both (is_among chosen p) (not (test p)) (sym (are.all p) ∙ among)).0))
+    c.requires.front.traces p (c.requires.front.live.drivers.gates p (c.requires.front.chosen_held p (both (is_among chosen p) (not (test p)) (sym (are.all p) ∙ among)).0))
 
 pub put_states-requires-clause-ends : goal.put_states-requires-clause-ends
 put_states-requires-clause-ends g c = λ p among. c.requires.front.trace_ends p
@@ -73,7 +73,7 @@ note_events-requires-clause-later g c = subst (All (PendingFrom (suc c.args.t)))
 
 pub note_all_inputs-requires-clause-there : goal.note_all_inputs-requires-clause-there
 note_all_inputs-requires-clause-there g c = λ p among.
-    c.requires.front.drivers.gates p (c.requires.front.chosen_held p (ap (λ (l : List ℕ). is_among l p) (sym c.as_slice-6.ensures.value) ∙ among))
+    c.requires.front.live.drivers.gates p (c.requires.front.chosen_held p (ap (λ (l : List ℕ). is_among l p) (sym c.as_slice-6.ensures.value) ∙ among))
 
 pub returns-clause-tasks : goal.returns-clause-tasks
 returns-clause-tasks g c =
@@ -85,7 +85,7 @@ returns-clause-tasks g c =
     let chosen = c.args.self.now.gates.items in
     let working = c.look_at.new.out.working.items in
     let those : working_at answer old new t ≡ map (gate_at new) working =
-    chosen_all answer old new t held chosen before.drivers.gates before.chosen_held before.clean before.quiet working before.chosen.rising (out.working ∙ ap (filter (is_working answer old new t)) c.as_slice.ensures.value) in
+    chosen_all answer old new t held chosen before.live.drivers.gates before.chosen_held before.clean before.quiet working before.chosen.rising (out.working ∙ ap (filter (is_working answer old new t)) c.as_slice.ensures.value) in
     out.tasks ∙ sym (map_twice (gate_at new) (λ h. task_at answer new h t) working) ∙ ap (map (λ h. task_at answer new h t)) (sym those)
 
 pub returns-clause-ready : goal.returns-clause-ready
@@ -111,14 +111,9 @@ returns-clause-front g c =
     let untouched : (p : ℕ) → held p ≡ false → now p ≡ was p = λ p free. done.others p (resting.all p ∙ resting_off (is_among chosen p) (test p) (not_chosen held chosen before.chosen_held p free)) in
     let passed : (p : ℕ) → is_among chosen p ≡ false → now p ≡ was p = λ p off. done.others p (resting.all p ∙ resting_off (is_among chosen p) (test p) off) in
     let quiet : (p : ℕ) → held p ≡ true → is_among chosen p ≡ false → is_stirred answer new (gate_at new p) t ≡ false =
-    calm answer old new t held chosen before.drivers.gates before.chosen_held before.clean before.quiet in
+    calm answer old new t held chosen before.live.drivers.gates before.chosen_held before.clean before.quiet in
     record {
-      drivers = before.drivers;
-      base = before.base;
-      fixed_live = before.fixed_live;
-      closed = before.closed;
-      agrees = before.agrees;
-      waves = before.waves;
+      live = before.live;
       rested = λ p low off.
           elim (held p) as (λ b. held p ≡ b → Keep p (now p) (suc t)) [
             | true ↦ λ on.
@@ -131,11 +126,10 @@ returns-clause-front g c =
             | false ↦ λ free.
                 subst (λ (o : Option (PatchRecord State)). Keep p o (suc t)) (sym (untouched p free))
                 (free_more same_state due (state_after answer new (gate_at new p)) (named_state answer old (gate_at new p).name) t (was p) (before.other_traces p free) (before.traces p low)
-                (free_state answer old new (is_live new (contains nat_cmp c.args.self.now.live)) t c.lawful.ensures.design before.closed before.agrees p low (sym (before.drivers.drivers p low) ∙ free)))
+                (free_state answer old new (is_live new (contains nat_cmp c.args.self.now.live)) t c.lawful.ensures.design before.live.closed before.live.agrees p low (sym (before.live.drivers.drivers p low) ∙ free)))
           ] refl;
       working = λ p low on. subst (λ (o : Option (PatchRecord State)). Keep p o t) (sym (done.others p (resting.all p ∙ not_resting (is_among chosen p) (test p) on))) (before.traces p low);
       clean = λ p low free. ap (λ (b : Bool). b && is_stirred answer new (gate_at new p) t) (before.clean p low free);
-      wave_ends = before.wave_ends;
       trace_ends = λ p.
           elim (is_among c.as_slice-2.result.now p) as (λ b. is_among c.as_slice-2.result.now p ≡ b → ForSome (now p) (λ patch. (end_of patch.line ≤ suc t) × (test p ≡ true → end_of patch.line ≤ t))) [
             | true ↦ λ among patch is. (
@@ -151,16 +145,14 @@ returns-clause-front g c =
             | true ↦ λ among. done.own p (resting.all p ∙ rests_on (is_among chosen p) (test p) among off)
             | false ↦ λ past. subst (λ (o : Option (PatchRecord State)). IsOwn o) (sym (passed p past)) (before.own_traces p (rests_on (held p) (is_among chosen p) on past))
           ] refl;
-      kept_waves = before.kept_waves;
-      other_waves = before.other_waves;
       other_traces = λ p free. subst (λ (o : Option (PatchRecord State)). IsFree o) (sym (untouched p free)) (before.other_traces p free);
-      blank = record { wave = before.blank.wave; trace = before.blank.trace };
+      blank = before.blank;
       places =
           let those = filter_places chosen (is_among chosen) test before.chosen in
-          let same = chosen_working answer old new t held chosen before.drivers.gates before.chosen_held before.clean before.quiet in
+          let same = chosen_working answer old new t held chosen before.live.drivers.gates before.chosen_held before.clean before.quiet in
           subst (λ (l : List ℕ). ArePlaces l (λ p. held p && test p)) (sym evaluated) (record { rising = those.rising; all = λ p. those.all p ∙ same p });
       same = out.same;
-      tasks = chosen_all answer old new t held chosen before.drivers.gates before.chosen_held before.clean before.quiet working before.chosen.rising evaluated;
+      tasks = chosen_all answer old new t held chosen before.live.drivers.gates before.chosen_held before.clean before.quiet working before.chosen.rising evaluated;
       awaits =
           let f : ℕ → State = λ p. state_after answer new (gate_at new p) t in
           let listed = c.look_at.new.out.resting.items in
@@ -169,7 +161,7 @@ returns-clause-front g c =
           looked_noted answer old new t (contains nat_cmp c.args.self.now.live) held (noted c.args.self.now.events) (noted c.args.self.now.inputs) (noted c.args.self.now.nets) (noted c.note_events.new.queue)
           notes.kept notes.early chosen listed (noted c.note_all_inputs.new.queue)
           (λ p. ap (λ (l : List ℕ). is_among l p) (sym c.as_slice-2.ensures.value) ∙ resting.all p)
-          (calm_state answer old new t held chosen before.drivers.gates before.chosen_held before.clean before.quiet laws.answer_stays)
+          (calm_state answer old new t held chosen before.live.drivers.gates before.chosen_held before.clean before.quiet laws.answer_stays)
           before.awaits
           (λ p u on. notes.events f (c.as_slice-5.ensures.value ∙ out.states ∙ ap (map f) (sym c.as_slice-4.ensures.value)) p u (ap (λ (l : List ℕ). is_among l p) c.as_slice-4.ensures.value ∙ on))
           more.kept more.early

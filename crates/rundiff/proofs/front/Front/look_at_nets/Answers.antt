@@ -26,14 +26,14 @@ use Rattle.rundiff.proofs.front.Front.look_at_nets.Goals as goal
 
 pub put_values-requires-clause-there : goal.put_values-requires-clause-there
 put_values-requires-clause-there g c = λ p among.
-    c.requires.front.drivers.nets p (c.in_ok-choose_nets.ensures.live p (ap (λ (l : List ℕ). is_among l p) (sym c.as_slice.ensures.value) ∙ among))
+    c.requires.front.live.drivers.nets p (c.in_ok-choose_nets.ensures.live p (ap (λ (l : List ℕ). is_among l p) (sym c.as_slice.ensures.value) ∙ among))
 
 pub put_values-requires-clause-rising : goal.put_values-requires-clause-rising
 put_values-requires-clause-rising g c = subst (AllPairs (λ p q. p < q)) (sym c.as_slice.ensures.value) c.in_ok-choose_nets.ensures.rising
 
 pub add_changed-requires-clause-there : goal.add_changed-requires-clause-there
 add_changed-requires-clause-there g c = λ p among.
-    c.requires.front.drivers.nets p (c.in_ok-choose_nets.ensures.live p (ap (λ (l : List ℕ). is_among l p) (sym c.as_slice-2.ensures.value) ∙ among))
+    c.requires.front.live.drivers.nets p (c.in_ok-choose_nets.ensures.live p (ap (λ (l : List ℕ). is_among l p) (sym c.as_slice-2.ensures.value) ∙ among))
 
 pub add_changed-requires-clause-waves : goal.add_changed-requires-clause-waves
 add_changed-requires-clause-waves g c = λ p among.
@@ -41,7 +41,7 @@ add_changed-requires-clause-waves g c = λ p among.
 
 pub find_differing-requires-clause-there : goal.find_differing-requires-clause-there
 find_differing-requires-clause-there g c = λ p among.
-    c.requires.front.drivers.nets p (c.in_ok-choose_nets.ensures.live p (ap (λ (l : List ℕ). is_among l p) (sym c.as_slice-3.ensures.value) ∙ among))
+    c.requires.front.live.drivers.nets p (c.in_ok-choose_nets.ensures.live p (ap (λ (l : List ℕ). is_among l p) (sym c.as_slice-3.ensures.value) ∙ among))
 
 pub find_differing-requires-clause-waves : goal.find_differing-requires-clause-waves
 find_differing-requires-clause-waves g c = λ p among.
@@ -56,7 +56,7 @@ note_nets-requires-clause-there g c = λ p among.
     let nets = c.choose_nets.new.nets.items in
     let holds = c.in_ok-hold_found.ensures in
     elim (is_among nets p) as (λ b. is_among nets p ≡ b → p < length (netlist c.args.new.now).nets) [
-      | true ↦ λ on. c.requires.front.drivers.nets p (c.in_ok-choose_nets.ensures.live p on)
+      | true ↦ λ on. c.requires.front.live.drivers.nets p (c.in_ok-choose_nets.ensures.live p on)
       | false ↦ λ off. holds.drivers.nets p (holds.nets_live p off added)
     ] refl
 
@@ -85,7 +85,7 @@ returns g c =
     let found = is_among c.find_differing.new.found.items in
     let events_at = noted front.events in let inputs_at = noted front.inputs in let nets_at = noted front.nets in
     let are : AreLookedAt answer old new live held events_at inputs_at nets_at t looked =
-    record { within = c.requires.within; drivers = before.drivers; closed = before.closed; agrees = before.agrees; awaits = before.awaits; noted = chose.noted; driven = chose.driven } in
+    record { within = c.requires.within; drivers = before.live.drivers; closed = before.live.closed; agrees = before.live.agrees; awaits = before.awaits; noted = chose.noted; driven = chose.driven } in
     let grows : (p : ℕ) → live p ≡ true → later p ≡ true = λ p on. holds.live p ∙ or_second (found p) (live p) on in
     let alike : (p : ℕ) → live p ≡ true → IsAlike answer old new later t p =
     alike_all answer old new current pending is live held events_at inputs_at nets_at looked t are later grows
@@ -99,42 +99,44 @@ returns g c =
     let others : (p : ℕ) → looked p ≡ false → now p ≡ was p = λ p off. put.others p (ap (λ (l : List ℕ). is_among l p) c.as_slice.ensures.value ∙ off) in
     let unlooked : (p : ℕ) → live p ≡ false → looked p ≡ false = λ p free. not_so (looked p) (live p) (chose.live p) free in
     record {
-      drivers = holds.drivers;
-      base = before.base;
-      fixed_live = λ p fixed. grows p (before.fixed_live p fixed);
-      closed = closed_now answer old new is t c.requires.within live later grows before.closed before.agrees alike;
-      agrees = agrees_now answer old new is t c.requires.within live later grows before.closed before.agrees alike;
-      clean = clean_now answer old new is t c.requires.within live later grows before.closed before.agrees alike kept holds.drivers;
-      waves = λ p low.
-          elim (looked p) as (λ b. looked p ≡ b → Keep p (now p) (suc t)) [
-            | true ↦ λ at. put.put p (ap (λ (l : List ℕ). is_among l p) c.as_slice.ensures.value ∙ at)
-            | false ↦ λ off.
-                subst (λ (o : Option (PatchRecord Value)). Keep p o (suc t)) (sym (others p off))
-                (elim (live p) as (λ b. live p ≡ b → Keep p (was p) (suc t)) [
-                  | true ↦ λ on. wave_all answer old new current pending is live held events_at inputs_at nets_at looked c.no_change.ensures t are p on off (was p) (before.kept_waves p on) (before.waves p low)
-                  | false ↦ λ free. free_wave answer old new is t c.requires.within live later grows before.closed before.agrees alike p (was p) low free (before.other_waves p free) (before.waves p low)
-                ] refl)
-          ] refl;
+      live = record {
+        drivers = holds.drivers;
+        base = before.live.base;
+        fixed_live = λ p fixed. grows p (before.live.fixed_live p fixed);
+        closed = closed_now answer old new is t c.requires.within live later grows before.live.closed before.live.agrees alike;
+        agrees = agrees_now answer old new is t c.requires.within live later grows before.live.closed before.live.agrees alike;
+        waves = λ p low.
+            elim (looked p) as (λ b. looked p ≡ b → Keep p (now p) (suc t)) [
+              | true ↦ λ at. put.put p (ap (λ (l : List ℕ). is_among l p) c.as_slice.ensures.value ∙ at)
+              | false ↦ λ off.
+                  subst (λ (o : Option (PatchRecord Value)). Keep p o (suc t)) (sym (others p off))
+                  (elim (live p) as (λ b. live p ≡ b → Keep p (was p) (suc t)) [
+                    | true ↦ λ on. wave_all answer old new current pending is live held events_at inputs_at nets_at looked c.no_change.ensures t are p on off (was p) (before.live.kept_waves p on) (before.live.waves p low)
+                    | false ↦ λ free. free_wave answer old new is t c.requires.within live later grows before.live.closed before.live.agrees alike p (was p) low free (before.live.other_waves p free) (before.live.waves p low)
+                  ] refl)
+            ] refl;
+        wave_ends = put.ends;
+        kept_waves = λ p lives.
+            elim (looked p) as (λ b. looked p ≡ b → GoesAlong (now p) (suc t) ⊎ IsOwn (now p)) [
+              | true ↦ λ at. inr (put.own p (ap (λ (l : List ℕ). is_among l p) c.as_slice.ensures.value ∙ at))
+              | false ↦ λ off.
+                  subst (λ (o : Option (PatchRecord Value)). GoesAlong o (suc t) ⊎ IsOwn o) (sym (others p off))
+                  (elim (live p) as (λ b. live p ≡ b → GoesAlong (was p) (suc t) ⊎ IsOwn (was p)) [
+                    | true ↦ λ on. ⊎_elim (λ along. inl (along_more (was p) t (suc t) (omega arith) along)) (λ own. inr own) (before.live.kept_waves p on)
+                    | false ↦ λ free.
+                        inl (free_along same_value standing (value answer new (net_at new p)) (read_at answer old (to_net (net_at new p).name)) t (was p) (before.live.other_waves p free) (before.live.waves p (holds.drivers.nets p lives)))
+                  ] refl)
+            ] refl;
+        other_waves = λ p off.
+            let free = (or_none (found p) (live p) (sym (holds.live p) ∙ off)).1 in
+            subst (λ (o : Option (PatchRecord Value)). IsFree o) (sym (others p (unlooked p free))) (before.live.other_waves p free);
+      };
+      clean = clean_now answer old new is t c.requires.within live later grows before.live.closed before.live.agrees alike kept holds.drivers;
       traces = before.traces;
-      wave_ends = put.ends;
       trace_ends = before.trace_ends;
-      kept_waves = λ p lives.
-          elim (looked p) as (λ b. looked p ≡ b → GoesAlong (now p) (suc t) ⊎ IsOwn (now p)) [
-            | true ↦ λ at. inr (put.own p (ap (λ (l : List ℕ). is_among l p) c.as_slice.ensures.value ∙ at))
-            | false ↦ λ off.
-                subst (λ (o : Option (PatchRecord Value)). GoesAlong o (suc t) ⊎ IsOwn o) (sym (others p off))
-                (elim (live p) as (λ b. live p ≡ b → GoesAlong (was p) (suc t) ⊎ IsOwn (was p)) [
-                  | true ↦ λ on. ⊎_elim (λ along. inl (along_more (was p) t (suc t) (omega arith) along)) (λ own. inr own) (before.kept_waves p on)
-                  | false ↦ λ free.
-                      inl (free_along same_value standing (value answer new (net_at new p)) (read_at answer old (to_net (net_at new p).name)) t (was p) (before.other_waves p free) (before.waves p (holds.drivers.nets p lives)))
-                ] refl)
-          ] refl;
-      other_waves = λ p off.
-          let free = (or_none (found p) (live p) (sym (holds.live p) ∙ off)).1 in
-          subst (λ (o : Option (PatchRecord Value)). IsFree o) (sym (others p (unlooked p free))) (before.other_waves p free);
       other_traces = λ p off.
-          before.other_traces p (free_before answer old new is t c.requires.within live later grows before.closed before.agrees alike held kept before.drivers holds.drivers p off);
-      blank = record { wave = before.blank.wave; trace = before.blank.trace };
+          before.other_traces p (free_before answer old new is t c.requires.within live later grows before.live.closed before.live.agrees alike held kept before.live.drivers holds.drivers p off);
+      blank = before.blank;
       chosen = gates.rising;
       chosen_held = gates.held;
       quiet = λ q low on.

@@ -52,25 +52,27 @@ returns-clause-front c = λ answer.
     let no_wave = c.new-waves.ensures in
     let no_trace = c.new-traces.ensures in
     record {
-      drivers = c.in_ok-hold.ensures.drivers;
-      base =
-          first_closed c.args.old.now c.args.new.now c.lawful.ensures.keys c.lawful-2.ensures.keys c.lawful-2.ensures.design.distinct_nets c.places_are_keys.ensures.nets
-          c.names_are_keys.ensures.nets c.names_are_keys.ensures.drivers c.names_are_keys-2.ensures.drivers
-          c.args.touched.now.nets.items c.args.touched.now.gates.items places c.requires c.in_ok-found.ensures.touched fixed
-          (λ p among. fixed_is p ∙ among);
-      fixed_live = λ p on. covers p (sym (fixed_is p) ∙ on);
-      closed =
-          first_closed c.args.old.now c.args.new.now c.lawful.ensures.keys c.lawful-2.ensures.keys c.lawful-2.ensures.design.distinct_nets c.places_are_keys.ensures.nets
-          c.names_are_keys.ensures.nets c.names_are_keys.ensures.drivers c.names_are_keys-2.ensures.drivers
-          c.args.touched.now.nets.items c.args.touched.now.gates.items places c.requires c.in_ok-found.ensures.touched later covers;
-      agrees = record { states = λ k d low off. refl; inputs = λ k d low off i e within. tt; nets = λ k d low off. tt };
-      waves = λ p low. keeps_first same_value standing (value answer new (net_at new p)) (read_at answer old (to_net (net_at new p).name)) _ (no_wave p);
+      live = record {
+        drivers = c.in_ok-hold.ensures.drivers;
+        base =
+            first_closed c.args.old.now c.args.new.now c.lawful.ensures.keys c.lawful-2.ensures.keys c.lawful-2.ensures.design.distinct_nets c.places_are_keys.ensures.nets
+            c.names_are_keys.ensures.nets c.names_are_keys.ensures.drivers c.names_are_keys-2.ensures.drivers
+            c.args.touched.now.nets.items c.args.touched.now.gates.items places c.requires c.in_ok-found.ensures.touched fixed
+            (λ p among. fixed_is p ∙ among);
+        fixed_live = λ p on. covers p (sym (fixed_is p) ∙ on);
+        closed =
+            first_closed c.args.old.now c.args.new.now c.lawful.ensures.keys c.lawful-2.ensures.keys c.lawful-2.ensures.design.distinct_nets c.places_are_keys.ensures.nets
+            c.names_are_keys.ensures.nets c.names_are_keys.ensures.drivers c.names_are_keys-2.ensures.drivers
+            c.args.touched.now.nets.items c.args.touched.now.gates.items places c.requires c.in_ok-found.ensures.touched later covers;
+        agrees = record { states = λ k d low off. refl; inputs = λ k d low off i e within. tt; nets = λ k d low off. tt };
+        waves = λ p low. keeps_first same_value standing (value answer new (net_at new p)) (read_at answer old (to_net (net_at new p).name)) _ (no_wave p);
+        wave_ends = λ p patch is. absurd (never_some _ patch (no_wave p) is);
+        kept_waves = λ p on. inl (inl (no_wave p));
+        other_waves = λ p off. inl (no_wave p);
+      };
       traces = λ p low. keeps_first same_state due (state_after answer new (gate_at new p)) (named_state answer old (gate_at new p).name) _ (no_trace p);
-      wave_ends = λ p patch is. absurd (never_some _ patch (no_wave p) is);
       trace_ends = λ p patch is. absurd (never_some _ patch (no_trace p) is);
-      kept_waves = λ p on. inl (inl (no_wave p));
       own_traces = λ p on. inl refl;
-      other_waves = λ p off. inl (no_wave p);
       other_traces = λ p off. inl (no_trace p);
       awaits =
           opened_noted answer old new later (contains nat_cmp c.hold.new.held) (noted c.new-events.result) (noted c.in_ok-inputs.inputs) (noted c.in_ok-nets.nets) c.in_ok-inputs.ensures c.in_ok-nets.ensures;

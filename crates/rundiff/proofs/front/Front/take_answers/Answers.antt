@@ -26,7 +26,7 @@ pub put_states-requires-clause-there : goal.put_states-requires-clause-there
 put_states-requires-clause-there g c = λ p among.
     let test = is_working g.S.Stepper.answer (netlist c.args.old.now) (netlist c.args.new.now) c.args.t in
     let held = contains nat_cmp c.args.self.now.held in
-    c.requires.front.drivers.gates p (both (held p) (test p) (sym (c.requires.front.places.all p) ∙ ap (λ (l : List ℕ). is_among l p) (sym c.as_slice.ensures.value) ∙ among)).0
+    c.requires.front.live.drivers.gates p (both (held p) (test p) (sym (c.requires.front.places.all p) ∙ ap (λ (l : List ℕ). is_among l p) (sym c.as_slice.ensures.value) ∙ among)).0
 
 pub put_states-requires-clause-rising : goal.put_states-requires-clause-rising
 put_states-requires-clause-rising g c = subst (AllPairs (λ p q. p < q)) (sym c.as_slice.ensures.value) c.requires.front.places.rising
@@ -36,7 +36,7 @@ put_states-requires-clause-traces g c = λ p among.
     let test = is_working g.S.Stepper.answer (netlist c.args.old.now) (netlist c.args.new.now) c.args.t in
     let held = contains nat_cmp c.args.self.now.held in
     let parts = both (held p) (test p) (sym (c.requires.front.places.all p) ∙ ap (λ (l : List ℕ). is_among l p) (sym c.as_slice.ensures.value) ∙ among) in
-    c.requires.front.working p (c.requires.front.drivers.gates p parts.0) parts.1
+    c.requires.front.working p (c.requires.front.live.drivers.gates p parts.0) parts.1
 
 pub put_states-requires-clause-ends : goal.put_states-requires-clause-ends
 put_states-requires-clause-ends g c = λ p among.
@@ -60,7 +60,7 @@ put_states-requires-clause-can g c =
     let those = c.requires.answers ∙ ap (map (λ h. state_after answer new h t)) c.requires.front.tasks ∙ map_twice (gate_at new) (λ h. state_after answer new h t) c.args.self.now.outcomes.working.items in
     let low : t < TIME_END = let h = c.requires.within in let end = c.lawful.ensures.design.horizon in omega arith in
     stored_each answer new laws.answer_pending laws.answer_near c.lawful-2.ensures.design t low c.args.self.now.outcomes.working.items
-    (λ p among. c.requires.front.drivers.gates p (both (held p) (test p) (sym (c.requires.front.places.all p) ∙ among)).0) c.args.answers.now those
+    (λ p among. c.requires.front.live.drivers.gates p (both (held p) (test p) (sym (c.requires.front.places.all p) ∙ among)).0) c.args.answers.now those
 
 pub note_events-requires-clause-many : goal.note_events-requires-clause-many
 note_events-requires-clause-many g c =
@@ -78,7 +78,7 @@ note_events-requires-clause-later g c =
     let low : t < TIME_END = let h = c.requires.within in let end = c.lawful.ensures.design.horizon in omega arith in
     stored_later t c.args.answers.now
     (stored_each answer new laws.answer_pending laws.answer_near c.lawful-2.ensures.design t low c.args.self.now.outcomes.working.items
-    (λ p among. c.requires.front.drivers.gates p (both (held p) (test p) (sym (c.requires.front.places.all p) ∙ among)).0) c.args.answers.now those)
+    (λ p among. c.requires.front.live.drivers.gates p (both (held p) (test p) (sym (c.requires.front.places.all p) ∙ among)).0) c.args.answers.now those)
 
 pub overflow_add-self : goal.overflow_add-self
 overflow_add-self g c = let most = c.lawful.ensures.design.horizon in let h = c.requires.within in omega arith
@@ -103,12 +103,7 @@ returns-clause-front g c =
     let off_left : (a b : Bool) → a ≡ false → (a && b) ≡ false = λ a b h. rw h refl in
     let off_right : (a b : Bool) → b ≡ false → (a && b) ≡ false = λ a b h. ap (λ (x : Bool). a && x) h ∙ and_false a in
     record {
-      drivers = before.drivers;
-      base = before.base;
-      fixed_live = before.fixed_live;
-      closed = before.closed;
-      agrees = before.agrees;
-      waves = before.waves;
+      live = before.live;
       traces = λ p low.
           elim (is_among slice p) as (λ b. is_among slice p ≡ b → Keep p (now p) (suc t)) [
             | true ↦ λ on. done.put p on
@@ -116,7 +111,6 @@ returns-clause-front g c =
                 subst (λ (o : Option (PatchRecord State)). Keep p o (suc t)) (sym (done.others p off))
                 (before.rested p low (idle (held p) (test p) (before.clean p low) (sym (among p) ∙ off)))
           ] refl;
-      wave_ends = before.wave_ends;
       trace_ends = λ p.
           elim (is_among slice p) as (λ b. is_among slice p ≡ b → ForSome (now p) (λ patch. end_of patch.line ≤ suc t)) [
             | true ↦ λ on. done.ends p on
@@ -128,10 +122,8 @@ returns-clause-front g c =
             | true ↦ λ yes. done.own p (among p ∙ on_true (held p) (test p) on yes)
             | false ↦ λ no. subst (λ (o : Option (PatchRecord State)). IsOwn o) (sym (done.others p (among p ∙ off_right (held p) (test p) no))) (before.own_traces p on no)
           ] refl);
-      kept_waves = before.kept_waves;
-      other_waves = before.other_waves;
       other_traces = λ p free. subst (λ (o : Option (PatchRecord State)). IsFree o) (sym (done.others p (among p ∙ off_left (held p) (test p) free))) (before.other_traces p free);
-      blank = record { wave = before.blank.wave; trace = before.blank.trace };
+      blank = before.blank;
       awaits =
           settled_noted answer old new t (contains nat_cmp c.args.self.now.live) held (noted c.args.self.now.events) (noted c.args.self.now.inputs) (noted c.args.self.now.nets) (noted c.note_events.new.queue)
           notes.kept notes.early working before.places.all before.awaits
