@@ -15,6 +15,7 @@ by_rules HighZ = (refl, refl, refl)
 
 -- one driver alone gives a net what it drives, where the net's kind passes it
 pub lone_driver_passes : (kind : NetKind) (v : Value) → passes_lone_driver kind ≡ true → net_of kind (v ∷ []) ≡ v
+unfolding passes_lone_driver
 lone_driver_passes Wire v passes = (by_rules v).0
 lone_driver_passes Tri v passes = (by_rules v).0
 lone_driver_passes Wand v passes = (by_rules v).1

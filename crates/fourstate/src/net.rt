@@ -66,6 +66,7 @@ impl NetKind {
     }
 
     /// Whether a net of this kind always has what its driver gives, where it has one alone.
+    #[tactic(auto, unfolding(crate::specs::Nets::passes_lone_driver))]
     pub fn passes_lone_driver(self) -> bool
         ensures { result ≡ passes_lone_driver self }
     {

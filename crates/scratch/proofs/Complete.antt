@@ -46,7 +46,7 @@ within_gates gates name =
 -- the driver is one of the gates
 pub lone_within : (d : Netlist) (n : NetEntry) (k : ℕ) → lone_driver d n ≡ Some k → k < length d.gates
 lone_within d n k alone =
-    All-head (λ k. k < length d.gates) k [] (subst (All (λ k. k < length d.gates)) (lone_is d n k alone).1 (within_gates d.gates n.name))
+    All-head (λ k. k < length d.gates) k [] (subst (All (λ k. k < length d.gates)) (lone_is d n k alone).alone (within_gates d.gates n.name))
 
 -- the driver that alone gives a net its value, with its trace
 pub record Found (answer : Evaluation → ℕ → State) (d : Netlist) (n : NetEntry) (k : ℕ) (line : List (ℕ × State)) : Type 0 where

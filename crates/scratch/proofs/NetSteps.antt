@@ -6,10 +6,10 @@ use Rattle.std.proofs.Math.ListN.{set}
 use Rattle.std.proofs.lemmas.List.{length-map}
 use Rattle.std.proofs.lemmas.Option.{slice_get-map, slice_get_read, slice_get_within}
 use Rattle.fourstate.specs.declared.net.NetKind.{NetKind}
-use Rattle.fourstate.specs.declared.net.NetKind.TheVariants.{Wire, Tri, Wand, Triand, Wor, Trior}
 use Rattle.fourstate.specs.declared.value.Value.{Value}
-use Rattle.fourstate.specs.declared.value.Value.TheVariants.{Zero, One, Unknown, HighZ}
-use Rattle.fourstate.specs.Nets.{net_of}
+use Rattle.fourstate.specs.declared.value.Value.TheVariants.{Unknown}
+use Rattle.fourstate.specs.NetLaws.{lone_driver_passes}
+use Rattle.fourstate.specs.Nets.{net_of, passes_lone_driver}
 use Rattle.fourstate.specs.Values.{same_value}
 use Rattle.gatestep.specs.Step.{State, Evaluation, due}
 use Rattle.design.specs.Netlist.{NetEntry, Netlist, stimulus}
@@ -237,47 +237,26 @@ driven_by n kind a f false some = let same : kind ≡ n.kind = cc in ap f same
 pub driven_is : (currents : List Value) (t : ℕ) (n : NetEntry) (kind : NetKind) (places : List ℕ) → Some kind ≡ driven_kind n → net_of kind (values_at currents places) ≡ net_from currents t n places
 driven_is currents t n kind places some = driven_by n kind (stimulus n.points t) (λ k. net_of k (values_at currents places)) n.is_input some
 
--- One driver alone gives a net what it drives, whatever the net's kind.
-
-wire_alone : (v : Value) → net_of Wire (v ∷ []) ≡ v
-wire_alone Zero = refl
-wire_alone One = refl
-wire_alone Unknown = refl
-wire_alone HighZ = refl
-
-wand_alone : (v : Value) → net_of Wand (v ∷ []) ≡ v
-wand_alone Zero = refl
-wand_alone One = refl
-wand_alone Unknown = refl
-wand_alone HighZ = refl
-
-wor_alone : (v : Value) → net_of Wor (v ∷ []) ≡ v
-wor_alone Zero = refl
-wor_alone One = refl
-wor_alone Unknown = refl
-wor_alone HighZ = refl
-
-pub one_driver : (kind : NetKind) (v : Value) → net_of kind (v ∷ []) ≡ v
-one_driver Wire v = wire_alone v
-one_driver Tri v = wire_alone v
-one_driver Wand v = wand_alone v
-one_driver Triand v = wand_alone v
-one_driver Wor v = wor_alone v
-one_driver Trior v = wor_alone v
-
 -- the place that stands alone
 alone_is : (places : List ℕ) (k : ℕ) → only_place places ≡ Some k → places ≡ k ∷ []
 alone_is [] k h = cc
 alone_is (p ∷ []) k h = let same : p ≡ k = cc in ap (λ x. x ∷ []) same
 alone_is (p ∷ q ∷ ps) k h = cc
 
-lone_by : (is_input : Bool) (places : List ℕ) (k : ℕ) → (if is_input then None else only_place places) ≡ Some k → (is_input ≡ false) × (places ≡ k ∷ [])
-lone_by true places k h = cc
-lone_by false places k h = (refl, alone_is places k h)
+-- a net that the driver at k alone gives its value is no input, its kind passes what one driver gives, and it has no other one
+pub record IsLone (n : NetEntry) (places : List ℕ) (k : ℕ) : Type 0 where
+  pub driven : n.is_input ≡ false
+  pub passes : passes_lone_driver n.kind ≡ true
+  pub alone : places ≡ k ∷ []
 
--- a net that one driver alone gives its value is no input, and has no other driver
-pub lone_is : (d : Netlist) (n : NetEntry) (k : ℕ) → lone_driver d n ≡ Some k → (n.is_input ≡ false) × (driver_places d.gates n.name ≡ k ∷ [])
-lone_is d n k h = lone_by n.is_input (driver_places d.gates n.name) k h
+lone_by : (n : NetEntry) (places : List ℕ) (k : ℕ) (is_input passes : Bool) → n.is_input ≡ is_input → passes_lone_driver n.kind ≡ passes →
+    (if is_input || not passes then None else only_place places) ≡ Some k → IsLone n places k
+lone_by n places k true passes i p h = cc
+lone_by n places k false false i p h = cc
+lone_by n places k false true i p h = record { driven = i; passes = p; alone = alone_is places k h }
+
+pub lone_is : (d : Netlist) (n : NetEntry) (k : ℕ) → lone_driver d n ≡ Some k → IsLone n (driver_places d.gates n.name) k
+lone_is d n k h = lone_by n (driver_places d.gates n.name) k n.is_input (passes_lone_driver n.kind) refl refl h
 
 -- what is listed at the place of a net
 pub lone_there : (d : Netlist) (lone : List (Option ℕ)) (p : ℕ) (n : NetEntry) (o : Option ℕ) → lone ≡ map (lone_driver d) d.nets → slice_get d.nets p ≡ Some n →
@@ -291,8 +270,8 @@ pub lone_gives : (d : Netlist) (currents : List Value) (t : ℕ) (n : NetEntry) 
     unwrap_or (slice_get currents k) Unknown ≡ net_from currents t n (driver_places d.gates n.name)
 lone_gives d currents t n k h =
     let is = lone_is d n k h in
-    sym (ap (λ b. if b then stimulus n.points t else net_of n.kind (values_at currents (driver_places d.gates n.name))) is.0
-    ∙ ap (λ l. net_of n.kind (values_at currents l)) is.1 ∙ one_driver n.kind (unwrap_or (slice_get currents k) Unknown))
+    sym (ap (λ b. if b then stimulus n.points t else net_of n.kind (values_at currents (driver_places d.gates n.name))) is.driven
+    ∙ ap (λ l. net_of n.kind (values_at currents l)) is.alone ∙ lone_driver_passes n.kind (unwrap_or (slice_get currents k) Unknown) is.passes)
 
 -- what is listed is the driver that alone gives the net its value
 pub listed_at : (d : Netlist) (lone : List (Option ℕ)) (p : ℕ) (n : NetEntry) (o : Option ℕ) → lone ≡ map (lone_driver d) d.nets → slice_get d.nets p ≡ Some n → p < length d.nets →

@@ -1,12 +1,12 @@
 -- One moment over what the simulator keeps: the state of each gate's driver in the order of the gates, the value of each
 -- net in the order of the nets, and places in these orders in place of names.
-use Rattle.std.specs.Prelude.{◌≡◌, Bool, true, false, ℕ, nat_eq, if◌then◌else◌, List, [], ◌∷◌, Option, Some, None, map, slice_get, unwrap_or}
+use Rattle.std.specs.Prelude.{◌≡◌, Bool, true, false, ℕ, nat_eq, ◌||◌, not, if◌then◌else◌, List, [], ◌∷◌, Option, Some, None, map, slice_get, unwrap_or}
 use Rattle.std.specs.List.{zip, position_from}
 use Rattle.std.specs.Option.{option_map_or}
 use Rattle.fourstate.specs.declared.value.Value.{Value}
 use Rattle.fourstate.specs.declared.value.Value.TheVariants.{Unknown}
 use Rattle.fourstate.specs.declared.net.NetKind.{NetKind}
-use Rattle.fourstate.specs.Nets.{net_of}
+use Rattle.fourstate.specs.Nets.{net_of, passes_lone_driver}
 use Rattle.gatestep.specs.Step.{State, Evaluation, due}
 use Rattle.design.specs.Connections.{Connection, to_net, to_constant}
 use Rattle.design.specs.Names.{same_name}
@@ -51,9 +51,13 @@ only_place [] = None
 only_place (p ∷ []) = Some p
 only_place (p ∷ q ∷ ps) = None
 
+-- among the places of a net's drivers that of the one that alone gives it its value: an only one, where the net's kind passes it
+abbrev pub lone_place : NetEntry → List ℕ → Option ℕ
+lone_place n places = if n.is_input || not (passes_lone_driver n.kind) then None else only_place places
+
 -- the driver that alone gives a net its value, if there is one
 abbrev pub lone_driver : Netlist → NetEntry → Option ℕ
-lone_driver d n = if n.is_input then None else only_place (driver_places d.gates n.name)
+lone_driver d n = lone_place n (driver_places d.gates n.name)
 
 -- these are the connections of the design
 pub record IsWiring (d : Netlist) (w : Wiring) : Type 0 where

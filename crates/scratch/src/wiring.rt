@@ -1,11 +1,11 @@
 //! The connections of a design, by places in place of keys.
 
-ghost use Rattle.std.specs.Prelude.{◌≡◌, ◌<◌, ◌||◌, ◌&&◌, ℕ, true, false, None, nat_eq, map, if◌then◌else◌, IfOk, OnOk, IfSome, IsSome, IsTrue, length};
+ghost use Rattle.std.specs.Prelude.{◌≡◌, ◌<◌, ◌||◌, ◌&&◌, ℕ, true, false, nat_eq, map, IfOk, OnOk, IfSome, IsSome, IsTrue, length};
 ghost use Rattle.std.specs.List.{list_any};
 ghost use Rattle.fourstate.specs.Gates.{takes_inputs};
 ghost use Rattle.design.specs.Keys.{IsConnected, IsThere, connection_in, entry_in, net_by_key, netlist};
 ghost use Rattle.design.specs.Places.{driver_places};
-ghost use Rattle.scratch.specs.Kept.{IsWiring, cell_of, driven_kind, input_of, is_at, lone_driver, only_place, output_at, places_at};
+ghost use Rattle.scratch.specs.Kept.{IsWiring, cell_of, driven_kind, input_of, is_at, lone_driver, lone_place, output_at, places_at};
 ghost use Rattle.scratch.specs.PackedInputs.{IsPackable};
 ghost use Rattle.scratch.specs.Places.{drives_at, has, reads_at};
 
@@ -167,9 +167,9 @@ fn all_lone_drivers(
 
 /// The driver that alone gives a net its value, if its drivers are at these places.
 fn lone_driver(net: &Net, places: &Places) -> Option<u32>
-    ensures { result ≡ (if net.now.is_input then None else only_place places.now.items) }
+    ensures { result ≡ lone_place net.now places.now.items }
 {
-    if net.is_input() {
+    if net.is_input() || !net.kind().passes_lone_driver() {
         return None;
     }
     match places.as_slice() {
