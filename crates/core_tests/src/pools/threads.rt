@@ -44,7 +44,7 @@ fn holding<R: Wait + Abort + Copy + Drop>(
     (probe, calls)
 }
 
-/// A step of so many tasks or more by so many workers: each computes a piece, which is held.
+/// A step of so many tasks, at least as many as there are workers: each worker comes to one piece, and is held there.
 fn step_held<R: Threads + Wait + Abort + Copy + Drop + Send + Sync + 'static>(
     rt: R,
     alloc: Global,
@@ -80,7 +80,7 @@ fn sixty_four_pieces_at_once(rt: HostRuntime) {
     step_held(rt, rt.alloc(), 64, 4_096, Hold::ForAll(64));
 }
 
-// A worker gets a piece of the steps that are dealt alone, and of these each computes one at once with the other.
+// Of a step with one task less than are dealt no worker gets a piece.
 #[test]
 fn a_small_step_and_a_large_one(rt: HostRuntime) {
     let (probe, calls) = holding(rt, rt.alloc(), Hold::ForAll(2));
