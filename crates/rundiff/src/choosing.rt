@@ -14,12 +14,21 @@ use design::Design;
 use event_queue::EventQueue;
 use std::alloc::AllocError;
 
+/// Puts some places in order, each once.
+pub fn put_in_order(places: &mut Vec<usize>)
+    ensures same { (p : ℕ) → is_among places.new.items p ≡ is_among places.old.items p }
+    ensures there { (n : ℕ) → All (λ p. p < n) places.old.items → All (λ p. p < n) places.new.items }
+    ensures once { ArePlaces places.new.items (is_among places.new.items) }
+{
+    places.sort_unstable();
+    places.dedup();
+}
+
 /// Leaves those of some places that are in a set, in order, each once.
 fn keep_in_order(places: &mut Vec<usize>, set: &PlaceSet)
     ensures { ArePlaces places.new.items (λ p. is_among places.old.items p && contains nat_cmp set.now p) }
 {
-    places.sort_unstable();
-    places.dedup();
+    put_in_order(places);
     places.retain(|place| set.contains(*place));
 }
 

@@ -12,6 +12,7 @@ ghost use Rattle.rundiff.specs.Fronts.{AreDrivers, IsWave};
 ghost use Rattle.rundiff.specs.Places.{gate_at, is_among, is_live, net_at};
 ghost use Rattle.rundiff.specs.Steady.{IsSteady};
 
+use crate::choosing::put_in_order;
 use crate::former::former_wave;
 use crate::holding::hold;
 use crate::patches::value_at;
@@ -136,6 +137,7 @@ pub fn hold_found(
     ensures gates { OnOk result ((q : ℕ) → contains nat_cmp held.new q ≡ true → contains nat_cmp held.old q ≡ false → is_among gates.new.items q ≡ true) }
     ensures gates_more { OnOk result ((q : ℕ) → is_among gates.old.items q ≡ true → is_among gates.new.items q ≡ true) }
 {
+    put_in_order(found);
     leave_new(found, live);
     nets.extend_from_slice(found.as_slice())?;
     add_drivers(new, found.as_slice(), gates)?;

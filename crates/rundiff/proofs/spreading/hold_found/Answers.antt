@@ -49,17 +49,20 @@ module _ (found kept slice : List ℕ) (live later : ℕ → Bool) (same : slice
 pub add_drivers-requires : goal.add_drivers-requires
 add_drivers-requires c =
     let P : ℕ → Type 0 = λ p. p < length (netlist c.args.new.now).nets in
-    record { there = subst (All P) (sym (c.as_slice-2.ensures.value ∙ c.leave_new.ensures)) (All-filter (λ p. not (contains nat_cmp c.args.live.now p)) P c.args.found.now.items c.requires.there) }
+    record { there = subst (All P) (sym (c.as_slice-2.ensures.value ∙ c.leave_new.ensures)) (All-filter (λ p. not (contains nat_cmp c.args.live.now p)) P c.put_in_order.new.places.items (c.put_in_order.ensures.there (length (netlist c.args.new.now).nets) c.requires.there)) }
 
 pub hold-requires-clause-there : goal.hold-requires-clause-there
 hold-requires-clause-there c =
     let P : ℕ → Type 0 = λ p. p < length (netlist c.args.new.now).nets in
-    subst (All P) (sym (c.as_slice-3.ensures.value ∙ c.leave_new.ensures)) (All-filter (λ p. not (contains nat_cmp c.args.live.now p)) P c.args.found.now.items c.requires.there)
+    subst (All P) (sym (c.as_slice-3.ensures.value ∙ c.leave_new.ensures)) (All-filter (λ p. not (contains nat_cmp c.args.live.now p)) P c.put_in_order.new.places.items (c.put_in_order.ensures.there (length (netlist c.args.new.now).nets) c.requires.there))
 
 pub returns-clause-live : goal.returns-clause-live
 returns-clause-live c =
+    let live = contains nat_cmp c.args.live.now in
     mapped c.hold.result c.hold.ensures.live
-    (λ adds. by_found c.args.found.now.items c.leave_new.new.places.items c.as_slice-3.result.now (contains nat_cmp c.args.live.now) (contains nat_cmp c.hold.new.live) c.as_slice-3.ensures.value adds c.leave_new.ensures)
+    (λ adds p.
+    by_found c.put_in_order.new.places.items c.leave_new.new.places.items c.as_slice-3.result.now live (contains nat_cmp c.hold.new.live) c.as_slice-3.ensures.value adds c.leave_new.ensures p
+    ∙ ap (λ (b : Bool). b || live p) (c.put_in_order.ensures.same p))
 
 pub returns-clause-nets : goal.returns-clause-nets
 returns-clause-nets c =
