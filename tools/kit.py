@@ -16,6 +16,8 @@ def load():
 
 
 RT = load()
+# What `rt` calls an edit that was refused: words in some kits, and true in others.
+REFUSALS = [getattr(RT, it) for it in ("REFUSED", "AT_LIMIT") if hasattr(RT, it)] or [True]
 CRATES = {}
 
 
@@ -33,8 +35,8 @@ def checked(crate, texts, flags, kept):
 
 def must_fail(crate, edit, kept):
     """Whether the prover refuses an edit, and what to say of it. With nothing kept it checks from nothing."""
-    kind, said = RT.must_fail(CRATES[crate], edit, ["--jobs", "1"], kept)
-    return kind in (RT.REFUSED, RT.AT_LIMIT), said
+    outcome, said = RT.must_fail(CRATES[crate], edit, ["--jobs", "1"], kept)
+    return outcome in REFUSALS, said
 
 
 def is_unread(said, changed):
