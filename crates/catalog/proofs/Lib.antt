@@ -1,3 +1,4 @@
+mod BlockLemmas
 pub mod CellLemmas
 pub mod ChangeLemmas
 pub mod EntryLemmas

@@ -1,3 +1,4 @@
+pub mod Blocks
 pub mod Catalog
 pub mod Columns
 pub mod Found

@@ -58,7 +58,7 @@ impl<R: Named> Catalog<R> {
             alloc,
             hasher,
             names: Names::empty(),
-            slots: Slots::new(),
+            slots: Slots::new(alloc),
             order: Chunked::new(alloc),
             len: 0,
         }
@@ -216,7 +216,7 @@ impl<R: Named> Catalog<R> {
         };
         let mut slots = self.slots;
         let mut order = self.order;
-        slots.remove(self.alloc, key)?;
+        slots.remove(key)?;
         order.set(index, None)?;
         Ok(Catalog {
             slots,

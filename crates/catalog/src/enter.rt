@@ -31,7 +31,7 @@ pub(crate) fn enter<R: Named>(
     ensures last { IfOk result (λ key. order.new ≡ order.old ++ Some (key, item) ∷ []) }
     ensures named { IfOk result (λ key. (name : List ℕ) → found R.name names.new name ≡ (if same_name (R.name item) name then Some key else found R.name names.old name)) }
 {
-    let key = slots.insert(alloc, order.len())?;
+    let key = slots.insert(order.len())?;
     let record = item.clone()?;
     names.insert(alloc, hasher, ByName { record }, key)?;
     order.push(Some((key, item)))?;

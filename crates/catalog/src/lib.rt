@@ -1,6 +1,7 @@
 //! Records by name and by key, in the order in which they were added.
 #![tactic(auto)]
 
+mod blocks;
 mod by_name;
 mod catalog;
 mod enter;

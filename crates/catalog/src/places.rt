@@ -89,7 +89,7 @@ pub(crate) fn close_up<R: Drop>(
     ensures placed { IfOk result (λ closed. ArePlaced (slot_at closed.0) closed.1) }
 {
     let closed = without_gaps(alloc, &order)?;
-    slots.number(alloc, &closed)?;
+    slots.number(&closed)?;
     Ok((slots, closed))
 }
 
