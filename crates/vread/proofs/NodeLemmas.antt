@@ -6,6 +6,7 @@ use Rattle.std.proofs.lemmas.Bool.{or_parts}
 use Rattle.std.proofs.lemmas.Bool.Decides.{nat_tests}
 use Rattle.std.proofs.lemmas.List.Elements.{All-head}
 use Rattle.std.proofs.lemmas.List.Folds.{list_any_none}
+use Rattle.fourstate.specs.Nets.{rule_of}
 use Rattle.fourstate.specs.declared.net.NetKind.{NetKind}
 use Rattle.design.specs.Netlist as netlists
 use Rattle.vtext.specs.Modules.{ModuleEntry}
@@ -41,10 +42,10 @@ any_alike p false (x ∷ xs) all = none_passes (length (x ∷ xs)) ∙ sym (list
 module _ (flat : List netlists.NetEntry) where
   pub clashes_same : (kind : NetKind) (kept : NodeRef) (node : Node) → IsNode flat kept node → parts.clashes kind kept ≡ late.clashes kind node
   clashes_same kind (Nets run) (wired nets) is =
-      let alike : Bool = late.is_clash (late.rule_of kind) (late.rule_of run.kind) in
+      let alike : Bool = late.is_clash (rule_of kind) (rule_of run.kind) in
       ap (λ (n : ℕ). nat_lt 0 n && alike) is.width
-      ∙ any_alike (λ net. late.is_clash (late.rule_of kind) (late.rule_of net.kind)) alike nets
-      (λ k d within. ap (λ (other : NetKind). late.is_clash (late.rule_of kind) (late.rule_of other)) (is.kinds k d within))
+      ∙ any_alike (λ net. late.is_clash (rule_of kind) (rule_of net.kind)) alike nets
+      (λ k d within. ap (λ (other : NetKind). late.is_clash (rule_of kind) (rule_of other)) (is.kinds k d within))
   clashes_same kind (Nets run) (tied value) is = absurd is
   clashes_same kind (Tied kept) (wired nets) is = absurd is
   clashes_same kind (Tied kept) (tied value) is = refl

@@ -4,7 +4,9 @@ use Rattle.std.specs.Prelude.{Bool, true, false, ℕ, ◌+◌, ◌&&◌, ◌||�
 use Rattle.std.specs.List.{list_any}
 use Rattle.std.specs.Option.{option_map_or, option_or}
 use Rattle.fourstate.specs.declared.net.NetKind.{NetKind}
-use Rattle.fourstate.specs.declared.net.NetKind.TheVariants.{Wire, Tri, Wand, Triand, Wor, Trior}
+use Rattle.fourstate.specs.declared.net.NetRule.{NetRule}
+use Rattle.fourstate.specs.declared.net.NetRule.TheVariants.{Wire}
+use Rattle.fourstate.specs.Nets.{rule_of, same_rule}
 use Rattle.design.specs.declared.limits.TheConstants.{MAX_GATES, MAX_NAME, MAX_NETS}
 use Rattle.edits.specs.declared.fault.EditFault.TheVariants.{BadName, DrivenInput, TooMany}
 use Rattle.vtext.specs.declared.fault.ReadFault.{ReadFault}
@@ -14,29 +16,14 @@ use Rattle.vtext.specs.declared.net.Net as nets
 use Rattle.vtext.specs.GateNames.{gate_bytes}
 use Rattle.vtext.specs.Modules.{GateEntry, ModuleEntry, ModuleList}
 use Rattle.vtext.specs.Nets.{net_kind}
-use Rattle.vread.specs.declared.joints.Rule.{Rule}
-use Rattle.vread.specs.declared.joints.Rule.TheVariants as rules
 use Rattle.elaboration.specs.Elaborations.{elaboration_fault}
 use Rattle.elaboration.specs.Ports.{fault_at}
 use Rattle.elaboration.specs.Scopes.{Node, Scope, flat_names, gates_of, is_own, nets_of, node_at, node_of, scopes_of, tied, wired}
 use Rattle.elaboration.specs.Tops.{top_of}
 
--- Rules by which nets resolve several drivers (IEEE 1364-2005, 4.6).
-
-abbrev pub rule_of : NetKind → Rule
-rule_of Wire = rules.Wire
-rule_of Tri = rules.Wire
-rule_of Wand = rules.Wand
-rule_of Triand = rules.Wand
-rule_of Wor = rules.Wor
-rule_of Trior = rules.Wor
-
 -- a port of the first rule may not be a net of the second one: a port of a kind `wire` or `tri` takes any net's kind
-abbrev pub is_clash : Rule → Rule → Bool
-is_clash rules.Wire net = false
-is_clash rules.Wand rules.Wand = false
-is_clash rules.Wor rules.Wor = false
-is_clash port net = true
+abbrev pub is_clash : NetRule → NetRule → Bool
+is_clash port net = not (same_rule port Wire) && not (same_rule port net)
 
 -- a port of this kind may not be one of these nets
 abbrev pub clashes : NetKind → Node → Bool

@@ -5,6 +5,7 @@ use Rattle.std.specs.List.{list_any}
 use Rattle.std.specs.Option.{option_map_or}
 use Rattle.fourstate.specs.Delays.{AreDelays}
 use Rattle.fourstate.specs.Gates.{takes_inputs}
+use Rattle.fourstate.specs.Nets.{rule_of}
 use Rattle.fourstate.specs.declared.net.NetKind.{NetKind}
 use Rattle.design.specs.declared.limits.TheConstants.{MAX_GATES, MAX_NAME, MAX_NETS}
 use Rattle.design.specs.Connections.{Connection, to_net, to_constant}
@@ -27,7 +28,7 @@ use Rattle.elaboration.specs.declared.node.NodeRef.TheVariants.{Nets, Tied}
 use Rattle.elaboration.specs.declared.node.Slot.{Slot}
 use Rattle.elaboration.specs.Elaborations.{Elaborated}
 use Rattle.elaboration.specs.Numbered.{PlacedScope, is_own_slot, ref_at, slot_node}
-use Rattle.vread.specs.LateFaults.{is_clash, rule_of}
+use Rattle.vread.specs.LateFaults.{is_clash}
 
 -- one of the nets of a scope, with what it is, passes
 abbrev pub any_slot : (Slot → ℕ × nets.Net → Bool) → List Slot → List (ℕ × nets.Net) → Bool

@@ -3,48 +3,27 @@
 ghost use Rattle.std.specs.Prelude.{◌≡◌, ◌&&◌, not};
 ghost use Rattle.elaboration.specs.Numbered.{is_own_slot, slot_node};
 ghost use Rattle.vtext.specs.Nets.{net_kind};
-ghost use Rattle.vread.specs.LateFaults.{is_clash, rule_of};
+ghost use Rattle.vread.specs.LateFaults.{is_clash};
 ghost use Rattle.vread.specs.Parts.{any_slot, clashes, is_input_ref, is_misjoined, is_tied};
 
 use elaboration::{NodeRef, Scope, Slot};
-use fourstate::NetKind;
+use fourstate::{NetKind, NetRule};
 use vtext::Net;
-
-/// By what rule nets resolve several drivers (IEEE 1364-2005, 4.6).
-#[derive(Clone, Copy, Debug, PartialEq, Eq)]
-enum Rule {
-    Wire,
-    Wand,
-    Wor,
-}
-
-fn rule_of(kind: NetKind) -> Rule
-    ensures { result ≡ rule_of kind }
-{
-    match kind {
-        NetKind::Wire | NetKind::Tri => Rule::Wire,
-        NetKind::Wand | NetKind::Triand => Rule::Wand,
-        NetKind::Wor | NetKind::Trior => Rule::Wor,
-    }
-}
 
 /// Whether a port of this kind may not be this: of a kind `wire` or `tri` it takes any net's kind.
 fn clashes(kind: NetKind, node: NodeRef) -> bool
     ensures { result ≡ clashes kind node }
 {
     match node {
-        NodeRef::Nets(run) => run.width > 0 && is_clash(rule_of(kind), rule_of(run.kind)),
+        NodeRef::Nets(run) => run.width > 0 && is_clash(kind.rule(), run.kind.rule()),
         NodeRef::Tied(_) => false,
     }
 }
 
-fn is_clash(port: Rule, net: Rule) -> bool
+fn is_clash(port: NetRule, net: NetRule) -> bool
     ensures { result ≡ is_clash port net }
 {
-    match (port, net) {
-        (Rule::Wire, _) | (Rule::Wand, Rule::Wand) | (Rule::Wor, Rule::Wor) => false,
-        _ => true,
-    }
+    port != NetRule::Wire && port != net
 }
 
 /// Whether it is a constant.
