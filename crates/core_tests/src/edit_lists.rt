@@ -1,7 +1,6 @@
 //! Lists of edits, worked out by hand.
 
 mod accepted;
-mod compared;
 pub mod lines;
 mod refused;
 mod shown;

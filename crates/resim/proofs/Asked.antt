@@ -1,16 +1,19 @@
--- What a run beside an old one has asked of its stepper.
-use Rattle.std.proofs.Common.{◌≡◌, ◌≤◌, ◌∙◌, ap, sym, subst, refl, ℕ, suc, List, [], ◌∷◌, ◌++◌, append_assoc, map, Result, Ok, Err, OnErr, inl, inr, arith}
+-- What a run beside an old one has asked of its stepper, and what it promises where it ends.
+use Rattle.std.proofs.Common.{◌≡◌, ◌≤◌, ◌∙◌, ap, sym, subst, refl, ℕ, suc, List, [], ◌∷◌, ◌+◌, ◌++◌, append_assoc, append-nil, map, Result, Ok, Err, OnErr, if◌then◌else◌, inl, inr, arith}
+use Rattle.std.specs.Result.{IsErrAnd}
 use Rattle.gatestep.specs.Step.{State, Evaluation}
+use Rattle.gatestep.specs.declared.fault.StepFault.{StepFault}
+use Rattle.gatestep.specs.declared.fault.StepFault.TheVariants.{OutOfMemory, WorkerLost}
+use Rattle.design.specs.Keys.{Keyed, netlist}
 use Rattle.design.specs.Netlist.{GateEntry, Netlist}
+use Rattle.waveform.specs.Runs.{RunRecord}
+use Rattle.scratch.specs.Lost.{loses_a_worker}
 use Rattle.scratch.specs.Run.{state_after}
 use Rattle.scratch.specs.Work.{HasGrownOrNot, task_at}
 use Rattle.rundiff.specs.Dirty.{rework_at, rework_below}
 use Rattle.rundiff.specs.Fronts.{IsFront}
 use Rattle.rundiff.specs.declared.front.Front.{Front}
-
-pub held_err : {A E P : Type 0} (r : Result A E) → P → OnErr r P
-held_err (Ok x) p = tt
-held_err (Err e) p = p
+use Rattle.resim.specs.Reruns.{HasGrownInPart, Reruns}
 
 module _ (answer : Evaluation → ℕ → State) (d : Netlist) (t : ℕ) where
   states_are : (gates : List GateEntry) → map (λ task. answer task t) (map (λ g. task_at answer d g t) gates) ≡ map (λ g. state_after answer d g t) gates
@@ -22,20 +25,39 @@ module _ (answer : Evaluation → ℕ → State) (d : Netlist) (t : ℕ) where
       answers ≡ map (λ task. answer task t) asked → taken ≡ answers → taken ≡ map (λ g. state_after answer d g t) gates
   answers_are gates tasks asked answers taken are all given same = same ∙ given ∙ ap (map (λ task. answer task t)) (all ∙ are) ∙ states_are gates
 
-module _ (answer : Evaluation → ℕ → State) (old new : Netlist) (base : List (Evaluation × ℕ)) where
-  -- all that was asked is the work below some moment, up to the horizon
-  abbrev pub IsPart : ℕ → List (Evaluation × ℕ) → Type 0
-  IsPart horizon now = (n : ℕ) × (n ≤ suc horizon) × (now ≡ base ++ rework_below answer old new n)
+module _ (answer : Evaluation → ℕ → State) (old new : Netlist) (base before after : List (Evaluation × ℕ)) (t : ℕ) (was : before ≡ base ++ rework_below answer old new t) where
+  -- the work of t more
+  pub one_more : after ≡ before ++ rework_at answer old new t → after ≡ base ++ rework_below answer old new (suc t)
+  one_more more = more ∙ ap (λ l. l ++ rework_at answer old new t) was ∙ append_assoc base (rework_below answer old new t) (rework_at answer old new t)
 
-  module _ (before after : List (Evaluation × ℕ)) (t : ℕ) (was : before ≡ base ++ rework_below answer old new t) where
-    -- the work of t more
-    pub one_more : after ≡ before ++ rework_at answer old new t → after ≡ base ++ rework_below answer old new (suc t)
-    one_more more = more ∙ ap (λ l. l ++ rework_at answer old new t) was ∙ append_assoc base (rework_below answer old new t) (rework_at answer old new t)
+  -- a fault came at t
+  pub part : t ≤ new.horizon → HasGrownOrNot before after (rework_at answer old new t) → HasGrownInPart answer old new base after
+  part within (inl same) = (t, omega arith, same ∙ was)
+  part within (inr more) = (suc t, omega arith, one_more more)
 
-    -- a fault came at t
-    pub part : (horizon : ℕ) → t ≤ horizon → HasGrownOrNot before after (rework_at answer old new t) → IsPart horizon after
-    part horizon within (inl same) = (t, omega arith, same ∙ was)
-    part horizon within (inr more) = (suc t, omega arith, one_more more)
+pub held_err : {A E P : Type 0} (r : Result A E) → P → OnErr r P
+held_err (Ok x) p = tt
+held_err (Err e) p = p
+
+-- a fault is lost or not whatever else there might have been
+lost_as : (A B : Type 0) (e f : StepFault) → f ≡ e → loses_a_worker {A = A} (Err e) ≡ loses_a_worker {A = B} (Err f)
+lost_as A B e f is = same e ∙ ap (λ (x : StepFault). loses_a_worker {A = B} (Err x)) (sym is)
+  where
+    same : (x : StepFault) → loses_a_worker {A = A} (Err x) ≡ loses_a_worker {A = B} (Err x)
+    same OutOfMemory = refl
+    same WorkerLost = refl
+
+-- what is promised where a fault is handed on
+pub stopped : (answer : Evaluation → ℕ → State) (old new : Keyed) (before now : List (Evaluation × ℕ)) (losses lost_before lost : ℕ) (A : Type 0) (e : StepFault) (r : Result RunRecord StepFault) →
+    IsErrAnd r (λ f. f ≡ e) → HasGrownInPart answer (netlist old) (netlist new) before now → lost_before ≡ losses → lost ≡ lost_before + (if loses_a_worker {A = A} (Err e) then 1 else 0) →
+    Reruns answer old new before now losses lost r
+stopped answer old new before now losses lost_before lost A e (Ok x) is grown same count = absurd is
+stopped answer old new before now losses lost_before lost A e (Err f) is grown same count = record {
+  run = tt;
+  asked = tt;
+  part = grown;
+  lost = count ∙ ap (λ (n : ℕ). n + (if loses_a_worker {A = A} (Err e) then 1 else 0)) same ∙ ap (λ b. losses + (if b then 1 else 0)) (lost_as A RunRecord e f is);
+}
 
 -- a front that is right at a moment, where that is known by another name
 pub front_at : (answer : Evaluation → ℕ → State) (old new : Netlist) (front : Front) (n m : ℕ) → m ≡ n → IsFront answer old new front n → IsFront answer old new front m

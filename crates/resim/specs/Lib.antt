@@ -1,3 +1,3 @@
 pub mod Asking
 pub mod Cuts
-pub mod Differences
+pub mod Reruns

@@ -1,6 +1,7 @@
 //! The run of a design from the run of a former one with the same horizon.
 
-ghost use Rattle.std.specs.Prelude.{◌≡◌, ◌≤◌, ◌+◌, ◌++◌, ℕ, suc, map, All, IfOk, OnErr, OnOk, if◌then◌else◌};
+ghost use Rattle.std.specs.Prelude.{◌≡◌, ◌≤◌, ◌+◌, ◌++◌, suc, map, All, OnErr, OnOk, if◌then◌else◌};
+ghost use Rattle.std.specs.Option.{ForSome};
 ghost use Rattle.fourstate.specs.declared.limits.TheConstants.{MAX_TIME};
 ghost use Rattle.gatestep.specs.Faults.{is_lost};
 ghost use Rattle.gatestep.specs.Record.{at_moment};
@@ -10,8 +11,9 @@ ghost use Rattle.edits.specs.Touched.{IsTouched};
 ghost use Rattle.scratch.specs.Lost.{loses_a_worker};
 ghost use Rattle.scratch.specs.Run.{IsRun};
 ghost use Rattle.scratch.specs.Work.{HasGrownOrNot};
-ghost use Rattle.rundiff.specs.Dirty.{rework_at, rework_below};
+ghost use Rattle.rundiff.specs.Dirty.{rework_at};
 ghost use Rattle.rundiff.specs.Fronts.{IsFront};
+ghost use Rattle.resim.specs.Reruns.{Reruns};
 
 use crate::sweep::sweep;
 use crate::wide::is_wide;
@@ -22,30 +24,28 @@ use rundiff::Front;
 use std::alloc::Global;
 use waveform::Run;
 
-/// The run of the new design, which has the horizon of the old one.
+/// The run of the new design, which has the horizon of the old one. Where what edits touched is not known or too much, it goes
+/// through the whole design.
 pub fn rerun_level<S: Stepper>(
     alloc: Global,
     old: &Design,
     run: &Run,
     new: &Design,
-    touched: &Touched,
+    touched: Option<&Touched>,
     stepper: &mut S,
 ) -> Result<Run, StepFault>
     requires run { IsRun S.answer old.now run.now }
-    requires touched { IsTouched old.now new.now touched.now.nets.items touched.now.gates.items }
+    requires touched { ForSome touched (λ t. IsTouched old.now new.now t.now.nets.items t.now.gates.items) }
     requires horizon { (netlist new.now).horizon ≡ (netlist old.now).horizon }
-    ensures run { IfOk result (IsRun S.answer new.now) }
-    ensures asked { OnOk result (S.asked stepper.new ≡ S.asked stepper.old
-        ++ rework_below S.answer (netlist old.now) (netlist new.now) (suc (netlist new.now).horizon)) }
-    ensures part { OnErr result ((n : ℕ) × (n ≤ suc (netlist new.now).horizon)
-        × (S.asked stepper.new ≡ S.asked stepper.old ++ rework_below S.answer (netlist old.now) (netlist new.now) n)) }
-    ensures lost { S.losses stepper.new ≡ S.losses stepper.old + (if loses_a_worker result then 1 else 0) }
+    ensures reruns { Reruns S.answer old.now new.now (S.asked stepper.old) (S.asked stepper.new)
+        (S.losses stepper.old) (S.losses stepper.new) result }
 {
-    if is_wide(alloc, old, run, new, touched)? {
-        sweep(alloc, old, run, new, stepper)
-    } else {
-        follow(alloc, old, run, new, touched, stepper)
+    if let Some(touched) = touched {
+        if !is_wide(alloc, old, run, new, touched)? {
+            return follow(alloc, old, run, new, touched, stepper);
+        }
     }
+    sweep(alloc, old, run, new, stepper)
 }
 
 /// The run of the new design: it goes from one moment at which something may differ to the next.
@@ -60,12 +60,8 @@ fn follow<S: Stepper>(
     requires run { IsRun S.answer old.now run.now }
     requires touched { IsTouched old.now new.now touched.now.nets.items touched.now.gates.items }
     requires horizon { (netlist new.now).horizon ≡ (netlist old.now).horizon }
-    ensures run { IfOk result (IsRun S.answer new.now) }
-    ensures asked { OnOk result (S.asked stepper.new ≡ S.asked stepper.old
-        ++ rework_below S.answer (netlist old.now) (netlist new.now) (suc (netlist new.now).horizon)) }
-    ensures part { OnErr result ((n : ℕ) × (n ≤ suc (netlist new.now).horizon)
-        × (S.asked stepper.new ≡ S.asked stepper.old ++ rework_below S.answer (netlist old.now) (netlist new.now) n)) }
-    ensures lost { S.losses stepper.new ≡ S.losses stepper.old + (if loses_a_worker result then 1 else 0) }
+    ensures reruns { Reruns S.answer old.now new.now (S.asked stepper.old) (S.asked stepper.new)
+        (S.losses stepper.old) (S.losses stepper.new) result }
 {
     new.lawful();
     let end = new.horizon() + 1;

@@ -6,12 +6,8 @@ mod cut;
 mod incremental;
 mod level;
 mod other_horizon;
-mod same;
-mod same_gates;
 mod sweep;
-mod touched;
 mod wide;
 
 pub use cut::shorten;
 pub use incremental::{rerun, rerun_touched};
-pub use touched::touched_between;

@@ -1,12 +1,12 @@
 //! The run of a design from the run of a former one with another horizon.
 
-ghost use Rattle.std.specs.Prelude.{◌≡◌, ◌≤◌, ◌+◌, ◌++◌, ℕ, suc, IfOk, OnErr, OnOk, if◌then◌else◌};
+ghost use Rattle.std.specs.Prelude.{◌≡◌, ◌≤◌, IfOk};
+ghost use Rattle.std.specs.Option.{ForSome};
 ghost use Rattle.fourstate.specs.declared.limits.TheConstants.{MAX_TIME};
 ghost use Rattle.design.specs.Keys.{netlist};
 ghost use Rattle.edits.specs.Touched.{IsTouched};
-ghost use Rattle.scratch.specs.Lost.{loses_a_worker};
 ghost use Rattle.scratch.specs.Run.{IsRun};
-ghost use Rattle.rundiff.specs.Dirty.{rework_below};
+ghost use Rattle.resim.specs.Reruns.{Reruns};
 
 use crate::cut::shorten;
 use crate::level::rerun_level;
@@ -23,45 +23,19 @@ pub fn rerun_shorter<S: Stepper>(
     old: &Design,
     run: &Run,
     new: &Design,
-    touched: &Touched,
+    touched: Option<&Touched>,
     stepper: &mut S,
 ) -> Result<Run, StepFault>
     requires run { IsRun S.answer old.now run.now }
-    requires touched { IsTouched old.now new.now touched.now.nets.items touched.now.gates.items }
+    requires touched { ForSome touched (λ t. IsTouched old.now new.now t.now.nets.items t.now.gates.items) }
     requires horizon { (netlist new.now).horizon ≤ (netlist old.now).horizon }
-    ensures run { IfOk result (IsRun S.answer new.now) }
-    ensures asked { OnOk result (S.asked stepper.new ≡ S.asked stepper.old
-        ++ rework_below S.answer (netlist old.now) (netlist new.now) (suc (netlist new.now).horizon)) }
-    ensures part { OnErr result ((n : ℕ) × (n ≤ suc (netlist new.now).horizon)
-        × (S.asked stepper.new ≡ S.asked stepper.old ++ rework_below S.answer (netlist old.now) (netlist new.now) n)) }
-    ensures lost { S.losses stepper.new ≡ S.losses stepper.old + (if loses_a_worker result then 1 else 0) }
-{
-    let short = shorten(alloc, old, run, new.horizon())?;
-    rerun_cut(alloc, old, &short, new, touched, stepper)
-}
-
-/// The run of the new design from the old run up to the horizon of the new design.
-fn rerun_cut<S: Stepper>(
-    alloc: Global,
-    old: &Design,
-    short: &Run,
-    new: &Design,
-    touched: &Touched,
-    stepper: &mut S,
-) -> Result<Run, StepFault>
-    requires run { IsRun S.answer (record old.now { horizon = (netlist new.now).horizon }) short.now }
-    requires touched { IsTouched old.now new.now touched.now.nets.items touched.now.gates.items }
-    requires horizon { (netlist new.now).horizon ≤ (netlist old.now).horizon }
-    ensures run { IfOk result (IsRun S.answer new.now) }
-    ensures asked { OnOk result (S.asked stepper.new ≡ S.asked stepper.old
-        ++ rework_below S.answer (netlist old.now) (netlist new.now) (suc (netlist new.now).horizon)) }
-    ensures part { OnErr result ((n : ℕ) × (n ≤ suc (netlist new.now).horizon)
-        × (S.asked stepper.new ≡ S.asked stepper.old ++ rework_below S.answer (netlist old.now) (netlist new.now) n)) }
-    ensures lost { S.losses stepper.new ≡ S.losses stepper.old + (if loses_a_worker result then 1 else 0) }
+    ensures reruns { Reruns S.answer old.now new.now (S.asked stepper.old) (S.asked stepper.new)
+        (S.losses stepper.old) (S.losses stepper.new) result }
 {
     new.lawful();
+    let short = shorten(alloc, old, run, new.horizon())?;
     let former = with_horizon(old, new.horizon())?;
-    rerun_level(alloc, &former, short, new, touched, stepper)
+    rerun_level(alloc, &former, &short, new, touched, stepper)
 }
 
 /// The run of the new design, whose horizon is a later one: past the old horizon each gate that is stirred is evaluated.
@@ -70,18 +44,14 @@ pub fn rerun_longer<S: Stepper>(
     old: &Design,
     run: &Run,
     new: &Design,
-    touched: &Touched,
+    touched: Option<&Touched>,
     stepper: &mut S,
 ) -> Result<Run, StepFault>
     requires run { IsRun S.answer old.now run.now }
-    requires touched { IsTouched old.now new.now touched.now.nets.items touched.now.gates.items }
+    requires touched { ForSome touched (λ t. IsTouched old.now new.now t.now.nets.items t.now.gates.items) }
     requires horizon { (netlist old.now).horizon ≤ (netlist new.now).horizon }
-    ensures run { IfOk result (IsRun S.answer new.now) }
-    ensures asked { OnOk result (S.asked stepper.new ≡ S.asked stepper.old
-        ++ rework_below S.answer (netlist old.now) (netlist new.now) (suc (netlist new.now).horizon)) }
-    ensures part { OnErr result ((n : ℕ) × (n ≤ suc (netlist new.now).horizon)
-        × (S.asked stepper.new ≡ S.asked stepper.old ++ rework_below S.answer (netlist old.now) (netlist new.now) n)) }
-    ensures lost { S.losses stepper.new ≡ S.losses stepper.old + (if loses_a_worker result then 1 else 0) }
+    ensures reruns { Reruns S.answer old.now new.now (S.asked stepper.old) (S.asked stepper.new)
+        (S.losses stepper.old) (S.losses stepper.new) result }
 {
     old.lawful();
     let level = with_horizon(new, old.horizon())?;
@@ -95,19 +65,15 @@ fn rerun_past<S: Stepper>(
     run: &Run,
     level: &Design,
     new: &Design,
-    touched: &Touched,
+    touched: Option<&Touched>,
     stepper: &mut S,
 ) -> Result<Run, StepFault>
     requires run { IsRun S.answer old.now run.now }
     requires level { level.now ≡ record new.now { horizon = (netlist old.now).horizon } }
-    requires touched { IsTouched old.now new.now touched.now.nets.items touched.now.gates.items }
+    requires touched { ForSome touched (λ t. IsTouched old.now new.now t.now.nets.items t.now.gates.items) }
     requires horizon { (netlist old.now).horizon ≤ (netlist new.now).horizon }
-    ensures run { IfOk result (IsRun S.answer new.now) }
-    ensures asked { OnOk result (S.asked stepper.new ≡ S.asked stepper.old
-        ++ rework_below S.answer (netlist old.now) (netlist new.now) (suc (netlist new.now).horizon)) }
-    ensures part { OnErr result ((n : ℕ) × (n ≤ suc (netlist new.now).horizon)
-        × (S.asked stepper.new ≡ S.asked stepper.old ++ rework_below S.answer (netlist old.now) (netlist new.now) n)) }
-    ensures lost { S.losses stepper.new ≡ S.losses stepper.old + (if loses_a_worker result then 1 else 0) }
+    ensures reruns { Reruns S.answer old.now new.now (S.asked stepper.old) (S.asked stepper.new)
+        (S.losses stepper.old) (S.losses stepper.new) result }
 {
     let made = rerun_level(alloc, old, run, level, touched, stepper)?;
     extend(alloc, level, &made, new, stepper)

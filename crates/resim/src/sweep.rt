@@ -11,6 +11,7 @@ ghost use Rattle.scratch.specs.Stands.{Stands};
 ghost use Rattle.scratch.specs.Work.{HasGrownOrNot};
 ghost use Rattle.rundiff.specs.Dirty.{rework_at, rework_below};
 ghost use Rattle.rundiff.specs.OldLines.{AreOldLines, traces_done, waves_done};
+ghost use Rattle.resim.specs.Reruns.{Reruns};
 
 use crate::asking::ask_dirty;
 use design::Design;
@@ -31,12 +32,8 @@ pub fn sweep<S: Stepper>(
 ) -> Result<Run, StepFault>
     requires run { IsRun S.answer old.now run.now }
     requires horizon { (netlist new.now).horizon ≤ (netlist old.now).horizon }
-    ensures run { IfOk result (IsRun S.answer new.now) }
-    ensures asked { OnOk result (S.asked stepper.new ≡ S.asked stepper.old
-        ++ rework_below S.answer (netlist old.now) (netlist new.now) (suc (netlist new.now).horizon)) }
-    ensures part { OnErr result ((n : ℕ) × (n ≤ suc (netlist new.now).horizon)
-        × (S.asked stepper.new ≡ S.asked stepper.old ++ rework_below S.answer (netlist old.now) (netlist new.now) n)) }
-    ensures lost { S.losses stepper.new ≡ S.losses stepper.old + (if loses_a_worker result then 1 else 0) }
+    ensures reruns { Reruns S.answer old.now new.now (S.asked stepper.old) (S.asked stepper.new)
+        (S.losses stepper.old) (S.losses stepper.new) result }
 {
     let blank_wave = Timeline::open(alloc, Value::Unknown)?;
     let blank_trace = Timeline::open(alloc, Driver::start())?;
@@ -56,12 +53,8 @@ fn sweep_beside<S: Stepper>(
     requires waves { waves_done lines.old ≡ 0 }
     requires traces { traces_done lines.old ≡ 0 }
     requires horizon { (netlist new.now).horizon ≤ (netlist old.now).horizon }
-    ensures run { IfOk result (IsRun S.answer new.now) }
-    ensures asked { OnOk result (S.asked stepper.new ≡ S.asked stepper.old
-        ++ rework_below S.answer (netlist old.now) (netlist new.now) (suc (netlist new.now).horizon)) }
-    ensures part { OnErr result ((n : ℕ) × (n ≤ suc (netlist new.now).horizon)
-        × (S.asked stepper.new ≡ S.asked stepper.old ++ rework_below S.answer (netlist old.now) (netlist new.now) n)) }
-    ensures lost { S.losses stepper.new ≡ S.losses stepper.old + (if loses_a_worker result then 1 else 0) }
+    ensures reruns { Reruns S.answer old.now new.now (S.asked stepper.old) (S.asked stepper.new)
+        (S.losses stepper.old) (S.losses stepper.new) result }
 {
     let wiring = wire(alloc, new)?;
     let mut room = Room {
@@ -190,12 +183,9 @@ fn sweep_on<S: Stepper>(
     requires wired { IsWiring (netlist new.now) wiring.now }
     requires stands { Stands S.answer (netlist new.now) engine 1 }
     requires horizon { (netlist new.now).horizon ≤ (netlist old.now).horizon }
-    ensures run { IfOk result (IsRun S.answer new.now) }
-    ensures asked { OnOk result ((was : List (Evaluation × ℕ)) → S.asked stepper.old ≡ was ++ rework_below S.answer (netlist old.now) (netlist new.now) 1 →
-        S.asked stepper.new ≡ was ++ rework_below S.answer (netlist old.now) (netlist new.now) (suc (netlist new.now).horizon)) }
-    ensures part { OnErr result ((was : List (Evaluation × ℕ)) → S.asked stepper.old ≡ was ++ rework_below S.answer (netlist old.now) (netlist new.now) 1 →
-        (n : ℕ) × (n ≤ suc (netlist new.now).horizon) × (S.asked stepper.new ≡ was ++ rework_below S.answer (netlist old.now) (netlist new.now) n)) }
-    ensures lost { S.losses stepper.new ≡ S.losses stepper.old + (if loses_a_worker result then 1 else 0) }
+    ensures reruns { (was : List (Evaluation × ℕ)) →
+        S.asked stepper.old ≡ was ++ rework_below S.answer (netlist old.now) (netlist new.now) 1 →
+        Reruns S.answer old.now new.now was (S.asked stepper.new) (S.losses stepper.old) (S.losses stepper.new) result }
 {
     let horizon = new.horizon();
     let mut engine = engine;

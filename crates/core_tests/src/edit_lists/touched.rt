@@ -9,7 +9,7 @@ use std::process::Abort;
 
 /// A list of edits, and the nets and the gates that it touches: a name for the one that had it before the list, and
 /// `+` and a name for the one that has it after.
-pub type Case<'a> = (&'a [&'a str], &'a [&'a str], &'a [&'a str]);
+type Case<'a> = (&'a [&'a str], &'a [&'a str], &'a [&'a str]);
 
 fn net_of(rt: &impl Abort, old: &Design, new: &Design, word: &str) -> NetKey {
     match word.strip_prefix('+') {
@@ -25,14 +25,14 @@ fn gate_of(rt: &impl Abort, old: &Design, new: &Design, word: &str) -> GateKey {
     }
 }
 
-pub fn check_nets(rt: &impl Abort, old: &Design, new: &Design, nets: &[NetKey], want: &[&str]) {
+fn check_nets(rt: &impl Abort, old: &Design, new: &Design, nets: &[NetKey], want: &[&str]) {
     equal(rt, "number of nets", nets.len(), want.len());
     for (net, word) in nets.iter().zip(want) {
         equal(rt, word, *net, net_of(rt, old, new, word));
     }
 }
 
-pub fn check_gates(rt: &impl Abort, old: &Design, new: &Design, gates: &[GateKey], want: &[&str]) {
+fn check_gates(rt: &impl Abort, old: &Design, new: &Design, gates: &[GateKey], want: &[&str]) {
     equal(rt, "number of gates", gates.len(), want.len());
     for (gate, word) in gates.iter().zip(want) {
         equal(rt, word, *gate, gate_of(rt, old, new, word));
@@ -59,7 +59,7 @@ fn check_cases(rt: &impl Abort, alloc: Global, first: &[&str], cases: &[Case<'_>
     drop(old);
 }
 
-pub const BUFFER: [&str; 5] = [
+const BUFFER: [&str; 5] = [
     "input a",
     "net y wire",
     "net u wire",

@@ -226,8 +226,8 @@ fn commit(rt: &impl Abort, alloc: Global, old: &State, edits: &[Edit]) -> Option
     Some((State { design, run }, stepper.tasks(rt)))
 }
 
-/// The same where what differs is found by comparison, and no step is dealt.
-fn check_compared(rt: &impl Abort, alloc: Global, old: &State, new: &State, tasks: u64)
+/// The same where what the edits touched is not known, and no step is dealt.
+fn check_untold(rt: &impl Abort, alloc: Global, old: &State, new: &State, tasks: u64)
     requires { IsRun advance old.now.design old.now.run }
 {
     let mut stepper = Counting::new(usize::MAX);
@@ -246,7 +246,7 @@ fn turn(rt: &impl Abort, alloc: Global, dice: &mut Dice, old: State, accepted: &
         return old;
     };
     check(rt, alloc, &old, &new, tasks);
-    check_compared(rt, alloc, &old, &new, tasks);
+    check_untold(rt, alloc, &old, &new, tasks);
     *accepted = accepted.saturating_add(1);
     new
 }

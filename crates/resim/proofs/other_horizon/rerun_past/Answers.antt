@@ -1,33 +1,43 @@
-use Rattle.std.proofs.Common.{◌≤◌, subst, sym}
+use Rattle.std.proofs.Common.{◌≤◌, refl, subst, sym}
 use Rattle.design.specs.Keys.{netlist}
-use Rattle.resim.proofs.Asked.{held_err}
-use Rattle.resim.proofs.Levels.{level_horizon, level_part, on_err, on_ok, past_asked, past_part}
+use Rattle.waveform.specs.Runs.{RunRecord}
+use Rattle.resim.proofs.Asked.{stopped}
+use Rattle.resim.proofs.Levels.{extended, level_horizon, level_part, level_touched}
 use Rattle.resim.proofs.other_horizon.rerun_past.Goals as goal
+
+pub rerun_level-requires-clause-touched : goal.rerun_level-requires-clause-touched
+rerun_level-requires-clause-touched g c = λ t is.
+    level_touched c.args.old.now c.args.new.now c.args.level.now c.requires.level
+    t.now.nets.items t.now.gates.items (c.requires.touched t is)
 
 pub rerun_level-requires-clause-horizon : goal.rerun_level-requires-clause-horizon
 rerun_level-requires-clause-horizon g c = level_horizon c.args.old.now c.args.new.now c.args.level.now c.requires.level
 
-pub returns-in_err-made-clause-part : goal.returns-in_err-made-clause-part
-returns-in_err-made-clause-part g c =
-    held_err c.from_residual.result
-    (level_part c.args.old.now c.args.new.now c.args.level.now c.requires.level g.S.Stepper.answer c.requires.horizon
-    (g.S.Stepper.asked c.args.stepper.now) (g.S.Stepper.asked c.rerun_level.new.stepper) c.in_err-made.ensures.part)
+pub returns-in_err-made : goal.returns-in_err-made
+returns-in_err-made g c =
+    let answer = g.S.Stepper.answer in let old = c.args.old.now in let new = c.args.new.now in let level = c.args.level.now in
+    let asked = g.S.Stepper.asked in let losses = g.S.Stepper.losses in
+    record {
+      reruns =
+          stopped answer old new (asked c.args.stepper.now) (asked c.rerun_level.new.stepper) (losses c.args.stepper.now) (losses c.args.stepper.now) (losses c.rerun_level.new.stepper)
+          RunRecord c.in_err-made.field-0.0 c.from_residual.result c.from_residual.ensures.1
+          (level_part old new level c.requires.level answer c.requires.horizon
+          (asked c.args.stepper.now) (asked c.rerun_level.new.stepper) c.in_err-made.ensures.reruns.part)
+          refl c.in_err-made.ensures.reruns.lost;
+    }
 
 pub extend-requires-clause-later : goal.extend-requires-clause-later
 extend-requires-clause-later g c =
     subst (λ h. h ≤ (netlist c.args.new.now).horizon)
     (sym (level_horizon c.args.old.now c.args.new.now c.args.level.now c.requires.level)) c.requires.horizon
 
-pub returns-clause-asked : goal.returns-clause-asked
-returns-clause-asked g c =
-    on_ok c.extend.result
-    (past_asked c.args.old.now c.args.new.now c.args.level.now c.requires.level g.S.Stepper.answer c.requires.horizon
-    (g.S.Stepper.asked c.args.stepper.now) (g.S.Stepper.asked c.rerun_level.new.stepper) c.in_ok-made.ensures.asked (g.S.Stepper.asked c.extend.new.stepper))
-    c.extend.ensures.asked
-
-pub returns-clause-part : goal.returns-clause-part
-returns-clause-part g c =
-    on_err c.extend.result
-    (past_part c.args.old.now c.args.new.now c.args.level.now c.requires.level g.S.Stepper.answer c.requires.horizon
-    (g.S.Stepper.asked c.args.stepper.now) (g.S.Stepper.asked c.rerun_level.new.stepper) c.in_ok-made.ensures.asked (g.S.Stepper.asked c.extend.new.stepper))
-    c.extend.ensures.part
+pub returns : goal.returns
+returns g c =
+    let asked = g.S.Stepper.asked in let losses = g.S.Stepper.losses in
+    record {
+      reruns =
+          extended c.args.old.now c.args.new.now c.args.level.now c.requires.level g.S.Stepper.answer c.requires.horizon
+          (asked c.args.stepper.now) (asked c.rerun_level.new.stepper) c.in_ok-made.made (losses c.args.stepper.now) (losses c.rerun_level.new.stepper) c.in_ok-made.ensures.reruns
+          (asked c.extend.new.stepper) (losses c.extend.new.stepper) c.extend.result
+          c.extend.ensures.run c.extend.ensures.asked c.extend.ensures.part c.extend.ensures.lost;
+    }

@@ -1,9 +1,10 @@
 use Rattle.std.proofs.Common.{◌≡◌, ◌≤◌, ◌++◌, ◌∙◌, sym, ap, refl, subst, suc, add-one, arith}
 use Rattle.std.proofs.lemmas.Grind.{common_steps}
+use Rattle.gatestep.specs.declared.fault.StepFault.TheVariants.{OutOfMemory}
 use Rattle.design.specs.Keys.{netlist}
 use Rattle.scratch.specs.Stands.{Stands}
 use Rattle.rundiff.specs.Dirty.{rework_below}
-use Rattle.resim.proofs.Asked.{held_err, one_more, part}
+use Rattle.resim.proofs.Asked.{one_more, part, stopped}
 use Rattle.resim.proofs.Weaving.{rework_idle}
 use Rattle.resim.proofs.sweep.sweep_on.Goals as goal
 
@@ -20,14 +21,20 @@ loop-t-init g c =
       losses = refl;
     }
 
-pub returns-in_err-pass_beside-clause-part : goal.returns-in_err-pass_beside-clause-part
-returns-in_err-pass_beside-clause-part g c =
-    let answer = g.S.Stepper.answer in let old = netlist c.args.old.now in let new = netlist c.args.new.now in let t = c.loop-t.t in
+pub returns-in_err-pass_beside : goal.returns-in_err-pass_beside
+returns-in_err-pass_beside g c =
+    let answer = g.S.Stepper.answer in let old = c.args.old.now in let new = c.args.new.now in let t = c.loop-t.t in
+    let asked = g.S.Stepper.asked in let losses = g.S.Stepper.losses in
     let is = c.horizon-horizon.ensures.horizon in
     let low = c.loop-t-test.true in
-    let le : t ≤ new.horizon = omega arith in
-    held_err c.from_residual.result
-    (λ was began. part answer old new was (g.S.Stepper.asked c.loop-t.stepper) (g.S.Stepper.asked c.pass_beside.new.stepper) t (c.loop-t.invariant.asked was began) new.horizon le c.in_err-pass_beside.ensures.part)
+    let le : t ≤ (netlist new).horizon = omega arith in
+    record {
+      reruns = λ was began.
+          stopped answer old new was (asked c.pass_beside.new.stepper) (losses c.args.stepper.now) (losses c.loop-t.stepper) (losses c.pass_beside.new.stepper)
+          (Unit {0}) c.in_err-pass_beside.field-0.0 c.from_residual.result c.from_residual.ensures.1
+          (part answer (netlist old) (netlist new) was (asked c.loop-t.stepper) (asked c.pass_beside.new.stepper) t (c.loop-t.invariant.asked was began) le c.in_err-pass_beside.ensures.part)
+          c.loop-t.invariant.losses c.in_err-pass_beside.ensures.lost;
+    }
 
 pub loop-t-preserved : goal.loop-t-preserved
 loop-t-preserved g c =
@@ -51,8 +58,27 @@ finish-requires-clause-stands g c =
     let last : c.loop-t.t ≡ suc new.horizon = let past = c.loop-t-test.false in let within = c.loop-t.invariant.within in let is = c.horizon-horizon.ensures.horizon in omega arith in
     subst (Stands g.S.Stepper.answer new c.loop-t.engine) last c.loop-t.invariant.stands
 
-pub returns-clause-asked : goal.returns-clause-asked
-returns-clause-asked g c =
+pub returns-in_err-finish : goal.returns-in_err-finish
+returns-in_err-finish g c =
+    let answer = g.S.Stepper.answer in let old = c.args.old.now in let new = c.args.new.now in
+    let losses = g.S.Stepper.losses in
+    let last : c.loop-t.t ≡ suc (netlist new).horizon = let past = c.loop-t-test.false in let within = c.loop-t.invariant.within in let is = c.horizon-horizon.ensures.horizon in omega arith in
+    record {
+      reruns = λ was began.
+          stopped answer old new was (g.S.Stepper.asked c.loop-t.stepper) (losses c.args.stepper.now) (losses c.loop-t.stepper) (losses c.loop-t.stepper)
+          (Unit {0}) OutOfMemory c.from_residual-in_err-finish.result c.from_residual-in_err-finish.ensures.1
+          (c.loop-t.t, omega (arith, last), c.loop-t.invariant.asked was began) c.loop-t.invariant.losses (omega arith);
+    }
+
+pub returns : goal.returns
+returns g c =
     let answer = g.S.Stepper.answer in let old = netlist c.args.old.now in let new = netlist c.args.new.now in
     let last : c.loop-t.t ≡ suc new.horizon = let past = c.loop-t-test.false in let within = c.loop-t.invariant.within in let is = c.horizon-horizon.ensures.horizon in omega arith in
-    λ was began. c.loop-t.invariant.asked was began ∙ ap (λ n. was ++ rework_below answer old new n) last
+    record {
+      reruns = λ was began. record {
+        run = c.in_ok-finish.ensures;
+        asked = c.loop-t.invariant.asked was began ∙ ap (λ n. was ++ rework_below answer old new n) last;
+        part = tt;
+        lost = let same = c.loop-t.invariant.losses in omega (arith, same);
+      };
+    }
