@@ -1,18 +1,17 @@
 -- The lines of edits (own).
-use Rattle.std.specs.Prelude.{ℕ, List, ◌∷◌, Option, None, Some, option_map, option_and_then}
+use Rattle.std.specs.Prelude.{ℕ, if◌then◌else◌, List, [], ◌∷◌, Option, None, Some, option_map, option_and_then}
 use Rattle.fourstate.specs.Delays.{delay_times}
 use Rattle.fourstate.specs.Keywords.{gate_kind_of, net_kind_of}
 use Rattle.fourstate.specs.declared.delay_times.DelayTimes.{DelayTimes}
 use Rattle.edits.specs.declared.edit.Edit.{Edit}
 use Rattle.edits.specs.declared.edit.Edit.TheVariants as edit
+use Rattle.edits.specs.declared.pin.Pin.{Pin}
 use Rattle.session.specs.declared.commands.edit_line.EditLine.{EditLine}
 use Rattle.session.specs.declared.commands.edit_line.EditLine.TheVariants.{AddNet, AddInput, DropNet, SetNetKind, AddGate, DropGate, SetDelay, SetGateKind, Rewire, Stim, Unstim, Horizon}
-use Rattle.session.specs.declared.commands.gate.GateWords.{GateWords}
-use Rattle.session.specs.declared.commands.gate.WireWords.{WireWords}
 use Rattle.session.specs.declared.commands.verb.EditVerb.{EditVerb}
 use Rattle.session.specs.declared.commands.verb.EditVerb.TheVariants as verb
 use Rattle.session.specs.Pins.{pins_of}
-use Rattle.session.specs.Words.{name_and_time, number_of, one_word, three_words, two_words, value_of}
+use Rattle.session.specs.Words.{name_and_time, no_words, number_of, one_word, three_words, two_words, value_of}
 
 -- Each edit from the words behind the first one of its line, if they are readable.
 
@@ -49,43 +48,37 @@ horizon_edit ws = option_and_then (λ word. option_map (λ time. Horizon time) (
 abbrev pub drop_edit : List (List ℕ) → Option EditLine
 drop_edit ws = option_map (λ name. DropGate name) (one_word ws)
 
--- the delays that two words write, a rise and a fall
-abbrev pub delays_of : List ℕ → List ℕ → Option DelayTimes
-delays_of rise fall = option_and_then (λ r. option_map (λ f. delay_times r f) (number_of fall)) (number_of rise)
+-- R F, with which words begin: the delays that they write, a rise and a fall, and the words behind them
+abbrev pub delays_of : List (List ℕ) → Option (DelayTimes × List (List ℕ))
+delays_of (rise ∷ fall ∷ ws) = option_and_then (λ r. option_map (λ f. (delay_times r f, ws)) (number_of fall)) (number_of rise)
+delays_of _ = None
 
 -- delay G R F
 abbrev pub delay_edit : List (List ℕ) → Option EditLine
-delay_edit ws = option_and_then (λ w. option_map (λ delays. SetDelay w.0 delays) (delays_of w.1 w.2)) (three_words ws)
+delay_edit (name ∷ ws) =
+    option_and_then (λ delays. if no_words delays.1 then Some (SetDelay name delays.0) else None) (delays_of ws)
+delay_edit [] = None
 
 -- type G KIND
 abbrev pub type_edit : List (List ℕ) → Option EditLine
 type_edit ws = option_and_then (λ w. option_map (λ kind. SetGateKind w.0 kind) (gate_kind_of w.1)) (two_words ws)
 
+-- OUT IN..: what a gate drives and reads
+abbrev pub nets_of : List (List ℕ) → Option (List ℕ × List Pin)
+nets_of (output ∷ ws) = option_map (λ inputs. (output, inputs)) (pins_of ws)
+nets_of [] = None
+
 -- gate G KIND R F OUT IN..
-abbrev pub gate_words : List (List ℕ) → Option GateWords
-gate_words (name ∷ kind ∷ rise ∷ fall ∷ output ∷ inputs) =
-    Some (record { name = name; kind = kind; rise = rise; fall = fall; output = output; inputs = inputs })
-gate_words _ = None
-
-abbrev pub gate_of_words : GateWords → Option EditLine
-gate_of_words w =
-    option_and_then (λ kind. option_and_then (λ delays.
-    option_map (λ inputs. AddGate w.name kind delays w.output inputs) (pins_of w.inputs))
-    (delays_of w.rise w.fall)) (gate_kind_of w.kind)
-
 abbrev pub gate_edit : List (List ℕ) → Option EditLine
-gate_edit ws = option_and_then gate_of_words (gate_words ws)
+gate_edit (name ∷ word ∷ ws) =
+    option_and_then (λ kind. option_and_then (λ delays.
+    option_map (λ nets. AddGate name kind delays.0 nets.0 nets.1) (nets_of delays.1)) (delays_of ws)) (gate_kind_of word)
+gate_edit _ = None
 
 -- wire G OUT IN..
-abbrev pub wire_words : List (List ℕ) → Option WireWords
-wire_words (name ∷ output ∷ inputs) = Some (record { name = name; output = output; inputs = inputs })
-wire_words _ = None
-
-abbrev pub wire_of_words : WireWords → Option EditLine
-wire_of_words w = option_map (λ inputs. Rewire w.name w.output inputs) (pins_of w.inputs)
-
 abbrev pub wire_edit : List (List ℕ) → Option EditLine
-wire_edit ws = option_and_then wire_of_words (wire_words ws)
+wire_edit (name ∷ ws) = option_map (λ nets. Rewire name nets.0 nets.1) (nets_of ws)
+wire_edit [] = None
 
 -- the edit that a verb writes with the words behind it, if they are readable
 abbrev pub edit_line_of : EditVerb → List (List ℕ) → Option EditLine

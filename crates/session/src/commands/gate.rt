@@ -2,101 +2,52 @@
 //! unreadable.
 
 ghost use Rattle.std.specs.Prelude.{◌≡◌};
-ghost use Rattle.session.specs.EditLines.{gate_edit, gate_of_words, gate_words, wire_edit, wire_of_words, wire_words};
+ghost use Rattle.session.specs.EditLines.{gate_edit, nets_of, wire_edit};
 
 use crate::commands::edit_line::EditLine;
 use crate::commands::pins::PinWords;
-use crate::commands::times::read_delays;
+use crate::commands::times::take_delays;
 use crate::words::{WordRef, Words};
 use fourstate::GateKind;
-
-/// The words of `gate G KIND R F OUT IN..`, behind the first one.
-#[derive(Drop)]
-pub struct GateWords<'a> {
-    name: WordRef<'a>,
-    kind: WordRef<'a>,
-    rise: WordRef<'a>,
-    fall: WordRef<'a>,
-    output: WordRef<'a>,
-    inputs: Words<'a>,
-}
 
 /// `gate G KIND R F OUT IN..`.
 pub fn read_gate(words: Words<'_>) -> Option<EditLine<'_>>
     ensures { result ≡ gate_edit words.entry }
 {
-    gate_of(split_gate(words)?)
-}
-
-fn split_gate(words: Words<'_>) -> Option<GateWords<'_>>
-    ensures { result ≡ gate_words words.entry }
-{
     let mut rest = words;
     let name = rest.next()?;
-    let kind = rest.next()?;
-    let rise = rest.next()?;
-    let fall = rest.next()?;
-    let output = rest.next()?;
-    Some(GateWords {
+    let kind = GateKind::from_keyword(rest.next()?.as_bytes())?;
+    let delays = take_delays(&mut rest)?;
+    let (output, inputs) = read_nets(rest)?;
+    Some(EditLine::AddGate {
         name,
         kind,
-        rise,
-        fall,
-        output,
-        inputs: rest,
-    })
-}
-
-fn gate_of(words: GateWords<'_>) -> Option<EditLine<'_>>
-    ensures { result ≡ gate_of_words words.entry }
-{
-    let kind = GateKind::from_keyword(words.kind.as_bytes())?;
-    let delays = read_delays(words.rise.as_bytes(), words.fall.as_bytes())?;
-    let inputs = PinWords::new(words.inputs)?;
-    Some(EditLine::AddGate {
-        name: words.name,
-        kind,
         delays,
-        output: words.output,
+        output,
         inputs,
     })
-}
-
-/// The words of `wire G OUT IN..`, behind the first one.
-#[derive(Drop)]
-pub struct WireWords<'a> {
-    name: WordRef<'a>,
-    output: WordRef<'a>,
-    inputs: Words<'a>,
 }
 
 /// `wire G OUT IN..`.
 pub fn read_wire(words: Words<'_>) -> Option<EditLine<'_>>
     ensures { result ≡ wire_edit words.entry }
 {
-    wire_of(split_wire(words)?)
-}
-
-fn split_wire(words: Words<'_>) -> Option<WireWords<'_>>
-    ensures { result ≡ wire_words words.entry }
-{
     let mut rest = words;
     let name = rest.next()?;
-    let output = rest.next()?;
-    Some(WireWords {
+    let (output, inputs) = read_nets(rest)?;
+    Some(EditLine::Rewire {
         name,
         output,
-        inputs: rest,
+        inputs,
     })
 }
 
-fn wire_of(words: WireWords<'_>) -> Option<EditLine<'_>>
-    ensures { result ≡ wire_of_words words.entry }
+// `OUT IN..`: what a gate drives and reads.
+fn read_nets(words: Words<'_>) -> Option<(WordRef<'_>, PinWords<'_>)>
+    ensures { result ≡ nets_of words.entry }
 {
-    let inputs = PinWords::new(words.inputs)?;
-    Some(EditLine::Rewire {
-        name: words.name,
-        output: words.output,
-        inputs,
-    })
+    let mut rest = words;
+    let output = rest.next()?;
+    let inputs = PinWords::new(rest)?;
+    Some((output, inputs))
 }

@@ -5,7 +5,7 @@ ghost use Rattle.std.specs.Prelude.{◌≡◌};
 ghost use Rattle.session.specs.EditLines.{delay_edit, drop_edit, type_edit};
 
 use crate::commands::edit_line::EditLine;
-use crate::commands::times::read_delays;
+use crate::commands::times::take_delays;
 use crate::words::Words;
 use fourstate::GateKind;
 
@@ -21,9 +21,14 @@ pub fn read_drop(words: Words<'_>) -> Option<EditLine<'_>>
 pub fn read_delay(words: Words<'_>) -> Option<EditLine<'_>>
     ensures { result ≡ delay_edit words.entry }
 {
-    let (name, rise, fall) = words.three()?;
-    let delays = read_delays(rise.as_bytes(), fall.as_bytes())?;
-    Some(EditLine::SetDelay { name, delays })
+    let mut rest = words;
+    let name = rest.next()?;
+    let delays = take_delays(&mut rest)?;
+    if rest.none() {
+        Some(EditLine::SetDelay { name, delays })
+    } else {
+        None
+    }
 }
 
 /// `type G KIND`.

@@ -1,7 +1,7 @@
 //! The commands that change stimulus and horizon, and the moments, delays and values of lines. Each command is read behind its first
 //! word; none where the words are unreadable.
 
-ghost use Rattle.std.specs.Prelude.{◌≡◌};
+ghost use Rattle.std.specs.Prelude.{◌≡◌, MatchOption};
 ghost use Rattle.session.specs.EditLines.{delays_of, horizon_edit, stim_edit, unstim_edit};
 ghost use Rattle.session.specs.Words.{name_and_time, value_of};
 
@@ -45,12 +45,12 @@ pub fn read_name_and_time(words: Words<'_>) -> Option<(WordRef<'_>, u64)>
     Some((net, time))
 }
 
-/// The delays that two words write, a rise and a fall.
-pub fn read_delays(rise: &[u8], fall: &[u8]) -> Option<DelayTimes>
-    ensures { result ≡ delays_of rise.now fall.now }
+/// Takes `R F`, the words of delays, and gives the delays that they write.
+pub fn take_delays(words: &mut Words<'_>) -> Option<DelayTimes>
+    ensures { MatchOption result (delays_of words.old ≡ None) (λ delays. delays_of words.old ≡ Some (delays, words.new)) }
 {
-    let rise = number(rise)?;
-    let fall = number(fall)?;
+    let rise = number(words.next()?.as_bytes())?;
+    let fall = number(words.next()?.as_bytes())?;
     Some(DelayTimes::new(rise, fall))
 }
 
