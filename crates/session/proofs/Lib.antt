@@ -3,7 +3,6 @@ pub mod OpeningLemmas
 pub mod ServeLemmas
 pub mod ExchangeLemmas
 pub mod AnswerLemmas
-pub mod ReadingLemmas
 pub mod LineLemmas
 pub mod PinLemmas
 pub mod TalkLemmas

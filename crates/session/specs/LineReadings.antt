@@ -35,8 +35,3 @@ owns_words _ = false
 abbrev pub IsReadTo : Command → Result Line LineFault → Type 0
 IsReadTo c (Ok said) = reading_of c ≡ Ok said
 IsReadTo c (Err fault) = (reading_of c ≡ Err fault) ⊎ ((fault ≡ OutOfMemory) × (owns_words c ≡ true))
-
--- a command that edits nothing was read
-abbrev pub is_other : Result Line LineFault → Bool
-is_other (Ok Other) = true
-is_other _ = false

@@ -1,8 +1,10 @@
 //! The edits of a batch.
 
 ghost use Rattle.std.specs.Prelude.{◌≡◌, ◌++◌, ◌∷◌, [], true, if◌then◌else◌, IfErr, OnErr, OnOk};
+ghost use Rattle.session.specs.EditLines.{edit_of};
 ghost use Rattle.session.specs.Steps.{has_room};
 
+use crate::commands::EditLine;
 use crate::replies::Refusal;
 use edits::{Edit, EditFault, MAX_EDITS};
 use std::alloc::Global;
@@ -40,23 +42,19 @@ impl Batch {
         self.edits.as_slice()
     }
 
-    /// Whether there are fewer edits than a commit may have.
-    pub fn has_room(&self) -> bool
-        ensures { result ≡ has_room self.now }
-    {
-        self.edits.len() < MAX_EDITS
-    }
-
-    /// Keeps an edit too, if there is room.
-    pub fn keep(&mut self, edit: Edit) -> Result<(), Refusal>
-        ensures kept { OnOk result (self.new ≡ self.old ++ edit ∷ []) }
+    /// Keeps the edit of a line too, if there is room.
+    pub fn keep(&mut self, alloc: Global, edit: &EditLine<'_>) -> Result<(), Refusal>
+        ensures kept { OnOk result (self.new ≡ self.old ++ edit_of edit.now ∷ []) }
         ensures room { OnOk result (has_room self.old ≡ true) }
         ensures unchanged { OnErr result (self.new ≡ self.old) }
         ensures refused { IfErr result (λ refusal. refusal ≡ Refusal.Edit (if has_room self.old then EditFault.OutOfMemory else EditFault.TooMany)) }
     {
-        if !self.has_room() {
+        if self.edits.len() >= MAX_EDITS {
             return Err(Refusal::Edit(EditFault::TooMany));
         }
+        let Ok(edit) = edit.to_edit(alloc) else {
+            return Err(Refusal::Edit(EditFault::OutOfMemory));
+        };
         match self.edits.push(edit) {
             Ok(()) => Ok(()),
             Err(_) => Err(Refusal::Edit(EditFault::OutOfMemory)),

@@ -1,28 +1,21 @@
 //! What a session has: the bench, a batch, and snapshots that are held.
 
-ghost use Rattle.std.specs.Prelude.{◌≡◌, false, true, Ok, Err, IfOk, MatchResult};
-ghost use Rattle.std.specs.Option.{option_map_or};
+ghost use Rattle.std.specs.Prelude.{◌≡◌, Ok, IfOk, MatchResult};
 ghost use Rattle.devices.specs.Outgoing.{Adds};
 ghost use Rattle.gatestep.specs.Step.{advance};
 ghost use Rattle.design.specs.Keys.{netlist};
-ghost use Rattle.session.specs.EditLines.{edit_of};
 ghost use Rattle.session.specs.Held.{held_as};
-ghost use Rattle.session.specs.LineReadings.{IsReadTo, is_other, reading_of};
 ghost use Rattle.session.specs.Refused.{Comes, MayRefuseCommit, refusal_of};
-ghost use Rattle.session.specs.Replies.{refusal_line};
 ghost use Rattle.session.specs.Standing.{opened_with};
-ghost use Rattle.session.specs.State.{Replies, ends, held_reply, is_quit, result_line};
-ghost use Rattle.session.specs.declared.commands.edit_line.EditLine.{EditLine};
-ghost use Rattle.session.specs.Steps.{commit_step, has_room};
+ghost use Rattle.session.specs.State.{ends, held_reply, is_quit, result_line};
+ghost use Rattle.session.specs.Steps.{commit_step};
 ghost use Rattle.session.specs.Talk.{Answered, CarriedOut};
 
 use crate::asking::reply;
 use crate::batch::Batch;
-use crate::commands::{Command, Question, read};
+use crate::commands::{Command, EditLine, Question, read};
 use crate::held::Held;
-use crate::reading::line;
 use crate::replies::{Refusal, no, ok};
-use crate::said::{Line, LineFault};
 use crate::words::WordRef;
 use bench::{Bench, CommitFault};
 use design::Design;
@@ -66,77 +59,38 @@ impl<S: Stepper + Drop> Machine<S> {
     }
 
     /// Answers a line, which comes without its line feed, and tells whether it ends the session.
-    #[tactic(auto, unfolding(crate::specs::State::Answers, crate::specs::State::ends), using(crate::proofs::ReadingLemmas::leaves))]
+    #[tactic(auto, unfolding(crate::specs::State::Answers, crate::specs::State::ends))]
     pub fn answer<W: Sink>(&mut self, bytes: &[u8], writer: &mut Writer<'_, W>) -> bool
         ensures answered { Answered self.old self.new bytes.now writer.old writer.new }
         ensures ends { result ≡ ends bytes.now }
     {
-        let said = line(self.alloc, bytes);
-        if is_other(&said) {
-            return self.carry_out(read(bytes), writer);
-        }
-        self.take(said, writer);
-        false
+        self.carry_out(read(bytes), writer)
     }
 
-    // Takes what a line says, unless that is left to `carry_out`.
-    #[tactic(auto, using(crate::proofs::ReadingLemmas::refused))]
-    fn take<W: Sink>(&mut self, said: Result<Line, LineFault>, writer: &mut Writer<'_, W>)
-        requires { is_other said ≡ false }
-        ensures { (command : Command) → IsReadTo command said → CarriedOut self.old self.new command writer.old writer.new }
-    {
-        match said {
-            Ok(Line::Skip | Line::Other) => {}
-            Ok(Line::Edit(edit)) => {
-                let result = self.change(edit);
-                self.conclude(result, writer);
-            }
-            Ok(Line::Begin) => {
-                let result = self.begin();
-                self.conclude(result, writer);
-            }
-            Ok(Line::Commit) => {
-                let result = self.commit();
-                self.conclude(result, writer);
-            }
-            Ok(Line::Abort) => {
-                let result = self.abort();
-                self.conclude(result, writer);
-            }
-            Err(fault) => no(writer, self.refusal(fault)),
-        }
-    }
-
-    // Why a line is refused that says nothing. In a full batch there would be no room for its edit either.
-    fn refusal(&self, fault: LineFault) -> Refusal
-        ensures { (command : Command) → IsReadTo command (Err fault) → Replies self.now command (refusal_line result) self.now }
-    {
-        match fault {
-            LineFault::BadCommand => Refusal::BadCommand,
-            LineFault::LongLine => Refusal::LongLine,
-            LineFault::OutOfMemory if self.has_room() => Refusal::Edit(EditFault::OutOfMemory),
-            LineFault::OutOfMemory => Refusal::Edit(EditFault::TooMany),
-        }
-    }
-
-    // Whether an edit could be kept, or committed outside a batch.
-    fn has_room(&self) -> bool
-        ensures { result ≡ option_map_or has_room self.now.batch true }
-    {
-        match &self.batch {
-            Some(batch) => batch.has_room(),
-            None => true,
-        }
-    }
-
-    // Carries out a command that edits nothing, and tells whether it ends the session.
+    // Carries out a command, and tells whether it ends the session.
     #[tactic(auto, using(crate::proofs::AnswerLemmas::concludes))]
     fn carry_out<W: Sink>(&mut self, command: Command<'_>, writer: &mut Writer<'_, W>) -> bool
-        requires { reading_of command ≡ Ok Line.Other }
         ensures carried_out { CarriedOut self.old self.new command.entry writer.old writer.new }
         ensures ends { result ≡ is_quit command.entry }
     {
         match command {
+            Command::Skip => {}
+            Command::Change(edit) => {
+                let result = self.change(&edit);
+                self.conclude(result, writer);
+            }
+            Command::Begin => {
+                let result = self.begin();
+                self.conclude(result, writer);
+            }
+            Command::Commit => {
+                let result = self.commit();
+                self.conclude(result, writer);
+            }
+            Command::Abort => {
+                let result = self.abort();
+                self.conclude(result, writer);
+            }
             Command::Ask(question) => reply(self.bench.snapshot(), &question, writer),
             Command::Hold(name) => {
                 let result = self.hold(&name);
@@ -151,7 +105,8 @@ impl<S: Stepper + Drop> Machine<S> {
                 ok(writer, self.version());
                 return true;
             }
-            _ => unreachable!(),
+            Command::Unreadable => no(writer, Refusal::BadCommand),
+            Command::TooLong => no(writer, Refusal::LongLine),
         }
         false
     }
@@ -173,12 +128,17 @@ impl<S: Stepper + Drop> Machine<S> {
     }
 
     // Outside a batch an edit is a commit by itself; in a batch it is kept.
-    fn change(&mut self, edit: Edit) -> Result<(), Refusal>
-        ensures { (line : EditLine) → edit_of line ≡ edit → Comes self.old self.new (Command.Change line) result }
+    fn change(&mut self, edit: &EditLine<'_>) -> Result<(), Refusal>
+        ensures { Comes self.old self.new (Command.Change edit.now) result }
     {
         match &mut self.batch {
-            Some(batch) => batch.keep(edit),
-            None => self.commit_edits(slice::from_ref(&edit)),
+            Some(batch) => batch.keep(self.alloc, edit),
+            None => {
+                let Ok(edit) = edit.to_edit(self.alloc) else {
+                    return Err(Refusal::Edit(EditFault::OutOfMemory));
+                };
+                self.commit_edits(slice::from_ref(&edit))
+            }
         }
     }
 
@@ -255,15 +215,6 @@ impl<S: Stepper + Drop> Machine<S> {
             Some(snapshot) => reply(snapshot, question, writer),
             None => no(writer, Refusal::UnknownHold),
         }
-    }
-}
-
-fn is_other(said: &Result<Line, LineFault>) -> bool
-    ensures { result ≡ is_other said.now }
-{
-    match said {
-        Ok(Line::Other) => true,
-        _ => false,
     }
 }
 
