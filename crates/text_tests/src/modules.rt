@@ -4,7 +4,7 @@
 use crate::compare::equal;
 use design::NameHasher;
 use edits::EditFault;
-use fourstate::{Delays, Magnitude, NetKind, TimeUnit, Unit, Value, delay};
+use fourstate::{Delays, Magnitude, TimeUnit, Unit, Value, delay};
 use lexing::MAX_TEXT;
 use std::alloc::Global;
 use std::process::Abort;
