@@ -2,7 +2,7 @@
 use Rattle.std.proofs.Common.{◌≡◌, ◌≢◌, ◌⊎◌, ◌+◌, ◌++◌, ℕ, suc, Bool, true, false, if◌then◌else◌, List, refl, sym, inl, inr, arith}
 use Rattle.std.proofs.lemmas.List.{append-nil}
 use Rattle.std.specs.Prelude.{Result, Ok, Err, IfErr}
-use Rattle.gatestep.specs.Step.{Evaluation}
+use Rattle.gatestep.specs.Step.{Evaluation, advance}
 use Rattle.design.specs.Netlist.{Netlist}
 use Rattle.edits.specs.declared.edit.Edit.{Edit}
 use Rattle.edits.specs.declared.fault.EditFault.{EditFault}
@@ -12,7 +12,8 @@ use Rattle.bench.specs.declared.fault.CommitFault.TheVariants as commit
 use Rattle.bench.specs.Benches.{SnapshotRecord}
 use Rattle.bench.specs.Commits.{commit_of}
 use Rattle.bench.specs.Refusals.{IsRefusal, MayRefuse, loses_a_worker}
-use Rattle.bench.specs.Work.{AskedInPart, AskedByRefused, rework_of}
+use Rattle.resim.specs.Reruns.{HasGrownInPart}
+use Rattle.bench.specs.Work.{AskedByRefused, rework_of}
 
 -- A refused edit.
 
@@ -36,10 +37,10 @@ asked_nothing old (Ok d) asked = (0, omega arith, sym (append-nil asked))
 asked_nothing old (Err refused) asked = refl
 
 pub asked_part : (old : Netlist) (made : Result Netlist (ℕ × EditFault)) (d : Netlist) (before now : List (Evaluation × ℕ)) → made ≡ Ok d
-    → AskedInPart old d before now → AskedByRefused old made before now
+    → HasGrownInPart advance old d before now → AskedByRefused old made before now
 asked_part old made d before now is part = rw is part
 
-pub asked_all : (old new : Netlist) (before now : List (Evaluation × ℕ)) → now ≡ before ++ rework_of old new → AskedInPart old new before now
+pub asked_all : (old new : Netlist) (before now : List (Evaluation × ℕ)) → now ≡ before ++ rework_of old new → HasGrownInPart advance old new before now
 asked_all old new before now is = (suc new.horizon, omega arith, is)
 
 -- A commit's refusal is never that memory ran out.

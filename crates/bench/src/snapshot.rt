@@ -9,8 +9,9 @@ ghost use Rattle.design.specs.Netlist.{net_named};
 ghost use Rattle.edits.specs.Touched.{IsTouched};
 ghost use Rattle.scratch.specs.Lost as lost;
 ghost use Rattle.scratch.specs.Run.{IsRun, wave_of};
+ghost use Rattle.resim.specs.Reruns.{HasGrownInPart};
 ghost use Rattle.bench.specs.Benches.{snapshot_of};
-ghost use Rattle.bench.specs.Work.{AskedInPart, rework_of, work_of};
+ghost use Rattle.bench.specs.Work.{rework_of, work_of};
 
 use design::Design;
 use edits::Touched;
@@ -75,7 +76,8 @@ impl Snapshot {
         requires touched { IsTouched old.now made.0 made.1.nets.items made.1.gates.items }
         ensures snapshot { IfOk result (λ snapshot. arc_value snapshot ≡ snapshot_of version (netlist made.0)) }
         ensures asked { OnOk result (S.asked stepper.new ≡ S.asked stepper.old ++ rework_of (netlist old.now) (netlist made.0)) }
-        ensures part { OnErr result (AskedInPart (netlist old.now) (netlist made.0) (S.asked stepper.old) (S.asked stepper.new)) }
+        ensures part { OnErr result (HasGrownInPart advance (netlist old.now) (netlist made.0)
+            (S.asked stepper.old) (S.asked stepper.new)) }
         ensures lost { S.losses stepper.new ≡ S.losses stepper.old + (if lost.loses_a_worker result then 1 else 0) }
     {
         let (new, touched) = made;

@@ -1,16 +1,17 @@
 -- Designs that differ in the horizon, and what a run of one beside another asks.
-use Rattle.std.proofs.Common.{◌≡◌, ◌≤◌, ◌∙◌, ap, sym, subst, refl, ℕ, suc, List, ◌+◌, ◌++◌, append_assoc, Result, Ok, Err, IfOk, OnErr, OnOk, if◌then◌else◌, arith}
+use Rattle.std.proofs.Common.{◌≡◌, ◌≤◌, ◌∙◌, ap, sym, subst, refl, ℕ, suc, List, ◌+◌, ◌++◌, append_assoc, Option, Bor, Result, Ok, Err, IfOk, OnErr, OnOk, if◌then◌else◌, arith}
 use Rattle.gatestep.specs.Step.{State, Evaluation}
 use Rattle.gatestep.specs.declared.fault.StepFault.{StepFault}
 use Rattle.design.specs.Keys.{Keyed, netlist}
 use Rattle.design.specs.Netlist.{Netlist, with_horizon}
 use Rattle.edits.specs.Touched.{IsTouched}
+use Rattle.edits.specs.declared.touched.Touched.{Touched}
 use Rattle.waveform.specs.Runs.{RunRecord}
 use Rattle.scratch.specs.Lost.{loses_a_worker}
 use Rattle.scratch.specs.Run.{IsRun}
 use Rattle.scratch.specs.Work.{work_from}
 use Rattle.rundiff.specs.Dirty.{rework_below}
-use Rattle.resim.specs.Reruns.{HasGrownInPart, Reruns}
+use Rattle.resim.specs.Reruns.{HasGrownInPart, IsTouchedIfKnown, Reruns}
 use Rattle.resim.proofs.Reworks.{new_alike, old_alike, past, reached}
 
 on_ok : {A E P Q : Type 0} (r : Result A E) → (P → Q) → OnOk r P → OnOk r Q
@@ -43,9 +44,11 @@ module _ (old new former : Keyed) (h : ℕ) (is : former ≡ record old { horizo
   pub cut_run : (answer : Evaluation → ℕ → State) (k : ℕ) (short : RunRecord) → k ≡ (netlist new).horizon → IsRun answer (record old { horizon = k }) short → IsRun answer former short
   cut_run answer k short same run = subst (λ d. IsRun answer d short) (ap (λ (u : ℕ). record old { horizon = u }) (same ∙ sym at) ∙ sym is) run
 
-  pub cut_touched : (nets gates : List ℕ) → IsTouched old new nets gates → IsTouched former new nets gates
-  cut_touched nets gates same =
-      subst (λ d. IsTouched d new nets gates) (sym is) (record { nets_stay = same.nets_stay; drivers_stay = same.drivers_stay; gates_stay = same.gates_stay; names_stay = same.names_stay })
+  pub cut_touched : (touched : Option (Bor Touched)) → IsTouchedIfKnown old new touched → IsTouchedIfKnown former new touched
+  cut_touched touched known t told =
+      let same = known t told in
+      subst (λ d. IsTouched d new t.now.nets.items t.now.gates.items) (sym is)
+      (record { nets_stay = same.nets_stay; drivers_stay = same.drivers_stay; gates_stay = same.gates_stay; names_stay = same.names_stay })
 
   module _ (answer : Evaluation → ℕ → State) (early : (netlist new).horizon ≤ (netlist old).horizon) where
     cut_alike : (n : ℕ) → n ≤ suc (netlist new).horizon → rework_below answer (netlist former) (netlist new) n ≡ rework_below answer (netlist old) (netlist new) n
@@ -68,9 +71,11 @@ module _ (old new level : Keyed) (is : level ≡ record new { horizon = (netlist
   pub level_horizon : (netlist level).horizon ≡ (netlist old).horizon
   level_horizon = ap (λ (d : Netlist). d.horizon) level_is
 
-  pub level_touched : (nets gates : List ℕ) → IsTouched old new nets gates → IsTouched old level nets gates
-  level_touched nets gates same =
-      subst (λ d. IsTouched old d nets gates) (sym is) (record { nets_stay = same.nets_stay; drivers_stay = same.drivers_stay; gates_stay = same.gates_stay; names_stay = same.names_stay })
+  pub level_touched : (touched : Option (Bor Touched)) → IsTouchedIfKnown old new touched → IsTouchedIfKnown old level touched
+  level_touched touched known t told =
+      let same = known t told in
+      subst (λ d. IsTouched old d t.now.nets.items t.now.gates.items) (sym is)
+      (record { nets_stay = same.nets_stay; drivers_stay = same.drivers_stay; gates_stay = same.gates_stay; names_stay = same.names_stay })
 
   module _ (answer : Evaluation → ℕ → State) (later : (netlist old).horizon ≤ (netlist new).horizon) (before middle : List (Evaluation × ℕ)) where
     level_alike : (n : ℕ) → rework_below answer (netlist old) (netlist level) n ≡ rework_below answer (netlist old) (netlist new) n

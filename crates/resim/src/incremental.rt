@@ -1,9 +1,8 @@
 //! The run of a design from the run of a former one.
 
-ghost use Rattle.std.specs.Option.{ForSome};
 ghost use Rattle.edits.specs.Touched.{IsTouched};
 ghost use Rattle.scratch.specs.Run.{IsRun};
-ghost use Rattle.resim.specs.Reruns.{Reruns};
+ghost use Rattle.resim.specs.Reruns.{IsTouchedIfKnown, Reruns};
 
 use crate::level::rerun_level;
 use crate::other_horizon::{rerun_longer, rerun_shorter};
@@ -58,7 +57,7 @@ fn rerun_with<S: Stepper>(
     stepper: &mut S,
 ) -> Result<Run, StepFault>
     requires run { IsRun S.answer old.now run.now }
-    requires touched { ForSome touched (λ t. IsTouched old.now new.now t.now.nets.items t.now.gates.items) }
+    requires touched { IsTouchedIfKnown old.now new.now touched }
     ensures reruns { Reruns S.answer old.now new.now (S.asked stepper.old) (S.asked stepper.new)
         (S.losses stepper.old) (S.losses stepper.new) result }
 {

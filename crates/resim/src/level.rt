@@ -1,7 +1,6 @@
 //! The run of a design from the run of a former one with the same horizon.
 
 ghost use Rattle.std.specs.Prelude.{◌≡◌, ◌≤◌, ◌+◌, ◌++◌, suc, map, All, OnErr, OnOk, if◌then◌else◌};
-ghost use Rattle.std.specs.Option.{ForSome};
 ghost use Rattle.fourstate.specs.declared.limits.TheConstants.{MAX_TIME};
 ghost use Rattle.gatestep.specs.Faults.{is_lost};
 ghost use Rattle.gatestep.specs.Record.{at_moment};
@@ -13,7 +12,7 @@ ghost use Rattle.scratch.specs.Run.{IsRun};
 ghost use Rattle.scratch.specs.Work.{HasGrownOrNot};
 ghost use Rattle.rundiff.specs.Dirty.{rework_at};
 ghost use Rattle.rundiff.specs.Fronts.{IsFront};
-ghost use Rattle.resim.specs.Reruns.{Reruns};
+ghost use Rattle.resim.specs.Reruns.{IsTouchedIfKnown, Reruns};
 
 use crate::sweep::sweep;
 use crate::wide::is_wide;
@@ -35,7 +34,7 @@ pub fn rerun_level<S: Stepper>(
     stepper: &mut S,
 ) -> Result<Run, StepFault>
     requires run { IsRun S.answer old.now run.now }
-    requires touched { ForSome touched (λ t. IsTouched old.now new.now t.now.nets.items t.now.gates.items) }
+    requires touched { IsTouchedIfKnown old.now new.now touched }
     requires horizon { (netlist new.now).horizon ≡ (netlist old.now).horizon }
     ensures reruns { Reruns S.answer old.now new.now (S.asked stepper.old) (S.asked stepper.new)
         (S.losses stepper.old) (S.losses stepper.new) result }

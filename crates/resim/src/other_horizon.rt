@@ -1,12 +1,10 @@
 //! The run of a design from the run of a former one with another horizon.
 
 ghost use Rattle.std.specs.Prelude.{◌≡◌, ◌≤◌, IfOk};
-ghost use Rattle.std.specs.Option.{ForSome};
 ghost use Rattle.fourstate.specs.declared.limits.TheConstants.{MAX_TIME};
 ghost use Rattle.design.specs.Keys.{netlist};
-ghost use Rattle.edits.specs.Touched.{IsTouched};
 ghost use Rattle.scratch.specs.Run.{IsRun};
-ghost use Rattle.resim.specs.Reruns.{Reruns};
+ghost use Rattle.resim.specs.Reruns.{IsTouchedIfKnown, Reruns};
 
 use crate::cut::shorten;
 use crate::level::rerun_level;
@@ -27,7 +25,7 @@ pub fn rerun_shorter<S: Stepper>(
     stepper: &mut S,
 ) -> Result<Run, StepFault>
     requires run { IsRun S.answer old.now run.now }
-    requires touched { ForSome touched (λ t. IsTouched old.now new.now t.now.nets.items t.now.gates.items) }
+    requires touched { IsTouchedIfKnown old.now new.now touched }
     requires horizon { (netlist new.now).horizon ≤ (netlist old.now).horizon }
     ensures reruns { Reruns S.answer old.now new.now (S.asked stepper.old) (S.asked stepper.new)
         (S.losses stepper.old) (S.losses stepper.new) result }
@@ -48,7 +46,7 @@ pub fn rerun_longer<S: Stepper>(
     stepper: &mut S,
 ) -> Result<Run, StepFault>
     requires run { IsRun S.answer old.now run.now }
-    requires touched { ForSome touched (λ t. IsTouched old.now new.now t.now.nets.items t.now.gates.items) }
+    requires touched { IsTouchedIfKnown old.now new.now touched }
     requires horizon { (netlist old.now).horizon ≤ (netlist new.now).horizon }
     ensures reruns { Reruns S.answer old.now new.now (S.asked stepper.old) (S.asked stepper.new)
         (S.losses stepper.old) (S.losses stepper.new) result }
@@ -70,7 +68,7 @@ fn rerun_past<S: Stepper>(
 ) -> Result<Run, StepFault>
     requires run { IsRun S.answer old.now run.now }
     requires level { level.now ≡ record new.now { horizon = (netlist old.now).horizon } }
-    requires touched { ForSome touched (λ t. IsTouched old.now new.now t.now.nets.items t.now.gates.items) }
+    requires touched { IsTouchedIfKnown old.now new.now touched }
     requires horizon { (netlist old.now).horizon ≤ (netlist new.now).horizon }
     ensures reruns { Reruns S.answer old.now new.now (S.asked stepper.old) (S.asked stepper.new)
         (S.losses stepper.old) (S.losses stepper.new) result }

@@ -6,9 +6,7 @@ use Rattle.resim.proofs.Levels.{extended, level_horizon, level_part, level_touch
 use Rattle.resim.proofs.other_horizon.rerun_past.Goals as goal
 
 pub rerun_level-requires-clause-touched : goal.rerun_level-requires-clause-touched
-rerun_level-requires-clause-touched g c = λ t is.
-    level_touched c.args.old.now c.args.new.now c.args.level.now c.requires.level
-    t.now.nets.items t.now.gates.items (c.requires.touched t is)
+rerun_level-requires-clause-touched g c = level_touched c.args.old.now c.args.new.now c.args.level.now c.requires.level c.args.touched c.requires.touched
 
 pub rerun_level-requires-clause-horizon : goal.rerun_level-requires-clause-horizon
 rerun_level-requires-clause-horizon g c = level_horizon c.args.old.now c.args.new.now c.args.level.now c.requires.level

@@ -10,9 +10,8 @@ rerun_level-requires-clause-run g c =
     c.horizon.result c.in_ok-short.short c.horizon.ensures.horizon (c.in_ok-short.ensures g.S.Stepper.answer c.requires.run)
 
 pub rerun_level-requires-clause-touched : goal.rerun_level-requires-clause-touched
-rerun_level-requires-clause-touched g c = λ t is.
-    cut_touched c.args.old.now c.args.new.now c.in_ok-former.former c.horizon-2.result c.in_ok-former.ensures c.horizon-2.ensures.horizon
-    t.now.nets.items t.now.gates.items (c.requires.touched t is)
+rerun_level-requires-clause-touched g c =
+    cut_touched c.args.old.now c.args.new.now c.in_ok-former.former c.horizon-2.result c.in_ok-former.ensures c.horizon-2.ensures.horizon c.args.touched c.requires.touched
 
 pub rerun_level-requires-clause-horizon : goal.rerun_level-requires-clause-horizon
 rerun_level-requires-clause-horizon g c = cut_horizon c.args.old.now c.args.new.now c.in_ok-former.former c.horizon-2.result c.in_ok-former.ensures c.horizon-2.ensures.horizon
