@@ -17,6 +17,7 @@ use edits::{Edit, EditFault, Touched, apply_all_with_touched};
 use gatestep::{StepFault, Stepper};
 use std::alloc::Global;
 use std::marker::Model;
+use std::mem;
 use std::sync::Arc;
 
 /// A design that commits change one after another, and the stepper that makes its runs. Contracts see the present snapshot and, of
@@ -92,6 +93,16 @@ impl<S: Stepper + Drop> Bench<S> {
             }
             Err((place, fault)) => Err(edit_refusal(place, fault)),
         }
+    }
+
+    /// Puts another stepper in the place of the present one, which it gives back. The snapshot stays. It takes no memory.
+    pub fn restep(&mut self, stepper: S) -> S
+        ensures snapshot { self.new.snapshot ≡ self.old.snapshot }
+        ensures asked { self.new.asked ≡ S.asked stepper }
+        ensures losses { self.new.losses ≡ S.losses stepper }
+        ensures former { (S.asked result ≡ self.old.asked) × (S.losses result ≡ self.old.losses) }
+    {
+        mem::replace(&mut self.stepper, stepper)
     }
 
     /// The present snapshot. Who holds it copies the pointer by `try_clone`.

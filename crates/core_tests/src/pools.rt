@@ -3,6 +3,7 @@
 mod dumps;
 mod lost;
 mod probes;
+mod replaced;
 mod steps;
 mod tasks;
 mod threads;

@@ -1,4 +1,4 @@
 pub mod Adding
+pub mod Asking
 pub mod Beginnings
 pub mod Keeping
-pub mod Logging

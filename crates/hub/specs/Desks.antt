@@ -1,6 +1,7 @@
 -- What editors, a desk, receipts and the parts of a hub are seen as (own).
 use Rattle.std.specs.Prelude.{◌≡◌, ◌↔◌, ℕ, ◌+◌, ◌<◌, ◌==◌, Bool, IsTrue, List, [], length, if◌then◌else◌, Result, Ok, Err}
 use Rattle.logbook.specs.Pages.{Book}
+use Rattle.gatestep.specs.Step.{Evaluation}
 use Rattle.edits.specs.declared.edit.Edit.{Edit}
 use Rattle.fourstate.specs.declared.unit.Magnitude.TheVariants.{One}
 use Rattle.fourstate.specs.declared.unit.Unit.TheVariants.{Nanosecond}
@@ -33,13 +34,16 @@ pub record Owns (whole parts amount count : ℕ) : Type 0 where
   pub some : 0 < parts
   pub amount_is : amount ≡ count
 
--- the accepted commits, and those of them that are published
+-- the accepted commits, those of them that are published, all that the stepper was asked, each task with its moment, and how many
+-- of its steps lost a worker
 pub record DeskRecord : Type 0 where
   pub log : List EntryRecord
   pub shown : List EntryRecord
+  pub asked : List (Evaluation × ℕ)
+  pub losses : ℕ
 
-abbrev pub desk_of : List EntryRecord → List EntryRecord → DeskRecord
-desk_of log shown = record { log = log; shown = shown }
+abbrev pub desk_of : (log shown : List EntryRecord) → List (Evaluation × ℕ) → ℕ → DeskRecord
+desk_of log shown asked losses = record { log = log; shown = shown; asked = asked; losses = losses }
 
 -- the snapshot and the totals of both ledgers are those of the log, and what is published is a beginning of it
 pub record IsKept (from present : SnapshotRecord) (log shown : List EntryRecord) (first second : ℕ) : Type 0 where
@@ -79,10 +83,12 @@ any_snapshot = snapshot_of 0 (empty_netlist [] (record { magnitude = One; unit =
 abbrev pub any_book : Book
 any_book = record { number = 0; log_name = 0; cells_name = 0 }
 
--- what a hub can begin with: its snapshot, the book of its commits, the ledgers of both editors by their names and numbers of parts,
--- and how many viewers it has
+-- what a hub can begin with: its snapshot, what its stepper was asked and lost, the book of its commits, the ledgers of both editors
+-- by their names and numbers of parts, and how many viewers it has
 pub record PartsRecord : Type 0 where
   pub origin : SnapshotRecord
+  pub asked : List (Evaluation × ℕ)
+  pub losses : ℕ
   pub book : Book
   pub first_name : ℕ
   pub first_parts : ℕ

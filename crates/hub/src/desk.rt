@@ -1,10 +1,11 @@
 //! What lies under the lock of a hub.
 
-ghost use Rattle.std.specs.Prelude.{◌≡◌, ◌+◌, ◌↔◌, [], IsTrue, IfErr, IfOk, Some, All, false, length};
+ghost use Rattle.std.specs.Prelude.{◌≡◌, ◌+◌, ◌↔◌, [], IsTrue, IfErr, IfOk, Some, All, false, length, if◌then◌else◌};
 ghost use Rattle.std.specs.Arc.{arc_value};
 ghost use Rattle.left_right.specs.Sides.{view};
+ghost use Rattle.bench.specs.Refusals.{loses_a_worker};
 ghost use Rattle.hubcore.specs.Lists.{StartsWith};
-ghost use Rattle.hub.specs.Commits.{IsReply, count_of, logged, snapshot_after};
+ghost use Rattle.hub.specs.Commits.{AskedByCommit, IsReply, count_of, logged, snapshot_after};
 ghost use Rattle.hub.specs.Desks.{answered, desk_of, editor_of};
 ghost use Rattle.hub.specs.Issues.{issue_of};
 
@@ -28,8 +29,8 @@ use std::marker::Model;
 use std::sync::ledger::{Book, Ledger};
 use std::sync::{Arc, Wait};
 
-/// A bench, the log of its accepted commits, and what publishes its snapshots, on one thread. Contracts see the log and what is
-/// published of it. The type keeps that the bench has the snapshot of the log, that what is published is a beginning of the log, and
+/// A bench, the log of its accepted commits, and what publishes its snapshots, on one thread. Contracts see the log, what is
+/// published of it and, of the stepper, what it was asked and how often it lost a worker. The type keeps that the bench has the snapshot of the log, that what is published is a beginning of the log, and
 /// that the book of each editor's ledger has as many commits as bear its number.
 #[derive(Drop)]
 pub struct Desk<J: HubName, L: Ledger, M: Ledger, S: Stepper + Drop, R: Wait + Drop> {
@@ -52,7 +53,7 @@ impl<J: HubName, L: Ledger, M: Ledger, S: Stepper + Drop, R: Wait + Drop> Model
 
     ghost Value = { DeskRecord };
 
-    ghost view = { λ d. desk_of d.log.items d.publisher };
+    ghost view = { λ d. desk_of d.log.items d.publisher d.bench.asked d.bench.losses };
 
     ghost invariant = { λ d. IsKept J.origin d.bench.snapshot d.log.items d.publisher d.first.total d.second.total
         × (arc_value d.origin ≡ J.origin) × StartsWith d.log.items d.history × StartsWith d.history d.publisher };
@@ -74,7 +75,7 @@ impl<J: HubName, L: Ledger, M: Ledger, S: Stepper + Drop, R: Wait + Drop> Desk<J
         requires names { (parts.origin ≡ J.origin) × (parts.book ≡ J.book) }
         requires first { (parts.first_name ≡ L.name) × (parts.first_parts ≡ L.parts) }
         requires second { (parts.second_name ≡ M.name) × (parts.second_parts ≡ M.parts) }
-        ensures desk { IfOk result (λ opened. opened.0 ≡ desk_of [] []) }
+        ensures desk { IfOk result (λ opened. opened.0 ≡ desk_of [] [] parts.asked parts.losses) }
         ensures editors { IfOk result (λ opened. (opened.1.0 ≡ editor_of 0 0) × (opened.1.1 ≡ editor_of 1 0)) }
         ensures viewers { IfOk result (λ opened. All (λ viewer. viewer ≡ []) opened.2.items × (length opened.2.items ≡ parts.viewers)) }
         ensures fault { IfErr result (λ fault. fault ≡ HubFault.OutOfMemory) }
@@ -123,6 +124,10 @@ impl<J: HubName, L: Ledger, M: Ledger, S: Stepper + Drop, R: Wait + Drop> Desk<J
         ensures begins { StartsWith self.new.log self.new.shown }
         ensures shown { IsTrue result.shown ↔ (self.new.shown ≡ self.new.log) }
         ensures unchanged { result.shown ≡ false → self.new.shown ≡ self.old.shown }
+
+        // What the stepper was asked.
+        ensures asked { AskedByCommit (snapshot_after J.origin self.old.log) edits.now result.reply self.old.asked self.new.asked }
+        ensures lost { self.new.losses ≡ self.old.losses + (if loses_a_worker result.reply then 1 else 0) }
     {
         let reply = self.commit(editor, edits);
         let shown = self.show();
@@ -131,6 +136,7 @@ impl<J: HubName, L: Ledger, M: Ledger, S: Stepper + Drop, R: Wait + Drop> Desk<J
     }
 
     // Commits the edits for an editor.
+    #[tactic(auto, using(crate::proofs::Asking::asked_nothing))]
     fn commit(&mut self, editor: &mut Editor<L, M>, edits: &[Edit]) -> Result<u64, CommitFault>
         ensures own { count_of editor.old.number self.old.log ≡ editor.old.count }
         ensures reply { IsReply (snapshot_after J.origin self.old.log) edits.now result }
@@ -138,6 +144,8 @@ impl<J: HubName, L: Ledger, M: Ledger, S: Stepper + Drop, R: Wait + Drop> Desk<J
         ensures editor { editor.new ≡ answered editor.old result }
         ensures number { editor.new.number ≡ editor.old.number }
         ensures shown { self.new.shown ≡ self.old.shown }
+        ensures asked { AskedByCommit (snapshot_after J.origin self.old.log) edits.now result self.old.asked self.new.asked }
+        ensures lost { self.new.losses ≡ self.old.losses + (if loses_a_worker result then 1 else 0) }
     {
         editor.audit(&mut self.first, &mut self.second);
         let Ok(copies) = copies_of(self.alloc, edits) else {
@@ -164,7 +172,7 @@ impl<J: HubName, L: Ledger, M: Ledger, S: Stepper + Drop, R: Wait + Drop> Desk<J
     // Publishes all accepted commits that are not published yet, and says whether all are published then. They are not where memory
     // ran out.
     fn show(&mut self) -> bool
-        ensures log { self.new.log ≡ self.old.log }
+        ensures kept { self.new ≡ desk_of self.old.log self.new.shown self.old.asked self.old.losses }
         ensures shown { IsTrue result ↔ (self.new.shown ≡ self.new.log) }
         ensures unchanged { result ≡ false → self.new.shown ≡ self.old.shown }
     {
@@ -184,6 +192,16 @@ impl<J: HubName, L: Ledger, M: Ledger, S: Stepper + Drop, R: Wait + Drop> Desk<J
             return false;
         };
         self.publisher.publish(issue, all)
+    }
+
+    /// Puts another stepper in the place of the bench's, which it gives back. It takes no memory.
+    pub fn restep(&mut self, stepper: S) -> S
+        ensures kept { (self.new.log ≡ self.old.log) × (self.new.shown ≡ self.old.shown) }
+        ensures asked { self.new.asked ≡ S.asked stepper }
+        ensures losses { self.new.losses ≡ S.losses stepper }
+        ensures former { (S.asked result ≡ self.old.asked) × (S.losses result ≡ self.old.losses) }
+    {
+        self.bench.restep(stepper)
     }
 
     /// Publishes all accepted commits that are not published yet, and ends. It waits for viewers that are just looking; from then on

@@ -62,6 +62,11 @@ impl<J: HubName, L: Ledger, M: Ledger, S: Stepper + Drop, R: Wait + Drop> Hub<J,
         self.desk.lock(rt).submit(editor, edits)
     }
 
+    /// Takes the lock, and puts another stepper in the place of the present one, which it gives back.
+    pub fn restep<W: Wait>(&self, rt: &W, stepper: S) -> S {
+        self.desk.lock(rt).restep(stepper)
+    }
+
     /// Publishes all accepted commits that are not published yet, and ends the hub. It waits for viewers that are just looking; from
     /// then on a look is refused as closed.
     pub fn close(self, editors: (Editor<L, M>, Editor<L, M>)) -> Log<J>

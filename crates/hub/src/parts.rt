@@ -44,6 +44,8 @@ impl<S: Stepper + Drop> Model for Parts<S> {
 
     ghost view = { λ p. record {
       origin = arc_value p.origin;
+      asked = p.bench.asked;
+      losses = p.bench.losses;
       book = p.history.reached.book;
       first_name = p.first.name;
       first_parts = p.first.parts;
@@ -66,6 +68,7 @@ impl<S: Stepper + Drop> Parts<S> {
         viewers: u32,
     ) -> Result<Parts<S>, HubFault>
         ensures parts { IfOk result (λ parts. (parts.origin ≡ bench.snapshot) × (parts.viewers ≡ viewers)) }
+        ensures stepper { IfOk result (λ parts. (parts.asked ≡ bench.asked) × (parts.losses ≡ bench.losses)) }
         ensures ledgers { IfOk result (λ parts. (parts.first_parts ≡ 1) × (parts.second_parts ≡ 1)) }
         ensures bad_count { (result ≡ Err HubFault.BadCount) ↔ ((viewers ≡ 0) ⊎ (64 < viewers)) }
     {

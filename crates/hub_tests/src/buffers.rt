@@ -1,12 +1,15 @@
 //! A bench of two buffers with delays of 3, `y` of the input `a` and `z` of the input `b`, all of which are x at first. The
 //! horizon is 400.
 
+ghost use Rattle.std.specs.Prelude.{◌≡◌};
+ghost use Rattle.gatestep.specs.Step.{advance};
+
 use crate::compare::equal;
 use bench::{Bench, Snapshot};
 use design::{Design, Name, NameHasher};
 use edits::{Edit, Pin, Pins, Word, apply_all};
 use fourstate::{DelayTimes, GateKind, NetKind, TimeUnit, Value};
-use gatestep::Serial;
+use gatestep::{Serial, Stepper};
 use std::alloc::Global;
 use std::process::Abort;
 
@@ -61,8 +64,15 @@ fn design(rt: &impl Abort, alloc: Global) -> Design {
     design
 }
 
+/// The bench, whose runs this stepper makes.
+pub fn bench_with<S: Stepper + Drop>(rt: &impl Abort, alloc: Global, stepper: S) -> Bench<S>
+    requires { S.answer ≡ advance }
+{
+    Bench::open(alloc, design(rt, alloc), stepper).expect(rt, "a bench")
+}
+
 pub fn bench(rt: &impl Abort, alloc: Global) -> Bench<Serial> {
-    Bench::open(alloc, design(rt, alloc), Serial::new()).expect(rt, "a bench")
+    bench_with(rt, alloc, Serial::new())
 }
 
 /// One input more, of this name.

@@ -12,6 +12,8 @@ mod compare;
 #[cfg(test)]
 mod looks;
 #[cfg(test)]
+mod lost;
+#[cfg(test)]
 mod rows;
 #[cfg(test)]
 mod threads;

@@ -13,7 +13,7 @@ use std::sync::{Arc, Wait};
 use std::thread::Threads;
 
 /// A step of so many tasks gives this reply, and answers only where it is good.
-fn check<S: Stepper>(
+pub fn check<S: Stepper>(
     rt: &impl Abort,
     alloc: Global,
     stepper: &mut S,
@@ -33,7 +33,7 @@ fn check<S: Stepper>(
 }
 
 /// Two workers, of which the second ends at its next piece once the flag is set.
-fn two_workers<R: Threads + Wait + Abort + Copy + Drop + Send + 'static>(
+pub fn two_workers<R: Threads + Wait + Abort + Copy + Drop + Send + 'static>(
     rt: R,
     alloc: Global,
     flag: &Arc<AtomicBool>,
@@ -45,7 +45,7 @@ fn two_workers<R: Threads + Wait + Abort + Copy + Drop + Send + 'static>(
     Pool::open(rt, alloc, 2, probe).expect(&rt, "a pool")
 }
 
-const LOST: Result<(), StepFault> = Err(StepFault::WorkerLost);
+pub const LOST: Result<(), StepFault> = Err(StepFault::WorkerLost);
 
 // A step that deals the second worker nothing does not lose it; from the loss on every step is lost, whatever it asks.
 #[test]

@@ -1,0 +1,12 @@
+-- What a commit asks of a stepper.
+use Rattle.std.proofs.Common.{◌++◌, ℕ, suc, List, Result, Ok, Err, refl, sym, arith}
+use Rattle.std.proofs.lemmas.List.{append-nil}
+use Rattle.gatestep.specs.Step.{Evaluation}
+use Rattle.design.specs.Netlist.{Netlist}
+use Rattle.edits.specs.declared.fault.EditFault.{EditFault}
+use Rattle.bench.specs.Work.{AskedByRefused}
+
+-- a commit that is refused before the stepper is asked
+pub asked_nothing : (old : Netlist) (made : Result Netlist (ℕ × EditFault)) (asked : List (Evaluation × ℕ)) → AskedByRefused old made asked asked
+asked_nothing old (Ok next) asked = (0, omega arith, sym (append-nil asked))
+asked_nothing old (Err refused) asked = refl
