@@ -43,6 +43,9 @@ fn hold_one(
     ensures live { OnOk result ((p : ℕ) → contains nat_cmp live.new p ≡ (p == place || contains nat_cmp live.old p)) }
 {
     new.lawful();
+    if live.contains(place) {
+        return Ok(());
+    }
     hold_drivers(held, new, place)?;
     live.insert(place)?;
     Ok(())
