@@ -166,6 +166,15 @@ class Ends(Gatebench):
         self.assertEqual(self.run_within(1 << 30, ["wide.v"], "quit\n"), Ended(0, "ok 0\n", ""))
         self.assertEqual(self.run_within(1 << 24, ["wide.v"], "quit\n"), Ended(3, "", "out of memory\n"))
 
+    def test_edits_beside_many_drivers_of_one_net(self) -> None:
+        """They cost what the drivers do, and not their square, in time and memory."""
+        gates = ", ".join(f"g{place}(y, a)" for place in range(65_536))
+        self.write("many.v", f"module m(input a, output y);\nnot #1 {gates};\nendmodule\n")
+        commands = "stim a 0 0\nstim a 2 1\nwave y\ndrop g5\nwave y\n"
+        wave = "0 x\n1 1\n3 0\n"
+        ended = self.run_within(1 << 28, ["many.v", "--horizon", "5"], commands)
+        self.assertEqual(ended, Ended(0, f"ok 1\nok 2\n{wave}ok 2\nok 3\n{wave}ok 3\n", ""))
+
 
 if __name__ == "__main__":
     unittest.main()
