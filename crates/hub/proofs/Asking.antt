@@ -1,5 +1,5 @@
 -- What a commit asks of a stepper.
-use Rattle.std.proofs.Common.{◌++◌, ℕ, suc, List, Result, Ok, Err, refl, sym, arith}
+use Rattle.std.proofs.Common.{ℕ, List, Result, Ok, Err, refl, sym, arith}
 use Rattle.std.proofs.lemmas.List.{append-nil}
 use Rattle.gatestep.specs.Step.{Evaluation}
 use Rattle.design.specs.Netlist.{Netlist}

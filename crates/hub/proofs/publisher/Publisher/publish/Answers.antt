@@ -1,4 +1,4 @@
-use Rattle.std.proofs.Common.{◌≡◌, ◌∙◌, List, ap, subst, sym}
+use Rattle.std.proofs.Common.{◌∙◌, List, ap, subst, sym}
 use Rattle.hubcore.specs.Lists.{EntryRecord, StartsWith}
 use Rattle.hub.specs.Issues.{issue_of}
 use Rattle.hub.proofs.Beginnings.{starts_same}
