@@ -30,8 +30,9 @@ use std::sync::ledger::{Book, Ledger};
 use std::sync::{Arc, Wait};
 
 /// A bench, the log of its accepted commits, and what publishes its snapshots, on one thread. Contracts see the log, what is
-/// published of it and, of the stepper, what it was asked and how often it lost a worker. The type keeps that the bench has the snapshot of the log, that what is published is a beginning of the log, and
-/// that the book of each editor's ledger has as many commits as bear its number.
+/// published of it and, of the stepper, what it was asked and how often it lost a worker. The type keeps that the bench has the
+/// snapshot of the log, that what is published is a beginning of the log, and that the book of each editor's ledger has as many
+/// commits as bear its number.
 #[derive(Drop)]
 pub struct Desk<J: HubName, L: Ledger, M: Ledger, S: Stepper + Drop, R: Wait + Drop> {
     alloc: Global,
