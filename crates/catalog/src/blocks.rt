@@ -1,6 +1,6 @@
 //! Keys that slabs give, a slab for each so many keys, and the index of each key.
 
-ghost use Rattle.std.specs.Prelude.{◌≡◌, ◌<◌, ◌+◌, ◌^◌, ℕ, None, Some, if◌then◌else◌, nat_lt, IfOk, IfSome, IsSome, OnOk, slice_get};
+ghost use Rattle.std.specs.Prelude.{◌≡◌, ◌<◌, ◌+◌, ◌^◌, ℕ, None, Some, if◌then◌else◌, nat_lt, IfOk, IsSome, OnOk, slice_get};
 ghost use Rattle.std.specs.Arc.{arc_value};
 ghost use Rattle.slab.specs.Slab.{get, ContainsKey, Updates};
 ghost use Rattle.catalog.specs.Blocks.{Changes, HasRoom, index_in};

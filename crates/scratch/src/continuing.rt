@@ -1,9 +1,9 @@
 //! A run that goes on from what stands up to the horizon.
 
-ghost use Rattle.std.specs.Prelude.{◌≡◌, ◌≤◌, ◌+◌, ◌++◌, ℕ, suc, IfOk, OnErr, OnOk, if◌then◌else◌};
+ghost use Rattle.std.specs.Prelude.{◌≡◌, ◌≤◌, ◌++◌, ℕ, suc, IfOk, OnErr, OnOk};
 ghost use Rattle.design.specs.Keys.{netlist};
 ghost use Rattle.scratch.specs.Kept.{IsWiring};
-ghost use Rattle.scratch.specs.Lost.{loses_a_worker};
+ghost use Rattle.scratch.specs.Lost.{CountsLoss};
 ghost use Rattle.scratch.specs.Run.{IsRun};
 ghost use Rattle.scratch.specs.Stands.{Stands};
 ghost use Rattle.scratch.specs.Work.{work_from};
@@ -33,7 +33,7 @@ pub fn run_on<S: Stepper>(
     ensures asked { OnOk result (S.asked stepper.new ≡ S.asked stepper.old ++ work_from S.answer (netlist design.now) start (suc (netlist design.now).horizon)) }
     ensures part { OnErr result ((n : ℕ) × (start ≤ n) × (n ≤ suc (netlist design.now).horizon)
         × (S.asked stepper.new ≡ S.asked stepper.old ++ work_from S.answer (netlist design.now) start n)) }
-    ensures lost { S.losses stepper.new ≡ S.losses stepper.old + (if loses_a_worker result then 1 else 0) }
+    ensures lost { CountsLoss (S.losses stepper.old) (S.losses stepper.new) result }
 {
     let horizon = design.horizon();
     let mut engine = engine;

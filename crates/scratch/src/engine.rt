@@ -1,11 +1,11 @@
 //! A run that goes from one moment at which something happens to the next.
 
-ghost use Rattle.std.specs.Prelude.{◌≡◌, ◌≢◌, ◌<◌, ◌≤◌, ◌+◌, ◌++◌, [], ℕ, suc, map, IfSome, IfNone, IfOk, OnOk, OnErr, if◌then◌else◌};
+ghost use Rattle.std.specs.Prelude.{◌≡◌, ◌≢◌, ◌<◌, ◌≤◌, ◌+◌, ◌++◌, [], ℕ, suc, map, IfSome, IfNone, IfOk, OnOk, OnErr};
 ghost use Rattle.fourstate.specs.declared.limits.TheConstants.{MAX_TIME};
 ghost use Rattle.event_queue.specs.Noted.{noted};
 ghost use Rattle.design.specs.Keys.{netlist};
 ghost use Rattle.scratch.specs.Kept.{IsWiring};
-ghost use Rattle.scratch.specs.Lost.{loses_a_worker};
+ghost use Rattle.scratch.specs.Lost.{CountsLoss};
 ghost use Rattle.scratch.specs.Run.{IsRun, state_before};
 ghost use Rattle.scratch.specs.Stands.{IsStirred, Stands};
 ghost use Rattle.scratch.specs.Work.{HasGrownOrNot, stirred_at, work_at, work_below};
@@ -67,7 +67,7 @@ impl Engine {
         ensures stands { IfOk result (λ engine. Stands S.answer (netlist design.now) engine 1) }
         ensures asked { OnOk result (S.asked stepper.new ≡ S.asked stepper.old ++ work_at S.answer (netlist design.now) 0) }
         ensures part { OnErr result (HasGrownOrNot (S.asked stepper.old) (S.asked stepper.new) (work_at S.answer (netlist design.now) 0)) }
-        ensures lost { S.losses stepper.new ≡ S.losses stepper.old + (if loses_a_worker result then 1 else 0) }
+        ensures lost { CountsLoss (S.losses stepper.old) (S.losses stepper.new) result }
     {
         let mut opening = Opening::before::<S>(alloc, design, wiring)?;
         ask(
@@ -154,7 +154,7 @@ impl Engine {
         ensures stands { OnOk result (Stands S.answer (netlist design.now) self.new (t + 1)) }
         ensures asked { OnOk result (S.asked stepper.new ≡ S.asked stepper.old ++ work_at S.answer (netlist design.now) t) }
         ensures part { OnErr result (HasGrownOrNot (S.asked stepper.old) (S.asked stepper.new) (work_at S.answer (netlist design.now) t)) }
-        ensures lost { S.losses stepper.new ≡ S.losses stepper.old + (if loses_a_worker result then 1 else 0) }
+        ensures lost { CountsLoss (S.losses stepper.old) (S.losses stepper.new) result }
     {
         self.stir::<S>(alloc, design, wiring, t)?;
         ask(

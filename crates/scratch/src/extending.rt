@@ -1,8 +1,8 @@
 //! The run of a design up to a later horizon.
 
-ghost use Rattle.std.specs.Prelude.{◌≡◌, ◌≤◌, ◌+◌, ◌++◌, ℕ, suc, IfOk, OnErr, OnOk, if◌then◌else◌};
+ghost use Rattle.std.specs.Prelude.{◌≡◌, ◌≤◌, ◌++◌, ℕ, suc, IfOk, OnErr, OnOk};
 ghost use Rattle.design.specs.Keys.{netlist};
-ghost use Rattle.scratch.specs.Lost.{loses_a_worker};
+ghost use Rattle.scratch.specs.Lost.{CountsLoss};
 ghost use Rattle.scratch.specs.Run.{IsRun};
 ghost use Rattle.scratch.specs.Work.{work_from};
 
@@ -32,7 +32,7 @@ pub fn extend<S: Stepper>(
         ++ work_from S.answer (netlist design.now) (suc (netlist former.now).horizon) (suc (netlist design.now).horizon)) }
     ensures part { OnErr result ((n : ℕ) × (n ≤ suc (netlist design.now).horizon)
         × (S.asked stepper.new ≡ S.asked stepper.old ++ work_from S.answer (netlist design.now) (suc (netlist former.now).horizon) n)) }
-    ensures lost { S.losses stepper.new ≡ S.losses stepper.old + (if loses_a_worker result then 1 else 0) }
+    ensures lost { CountsLoss (S.losses stepper.old) (S.losses stepper.new) result }
 {
     let wiring = wire(alloc, design)?;
     let engine = resume::<S>(alloc, former, &wiring, run)?;
