@@ -64,6 +64,8 @@ impl DelayTimes {
     pub fn exceeds_limit(self) -> bool
         ensures { result ≡ exceeds_limit self }
     {
-        self.rise > MAX_DELAY || self.fall > MAX_DELAY || matches!(self.off, Some(off) if off > MAX_DELAY)
+        self.rise > MAX_DELAY
+            || self.fall > MAX_DELAY
+            || matches!(self.off, Some(off) if off > MAX_DELAY)
     }
 }
