@@ -1,5 +1,5 @@
 -- What an edit is checked for, in order (own).
-use Rattle.std.specs.Prelude.{Bool, false, ℕ, ◌&&◌, not, nat_le, nat_lt, List, [], ◌∷◌, ◌++◌, length, Option, option_map}
+use Rattle.std.specs.Prelude.{Bool, false, ℕ, ◌&&◌, not, nat_le, nat_lt, List, [], ◌∷◌, ◌++◌, length, Option, is_some, option_map}
 use Rattle.std.specs.List.{find, list_all}
 use Rattle.std.specs.Option.{option_map_or}
 use Rattle.fourstate.specs.declared.delay_times.DelayTimes.{DelayTimes}
@@ -7,7 +7,7 @@ use Rattle.fourstate.specs.declared.limits.TheConstants.{MAX_TIME}
 use Rattle.fourstate.specs.declared.gate.GateKind.{GateKind}
 use Rattle.fourstate.specs.declared.gate.GateKind.TheVariants.{Buf}
 use Rattle.fourstate.specs.Delays.{exceeds_limit, has_zero}
-use Rattle.fourstate.specs.Gates.{takes_inputs}
+use Rattle.fourstate.specs.Gates.{takes_inputs, takes_off}
 use Rattle.design.specs.declared.limits.TheConstants.{MAX_NETS, MAX_GATES, MAX_POINTS}
 use Rattle.design.specs.Names.{is_name}
 use Rattle.design.specs.Netlist.{Netlist, gate_named, has_gate, has_net, has_point, is_readable, is_used, net_named, point_total}
@@ -15,7 +15,7 @@ use Rattle.edits.specs.declared.edit.Edit.{Edit}
 use Rattle.edits.specs.declared.edit.Edit.TheVariants.{AddNet, AddInput, DropNet, SetNetKind, AddGate, DropGate, SetDelay, SetGateKind, Rewire, Stim, Unstim, Horizon}
 use Rattle.edits.specs.declared.pin.Pin.{Pin}
 use Rattle.edits.specs.declared.fault.EditFault.{EditFault}
-use Rattle.edits.specs.declared.fault.EditFault.TheVariants.{UnknownNet, UnknownGate, DuplicateName, BadName, ZeroDelay, DelayTooLarge, WrongArity, DrivenInput, NotInput, NetInUse, TimeTooLarge, NoSuchPoint, TooMany}
+use Rattle.edits.specs.declared.fault.EditFault.TheVariants.{UnknownNet, UnknownGate, DuplicateName, BadName, ZeroDelay, DelayTooLarge, WrongArity, DrivenInput, NotInput, NetInUse, TimeTooLarge, NoSuchPoint, TooMany, NoTurnOff}
 use Rattle.edits.specs.Edits.{connection_of}
 
 -- What is asked of a design.
@@ -40,6 +40,14 @@ kind_named d name = option_map_or (λ g. g.kind) (gate_named d name) Buf
 abbrev pub kind_fits : Netlist → List ℕ → GateKind → Bool
 kind_fits d name kind = option_map_or (λ g. takes_inputs kind (length g.inputs)) (gate_named d name) false
 
+-- a turn-off delay is given for a kind that takes none
+abbrev pub is_off_misplaced : GateKind → DelayTimes → Bool
+is_off_misplaced kind delays = is_some delays.off && not (takes_off kind)
+
+-- the gate of this name has a turn-off delay, and the kind takes none
+abbrev pub keeps_off : Netlist → List ℕ → GateKind → Bool
+keeps_off d name kind = option_map_or (λ g. is_off_misplaced kind g.delays) (gate_named d name) false
+
 -- Checks. Each is a test and the fault that it gives where the test holds.
 
 -- a net of this name is to be there
@@ -60,7 +68,8 @@ new_gate_checks d name =
 
 -- of the delays of a gate of this kind
 abbrev pub delay_checks : GateKind → DelayTimes → List (Bool × EditFault)
-delay_checks kind delays = (has_zero delays, ZeroDelay) ∷ (exceeds_limit delays, DelayTooLarge) ∷ []
+delay_checks kind delays =
+    (has_zero delays, ZeroDelay) ∷ (exceeds_limit delays, DelayTooLarge) ∷ (is_off_misplaced kind delays, NoTurnOff) ∷ []
 
 -- whether the number of inputs fits is asked first
 abbrev pub wiring_checks : Netlist → Bool → List ℕ → List Pin → List (Bool × EditFault)
@@ -82,7 +91,8 @@ checks d (AddGate name kind delays output inputs) =
     new_gate_checks d name ++ (delay_checks kind delays ++ wiring_checks d (takes_inputs kind (length inputs)) output inputs)
 checks d (DropGate name) = gate_there d name ∷ []
 checks d (SetDelay name delays) = gate_there d name ∷ delay_checks (kind_named d name) delays
-checks d (SetGateKind name kind) = gate_there d name ∷ (not (kind_fits d name kind), WrongArity) ∷ []
+checks d (SetGateKind name kind) =
+    gate_there d name ∷ (not (kind_fits d name kind), WrongArity) ∷ (keeps_off d name kind, NoTurnOff) ∷ []
 checks d (Rewire name output inputs) =
     gate_there d name ∷ wiring_checks d (takes_inputs (kind_named d name) (length inputs)) output inputs
 checks d (Stim net time v) =

@@ -1,7 +1,7 @@
 -- Why an edit was refused: numbers and names (own).
 use Rattle.std.specs.Prelude.{ℕ, List, codes}
 use Rattle.edits.specs.declared.fault.EditFault.{EditFault}
-use Rattle.edits.specs.declared.fault.EditFault.TheVariants.{UnknownNet, UnknownGate, DuplicateName, BadName, ZeroDelay, DelayTooLarge, WrongArity, DrivenInput, NotInput, NetInUse, TimeTooLarge, NoSuchPoint, TooMany, OutOfMemory}
+use Rattle.edits.specs.declared.fault.EditFault.TheVariants.{UnknownNet, UnknownGate, DuplicateName, BadName, ZeroDelay, DelayTooLarge, WrongArity, DrivenInput, NotInput, NetInUse, TimeTooLarge, NoSuchPoint, TooMany, OutOfMemory, NoTurnOff}
 
 abbrev pub fault_code : EditFault → ℕ
 fault_code UnknownNet = 1
@@ -18,6 +18,7 @@ fault_code TimeTooLarge = 11
 fault_code NoSuchPoint = 12
 fault_code TooMany = 13
 fault_code OutOfMemory = 14
+fault_code NoTurnOff = 21
 
 abbrev pub fault_name : EditFault → List ℕ
 fault_name UnknownNet = codes "UnknownNet"
@@ -34,3 +35,4 @@ fault_name TimeTooLarge = codes "TimeTooLarge"
 fault_name NoSuchPoint = codes "NoSuchPoint"
 fault_name TooMany = codes "TooMany"
 fault_name OutOfMemory = codes "OutOfMemory"
+fault_name NoTurnOff = codes "NoTurnOff"

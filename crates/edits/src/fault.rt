@@ -50,6 +50,9 @@ pub enum EditFault {
     /// An allocation was refused.
     #[error("out of memory")]
     OutOfMemory = 14,
+    /// A turn-off delay is given, or was given before, for a kind of gate that takes none.
+    #[error("no turn-off delay")]
+    NoTurnOff = 21,
 }
 
 impl EditFault {
@@ -79,6 +82,7 @@ impl EditFault {
             EditFault::NoSuchPoint => "NoSuchPoint",
             EditFault::TooMany => "TooMany",
             EditFault::OutOfMemory => "OutOfMemory",
+            EditFault::NoTurnOff => "NoTurnOff",
         }
     }
 }

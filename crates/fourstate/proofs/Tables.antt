@@ -1,8 +1,9 @@
 -- The laws of the tables.
 use Rattle.std.specs.Cmp.{IsEquivalence, decided, both_ways}
-use Rattle.std.proofs.Common.{◌≡◌, ◌≤◌, List, [], ◌∷◌, Some, map, refl, arith}
+use Rattle.std.proofs.Common.{◌≡◌, ◌≤◌, List, [], ◌∷◌, Some, None, Option, ℕ, min, unwrap_or, map, refl, arith}
 use Rattle.std.proofs.lemmas.Map.Views.{list_any-from_Contains, Contains-from_any}
-use Rattle.fourstate.specs.Delays.{delay_to}
+use Rattle.std.specs.Option.{option_map_or}
+use Rattle.fourstate.specs.Delays.{delay_to, lesser}
 use Rattle.fourstate.specs.declared.delay_times.DelayTimes.{DelayTimes}
 use Rattle.fourstate.specs.Gates.{gate_of}
 use Rattle.fourstate.specs.Keywords.{gate_keyword, gate_kind_of, net_keyword, net_kind_of}
@@ -54,11 +55,15 @@ inverted_data_zero One c = refl
 inverted_data_zero Unknown c = refl
 inverted_data_zero HighZ c = refl
 
+least_of : (lesser : ℕ) (off : Option ℕ) → (option_map_or (min lesser) off lesser ≤ lesser) × (option_map_or (min lesser) off lesser ≤ unwrap_or off lesser)
+least_of lesser None = (omega arith, omega arith)
+least_of lesser (Some off) = (omega arith, omega arith)
+
 pub least_delay : (delays : DelayTimes) (to : Value) → delay_to delays Unknown ≤ delay_to delays to
-least_delay delays Zero = omega arith
-least_delay delays One = omega arith
+least_delay delays Zero = let least = (least_of (lesser delays) delays.off).0 in omega arith
+least_delay delays One = let least = (least_of (lesser delays) delays.off).0 in omega arith
 least_delay delays Unknown = omega arith
-least_delay delays HighZ = omega arith
+least_delay delays HighZ = (least_of (lesser delays) delays.off).1
 
 pub gate_reads_back : (kind : GateKind) → gate_kind_of (gate_keyword kind) ≡ Some kind
 gate_reads_back And = refl

@@ -65,6 +65,14 @@ takes_inputs Notif1 n = n == 2
 takes_inputs Notif0 n = n == 2
 takes_inputs _ n = nat_le 1 n && nat_le n MAX_INPUTS
 
+-- a gate of this kind may have a turn-off delay: it can stop driving its net (7.14)
+abbrev pub takes_off : GateKind → Bool
+takes_off Bufif1 = true
+takes_off Bufif0 = true
+takes_off Notif1 = true
+takes_off Notif0 = true
+takes_off _ = false
+
 -- the kinds are the same
 abbrev pub same_kind : GateKind → GateKind → Bool
 same_kind And And = true

@@ -2,6 +2,7 @@ pub mod DelayLaws
 pub mod Delays
 pub mod GateLaws
 pub mod Gates
+pub mod KeptDelays
 pub mod Keywords
 pub mod NetLaws
 pub mod Nets

@@ -1,7 +1,7 @@
 //! Gates (IEEE 1364-2005, 7.2 to 7.4).
 
 ghost use Rattle.std.specs.Prelude.{◌≡◌, ◌<◌, IsTrue, length, map};
-ghost use Rattle.fourstate.specs.Gates.{controlled, gate_of, same_kind, takes_inputs};
+ghost use Rattle.fourstate.specs.Gates.{controlled, gate_of, same_kind, takes_inputs, takes_off};
 ghost use Rattle.fourstate.specs.Rules.{value_by};
 ghost use Rattle.fourstate.specs.Values.{reading};
 ghost use Rattle.fourstate.specs.Keywords.{gate_keyword, gate_kind_of};
@@ -95,6 +95,16 @@ pub fn fits(kind: GateKind, inputs: usize) -> bool
         GateKind::Buf | GateKind::Not => inputs == 1,
         GateKind::Bufif1 | GateKind::Bufif0 | GateKind::Notif1 | GateKind::Notif0 => inputs == 2,
         _ => 1 <= inputs && inputs <= MAX_INPUTS,
+    }
+}
+
+/// Whether a gate of this kind may have a turn-off delay: the three-state gates alone (IEEE 1364-2005, 7.14).
+pub fn takes_off(kind: GateKind) -> bool
+    ensures { result ≡ takes_off kind }
+{
+    match kind {
+        GateKind::Bufif1 | GateKind::Bufif0 | GateKind::Notif1 | GateKind::Notif0 => true,
+        _ => false,
     }
 }
 

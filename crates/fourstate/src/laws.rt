@@ -8,7 +8,7 @@ ghost use Rattle.fourstate.specs.Nets.{net_of, passes_lone_driver};
 ghost use Rattle.fourstate.specs.Values.{AreSameSet, inverse, reading, symbol_of, value_of_symbol};
 ghost use Rattle.fourstate.specs.declared.value.Value as values;
 
-use crate::delays::{Delays, delay};
+use crate::delays::Delays;
 use crate::gate::GateKind;
 use crate::limits::{MAX_DELAY, MAX_INPUTS, MAX_TIME};
 use crate::net::NetKind;
@@ -57,8 +57,7 @@ pub fn delays_in_range(delays: &Delays)
     ensures to_each { (to : values.Value) → IsDelay (delay_to delays.now to) }
     ensures to_unknown { (to : values.Value) → delay_to delays.now Value.Unknown ≤ delay_to delays.now to }
 {
-    let _rise = delay(delays, Value::One);
-    let _fall = delay(delays, Value::Zero);
+    delays.lawful();
 }
 
 /// What a word of a kind writes is that kind.

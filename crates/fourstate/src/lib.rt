@@ -15,7 +15,7 @@ mod value;
 
 pub use delay_times::DelayTimes;
 pub use delays::{Delays, delay};
-pub use gate::{GateKind, fits, gate_value};
+pub use gate::{GateKind, fits, gate_value, takes_off};
 pub use inputs::Inputs;
 pub use limits::{MAX_DELAY, MAX_INPUTS, MAX_TIME};
 pub use net::{NetKind, NetRule, resolve};

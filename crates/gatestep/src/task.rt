@@ -9,6 +9,9 @@ ghost use Rattle.gatestep.specs.Tasks.{IsTask, IsReady, PendingBefore, PendingFr
 use crate::driver::Driver;
 use fourstate::{Delays, GateKind, Inputs, delay, gate_value, laws};
 use std::marker::Model;
+use std::mem::size_of;
+
+const _: () = prove!(size_of::<Task>() == 56);
 
 /// What is asked of one gate at one moment: its kind and delays, its state before the moment, and its inputs at the
 /// moment. The type keeps that the inputs fit. It takes no memory.

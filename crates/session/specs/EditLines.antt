@@ -1,6 +1,7 @@
 -- The lines of edits (own).
 use Rattle.std.specs.Prelude.{ℕ, if◌then◌else◌, List, [], ◌∷◌, Option, None, Some, option_map, option_and_then}
-use Rattle.fourstate.specs.Delays.{delay_times}
+use Rattle.std.specs.List.{slice_split}
+use Rattle.fourstate.specs.Delays.{delay_times, with_off}
 use Rattle.fourstate.specs.Keywords.{gate_kind_of, net_kind_of}
 use Rattle.fourstate.specs.declared.delay_times.DelayTimes.{DelayTimes}
 use Rattle.edits.specs.declared.edit.Edit.{Edit}
@@ -11,7 +12,7 @@ use Rattle.session.specs.declared.commands.edit_line.EditLine.TheVariants.{AddNe
 use Rattle.session.specs.declared.commands.verb.EditVerb.{EditVerb}
 use Rattle.session.specs.declared.commands.verb.EditVerb.TheVariants as verb
 use Rattle.session.specs.Pins.{pins_of}
-use Rattle.session.specs.Words.{name_and_time, no_words, number_of, one_word, three_words, two_words, value_of}
+use Rattle.session.specs.Words.{is_slash, name_and_time, no_words, number_of, one_word, three_words, two_words, value_of}
 
 -- Each edit from the words behind the first one of its line, if they are readable.
 
@@ -48,12 +49,20 @@ horizon_edit ws = option_and_then (λ word. option_map (λ time. Horizon time) (
 abbrev pub drop_edit : List (List ℕ) → Option EditLine
 drop_edit ws = option_map (λ name. DropGate name) (one_word ws)
 
--- R F, with which words begin: the delays that they write, a rise and a fall, and the words behind them
+-- a word's parts between slashes, behind a rise: F, a fall, or F/Z, a fall and a turn-off delay
+abbrev pub times_of : ℕ → List (List ℕ) → Option DelayTimes
+times_of rise (fall ∷ []) = option_map (λ f. delay_times rise f) (number_of fall)
+times_of rise (fall ∷ off ∷ []) =
+    option_and_then (λ f. option_map (λ z. with_off (delay_times rise f) z) (number_of off)) (number_of fall)
+times_of rise _ = None
+
+-- R F or R F/Z, with which words begin: the delays that they write, and the words behind them
 abbrev pub delays_of : List (List ℕ) → Option (DelayTimes × List (List ℕ))
-delays_of (rise ∷ fall ∷ ws) = option_and_then (λ r. option_map (λ f. (delay_times r f, ws)) (number_of fall)) (number_of rise)
+delays_of (rise ∷ word ∷ ws) =
+    option_and_then (λ r. option_map (λ times. (times, ws)) (times_of r (slice_split is_slash word))) (number_of rise)
 delays_of _ = None
 
--- delay G R F
+-- delay G R F, or delay G R F/Z
 abbrev pub delay_edit : List (List ℕ) → Option EditLine
 delay_edit (name ∷ ws) =
     option_and_then (λ delays. if no_words delays.1 then Some (SetDelay name delays.0) else None) (delays_of ws)
@@ -68,7 +77,7 @@ abbrev pub nets_of : List (List ℕ) → Option (List ℕ × List Pin)
 nets_of (output ∷ ws) = option_map (λ inputs. (output, inputs)) (pins_of ws)
 nets_of [] = None
 
--- gate G KIND R F OUT IN..
+-- gate G KIND R F OUT IN.., or F/Z in place of F
 abbrev pub gate_edit : List (List ℕ) → Option EditLine
 gate_edit (name ∷ word ∷ ws) =
     option_and_then (λ kind. option_and_then (λ delays.

@@ -65,6 +65,10 @@ decimal_value digits = fold (λ n digit. 10 * n + (digit - 48)) 0 digits
 abbrev pub number_of : List ℕ → Option ℕ
 number_of word = if has_bytes word && list_all is_digit word then Some (min (decimal_value word) (2 ^ 64 - 1)) else None
 
+-- the sign between a fall and a turn-off delay
+abbrev pub is_slash : ℕ → Bool
+is_slash byte = byte == 47
+
 -- the value that a word of one byte writes
 abbrev pub value_of : List ℕ → Option Value
 value_of (byte ∷ []) = value_of_symbol byte

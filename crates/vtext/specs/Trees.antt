@@ -12,7 +12,7 @@
 --            | net kind optional(range) NAME { "," NAME } ";"
 --            | gate kind optional(delay) instance { "," instance } ";"
 --            | NAME minst { "," minst } ";"
---   delay    : "#" NUMBER | "#" "(" NUMBER optional("," NUMBER) ")"
+--   delay    : "#" NUMBER | "#" "(" NUMBER optional("," NUMBER optional("," NUMBER)) ")"
 --   instance : optional(NAME) "(" terminal { "," terminal } ")"
 --   minst    : NAME "(" optional(conns) ")"                        an instance of a module
 --   conns    : optional(terminal) { "," optional(terminal) }       by order
@@ -20,9 +20,10 @@
 --   conn     : "." NAME "(" optional(terminal) ")"
 --   terminal : NAME | NAME "[" NUMBER "]" | CONSTANT
 --
--- No connections at all are none, and not one that is empty (own).
+-- No connections at all are none, and not one that is empty (own). Only a gate kind that takes a turn-off delay has a third number.
 use Rattle.std.specs.Prelude.{◌≡◌, true, ℕ, List, [], ◌∷◌, MatchOption, Option, Some, None, fold, unwrap_or}
-use Rattle.fourstate.specs.Delays.{delay_times, uniform_delays}
+use Rattle.fourstate.specs.Delays.{delay_times, uniform_delays, with_off}
+use Rattle.fourstate.specs.Gates.{takes_off}
 use Rattle.fourstate.specs.declared.delay_times.DelayTimes.{DelayTimes}
 use Rattle.fourstate.specs.declared.gate.GateKind.{GateKind}
 use Rattle.fourstate.specs.declared.net.NetKind.{NetKind}
@@ -59,12 +60,13 @@ pub data Header : Type 0 where
   older_ports : ℕ → List ℕ → Header
   inline_ports : Decl → List Port → Header
 
--- no delay; `#d`; `#(d)`; `#(r,f)`
+-- no delay; `#d`; `#(d)`; `#(r,f)`; `#(r,f,z)`
 pub data Delay : Type 0 where
   no_delay : Delay
   one_delay : ℕ → Delay
   enclosed_delay : ℕ → Delay
   two_delays : ℕ → ℕ → Delay
+  three_delays : ℕ → ℕ → ℕ → Delay
 
 -- a gate instance: its name, if it has one, and its terminals
 pub record Instance : Type 0 where
@@ -142,6 +144,8 @@ delay_then no_delay rest = rest
 delay_then (one_delay d) rest = plain Hash ∷ plain (Number d) ∷ rest
 delay_then (enclosed_delay d) rest = plain Hash ∷ plain Open ∷ plain (Number d) ∷ plain Close ∷ rest
 delay_then (two_delays r f) rest = plain Hash ∷ plain Open ∷ plain (Number r) ∷ plain Comma ∷ plain (Number f) ∷ plain Close ∷ rest
+delay_then (three_delays r f z) rest =
+    plain Hash ∷ plain Open ∷ plain (Number r) ∷ plain Comma ∷ plain (Number f) ∷ plain Comma ∷ plain (Number z) ∷ plain Close ∷ rest
 
 abbrev pub terminal_then : Terminal → List Mark → List Mark
 terminal_then (Net n) rest = plain (Name n) ∷ rest
@@ -224,12 +228,13 @@ after_header r empty_ports = r
 after_header r (older_ports n names) = fold list_port r (n ∷ names)
 after_header r (inline_ports decl ports) = fold after_port (after_decl (record r { inline = true }) decl) ports
 
--- one number is each delay, of two the first is the rise
+-- one number is each delay; of more the first is the rise, the second the fall and the third the turn-off delay
 abbrev pub times_of : Option ℕ → Delay → DelayTimes
 times_of default no_delay = uniform_delays (unwrap_or default 0)
 times_of default (one_delay d) = uniform_delays d
 times_of default (enclosed_delay d) = uniform_delays d
 times_of default (two_delays r f) = delay_times r f
+times_of default (three_delays r f z) = with_off (delay_times r f) z
 
 abbrev pub after_name : Reading → Option ℕ → Reading
 after_name r None = record r { instance = None }
@@ -278,11 +283,14 @@ abbrev pub IsRangeAdmitted : Option Range → Type 0
 IsRangeAdmitted None = Unit {0}
 IsRangeAdmitted (Some range) = (bound_cause range.left ≡ None) × (bound_cause range.right ≡ None)
 
-abbrev pub IsDelayAdmitted : Option ℕ → Delay → Type 0
-IsDelayAdmitted default no_delay = default_cause default ≡ None
-IsDelayAdmitted default (one_delay d) = delay_cause d ≡ None
-IsDelayAdmitted default (enclosed_delay d) = delay_cause d ≡ None
-IsDelayAdmitted default (two_delays r f) = (delay_cause r ≡ None) × (delay_cause f ≡ None)
+-- of a gate of this kind
+abbrev pub IsDelayAdmitted : Option ℕ → GateKind → Delay → Type 0
+IsDelayAdmitted default kind no_delay = default_cause default ≡ None
+IsDelayAdmitted default kind (one_delay d) = delay_cause d ≡ None
+IsDelayAdmitted default kind (enclosed_delay d) = delay_cause d ≡ None
+IsDelayAdmitted default kind (two_delays r f) = (delay_cause r ≡ None) × (delay_cause f ≡ None)
+IsDelayAdmitted default kind (three_delays r f z) =
+    (takes_off kind ≡ true) × (delay_cause r ≡ None) × (delay_cause f ≡ None) × (delay_cause z ≡ None)
 
 abbrev pub IsNameAdmitted : Reading → Option ℕ → Type 0
 IsNameAdmitted r None = Unit {0}
@@ -349,7 +357,7 @@ IsItemAdmitted default table r (port_item direction kind range n names) =
 IsItemAdmitted default table r (net_item kind range n names) =
     IsRangeAdmitted range × AreAdmitted declare_net (λ now name. net_cause table now name ≡ None) (record r { kind = Some kind; range = range }) (n ∷ names)
 IsItemAdmitted default table r (gate_item kind delay instance instances) =
-    IsDelayAdmitted default delay × AreInstancesAdmitted table (after_gate default r kind delay) (instance ∷ instances)
+    IsDelayAdmitted default kind delay × AreInstancesAdmitted table (after_gate default r kind delay) (instance ∷ instances)
 IsItemAdmitted default table r (instance_item of instance instances) = AreModuleInstancesAdmitted table (record r { of = of }) (instance ∷ instances)
 
 abbrev pub AreItemsAdmitted : Option ℕ → List (List ℕ) → Reading → List Item → Type 0

@@ -1,7 +1,8 @@
 -- What each state of the parser does with a word: where it leads, and what has been read then, or why it is refused. The grammar
 -- itself is in Trees.antt.
 use Rattle.std.specs.Prelude.{◌≡◌, true, ℕ, List, Option, Some, None, if◌then◌else◌, option_map, unwrap_or, Result, Ok, Err}
-use Rattle.fourstate.specs.Delays.{uniform_delays, with_fall}
+use Rattle.fourstate.specs.Delays.{uniform_delays, with_fall, with_off}
+use Rattle.fourstate.specs.Gates.{takes_off}
 use Rattle.fourstate.specs.declared.delay_times.DelayTimes.{DelayTimes}
 use Rattle.vtext.specs.declared.cause.Cause.{Cause}
 use Rattle.vtext.specs.declared.cause.Cause.TheVariants.{BadName}
@@ -207,10 +208,11 @@ abbrev pub gate_start : Reading → Word → Result Walk Cause
 gate_start r Hash = goes state.Delay r
 gate_start r word = instance_start r word
 
--- the first number of a delay is the second one too where none follows
+-- the first number of a delay is the second one too where none follows; the third is the turn-off delay
 abbrev pub with_number : DelayTimes → DelayNumber → ℕ → DelayTimes
 with_number delays number.Rise n = uniform_delays n
 with_number delays number.Fall n = with_fall delays n
+with_number delays number.Off n = with_off delays n
 
 abbrev pub delay_number : DelayNumber → ParserState → Reading → Word → Result Walk Cause
 delay_number of to r (Number n) = unless (delay_cause n) (goes to (record r { delays = with_number r.delays of n }))
@@ -225,9 +227,15 @@ rise_end r Comma = goes state.FallDelay r
 rise_end r Close = goes state.InstanceStart r
 rise_end r word = Err (misfit word)
 
+-- a third number follows only where the kind of the gate takes a turn-off delay
 abbrev pub fall_end : Reading → Word → Result Walk Cause
+fall_end r Comma = if takes_off r.gate then goes state.OffDelay r else Err (misfit Comma)
 fall_end r Close = goes state.InstanceStart r
 fall_end r word = Err (misfit word)
+
+abbrev pub off_end : Reading → Word → Result Walk Cause
+off_end r Close = goes state.InstanceStart r
+off_end r word = Err (misfit word)
 
 abbrev pub instance_open : Reading → Word → Result Walk Cause
 instance_open r Open = goes state.TerminalStart r
@@ -345,6 +353,8 @@ turn default names r state.RiseDelay next after = delay_number number.Rise state
 turn default names r state.RiseEnd next after = rise_end r next.word
 turn default names r state.FallDelay next after = delay_number number.Fall state.FallEnd r next.word
 turn default names r state.FallEnd next after = fall_end r next.word
+turn default names r state.OffDelay next after = delay_number number.Off state.OffEnd r next.word
+turn default names r state.OffEnd next after = off_end r next.word
 turn default names r state.InstanceStart next after = instance_start r next.word
 turn default names r state.InstanceOpen next after = instance_open r next.word
 turn default names r state.TerminalStart next after = terminal_start names r next.word after

@@ -16,6 +16,8 @@ pub enum Declared {
 pub enum DelayNumber {
     Rise,
     Fall,
+    /// The turn-off delay.
+    Off,
 }
 
 /// What a terminal with an index is written in.
@@ -93,6 +95,10 @@ pub enum ParserState {
     FallDelay,
     /// Behind the second number of a delay.
     FallEnd,
+    /// Behind the second comma of a delay.
+    OffDelay,
+    /// Behind the third number of a delay.
+    OffEnd,
     /// Where a gate instance begins.
     InstanceStart,
     /// Behind the name of a gate instance.

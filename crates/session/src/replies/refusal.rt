@@ -8,7 +8,7 @@ use edits::EditFault;
 /// Why a command was refused, as a reply says it.
 #[derive(Clone, Copy, Debug, PartialEq, Eq)]
 pub enum Refusal {
-    /// The edit's fault, 1 to 14.
+    /// The edit's fault, 1 to 14 or 21.
     Edit(EditFault),
     /// A worker of the stepper ended before its answer came.
     WorkerLost,
