@@ -73,5 +73,5 @@ pub fn words_read_back(gate: GateKind, net: NetKind, value: Value)
 pub fn limits()
     ensures inputs { MAX_INPUTS ≡ 64 }
     ensures delay { MAX_DELAY ≡ 1000000 }
-    ensures time { MAX_TIME ≡ 1000000000 }
+    ensures time { MAX_TIME ≡ 1099511627776 }
 {}
