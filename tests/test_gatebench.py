@@ -19,7 +19,7 @@ class Gatebench(WithProgram):
 class Words(Gatebench):
     def horizon_of(self, *words: str) -> int:
         """The last moment that a wave tells of, where a net changes at every moment that the table below asks for."""
-        moments = (0, 4, 5, 6, 7, 8, 999, 1000, 1001, 1_000_000_000)
+        moments = (0, 4, 5, 6, 7, 8, 999, 1000, 1001, 1_099_511_627_776)
         stimulus = "".join(f"stim a {moment} {place % 2}\n" for place, moment in enumerate(moments))
         ended = self.run_with(list(words), stimulus + "wave a\n")
         self.assertEqual((ended.status, ended.said), (0, ""), words)
@@ -33,7 +33,7 @@ class Words(Gatebench):
             ("--horizon", "5", "d.v"): 5,
             ("d.v", "--horizon=5"): 5,
             ("--horizon=0", "d.v"): 0,
-            ("--horizon=1000000000", "d.v"): 1_000_000_000,
+            ("--horizon=1099511627776", "d.v"): 1_099_511_627_776,
             ("--horizon=00000000000000000000007", "d.v"): 7,
             ("d.v", "--horizon", "999"): 999,
             ("--workers", "7", "d.v", "--horizon=4"): 4,
@@ -81,7 +81,7 @@ class Words(Gatebench):
 
 class RefusedWords(Gatebench):
     def test_each_is_named(self) -> None:
-        horizon = "--horizon <H>'\n  [possible values: 0 to 1000000000, in digits alone]\n\n"
+        horizon = "--horizon <H>'\n  [possible values: 0 to 1099511627776, in digits alone]\n\n"
         workers = "--workers <N>'\n  [possible values: 1 to 64, in digits alone]\n\n"
         delay = "--delay <D>'\n  [possible values: 1 to 1000000, in digits alone]\n\n"
         wanted = {
@@ -102,11 +102,11 @@ class RefusedWords(Gatebench):
             ("d.v", "--workers=2", "--workers=2"): "error: the argument '--workers <N>' cannot be used multiple times\n\n",
             ("d.v", "--delay=1", "--delay=1"): "error: the argument '--delay <D>' cannot be used multiple times\n\n",
             ("d.v", "--horizon", "abc"): f"error: invalid value 'abc' for '{horizon}",
-            ("d.v", "--horizon=1000000001", "--delay=0"): f"error: invalid value '1000000001' for '{horizon}",
+            ("d.v", "--horizon=1099511627777", "--delay=0"): f"error: invalid value '1099511627777' for '{horizon}",
             ("d.v", "--delay=0", "--workers", "65"): f"error: invalid value '65' for '{workers}",
             ("d.v", "--workers=two", "--horizon=x"): f"error: invalid value 'x' for '{horizon}",
         }
-        for value in ("", "+5", "-5", "1000000001", "18446744073709551621", "5x", " 5"):
+        for value in ("", "+5", "-5", "1099511627777", "18446744073709551621", "5x", " 5"):
             wanted["d.v", f"--horizon={value}"] = f"error: invalid value '{value}' for '{horizon}"
         for value in ("", "0", "65", "4294967297", "18446744073709551617", "+2", "2,"):
             wanted["d.v", f"--workers={value}"] = f"error: invalid value '{value}' for '{workers}"

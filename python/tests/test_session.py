@@ -59,7 +59,7 @@ class Inverter(WithFolder):
         self.assertEqual(self.session.wave("y").horizon, 30)
 
     def test_the_horizon_is_known_wherever_it_moves(self) -> None:
-        for horizon in (0, 1, 999, 1000, 1001, 1_000_000_000):
+        for horizon in (0, 1, 999, 1000, 1001, 1_099_511_627_776):
             self.session.horizon(horizon)
             self.assertEqual(self.session.wave("y").horizon, horizon)
 

@@ -10,7 +10,7 @@ line, and each gets its reply on the standard output.
 
   DESIGN         the file of the design text, which is structural Verilog
   --horizon H    the last moment that is simulated, in time units: 0 to
-                 1000000000, and 1000 if it is not given
+                 1099511627776, and 1000 if it is not given
   --workers N    the threads that may evaluate gates: 1 to 64, 1 if not given
   --delay D      the delay of gates that are written without one: 1 to 1000000
 

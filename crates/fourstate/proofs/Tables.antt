@@ -1,13 +1,13 @@
 -- The laws of the tables.
 use Rattle.std.specs.Cmp.{IsEquivalence, decided, both_ways}
-use Rattle.std.proofs.Common.{◌≡◌, ◌≤◌, List, [], ◌∷◌, Some, None, Option, ℕ, min, unwrap_or, map, refl, arith}
+use Rattle.std.proofs.Common.{◌≡◌, ◌≤◌, Bool, true, false, if◌then◌else◌, List, [], ◌∷◌, Some, None, Option, ℕ, min, unwrap_or, map, refl, arith}
 use Rattle.std.proofs.lemmas.Map.Views.{list_any-from_Contains, Contains-from_any}
 use Rattle.std.specs.Option.{option_map_or}
 use Rattle.fourstate.specs.Delays.{delay_to, lesser}
 use Rattle.fourstate.specs.declared.delay_times.DelayTimes.{DelayTimes}
 use Rattle.fourstate.specs.Gates.{gate_of}
 use Rattle.fourstate.specs.Keywords.{gate_keyword, gate_kind_of, net_keyword, net_kind_of}
-use Rattle.fourstate.specs.Nets.{net_of}
+use Rattle.fourstate.specs.Nets.{net_of, pulled_of, wire_of}
 use Rattle.fourstate.specs.ValueLaws.{is_same, same_value_decides}
 use Rattle.fourstate.specs.Values.{AreSameSet, same_value, occurs, reading, inverse, symbol_of, value_of_symbol}
 use Rattle.fourstate.specs.declared.value.Value.{Value}
@@ -15,7 +15,7 @@ use Rattle.fourstate.specs.declared.value.Value.TheVariants.{Zero, One, Unknown,
 use Rattle.fourstate.specs.declared.gate.GateKind.{GateKind}
 use Rattle.fourstate.specs.declared.gate.GateKind.TheVariants.{And, Nand, Or, Nor, Xor, Xnor, Buf, Not, Bufif1, Bufif0, Notif1, Notif0}
 use Rattle.fourstate.specs.declared.net.NetKind.{NetKind}
-use Rattle.fourstate.specs.declared.net.NetKind.TheVariants.{Wire, Tri, Wand, Triand, Wor, Trior}
+use Rattle.fourstate.specs.declared.net.NetKind.TheVariants.{Wire, Tri, Wand, Triand, Wor, Trior, Tri0, Tri1}
 
 pub same_value_equivalence : IsEquivalence same_value
 same_value_equivalence = decided same_value same_value_decides
@@ -29,6 +29,24 @@ occurs_by_set xs ys same v =
 pub same_resolution : (kind : NetKind) (xs ys : List Value) → AreSameSet xs ys → net_of kind xs ≡ net_of kind ys
 same_resolution kind xs ys same =
     rw (occurs_by_set xs ys same Zero, occurs_by_set xs ys same One, occurs_by_set xs ys same Unknown) refl
+
+-- by what occurs among the drivers
+pulled_by : (pull : Value) (zero one unknown : Bool) →
+    pulled_of pull zero one unknown ≡ (if same_value (wire_of zero one unknown) HighZ then pull else wire_of zero one unknown)
+pulled_by pull true true true = refl
+pulled_by pull true true false = refl
+pulled_by pull true false true = refl
+pulled_by pull true false false = refl
+pulled_by pull false true true = refl
+pulled_by pull false true false = refl
+pulled_by pull false false true = refl
+pulled_by pull false false false = refl
+
+pub pulled_down : (values : List Value) → net_of Tri0 values ≡ (if same_value (net_of Tri values) HighZ then Zero else net_of Tri values)
+pulled_down values = pulled_by Zero (occurs Zero values) (occurs One values) (occurs Unknown values)
+
+pub pulled_up : (values : List Value) → net_of Tri1 values ≡ (if same_value (net_of Tri values) HighZ then One else net_of Tri values)
+pulled_up values = pulled_by One (occurs Zero values) (occurs One values) (occurs Unknown values)
 
 reading_twice : (v : Value) → reading (reading v) ≡ reading v
 reading_twice Zero = refl
@@ -86,6 +104,8 @@ net_reads_back Wand = refl
 net_reads_back Triand = refl
 net_reads_back Wor = refl
 net_reads_back Trior = refl
+net_reads_back Tri0 = refl
+net_reads_back Tri1 = refl
 
 pub value_reads_back : (v : Value) → value_of_symbol (symbol_of v) ≡ Some v
 value_reads_back Zero = refl

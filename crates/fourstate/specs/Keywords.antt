@@ -4,7 +4,7 @@ use Rattle.std.specs.Cmp.Lexicographic.{pointwise}
 use Rattle.fourstate.specs.declared.gate.GateKind.{GateKind}
 use Rattle.fourstate.specs.declared.gate.GateKind.TheVariants.{And, Nand, Or, Nor, Xor, Xnor, Buf, Not, Bufif1, Bufif0, Notif1, Notif0}
 use Rattle.fourstate.specs.declared.net.NetKind.{NetKind}
-use Rattle.fourstate.specs.declared.net.NetKind.TheVariants.{Wire, Tri, Wand, Triand, Wor, Trior}
+use Rattle.fourstate.specs.declared.net.NetKind.TheVariants.{Wire, Tri, Wand, Triand, Wor, Trior, Tri0, Tri1}
 
 -- the twelve kinds of gates
 abbrev pub gate_kinds : List GateKind
@@ -28,9 +28,9 @@ gate_keyword Notif0 = codes "notif0"
 abbrev pub gate_kind_of : List ℕ → Option GateKind
 gate_kind_of word = find (λ kind. pointwise nat_eq (gate_keyword kind) word) gate_kinds
 
--- the six kinds of nets
+-- the eight kinds of nets
 abbrev pub net_kinds : List NetKind
-net_kinds = Wire ∷ Tri ∷ Wand ∷ Triand ∷ Wor ∷ Trior ∷ []
+net_kinds = Wire ∷ Tri ∷ Wand ∷ Triand ∷ Wor ∷ Trior ∷ Tri0 ∷ Tri1 ∷ []
 
 abbrev pub net_keyword : NetKind → List ℕ
 net_keyword Wire = codes "wire"
@@ -39,6 +39,8 @@ net_keyword Wand = codes "wand"
 net_keyword Triand = codes "triand"
 net_keyword Wor = codes "wor"
 net_keyword Trior = codes "trior"
+net_keyword Tri0 = codes "tri0"
+net_keyword Tri1 = codes "tri1"
 
 -- the kind that a word writes, if it writes one
 abbrev pub net_kind_of : List ℕ → Option NetKind

@@ -2,7 +2,7 @@
 use Rattle.std.specs.Prelude.{◌≡◌, true, [], ◌∷◌, refl}
 use Rattle.fourstate.specs.Nets.{net_of, passes_lone_driver}
 use Rattle.fourstate.specs.declared.net.NetKind.{NetKind}
-use Rattle.fourstate.specs.declared.net.NetKind.TheVariants.{Wire, Tri, Wand, Triand, Wor, Trior}
+use Rattle.fourstate.specs.declared.net.NetKind.TheVariants.{Wire, Tri, Wand, Triand, Wor, Trior, Tri0, Tri1}
 use Rattle.fourstate.specs.declared.value.Value.{Value}
 use Rattle.fourstate.specs.declared.value.Value.TheVariants.{Zero, One, Unknown, HighZ}
 
@@ -22,3 +22,5 @@ lone_driver_passes Wand v passes = (by_rules v).1
 lone_driver_passes Triand v passes = (by_rules v).1
 lone_driver_passes Wor v passes = (by_rules v).2
 lone_driver_passes Trior v passes = (by_rules v).2
+lone_driver_passes Tri0 v passes = cc
+lone_driver_passes Tri1 v passes = cc

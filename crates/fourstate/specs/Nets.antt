@@ -1,11 +1,11 @@
--- What a net has from the values that its drivers give (IEEE 1364-2005, 4.6.1 and 4.6.2): it depends only on which
+-- What a net has from the values that its drivers give (IEEE 1364-2005, 4.6.1, 4.6.2 and 4.6.4): it depends only on which
 -- values other than z are among them.
 use Rattle.std.specs.Prelude.{Bool, true, false, ◌&&◌, ◌||◌, if◌then◌else◌, List}
 use Rattle.fourstate.specs.Values.{occurs}
 use Rattle.fourstate.specs.declared.value.Value.{Value}
 use Rattle.fourstate.specs.declared.value.Value.TheVariants.{Zero, One, Unknown, HighZ}
 use Rattle.fourstate.specs.declared.net.NetKind.{NetKind}
-use Rattle.fourstate.specs.declared.net.NetKind.TheVariants.{Wire, Tri, Wand, Triand, Wor, Trior}
+use Rattle.fourstate.specs.declared.net.NetKind.TheVariants.{Wire, Tri, Wand, Triand, Wor, Trior, Tri0, Tri1}
 use Rattle.fourstate.specs.declared.net.NetRule.{NetRule}
 use Rattle.fourstate.specs.declared.net.NetRule.TheVariants as rules
 
@@ -22,7 +22,11 @@ wand_of zero one unknown = if zero then Zero else (if unknown then Unknown else 
 abbrev pub wor_of : (zero one unknown : Bool) → Value
 wor_of zero one unknown = if one then One else (if unknown then Unknown else (if zero then Zero else HighZ))
 
--- by which rule nets of a kind resolve several drivers
+-- a pull gives its value where no value other than z occurs; else it is as a wire
+abbrev pub pulled_of : (pull : Value) → (zero one unknown : Bool) → Value
+pulled_of pull zero one unknown = if zero || one || unknown then wire_of zero one unknown else pull
+
+-- by which rule nets of a kind resolve their drivers
 abbrev pub rule_of : NetKind → NetRule
 rule_of Wire = rules.Wire
 rule_of Tri = rules.Wire
@@ -30,12 +34,16 @@ rule_of Wand = rules.Wand
 rule_of Triand = rules.Wand
 rule_of Wor = rules.Wor
 rule_of Trior = rules.Wor
+rule_of Tri0 = rules.Pulldown
+rule_of Tri1 = rules.Pullup
 
 -- the rules are the same
 abbrev pub same_rule : NetRule → NetRule → Bool
 same_rule rules.Wire rules.Wire = true
 same_rule rules.Wand rules.Wand = true
 same_rule rules.Wor rules.Wor = true
+same_rule rules.Pulldown rules.Pulldown = true
+same_rule rules.Pullup rules.Pullup = true
 same_rule _ _ = false
 
 -- what a net has by a rule where these values other than z occur
@@ -43,6 +51,8 @@ abbrev pub resolved : NetRule → (zero one unknown : Bool) → Value
 resolved rules.Wire = wire_of
 resolved rules.Wand = wand_of
 resolved rules.Wor = wor_of
+resolved rules.Pulldown = pulled_of Zero
+resolved rules.Pullup = pulled_of One
 
 -- what a net of this kind has from the values of its drivers
 abbrev pub net_of : NetKind → List Value → Value
@@ -57,3 +67,5 @@ passes_lone_driver Wand = true
 passes_lone_driver Triand = true
 passes_lone_driver Wor = true
 passes_lone_driver Trior = true
+passes_lone_driver Tri0 = false
+passes_lone_driver Tri1 = false

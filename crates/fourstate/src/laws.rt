@@ -1,11 +1,11 @@
 //! Laws of the tables of gates, nets, delays and words: each function does nothing, and its contract is the law.
 
-ghost use Rattle.std.specs.Prelude.{◌≡◌, ◌≤◌, [], ◌∷◌, IsTrue, map, Some};
+ghost use Rattle.std.specs.Prelude.{◌≡◌, ◌≤◌, [], ◌∷◌, if◌then◌else◌, IsTrue, map, Some};
 ghost use Rattle.fourstate.specs.Delays.{AreDelays, IsDelay, delay_to};
 ghost use Rattle.fourstate.specs.Gates.{gate_of};
 ghost use Rattle.fourstate.specs.Keywords.{gate_keyword, gate_kind_of, net_keyword, net_kind_of};
 ghost use Rattle.fourstate.specs.Nets.{net_of, passes_lone_driver};
-ghost use Rattle.fourstate.specs.Values.{AreSameSet, inverse, reading, symbol_of, value_of_symbol};
+ghost use Rattle.fourstate.specs.Values.{AreSameSet, inverse, reading, same_value, symbol_of, value_of_symbol};
 ghost use Rattle.fourstate.specs.declared.value.Value as values;
 
 use crate::delays::Delays;
@@ -27,6 +27,13 @@ pub fn resolution_reads_a_set(kind: NetKind, values: &[Value], others: &[Value])
 pub fn lone_driver_passes(kind: NetKind, value: Value)
     requires { IsTrue (passes_lone_driver kind) }
     ensures { net_of kind (value ∷ []) ≡ value }
+{}
+
+/// A `tri0` has 0 and a `tri1` has 1 where a `tri` with the same drivers is z, and else what that has.
+#[tactic(auto, using(crate::proofs::Tables::pulled_down, crate::proofs::Tables::pulled_up))]
+pub fn pulls_give_way(values: &[Value])
+    ensures down { net_of NetKind.Tri0 values.now ≡ (if same_value (net_of NetKind.Tri values.now) Value.HighZ then Value.Zero else net_of NetKind.Tri values.now) }
+    ensures up { net_of NetKind.Tri1 values.now ≡ (if same_value (net_of NetKind.Tri values.now) Value.HighZ then Value.One else net_of NetKind.Tri values.now) }
 {}
 
 /// A gate reads z as x: it gives the same where each z among its inputs is an x.
@@ -72,5 +79,5 @@ pub fn words_read_back(gate: GateKind, net: NetKind, value: Value)
 pub fn limits()
     ensures inputs { MAX_INPUTS ≡ 64 }
     ensures delay { MAX_DELAY ≡ 1000000 }
-    ensures time { MAX_TIME ≡ 1000000000 }
+    ensures time { MAX_TIME ≡ 1099511627776 }
 {}

@@ -7,4 +7,4 @@ pub const MAX_INPUTS: usize = 64;
 pub const MAX_DELAY: u64 = 1_000_000;
 
 /// The last moment, in time units, of a stimulus point, a horizon and an evaluation.
-pub const MAX_TIME: u64 = 1_000_000_000;
+pub const MAX_TIME: u64 = 1_099_511_627_776;

@@ -1,7 +1,7 @@
 //! Nets (IEEE 1364-2005, 4.6).
 
 ghost use Rattle.std.specs.Prelude.{◌≡◌};
-ghost use Rattle.fourstate.specs.Nets.{net_of, passes_lone_driver, rule_of, wand_of, wire_of, wor_of};
+ghost use Rattle.fourstate.specs.Nets.{net_of, passes_lone_driver, pulled_of, rule_of, wand_of, wire_of, wor_of};
 ghost use Rattle.fourstate.specs.Keywords.{net_keyword, net_kind_of};
 
 use crate::survey::Survey;
@@ -16,17 +16,21 @@ pub enum NetKind {
     Triand,
     Wor,
     Trior,
+    Tri0,
+    Tri1,
 }
 
 impl NetKind {
     /// Every kind.
-    pub const ALL: [NetKind; 6] = [
+    pub const ALL: [NetKind; 8] = [
         NetKind::Wire,
         NetKind::Tri,
         NetKind::Wand,
         NetKind::Triand,
         NetKind::Wor,
         NetKind::Trior,
+        NetKind::Tri0,
+        NetKind::Tri1,
     ];
 
     /// The word that writes the kind (IEEE 1364-2005, annex B).
@@ -40,6 +44,8 @@ impl NetKind {
             NetKind::Triand => "triand",
             NetKind::Wor => "wor",
             NetKind::Trior => "trior",
+            NetKind::Tri0 => "tri0",
+            NetKind::Tri1 => "tri1",
         }
     }
 
@@ -62,6 +68,8 @@ impl NetKind {
             NetKind::Wire | NetKind::Tri => NetRule::Wire,
             NetKind::Wand | NetKind::Triand => NetRule::Wand,
             NetKind::Wor | NetKind::Trior => NetRule::Wor,
+            NetKind::Tri0 => NetRule::Pulldown,
+            NetKind::Tri1 => NetRule::Pullup,
         }
     }
 
@@ -74,11 +82,12 @@ impl NetKind {
             NetKind::Wire | NetKind::Tri => true,
             NetKind::Wand | NetKind::Triand => true,
             NetKind::Wor | NetKind::Trior => true,
+            NetKind::Tri0 | NetKind::Tri1 => false,
         }
     }
 }
 
-/// The rules by which nets resolve several drivers (IEEE 1364-2005, 4.6.1 and 4.6.2).
+/// The rules by which nets resolve their drivers (IEEE 1364-2005, 4.6.1, 4.6.2 and 4.6.4).
 #[derive(Clone, Copy, Debug, PartialEq, Eq, Hash)]
 pub enum NetRule {
     /// Different values give x.
@@ -87,9 +96,14 @@ pub enum NetRule {
     Wand,
     /// A 1 gives 1.
     Wor,
+    /// Where nothing drives the net it is 0; else as a wire.
+    Pulldown,
+    /// Where nothing drives the net it is 1; else as a wire.
+    Pullup,
 }
 
-/// The value of a net from the values of its drivers, z without one (IEEE 1364-2005, 4.6.1 and 4.6.2).
+/// The value of a net from the values of its drivers. Without one it is z, or what its kind pulls it to (IEEE 1364-2005,
+/// 4.6.1, 4.6.2 and 4.6.4).
 #[inline(always)]
 pub fn resolve(kind: NetKind, values: &[Value]) -> Value
     ensures { result ≡ net_of kind values.now }
@@ -99,6 +113,8 @@ pub fn resolve(kind: NetKind, values: &[Value]) -> Value
         NetRule::Wire => wire_value(&seen),
         NetRule::Wand => wand_value(&seen),
         NetRule::Wor => wor_value(&seen),
+        NetRule::Pulldown => pulled_value(&seen, Value::Zero),
+        NetRule::Pullup => pulled_value(&seen, Value::One),
     }
 }
 
@@ -144,5 +160,16 @@ fn wor_value(seen: &Survey) -> Value
         Value::Zero
     } else {
         Value::HighZ
+    }
+}
+
+#[inline(always)]
+fn pulled_value(seen: &Survey, pull: Value) -> Value
+    ensures { result ≡ pulled_of pull seen.now.zero seen.now.one seen.now.unknown }
+{
+    if seen.zero || seen.one || seen.unknown {
+        wire_value(seen)
+    } else {
+        pull
     }
 }

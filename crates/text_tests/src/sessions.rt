@@ -6,6 +6,8 @@ ghost use Rattle.std.specs.Prelude.{◌<◌};
 mod batches;
 mod bytes;
 mod changes;
+mod last_moment;
+mod pulls;
 mod questions;
 mod scopes;
 mod texts;
@@ -278,8 +280,8 @@ const EDITS: &[u8] =
 gate g' not 1 1 y a\ngate g not 1 1 y a\ngate g not 0 1 y a\ngate h not 0 1 y a\ngate h not 1000001 0 y a\n\
 gate h not 1 1000001 y a\ngate h not 1 1 y a a\ngate h not 1 1 y b b\ngate h not 1 1 y\ngate h not 1 1 q a\n\
 gate h not 1 1 y b\ngate h not 1 1 a b\ngate h not 1 1 a y\ngate h not 1 1 1'b0 a\ngate h not 1 1 y 1'b2\n\
-gate h not 1 1 y 1'B1\ngate h not 1000000 1000000 y 1'b1\nstim q 0 0\nstim y 1000000001 0\nstim a 1000000001 0\n\
-stim a 18446744073709551616 0\nstim a 1000000000 1\nstim a 0 2\nstim a 0 X\nstim a +1 0\nstim a 007 z\nwave q\nwave a\n";
+gate h not 1 1 y 1'B1\ngate h not 1000000 1000000 y 1'b1\nstim q 0 0\nstim y 1099511627777 0\nstim a 1099511627777 0\n\
+stim a 18446744073709551616 0\nstim a 1099511627776 1\nstim a 0 2\nstim a 0 X\nstim a +1 0\nstim a 007 z\nwave q\nwave a\n";
 
 const EDIT_REPLIES: &[u8] =
     b"no 4 BadName\nno 4 BadName\nno 4 BadName\nok 1\nno 3 DuplicateName\nno 3 DuplicateName\nok 2\n\

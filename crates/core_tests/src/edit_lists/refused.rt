@@ -155,20 +155,20 @@ fn edits_of_gates(rt: HostRuntime) {
 }
 
 const EDITS_OF_THE_STIMULUS: [Case<'static>; 14] = [
-    ("stim a 1000000000 1", None),
-    ("stim a 1000000001 1", Some(TimeTooLarge)),
+    ("stim a 1099511627776 1", None),
+    ("stim a 1099511627777 1", Some(TimeTooLarge)),
     ("stim y 0 1", Some(NotInput)),
-    ("stim y 1000000001 1", Some(NotInput)),
+    ("stim y 1099511627777 1", Some(NotInput)),
     ("stim m 0 1", Some(UnknownNet)),
     ("stim g 0 1", Some(UnknownNet)),
     ("unstim a 10", None),
     ("unstim a 11", Some(NoSuchPoint)),
     ("unstim b 10", Some(NoSuchPoint)),
-    ("unstim a 1000000001", Some(NoSuchPoint)),
+    ("unstim a 1099511627777", Some(NoSuchPoint)),
     ("unstim y 10", Some(NotInput)),
     ("unstim m 10", Some(UnknownNet)),
-    ("horizon 1000000000", None),
-    ("horizon 1000000001", Some(TimeTooLarge)),
+    ("horizon 1099511627776", None),
+    ("horizon 1099511627777", Some(TimeTooLarge)),
 ];
 
 #[test]
@@ -247,7 +247,7 @@ const LONG_LISTS: [(u64, &str, u64, Option<(usize, EditFault)>); 4] = [
     (4095, "drop k", 0, Some((4095, UnknownGate))),
     (4096, "drop k", 0, Some((4096, TooMany))),
     (4096, "horizon 5", 3, Some((4096, TooMany))),
-    (7, "horizon 1000000001", 5000, Some((7, TimeTooLarge))),
+    (7, "horizon 1099511627777", 5000, Some((7, TimeTooLarge))),
 ];
 
 fn check_long_lists(rt: &impl Abort, alloc: Global, design: &Design) {
@@ -369,7 +369,7 @@ const POINTS: Limit<'static> = Limit {
     without_room: &[
         ("stim b 0 1", Some(TooMany)),
         ("stim b 3 0", None),
-        ("stim b 1000000001 0", Some(TimeTooLarge)),
+        ("stim b 1099511627777 0", Some(TimeTooLarge)),
     ],
 };
 

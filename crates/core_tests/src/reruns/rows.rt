@@ -103,12 +103,14 @@ const TWO_HALVES: [&str; 8] = [
     "stim b 0 0",
 ];
 
+const FAST_BUFFER: [&str; 4] = ["input a", "net y wire", "gate g buf 3 3 y a", "stim a 0 0"];
+
 const LATE: [&str; 5] = [
     "input a",
     "net y wire",
     "gate g buf 3 3 y a",
     "stim a 0 0",
-    "stim a 999999997 1",
+    "stim a 1099511627773 1",
 ];
 
 const ONE_BUFFER: [&str; 4] = ["input a", "net y wire", "gate g buf 5 5 y a", "stim a 0 0"];
@@ -125,7 +127,7 @@ const TWO_BUFFERS: [&str; 9] = [
     "stim b 0 1",
 ];
 
-const COMMITS: [Case<'static>; 9] = [
+const COMMITS: [Case<'static>; 10] = [
     // At 10 the gate isn't stirred any more; at 12 its input rises, at 17 its event is due.
     Case {
         name: "a point moved",
@@ -152,21 +154,30 @@ const COMMITS: [Case<'static>; 9] = [
         waves: &[("z", " 0:x 3:0 503:1"), ("y", " 0:x 3:0")],
         tasks: 2,
     },
-    // Both times at the rise, and once where its event is due.
+    // At the rise, and at the last moment, where its event is due.
+    Case {
+        name: "a late point set",
+        first: &FAST_BUFFER,
+        horizon: 1_099_511_627_776,
+        edits: &["stim a 1099511627773 1"],
+        waves: &[("y", " 0:x 3:0 1099511627776:1")],
+        tasks: 2,
+    },
+    // At the rise alone: its event is due behind the last moment.
     Case {
         name: "a late point moved",
         first: &LATE,
-        horizon: 1_000_000_000,
-        edits: &["unstim a 999999997", "stim a 999999998 1"],
+        horizon: 1_099_511_627_776,
+        edits: &["unstim a 1099511627773", "stim a 1099511627774 1"],
         waves: &[("y", " 0:x 3:0")],
         tasks: 1,
     },
     Case {
         name: "a late point",
         first: &LATE,
-        horizon: 1_000_000_000,
+        horizon: 1_099_511_627_776,
         edits: &[],
-        waves: &[("y", " 0:x 3:0 1000000000:1")],
+        waves: &[("y", " 0:x 3:0 1099511627776:1")],
         tasks: 0,
     },
     // The new gate at 0 and where its event is due.

@@ -49,7 +49,26 @@ fn four_edges(horizon: &'static str) -> [&'static str; 8] {
 #[test]
 fn a_gate_is_evaluated_where_it_is_stirred(rt: HostRuntime) {
     check(&rt, rt.alloc(), &four_edges("horizon 1000"), 8, 8);
-    check(&rt, rt.alloc(), &four_edges("horizon 1000000000"), 8, 8);
+    check(&rt, rt.alloc(), &four_edges("horizon 1099511627776"), 8, 8);
+}
+
+/// The same buffer up to the last moment that a horizon can have, with this point behind that at 0.
+fn late_rise(point: &'static str) -> [&'static str; 6] {
+    [
+        "input a",
+        "net y wire",
+        "gate g buf 3 3 y a",
+        "stim a 0 0",
+        point,
+        "horizon 1099511627776",
+    ]
+}
+
+// At 0 and 3, at the rise, and at the last moment, where its event is due; an event behind that moment asks nothing.
+#[test]
+fn up_to_the_last_moment(rt: HostRuntime) {
+    check(&rt, rt.alloc(), &late_rise("stim a 1099511627773 1"), 4, 4);
+    check(&rt, rt.alloc(), &late_rise("stim a 1099511627774 1"), 3, 3);
 }
 
 // At 5 the input has a point, and no other value: evaluated at 0, 3, 10 and 13.

@@ -62,7 +62,7 @@ fn a_shorter_horizon_keeps_the_points(rt: HostRuntime) {
 #[test]
 fn refusals_of_each_kind(rt: HostRuntime) {
     let lines =
-        b"frob\nstim a 1000000001 1\nstim a 1000000000 1\ndelay g 1000000 1\ndelay g 1 1000001\nfree k\n\
+        b"frob\nstim a 1099511627777 1\nstim a 1099511627776 1\ndelay g 1000000 1\ndelay g 1 1000001\nfree k\n\
 commit\nabort\nstim y 0 1\ndropnet y\nwave q\nhold k\nat k at k wave y\nat q wave y\nbegin\nbegin\nquit\n";
     let want =
         b"no 16 BadCommand\nno 11 TimeTooLarge\nok 1\nok 2\nno 6 DelayTooLarge\nno 18 UnknownHold\n\
@@ -129,7 +129,11 @@ const HELD: &[(&[u8], &[u8])] = &[
 ];
 
 // The lines of rows, each with an end, and the replies to them.
-fn joined(rt: &impl Abort, alloc: Global, rows: &[(&[u8], &[u8])]) -> (Vec<u8>, Vec<u8>) {
+pub(super) fn joined(
+    rt: &impl Abort,
+    alloc: Global,
+    rows: &[(&[u8], &[u8])],
+) -> (Vec<u8>, Vec<u8>) {
     let mut lines = Vec::new(alloc);
     let mut want = Vec::new(alloc);
     for (line, reply) in rows {

@@ -195,7 +195,7 @@ fn default_delays(rt: HostRuntime) {
 }
 
 const OVER: Options = Options {
-    horizon: 1_000_000_001,
+    horizon: 1_099_511_627_777,
     delay: None,
 };
 
@@ -204,7 +204,14 @@ const OVER: Options = Options {
 fn horizons(rt: HostRuntime) {
     let over = SessionFault::Edit(EditFault::TimeTooLarge);
     check_refused(&rt, rt.alloc(), EMPTY, &OVER, over);
-    check(&rt, rt.alloc(), EMPTY, 1_000_000_000, b"quit", b"ok 0\n");
+    check(
+        &rt,
+        rt.alloc(),
+        EMPTY,
+        1_099_511_627_776,
+        b"quit",
+        b"ok 0\n",
+    );
     let text = SessionFault::Design(ReadFault {
         line: 1,
         kind: ReadFaultKind::Syntax,
