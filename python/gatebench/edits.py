@@ -1,11 +1,16 @@
 """A method for each edit of a design."""
 from abc import ABC, abstractmethod
-from typing import Generic, List, TypeVar
+from typing import Generic, List, Optional, TypeVar, Union
 
 from .lines import line_of
 from .values import GivenValue, value_of
 
 Result = TypeVar("Result")
+
+
+def fall_word(fall: int, off: Optional[int]) -> Union[int, str]:
+    """A fall as a line writes it, with the turn-off delay behind a slash where one is given."""
+    return fall if off is None else f"{fall}/{off}"
 
 
 class Edits(ABC, Generic[Result]):
@@ -33,17 +38,20 @@ class Edits(ABC, Generic[Result]):
         """Gives a net another kind."""
         return self.edit(line_of("kind", net, kind))
 
-    def gate(self, gate: str, kind: str, rise: int, fall: int, output: str, *inputs: str) -> Result:
-        """Adds a gate with its delays. An input is a net, or a constant such as `constant(0)`."""
-        return self.edit(line_of("gate", gate, kind, rise, fall, output, *inputs))
+    def gate(
+        self, gate: str, kind: str, rise: int, fall: int, output: str, *inputs: str, off: Optional[int] = None
+    ) -> Result:
+        """Adds a gate with its delays. An input is a net, or a constant such as `constant(0)`. `off` is the turn-off delay,
+        which three-state gates alone may have."""
+        return self.edit(line_of("gate", gate, kind, rise, fall_word(fall, off), output, *inputs))
 
     def drop(self, gate: str) -> Result:
         """Removes a gate."""
         return self.edit(line_of("drop", gate))
 
-    def delay(self, gate: str, rise: int, fall: int) -> Result:
-        """Gives a gate other delays."""
-        return self.edit(line_of("delay", gate, rise, fall))
+    def delay(self, gate: str, rise: int, fall: int, off: Optional[int] = None) -> Result:
+        """Gives a gate other delays; without `off` a turn-off delay that it had goes."""
+        return self.edit(line_of("delay", gate, rise, fall_word(fall, off)))
 
     def type(self, gate: str, kind: str) -> Result:
         """Gives a gate another kind."""

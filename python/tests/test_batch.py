@@ -72,6 +72,7 @@ class Batches(unittest.TestCase):
             "delay g 0 1": (5, "ZeroDelay"),
             "stim y 0 1": (9, "NotInput"),
             "unstim a 7": (12, "NoSuchPoint"),
+            "delay g 1 1/1": (21, "NoTurnOff"),
         }
         for line, cause in causes.items():
             found = self.refusal([GOOD, GOOD, line, GOOD])

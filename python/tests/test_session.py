@@ -39,6 +39,25 @@ class Inverter(WithFolder):
         self.assertEqual((session.prev("y", 13), session.prev("y", 0)), (Change(2, "1"), None))
         self.assertEqual((session.seek("y", 0, 0), session.seek("y", 0, "z")), (Change(13, "0"), None))
 
+    def test_a_turn_off_delay(self) -> None:
+        edits = self.session
+        edits.net("n")
+        edits.gate("h", "bufif1", 2, 3, "n", constant(1), "a", off=5)
+        # The control is 0 from 0 on and 1 from 10 on.
+        self.assertEqual(words(self.session, "n"), "0 x 5 z 12 1")
+        with self.assertRaises(Refused) as caught:
+            edits.type("h", "and")
+        self.assertEqual((caught.exception.code, caught.exception.name), (21, "NoTurnOff"))
+        edits.delay("h", 2, 3, off=4)
+        self.assertEqual(words(self.session, "n"), "0 x 4 z 12 1")
+        with self.session.batch() as batch:
+            batch.delay("h", 2, 3)
+            batch.delay("g", 2, 3)
+        self.assertEqual(words(self.session, "n"), "0 x 2 z 12 1")
+        with self.assertRaises(Refused) as caught:
+            edits.delay("g", 2, 3, off=0)
+        self.assertEqual((caught.exception.code, caught.exception.command), (5, "delay g 2 3/0"))
+
     def test_each_edit_makes_a_version(self) -> None:
         edits = self.session
         versions = [

@@ -3,7 +3,7 @@
 use crate::compare::equal;
 use fourstate::{
     DelayTimes, Delays, GateKind, Inputs, MAX_INPUTS, NetKind, NetRule, Value, delay, fits,
-    gate_value, resolve,
+    gate_value, resolve, takes_off,
 };
 use std::process::Abort;
 
@@ -38,8 +38,8 @@ fn check_net(rt: &impl Abort, kind: NetKind, table: Table) {
     );
 }
 
-fn check_delays(rt: &impl Abort, rise: u64, fall: u64, table: [u32; 4]) {
-    let delays = Delays::new(rise, fall).expect(rt, "lawful delays");
+fn check_delays(rt: &impl Abort, delays: Option<Delays>, table: [u32; 4]) {
+    let delays = delays.expect(rt, "lawful delays");
     for (value, time) in ORDER.iter().zip(table) {
         equal(rt, *value, delay(&delays, *value), time);
     }
@@ -223,8 +223,64 @@ fn delays_and_their_range(rt: HostRuntime) {
     ] {
         equal(&rt, (rise, fall), Delays::new(rise, fall).is_some(), lawful);
     }
-    check_delays(&rt, 10, 1, [1, 10, 1, 1]);
-    check_delays(&rt, 2, 3, [3, 2, 2, 2]);
+    check_delays(&rt, Delays::new(10, 1), [1, 10, 1, 1]);
+    check_delays(&rt, Delays::new(2, 3), [3, 2, 2, 2]);
+}
+
+#[test]
+fn turn_off_delays_and_their_range(rt: HostRuntime) {
+    for (rise, fall, off, lawful) in [
+        (1, 1, 0, false),
+        (1, 1, 1, true),
+        (1_000_000, 1_000_000, 1_000_000, true),
+        (1, 1, 1_000_001, false),
+        (1, 1, u64::MAX, false),
+        (0, 1, 1, false),
+        (1, 1_000_001, 1, false),
+    ] {
+        equal(
+            &rt,
+            (rise, fall, off),
+            Delays::with_off(rise, fall, off).is_some(),
+            lawful,
+        );
+    }
+    // To x the least of the three, to z the last.
+    check_delays(&rt, Delays::with_off(2, 3, 5), [3, 2, 2, 5]);
+    check_delays(&rt, Delays::with_off(6, 7, 4), [7, 6, 4, 4]);
+    check_delays(&rt, Delays::with_off(8, 4, 6), [4, 8, 4, 6]);
+    check_delays(&rt, Delays::with_off(1, 1, 1_000_000), [1, 1, 1, 1_000_000]);
+}
+
+#[test]
+fn delays_that_differ(rt: HostRuntime) {
+    let three = Delays::with_off(2, 3, 5).expect(&rt, "lawful delays");
+    for (other, same) in [
+        (Delays::with_off(2, 3, 5), true),
+        (Delays::with_off(2, 3, 4), false),
+        (Delays::with_off(2, 4, 5), false),
+        (Delays::with_off(1, 3, 5), false),
+        (Delays::new(2, 3), false),
+    ] {
+        let other = other.expect(&rt, "lawful delays");
+        equal(&rt, other, three.is_same(other), same);
+        equal(&rt, other, other.is_same(three), same);
+    }
+    // Each change takes as long, and yet one of them has a turn-off delay.
+    let two = Delays::new(2, 3).expect(&rt, "lawful delays");
+    let least = Delays::with_off(2, 3, 2).expect(&rt, "lawful delays");
+    equal(&rt, "two and three", two.is_same(least), false);
+    equal(&rt, "of two", two.has_off(), false);
+    equal(&rt, "of three", least.has_off(), true);
+}
+
+#[test]
+fn kinds_with_a_turn_off_delay(rt: HostRuntime) {
+    for (kind, takes) in GateKind::ALL.iter().zip([
+        false, false, false, false, false, false, false, false, true, true, true, true,
+    ]) {
+        equal(&rt, *kind, takes_off(*kind), takes);
+    }
 }
 
 #[test]
@@ -265,6 +321,31 @@ fn times_of_one_number_and_of_two(rt: HostRuntime) {
         "one with a fall of 0",
         one.with_fall(0).has_zero(),
         true,
+    );
+}
+
+#[test]
+fn times_of_three_numbers(rt: HostRuntime) {
+    let two = DelayTimes::new(2, 3);
+    equal(&rt, "of two", two.off, None);
+    for (off, zero, over) in [
+        (0, true, false),
+        (1, false, false),
+        (1_000_000, false, false),
+        (1_000_001, false, true),
+    ] {
+        let three = two.with_off(off);
+        equal(&rt, "the rise", three.rise, 2);
+        equal(&rt, "the fall", three.fall, 3);
+        equal(&rt, "the turn-off delay", three.off, Some(off));
+        equal(&rt, off, three.has_zero(), zero);
+        equal(&rt, off, three.exceeds_limit(), over);
+    }
+    equal(
+        &rt,
+        "another fall",
+        two.with_off(5).with_fall(4),
+        DelayTimes::new(2, 4).with_off(5),
     );
 }
 

@@ -9,7 +9,7 @@ use Rattle.fourstate.specs.Gates.{takes_inputs}
 use Rattle.design.specs.Keys.{Keyed, KeyedGate, connection_in, entry_in, gate_by_key, net_by_key, netlist}
 use Rattle.design.specs.Netlist.{GateEntry, NetEntry, gate_named, is_used}
 use Rattle.edits.specs.Changes.{FindsGate, FindsNet}
-use Rattle.edits.specs.Checks.{kind_fits, kind_named}
+use Rattle.edits.specs.Checks.{is_off_misplaced, keeps_off, kind_fits, kind_named}
 
 -- Nets.
 
@@ -37,6 +37,10 @@ pub kind_fits_of : (d : Keyed) (name : List ℕ) (key : ℕ) (kind : GateKind) (
 kind_fits_of d name key kind g f is =
     ap (λ (o : Option GateEntry). option_map_or (λ h. takes_inputs kind (length h.inputs)) o false) (entry_named d name key g f is)
     ∙ ap (takes_inputs kind) (length-map g.inputs (connection_in d.nets))
+
+pub keeps_off_of : (d : Keyed) (name : List ℕ) (key : ℕ) (kind : GateKind) (g : KeyedGate) → FindsGate d name key → gate_by_key d key ≡ Some g → keeps_off (netlist d) name kind ≡ is_off_misplaced kind g.delays
+keeps_off_of d name key kind g f is =
+    ap (λ (o : Option GateEntry). option_map_or (λ h. is_off_misplaced kind h.delays) o false) (entry_named d name key g f is)
 
 pub kind_named_of : (d : Keyed) (name : List ℕ) (key : ℕ) (g : KeyedGate) → FindsGate d name key → gate_by_key d key ≡ Some g → kind_named (netlist d) name ≡ g.kind
 kind_named_of d name key g f is = ap (λ (o : Option GateEntry). option_map_or (λ h. h.kind) o Buf) (entry_named d name key g f is)

@@ -41,12 +41,12 @@ pub enum Edit {
     DropGate {
         name: Word,
     },
-    /// Other delays of a gate.
+    /// Other delays of a gate. Without a turn-off delay one that the gate had goes.
     SetDelay {
         name: Word,
         delays: DelayTimes,
     },
-    /// Another kind of a gate, which its inputs have to fit.
+    /// Another kind of a gate, which its inputs and its delays have to fit.
     SetGateKind {
         name: Word,
         kind: GateKind,

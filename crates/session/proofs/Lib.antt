@@ -6,5 +6,6 @@ pub mod AnswerLemmas
 pub mod LineLemmas
 pub mod PinLemmas
 pub mod TalkLemmas
+pub mod TimeLemmas
 pub mod TranscriptLemmas
 pub mod WordLemmas

@@ -1,6 +1,6 @@
 -- The lines of edits (own).
 use Rattle.std.specs.Prelude.{ℕ, if◌then◌else◌, List, [], ◌∷◌, Option, None, Some, option_map, option_and_then}
-use Rattle.std.specs.List.{slice_split}
+use Rattle.std.specs.List.{after_first, before_first, list_any}
 use Rattle.fourstate.specs.Delays.{delay_times, with_off}
 use Rattle.fourstate.specs.Keywords.{gate_kind_of, net_kind_of}
 use Rattle.fourstate.specs.declared.delay_times.DelayTimes.{DelayTimes}
@@ -49,17 +49,17 @@ horizon_edit ws = option_and_then (λ word. option_map (λ time. Horizon time) (
 abbrev pub drop_edit : List (List ℕ) → Option EditLine
 drop_edit ws = option_map (λ name. DropGate name) (one_word ws)
 
--- a word's parts between slashes, behind a rise: F, a fall, or F/Z, a fall and a turn-off delay
-abbrev pub times_of : ℕ → List (List ℕ) → Option DelayTimes
-times_of rise (fall ∷ []) = option_map (λ f. delay_times rise f) (number_of fall)
-times_of rise (fall ∷ off ∷ []) =
-    option_and_then (λ f. option_map (λ z. with_off (delay_times rise f) z) (number_of off)) (number_of fall)
-times_of rise _ = None
+-- behind a rise: F, a fall, or F/Z, a fall, and a turn-off delay behind the first slash
+abbrev pub times_of : ℕ → List ℕ → Option DelayTimes
+times_of rise word =
+    if list_any is_slash word
+    then option_and_then (λ fall. option_map (λ off. with_off (delay_times rise fall) off) (number_of (after_first is_slash word))) (number_of (before_first is_slash word))
+    else option_map (λ fall. delay_times rise fall) (number_of word)
 
 -- R F or R F/Z, with which words begin: the delays that they write, and the words behind them
 abbrev pub delays_of : List (List ℕ) → Option (DelayTimes × List (List ℕ))
 delays_of (rise ∷ word ∷ ws) =
-    option_and_then (λ r. option_map (λ times. (times, ws)) (times_of r (slice_split is_slash word))) (number_of rise)
+    option_and_then (λ r. option_map (λ times. (times, ws)) (times_of r word)) (number_of rise)
 delays_of _ = None
 
 -- delay G R F, or delay G R F/Z

@@ -66,7 +66,8 @@ fn add_gate_name(rt: &impl Abort, alloc: Global, shown: &mut String, names: &Nam
     drop(name);
 }
 
-// A gate as `NAME=KIND #(RISE,FALL) OUTPUT INPUTS`, a constant by its value.
+// A gate as `NAME=KIND #(RISE,FALL) OUTPUT INPUTS`, with `,OFF` behind the fall where it has a turn-off delay; a constant by
+// its value.
 fn add_gate(rt: &impl Abort, alloc: Global, shown: &mut String, names: &Names, gate: &Gate) {
     add(rt, shown, " / ");
     add_gate_name(rt, alloc, shown, names, gate);
@@ -74,7 +75,11 @@ fn add_gate(rt: &impl Abort, alloc: Global, shown: &mut String, names: &Names, g
     let delays = Delays::from_times(gate.delays()).expect(rt, "delays");
     let rise = delay(&delays, Value::One);
     let fall = delay(&delays, Value::Zero);
-    write!(shown, "={kind} #({rise},{fall}) ").expect(rt, "room");
+    write!(shown, "={kind} #({rise},{fall}").expect(rt, "room");
+    if let Some(off) = gate.delays().off {
+        write!(shown, ",{off}").expect(rt, "room");
+    }
+    add(rt, shown, ") ");
     add_terminal(rt, shown, names, gate.output());
     for input in gate.inputs() {
         add(rt, shown, " ");
@@ -216,6 +221,15 @@ const READ: [Case<'static>; 12] = [
         "module m; bufif1 #1 g(n,1'B0,c); endmodule",
         "m: n c / g=bufif1 #(1,1) n 0 c",
     ),
+    // Of three numbers the last is the turn-off delay, of each gate of the item.
+    (
+        "module m; bufif1 #(2,3,5) g(n,d,c), (n,c,d); bufif0 #(1,2,1000000) (n,d,c); endmodule",
+        "m: n d c / g=bufif1 #(2,3,5) n d c / $1=bufif1 #(2,3,5) n c d / $2=bufif0 #(1,2,1000000) n d c",
+    ),
+    (
+        "module m; notif1 # ( 3 , 2 , 1 ) (n,d,c); notif0 #(3,2) (n,d,c); notif0 #4 (n,d,c); endmodule",
+        "m: n d c / $1=notif1 #(3,2,1) n d c / $2=notif0 #(3,2) n d c / $3=notif0 #(4,4) n d c",
+    ),
 ];
 
 #[test]
@@ -224,7 +238,10 @@ fn modules_that_are_read(rt: HostRuntime) {
 }
 
 // A text, the delay of gates without one, and what the text says or its fault.
-const WITH_A_DEFAULT_DELAY: [(&[u8], Option<u32>, &str); 6] = [
+// A default delay gives no turn-off delay, and gates may write one beside it.
+const DRIVERS: &[u8] = b"module m; bufif1 g(n,d,c); bufif1 #(2,3,5) h(n,d,c); endmodule";
+
+const WITH_A_DEFAULT_DELAY: [(&[u8], Option<u32>, &str); 7] = [
     (
         NETLIST,
         Some(2),
@@ -239,6 +256,11 @@ const WITH_A_DEFAULT_DELAY: [(&[u8], Option<u32>, &str); 6] = [
         "m: <a <b >y t / AND2_1=and #(2,2) t a b / $1=not #(2,2) y t",
     ),
     (BUFFER, Some(0), "m: <a >y / g=buf #(3,3) y a"),
+    (
+        DRIVERS,
+        Some(4),
+        "m: n d c / g=bufif1 #(4,4) n d c / h=bufif1 #(2,3,5) n d c",
+    ),
 ];
 
 #[test]
@@ -248,7 +270,7 @@ fn netlist_with_a_default_delay(rt: HostRuntime) {
     }
 }
 
-const FAULTS: [Case<'static>; 46] = [
+const FAULTS: [Case<'static>; 66] = [
     ("module m(a);\ninput a;\n/* cut", "line 3: 2 Syntax"),
     (
         "module m(y);\noutput y;\nnot #0 g(y,1'b1);\nendmodule",
@@ -258,6 +280,30 @@ const FAULTS: [Case<'static>; 46] = [
         "module m(y);\noutput y;\nand #(1,2,3) g(y,y);\nendmodule",
         "line 3: 2 Syntax",
     ),
+    // A third number, at the comma before it and at it.
+    ("module m; and #(1,2\n,3", "line 2: 2 Syntax"),
+    ("module m; nand #(1,2\n,3", "line 2: 2 Syntax"),
+    ("module m; or #(1,2\n,3", "line 2: 2 Syntax"),
+    ("module m; nor #(1,2\n,3", "line 2: 2 Syntax"),
+    ("module m; xor #(1,2\n,3", "line 2: 2 Syntax"),
+    ("module m; xnor #(1,2\n,3", "line 2: 2 Syntax"),
+    ("module m; buf #(1,2\n,3", "line 2: 2 Syntax"),
+    ("module m; not #(1,2\n,3", "line 2: 2 Syntax"),
+    ("module m; and #(1,\n0,3)", "line 2: 11 ZeroDelay"),
+    ("module m; and #(1,2,\n0)", "line 1: 2 Syntax"),
+    ("module m; bufif1 #(1,2,\n0)", "line 2: 11 ZeroDelay"),
+    (
+        "module m; bufif0 #(1,2,\n1000001)",
+        "line 2: 11 DelayTooLarge",
+    ),
+    ("module m; notif1 #(1,2,\n)", "line 2: 2 Syntax"),
+    ("module m; notif0 #(1,2,3\n,4)", "line 2: 2 Syntax"),
+    ("module m; bufif1 #(1,2,3\n;", "line 2: 2 Syntax"),
+    ("module m; bufif1 #(1,2,\nalways", "line 2: 3 Unsupported"),
+    ("module m; bufif1 #(1,2,3", "line 1: 2 Syntax"),
+    ("module m; bufif1 #(1,2,3\n) #", "line 2: 2 Syntax"),
+    ("module m; bufif1 #1,\n2", "line 1: 2 Syntax"),
+    ("module m; bufif1 #(,\n2,3)", "line 1: 2 Syntax"),
     ("module m;\n\n", "line 3: 2 Syntax"),
     ("module m; always", "line 1: 3 Unsupported"),
     // A name's faults, in order.

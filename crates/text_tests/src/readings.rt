@@ -51,14 +51,20 @@ fn add_terminal(rt: &impl Abort, shown: &mut String, design: &Design, terminal: 
     }
 }
 
-// A gate as `NAME=KIND #(RISE,FALL) OUTPUT INPUTS`, a constant by its value.
+// A gate as `NAME=KIND #(RISE,FALL) OUTPUT INPUTS`, with `,OFF` behind the fall where it has a turn-off delay; a constant by
+// its value.
 fn add_gate(rt: &impl Abort, shown: &mut String, design: &Design, gate: &Gate) {
     add(rt, shown, " / ");
     add(rt, shown, gate.name().as_str());
     let delays = gate.delays();
     let (rise, fall) = (delay(&delays, Value::One), delay(&delays, Value::Zero));
     let kind = gate.kind().keyword();
-    write!(shown, "={kind} #({rise},{fall}) ").expect(rt, "room");
+    write!(shown, "={kind} #({rise},{fall}").expect(rt, "room");
+    if delays.has_off() {
+        let off = delay(&delays, Value::HighZ);
+        write!(shown, ",{off}").expect(rt, "room");
+    }
+    add(rt, shown, ") ");
     add(rt, shown, name_of(design, gate.output()));
     for input in gate.inputs() {
         add_terminal(rt, shown, design, *input);
@@ -140,6 +146,11 @@ const SMALL: [Case<'static>; 8] = [
     (
         "module m; buf #9 (y,z,a), (b,a); endmodule",
         "m: y:wire z:wire a:wire b:wire / $1$1=buf #(9,9) y a / $1$2=buf #(9,9) z a / $2=buf #(9,9) b a",
+    ),
+    // Three numbers are the delays of each instance, and of those in an instance of the module.
+    (
+        "module h(d,c,n); input d,c; output n; notif0 #(2,3,5) g(n,d,c); endmodule module m(a,b,y); input a,b; output y; h u(a,b,y); bufif1 #(7,6,1) (y,b,a); endmodule",
+        "m: <a:wire <b:wire y:wire / $1=bufif1 #(7,6,1) y b a / u.g=notif0 #(2,3,5) y a b",
     ),
     // A net and a gate may have one name.
     (

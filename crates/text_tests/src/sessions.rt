@@ -367,6 +367,7 @@ fn codes_and_names(rt: HostRuntime) {
     equal(&rt, "code", EditFault::UnknownNet.code(), 1);
     equal(&rt, "code", EditFault::NetInUse.code(), 10);
     equal(&rt, "code", EditFault::OutOfMemory.code(), 14);
+    equal(&rt, "code", EditFault::NoTurnOff.code(), 21);
     equal(
         &rt,
         "name",

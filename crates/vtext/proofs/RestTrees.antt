@@ -1,6 +1,8 @@
 -- What is left of a tree behind a point within a line of the grammar, with no cause at it, and the marks of it.
-use Rattle.std.proofs.Common.{◌≡◌, ℕ, List, [], ◌∷◌, Option, Some, None, fold}
-use Rattle.fourstate.specs.Delays.{delay_times, uniform_delays, with_fall}
+use Rattle.std.proofs.Common.{◌≡◌, ◌⊎◌, inl, inr, true, ℕ, List, [], ◌∷◌, Option, Some, None, fold}
+use Rattle.fourstate.specs.Delays.{delay_times, uniform_delays, with_fall, with_off}
+use Rattle.fourstate.specs.Gates.{takes_off}
+use Rattle.fourstate.specs.declared.gate.GateKind.{GateKind}
 use Rattle.fourstate.specs.declared.net.NetKind.{NetKind}
 use Rattle.vtext.specs.declared.gate.Terminal.{Terminal}
 use Rattle.vtext.specs.declared.parser_state.Declared.{Declared}
@@ -8,14 +10,14 @@ use Rattle.vtext.specs.declared.parser_state.Declared.TheVariants as declared
 use Rattle.vtext.specs.declared.parser_state.Indexed.{Indexed}
 use Rattle.vtext.specs.declared.parser_state.Indexed.TheVariants as indexed
 use Rattle.vtext.specs.declared.range.Range.{Range}
-use Rattle.vtext.specs.declared.word.Word.TheVariants.{Endmodule, Name, Number, Open, Close, Semicolon, Colon, CloseBracket}
+use Rattle.vtext.specs.declared.word.Word.TheVariants.{Endmodule, Name, Number, Open, Close, Comma, Semicolon, Colon, CloseBracket}
 use Rattle.vtext.specs.declared.cause.Cause.{Cause}
 use Rattle.vtext.specs.Causes.{bound_cause, completed_cause, delay_cause, end_cause, header_cause, index_cause, inline_cause, net_cause, port_cause}
 use Rattle.vtext.specs.Instances.{completed}
 use Rattle.vtext.specs.Notes.{add_bit, connect, declare_net, declare_port, direct_port, finished, instantiated, list_port, use_terminal}
 use Rattle.vtext.specs.Readings.{Reading}
 use Rattle.vtext.specs.Trees.{AreAdmitted, AreConnectionsAdmitted, AreInstancesAdmitted, AreItemsAdmitted, AreModuleInstancesAdmitted, AreNamedAdmitted, ArePartsAdmitted, ArePlacesAdmitted, ArePortsAdmitted, AreTerminalsAdmitted, Connections, Delay, Header, Instance, IsHeaderAdmitted, IsInstanceAdmitted, IsPlaceAdmitted, IsRangeAdmitted, IsTerminalAdmitted, Item, Mark, ModuleInstance, NamedPort, Part, Port, after_connections, after_header, after_instance, after_items, after_module_instance, after_named, after_parts, after_port, connections_then, delay_then, header_then, instance_then, instances_then, items_then, kind_then, module_instances_then, more_named_then, names_then, parts_then, place_then, places_then, plain, ports_then, range_then, terminal_then, terminals_then}
-use Rattle.vtext.specs.Trees.Delay.{no_delay, one_delay, enclosed_delay, two_delays}
+use Rattle.vtext.specs.Trees.Delay.{no_delay, one_delay, enclosed_delay, two_delays, three_delays}
 use Rattle.vtext.specs.Turns.{with_right}
 
 -- with the net kind that a declaration writes, if any
@@ -34,13 +36,16 @@ delayed r no_delay = r
 delayed r (one_delay d) = record r { delays = uniform_delays d }
 delayed r (enclosed_delay d) = record r { delays = uniform_delays d }
 delayed r (two_delays rise fall) = record r { delays = delay_times rise fall }
+delayed r (three_delays rise fall off) = record r { delays = with_off (delay_times rise fall) off }
 
--- the numbers of a delay are in their limits
-abbrev pub IsInLimits : Delay → Type 0
-IsInLimits no_delay = Unit {0}
-IsInLimits (one_delay d) = delay_cause d ≡ None
-IsInLimits (enclosed_delay d) = delay_cause d ≡ None
-IsInLimits (two_delays rise fall) = (delay_cause rise ≡ None) × (delay_cause fall ≡ None)
+-- the numbers of a delay are in their limits, and this kind takes as many
+abbrev pub IsInLimits : GateKind → Delay → Type 0
+IsInLimits kind no_delay = Unit {0}
+IsInLimits kind (one_delay d) = delay_cause d ≡ None
+IsInLimits kind (enclosed_delay d) = delay_cause d ≡ None
+IsInLimits kind (two_delays rise fall) = (delay_cause rise ≡ None) × (delay_cause fall ≡ None)
+IsInLimits kind (three_delays rise fall off) =
+    (takes_off kind ≡ true) × (delay_cause rise ≡ None) × (delay_cause fall ≡ None) × (delay_cause off ≡ None)
 
 -- a walk: the delay of a gate item without one, the table of names, and what has been read in the end
 pub record Setting : Type 0 where
@@ -168,16 +173,31 @@ module _ (s : Setting) where
   abbrev pub gates_marks : (r : Reading) → Gates r → List Mark
   gates_marks r rest = instance_then rest.0 (instances_marks rest.1.1)
 
+  -- a third number of a delay
+  abbrev pub Off : Reading → Type 0
+  Off r = (off : ℕ) × ((delay_cause off ≡ None) × Gates (record r { delays = with_off r.delays off }))
+
+  abbrev pub off_marks : (r : Reading) → Off r → List Mark
+  off_marks r rest = plain (Number rest.0) ∷ plain Close ∷ gates_marks (record r { delays = with_off r.delays rest.0 }) rest.1.1
+
+  -- behind a second number: the end of the delay, or a third number
+  abbrev pub Fallen : Reading → Type 0
+  Fallen r = Gates r ⊎ ((takes_off r.gate ≡ true) × Off r)
+
+  abbrev pub fallen_marks : (r : Reading) → Fallen r → List Mark
+  fallen_marks r (inl gates) = plain Close ∷ gates_marks r gates
+  fallen_marks r (inr off) = plain Comma ∷ off_marks r off.1
+
   -- a second number of a delay
   abbrev pub Fall : Reading → Type 0
-  Fall r = (fall : ℕ) × ((delay_cause fall ≡ None) × Gates (record r { delays = with_fall r.delays fall }))
+  Fall r = (fall : ℕ) × ((delay_cause fall ≡ None) × Fallen (record r { delays = with_fall r.delays fall }))
 
   abbrev pub fall_marks : (r : Reading) → Fall r → List Mark
-  fall_marks r rest = plain (Number rest.0) ∷ plain Close ∷ gates_marks (record r { delays = with_fall r.delays rest.0 }) rest.1.1
+  fall_marks r rest = plain (Number rest.0) ∷ fallen_marks (record r { delays = with_fall r.delays rest.0 }) rest.1.1
 
   -- a delay
   abbrev pub Delayed : Reading → Type 0
-  Delayed r = (delay : Delay) × (IsInLimits delay × Gates (delayed r delay))
+  Delayed r = (delay : Delay) × (IsInLimits r.gate delay × Gates (delayed r delay))
 
   abbrev pub delayed_marks : (r : Reading) → Delayed r → List Mark
   delayed_marks r rest = delay_then rest.0 (gates_marks (delayed r rest.0) rest.1.1)

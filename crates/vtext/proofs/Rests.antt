@@ -61,7 +61,9 @@ module _ (s : Setting) where
       ((rest : trees.Gates s r) × AreMarked (plain Close ∷ trees.gates_marks s r rest) words)
       ⊎ ((rest : trees.Fall s r) × AreMarked (plain Comma ∷ trees.fall_marks s r rest) words)
   Rest state.FallDelay r words = (rest : trees.Fall s r) × AreMarked (trees.fall_marks s r rest) words
-  Rest state.FallEnd r words = (rest : trees.Gates s r) × AreMarked (plain Close ∷ trees.gates_marks s r rest) words
+  Rest state.FallEnd r words = (rest : trees.Fallen s r) × AreMarked (trees.fallen_marks s r rest) words
+  Rest state.OffDelay r words = (rest : trees.Off s r) × AreMarked (trees.off_marks s r rest) words
+  Rest state.OffEnd r words = (rest : trees.Gates s r) × AreMarked (plain Close ∷ trees.gates_marks s r rest) words
   Rest state.InstanceStart r words = (rest : trees.Gates s r) × AreMarked (trees.gates_marks s r rest) words
   Rest state.InstanceOpen r words = (rest : trees.First s r) × AreMarked (plain Open ∷ trees.first_marks s r rest) words
   Rest state.TerminalStart r words = (rest : trees.First s r) × AreMarked (trees.first_marks s r rest) words

@@ -11,7 +11,7 @@ use Rattle.vtext.specs.declared.parser_state.Declared.TheVariants as declared
 use Rattle.vtext.specs.declared.parser_state.Indexed.{Indexed}
 use Rattle.vtext.specs.declared.parser_state.Indexed.TheVariants as indexed
 use Rattle.vtext.specs.declared.parser_state.ParserState.{ParserState}
-use Rattle.vtext.specs.declared.parser_state.ParserState.TheVariants.{Outside, ModuleName, InlineStart, InlineKind, InlineName, InlineNext, InlineMore, PortStart, PortKind, PortName, PortNext, NetStart, NetName, NetNext, LeftBound, BoundColon, RightBound, RangeEnd, IndexStart, Index, IndexEnd, RiseEnd, FallDelay, FallEnd, GateStart, InstanceStart, InstanceOpen, TerminalStart, TerminalEnd, InstanceEnd, ModuleInstanceOpen, Connections, OrderedStart, OrderedEnd, NamedStart, NamedPort, NamedOpen, NamedTerminal, NamedClose, NamedEnd}
+use Rattle.vtext.specs.declared.parser_state.ParserState.TheVariants.{Outside, ModuleName, InlineStart, InlineKind, InlineName, InlineNext, InlineMore, PortStart, PortKind, PortName, PortNext, NetStart, NetName, NetNext, LeftBound, BoundColon, RightBound, RangeEnd, IndexStart, Index, IndexEnd, RiseEnd, FallDelay, FallEnd, OffDelay, OffEnd, GateStart, InstanceStart, InstanceOpen, TerminalStart, TerminalEnd, InstanceEnd, ModuleInstanceOpen, Connections, OrderedStart, OrderedEnd, NamedStart, NamedPort, NamedOpen, NamedTerminal, NamedClose, NamedEnd}
 use Rattle.vtext.specs.declared.word.Word.{Word}
 use Rattle.vtext.specs.Causes.{is_hash}
 use Rattle.vtext.specs.GateNames.{is_taken}
@@ -112,6 +112,8 @@ module _ (names : List (List ℕ)) where
   IsAt RiseEnd next r = IsWithin r × AreDelays r.delays
   IsAt FallDelay next r = IsWithin r × AreDelays r.delays
   IsAt FallEnd next r = IsWithin r × AreDelays r.delays
+  IsAt OffDelay next r = IsWithin r × AreDelays r.delays
+  IsAt OffEnd next r = IsWithin r × AreDelays r.delays
   IsAt InstanceStart next r = IsWithin r × AreDelays r.delays
   IsAt InstanceEnd next r = IsWithin r × AreDelays r.delays
   IsAt InstanceOpen next r = IsWithin r × AreDelays r.delays × IsReady r

@@ -1,7 +1,8 @@
 -- Each good word keeps what is read sound, in each state of the parser.
 use Rattle.std.proofs.Common.{ℕ, suc, Bool, true, false, cond, ◌++◌, [], ◌∷◌, List, Option, Some, None, Result, refl}
 use Rattle.std.specs.Option.{unwrap_or}
-use Rattle.fourstate.specs.DelayLaws.{uniform_in_range, with_fall_in_range}
+use Rattle.fourstate.specs.DelayLaws.{uniform_in_range, with_fall_in_range, with_off_in_range}
+use Rattle.fourstate.specs.Gates.{takes_off}
 use Rattle.vtext.specs.declared.cause.Cause.{Cause}
 use Rattle.vtext.specs.declared.cause.Cause.TheVariants.{DuplicateName}
 use Rattle.vtext.specs.declared.gate.Terminal.TheVariants.{Net, Bit, Constant}
@@ -48,6 +49,11 @@ module _ (names : List (List ℕ)) (room : ℕ) (next : Option Word) (r : Readin
   gate_start Hash good s h = (less names room r s, h.0)
   gate_start w good s h = instance_start w good s (h.0, h.1 refl)
 
+  -- a word is read in one of two ways
+  either : (b : Bool) (x y : Result Walk Cause) → StandsAfter names room x next → StandsAfter names room y next → StandsAfter names room (cond b x y) next
+  either true x y h k = h
+  either false x y h k = k
+
   rise_delay : (w : Word) → IsSoFar names room r → IsWithin names r → StandsAfter names room (turns.delay_number number.Rise state.RiseEnd r w) next
   rise_delay (Number n) s h = unless_stands names room next (delay_cause n) _ (λ none. (s, (h, uniform_in_range n (good_delay n none))))
   rise_delay w s h = tt
@@ -68,17 +74,22 @@ module _ (names : List (List ℕ)) (room : ℕ) (next : Option Word) (r : Readin
   fall_delay w s h = tt
 
   fall_end : (w : Word) → IsSoFar names room r → IsAt names state.FallEnd (Some w) r → StandsAfter names room (turns.fall_end r w) next
+  fall_end Comma s h = either (takes_off r.gate) (goes state.OffDelay r) _ (s, h) tt
   fall_end Close s h = (s, h)
   fall_end w s h = tt
+
+  off_delay : (w : Word) → IsSoFar names room r → IsAt names state.OffDelay (Some w) r → StandsAfter names room (turns.delay_number number.Off state.OffEnd r w) next
+  off_delay (Number n) s h =
+      unless_stands names room next (delay_cause n) _ (λ none. (s, (h.0, with_off_in_range r.delays n h.1 (good_delay n none))))
+  off_delay w s h = tt
+
+  off_end : (w : Word) → IsSoFar names room r → IsAt names state.OffEnd (Some w) r → StandsAfter names room (turns.off_end r w) next
+  off_end Close s h = (s, h)
+  off_end w s h = tt
 
   instance_open : (w : Word) → IsSoFar names room r → IsAt names state.InstanceOpen (Some w) r → StandsAfter names room (turns.instance_open r w) next
   instance_open Open s h = (s, opened names r h.0 h.1 h.2)
   instance_open w s h = tt
-
-  -- a word is read in one of two ways
-  either : (b : Bool) (x y : Result Walk Cause) → StandsAfter names room x next → StandsAfter names room y next → StandsAfter names room (cond b x y) next
-  either true x y h k = h
-  either false x y h k = k
 
   abbrev used_net : ℕ → nets.Net
   used_net n = used (unwrap_or (net_of r.nets n) blank)
@@ -245,6 +256,8 @@ module _ (names : List (List ℕ)) (room : ℕ) (next : Option Word) (r : Readin
   turn_stands default state.RiseEnd p good s h = rise_end p.word (less names room r s) h
   turn_stands default state.FallDelay p good s h = fall_delay p.word (less names room r s) h
   turn_stands default state.FallEnd p good s h = fall_end p.word (less names room r s) h
+  turn_stands default state.OffDelay p good s h = off_delay p.word (less names room r s) h
+  turn_stands default state.OffEnd p good s h = off_end p.word (less names room r s) h
   turn_stands default state.InstanceStart p good s h = instance_start p.word good s h
   turn_stands default state.InstanceOpen p good s h = instance_open p.word (less names room r s) h
   turn_stands default state.TerminalStart p good s h = terminal_start p.word good s h

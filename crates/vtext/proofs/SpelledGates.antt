@@ -1,6 +1,7 @@
 -- The words of gates are those of the grammar.
-use Rattle.std.proofs.Common.{◌≡◌, ◌⊎◌, inl, inr, ℕ, List, [], ◌∷◌, Option, Some, None, refl}
-use Rattle.fourstate.specs.Delays.{uniform_delays, with_fall}
+use Rattle.std.proofs.Common.{◌≡◌, ◌⊎◌, inl, inr, ℕ, Bool, true, false, cond, Err, List, [], ◌∷◌, Option, Some, None, refl}
+use Rattle.fourstate.specs.Delays.{uniform_delays, with_fall, with_off}
+use Rattle.fourstate.specs.Gates.{takes_off}
 use Rattle.vtext.specs.declared.gate.Terminal.TheVariants.{Net, Bit, Constant}
 use Rattle.vtext.specs.declared.parser_state.DelayNumber.TheVariants as number
 use Rattle.vtext.specs.declared.parser_state.Indexed.TheVariants as indexed
@@ -8,12 +9,12 @@ use Rattle.vtext.specs.declared.parser_state.ParserState.TheVariants as state
 use Rattle.vtext.specs.declared.word.Word.{Word}
 use Rattle.vtext.specs.declared.word.Word.TheVariants.{Name, Number, Literal, Open, Close, Comma, Semicolon, Hash}
 use Rattle.vtext.specs.declared.word.Placed.{Placed}
-use Rattle.vtext.specs.Causes.{completed_cause, delay_cause, instance_cause, is_index, terminal_cause, use_cause}
+use Rattle.vtext.specs.Causes.{completed_cause, delay_cause, instance_cause, is_index, misfit, terminal_cause, use_cause}
 use Rattle.vtext.specs.Instances.{completed}
 use Rattle.vtext.specs.Notes.{name_instance, note_index, use_terminal}
 use Rattle.vtext.specs.Readings.{Reading}
-use Rattle.vtext.specs.Trees.Delay.{no_delay, one_delay, enclosed_delay, two_delays}
-use Rattle.vtext.specs.Turns.{delay, delay_number, fall_end, gate_start, index_name, instance_open, instance_start, list_next, plain_terminal, rise_end, terminal_end, terminal_start}
+use Rattle.vtext.specs.Trees.Delay.{no_delay, one_delay, enclosed_delay, two_delays, three_delays}
+use Rattle.vtext.specs.Turns.{delay, delay_number, fall_end, gate_start, goes, index_name, instance_open, instance_start, list_next, off_end, plain_terminal, rise_end, terminal_end, terminal_start}
 use Rattle.vtext.proofs.RestTrees.{Setting}
 use Rattle.vtext.proofs.Rests.{Rest, RestIn, either, through}
 
@@ -62,7 +63,9 @@ module _ (s : Setting) (r : Reading) (start : ℕ) where
   risen : (d : ℕ) (words : List Placed) → delay_cause d ≡ None → Rest s state.RiseEnd (record r { delays = uniform_delays d }) words
       → Rest s state.RiseDelay r (record { word = Number d; start = start } ∷ words)
   risen d words none (inl (gates, e)) = ((enclosed_delay d, (none, gates)), λ hash paren. ((refl, tt), ((refl, tt), ((refl, tt), e))))
-  risen d words none (inr ((fall, (free, gates)), e)) = ((two_delays d fall, ((none, free), gates)), λ hash paren. ((refl, tt), ((refl, tt), ((refl, tt), e))))
+  risen d words none (inr ((fall, (free, inl gates)), e)) = ((two_delays d fall, ((none, free), gates)), λ hash paren. ((refl, tt), ((refl, tt), ((refl, tt), e))))
+  risen d words none (inr ((fall, (free, inr (takes, (off, (within, gates))))), e)) =
+      ((three_delays d fall off, ((takes, none, free, within), gates)), λ hash paren. ((refl, tt), ((refl, tt), ((refl, tt), e))))
 
   pub rise_delay_back : (w : Word) (words : List Placed) → RestIn s (delay_number number.Rise state.RiseEnd r w) words → Rest s state.RiseDelay r (record { word = w; start = start } ∷ words)
   rise_delay_back (Number d) words rest = let x = through s (delay_cause d) state.RiseEnd (record r { delays = uniform_delays d }) words rest in risen d words x.0 x.1
@@ -78,9 +81,25 @@ module _ (s : Setting) (r : Reading) (start : ℕ) where
       let x = through s (delay_cause f) state.FallEnd (record r { delays = with_fall r.delays f }) words rest in ((f, (x.0, x.1.0)), ((refl, tt), x.1.1))
   fall_delay_back w words rest = absurd rest
 
+  -- a third number follows only for a kind that takes one
+  third_back : (takes : Bool) (words : List Placed) → takes_off r.gate ≡ takes → RestIn s (cond takes (goes state.OffDelay r) (Err (misfit Comma))) words
+      → Rest s state.FallEnd r (record { word = Comma; start = start } ∷ words)
+  third_back true words takes (rest, e) = (inr (takes, rest), ((refl, tt), e))
+  third_back false words takes rest = absurd rest
+
   pub fall_end_back : (w : Word) (words : List Placed) → RestIn s (fall_end r w) words → Rest s state.FallEnd r (record { word = w; start = start } ∷ words)
-  fall_end_back Close words (rest, e) = (rest, ((refl, tt), e))
+  fall_end_back Comma words rest = third_back (takes_off r.gate) words refl rest
+  fall_end_back Close words (rest, e) = (inl rest, ((refl, tt), e))
   fall_end_back w words rest = absurd rest
+
+  pub off_delay_back : (w : Word) (words : List Placed) → RestIn s (delay_number number.Off state.OffEnd r w) words → Rest s state.OffDelay r (record { word = w; start = start } ∷ words)
+  off_delay_back (Number z) words rest =
+      let x = through s (delay_cause z) state.OffEnd (record r { delays = with_off r.delays z }) words rest in ((z, (x.0, x.1.0)), ((refl, tt), x.1.1))
+  off_delay_back w words rest = absurd rest
+
+  pub off_end_back : (w : Word) (words : List Placed) → RestIn s (off_end r w) words → Rest s state.OffEnd r (record { word = w; start = start } ∷ words)
+  off_end_back Close words (rest, e) = (rest, ((refl, tt), e))
+  off_end_back w words rest = absurd rest
 
   -- Terminals.
 

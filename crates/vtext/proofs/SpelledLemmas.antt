@@ -17,7 +17,7 @@ use Rattle.vtext.specs.Causes.{default_cause, direction_cause, end_cause, gate_c
 use Rattle.vtext.specs.Notes.{finished}
 use Rattle.vtext.specs.Readings.{Reading, unread}
 use Rattle.vtext.specs.Trees.{ArePartsAdmitted, AreWritten, IsItemAdmitted, Item, Mark, Part, after_item, after_parts, instance_then, name_then, plain, terminal_then, terminals_then}
-use Rattle.vtext.specs.Trees.Delay.{no_delay, one_delay, enclosed_delay, two_delays}
+use Rattle.vtext.specs.Trees.Delay.{no_delay, one_delay, enclosed_delay, two_delays, three_delays}
 use Rattle.vtext.specs.Trees.Item.{port_item, net_item, gate_item, instance_item}
 use Rattle.vtext.specs.Trees.Part.{directive, module_part}
 use Rattle.vtext.specs.Turns.{Walk, items, outside, turn}
@@ -27,7 +27,7 @@ use Rattle.vtext.proofs.RestTrees.{Setting}
 use Rattle.vtext.proofs.RestTrees as trees
 use Rattle.vtext.proofs.Rests.{Rest, RestIn, through}
 use Rattle.vtext.proofs.SpelledConnections.{connections_back, module_instance_end_back, module_instance_name_back, module_instance_open_back, named_close_back, named_end_back, named_open_back, named_port_back, named_start_back, named_terminal_back, ordered_end_back, ordered_start_back}
-use Rattle.vtext.proofs.SpelledGates.{delay_back, fall_delay_back, fall_end_back, gate_start_back, instance_end_back, instance_open_back, instance_start_back, rise_delay_back, rise_end_back, terminal_end_back, terminal_start_back}
+use Rattle.vtext.proofs.SpelledGates.{delay_back, fall_delay_back, fall_end_back, gate_start_back, instance_end_back, instance_open_back, instance_start_back, off_delay_back, off_end_back, rise_delay_back, rise_end_back, terminal_end_back, terminal_start_back}
 use Rattle.vtext.proofs.SpelledHeaders.{header_back, header_end_back, inline_kind_back, inline_more_back, inline_name_back, inline_next_back, inline_start_back, module_head_back, module_name_back, older_name_back, older_next_back}
 use Rattle.vtext.proofs.SpelledIndexes.{index_back, index_end_back, index_start_back}
 use Rattle.vtext.proofs.SpelledItems.{net_name_back, net_next_back, net_start_back, port_kind_back, port_name_back, port_next_back, port_start_back}
@@ -76,6 +76,8 @@ module _ (s : Setting) (r : Reading) (at : ℕ) where
       (one_item (gate_item kind (enclosed_delay d) i rest.more) (limits, (free, rest.free)) rest.tail, ((refl, tt), e))
   gate_back kind words none ((two_delays rise fall, (limits, (i, (free, rest)))), e) =
       (one_item (gate_item kind (two_delays rise fall) i rest.more) (limits, (free, rest.free)) rest.tail, ((refl, tt), e))
+  gate_back kind words none ((three_delays rise fall off, (limits, (i, (free, rest)))), e) =
+      (one_item (gate_item kind (three_delays rise fall off) i rest.more) (limits, (free, rest.free)) rest.tail, ((refl, tt), e))
 
   end_back : (words : List Placed) → end_cause r ≡ None → Rest s state.Outside (finished r) words
       → Rest s state.Items r (record { word = Endmodule; start = at } ∷ words)
@@ -146,6 +148,8 @@ module _ (s : Setting) (r : Reading) (at : ℕ) where
   back state.RiseEnd w words rest = rise_end_back s r at w words rest
   back state.FallDelay w words rest = fall_delay_back s r at w words rest
   back state.FallEnd w words rest = fall_end_back s r at w words rest
+  back state.OffDelay w words rest = off_delay_back s r at w words rest
+  back state.OffEnd w words rest = off_end_back s r at w words rest
   back state.InstanceStart w words rest = instance_start_back s r at w words rest
   back state.InstanceOpen w words rest = instance_open_back s r at w words rest
   back state.TerminalStart w words rest = terminal_start_back s r at (first_word words None) w words rest

@@ -1,22 +1,22 @@
 -- Gate instances are read, and the items that they stand in.
-use Rattle.std.proofs.Common.{◌≡◌, Bool, false, cond, ℕ, List, [], ◌∷◌, Option, Some, None, fold, refl, ap, ◌∙◌}
+use Rattle.std.proofs.Common.{◌≡◌, Bool, false, cond, ℕ, List, [], ◌∷◌, Option, Some, None, Err, fold, refl, ap, ◌∙◌}
 use Rattle.fourstate.specs.declared.gate.GateKind.{GateKind}
 use Rattle.vtext.specs.declared.gate.Terminal.{Terminal}
 use Rattle.vtext.specs.declared.gate.Terminal.TheVariants.{Net, Bit, Constant}
 use Rattle.vtext.specs.declared.parser_state.Indexed.TheVariants as indexed
 use Rattle.vtext.specs.declared.parser_state.ParserState.{ParserState}
-use Rattle.vtext.specs.declared.parser_state.ParserState.TheVariants.{FallDelay, FallEnd, GateStart, InstanceEnd, InstanceOpen, InstanceStart, Items, RiseDelay, RiseEnd, TerminalEnd, TerminalStart}
+use Rattle.vtext.specs.declared.parser_state.ParserState.TheVariants.{FallDelay, FallEnd, GateStart, InstanceEnd, InstanceOpen, InstanceStart, Items, OffDelay, OffEnd, RiseDelay, RiseEnd, TerminalEnd, TerminalStart}
 use Rattle.vtext.specs.declared.parser_state.ParserState.TheVariants as state
 use Rattle.vtext.specs.declared.word.Word.{Word}
-use Rattle.vtext.specs.declared.word.Word.TheVariants.{Name, Open, Close, Semicolon}
-use Rattle.vtext.specs.Causes.{completed_cause, default_cause, delay_cause, gate_cause, instance_cause, is_hash, is_index, terminal_cause}
+use Rattle.vtext.specs.declared.word.Word.TheVariants.{Name, Open, Close, Comma, Semicolon}
+use Rattle.vtext.specs.Causes.{completed_cause, default_cause, delay_cause, gate_cause, instance_cause, is_hash, is_index, misfit, terminal_cause}
 use Rattle.vtext.specs.Instances.{completed}
 use Rattle.vtext.specs.Notes.{use_terminal}
 use Rattle.vtext.specs.Readings.{Reading}
 use Rattle.vtext.specs.Trees.{AreInstancesAdmitted, AreTerminalsAdmitted, Delay, Instance, IsInstanceAdmitted, IsItemAdmitted, IsTerminalAdmitted, Mark, after_gate, after_instance, after_item, after_name, instance_then, instances_then, item_then, name_then, plain, terminal_then, terminals_then}
-use Rattle.vtext.specs.Trees.Delay.{no_delay, one_delay, enclosed_delay, two_delays}
+use Rattle.vtext.specs.Trees.Delay.{no_delay, one_delay, enclosed_delay, two_delays, three_delays}
 use Rattle.vtext.specs.Trees.Item.{gate_item}
-use Rattle.vtext.specs.Turns.{Walk, instance_start, turn}
+use Rattle.vtext.specs.Turns.{Walk, goes, instance_start, turn}
 use Rattle.vtext.proofs.MarkLemmas.{first_of}
 use Rattle.vtext.proofs.TreeTerminals.{bit_read, net_read}
 use Rattle.vtext.proofs.TreeWords as words
@@ -125,3 +125,18 @@ module _ (default : Option ℕ) (table : List (List ℕ)) (after : Option Word) 
       (free_word_read FallEnd now (delay_cause fall) admitted.0.1 (λ start. refl)
       (word_read InstanceStart now (λ start. refl)
       (instances_read InstanceStart now i instances rest (λ start n next. refl) (λ start next. refl) admitted.1 onward)))))))
+  gate_item_read r kind (three_delays rise fall off) i instances rest admitted onward =
+      let first : Reading = after_gate default r kind no_delay in
+      let one : Reading = after_gate default r kind (one_delay rise) in
+      let two : Reading = after_gate default r kind (two_delays rise fall) in
+      let now : Reading = after_gate default r kind (three_delays rise fall off) in
+      word_read GateStart first (λ start. refl)
+      (word_read state.Delay first (λ start. refl)
+      (word_read RiseDelay first (λ start. refl)
+      (free_word_read RiseEnd one (delay_cause rise) admitted.0.1 (λ start. refl)
+      (word_read FallDelay one (λ start. refl)
+      (free_word_read FallEnd two (delay_cause fall) admitted.0.2 (λ start. refl)
+      (word_read OffDelay two (λ start. ap (λ (takes : Bool). cond takes (goes OffDelay two) (Err (misfit Comma))) admitted.0.0)
+      (free_word_read OffEnd now (delay_cause off) admitted.0.3 (λ start. refl)
+      (word_read InstanceStart now (λ start. refl)
+      (instances_read InstanceStart now i instances rest (λ start n next. refl) (λ start next. refl) admitted.1 onward)))))))))

@@ -2,7 +2,7 @@
 
 ghost use Rattle.std.specs.Prelude.{◌≡◌, ◌<◌, ◌-◌, ◌^◌, IfOk};
 ghost use Rattle.vtext.specs.Readings.{view};
-ghost use Rattle.vtext.specs.Turns.{IsTurn, delay, delay_number, fall_end, gate_start, instance_open, instance_start, plain_terminal, rise_end, terminal_end, terminal_start, with_number};
+ghost use Rattle.vtext.specs.Turns.{IsTurn, delay, delay_number, fall_end, gate_start, instance_open, instance_start, off_end, plain_terminal, rise_end, terminal_end, terminal_start, with_number};
 
 use crate::cause::Cause;
 use crate::causes::{delay_cause, is_index, misfit};
@@ -12,7 +12,7 @@ use crate::names::Names;
 use crate::parser_state::{DelayNumber, Indexed, ParserState};
 use crate::turn::Turn;
 use crate::word::Word;
-use fourstate::DelayTimes;
+use fourstate::{DelayTimes, takes_off};
 use std::alloc::{AllocError, Global};
 
 impl Draft {
@@ -63,9 +63,20 @@ impl Draft {
         }
     }
 
-    /// Behind the second number of a delay.
+    /// Behind the second number of a delay: a third one follows only for a kind that takes a turn-off delay.
     pub fn fall_end(&self, word: Word) -> Turn
         ensures { IsTurn result (view self.now) (fall_end (view self.now) word) }
+    {
+        match word {
+            Word::Comma if takes_off(self.item.kind) => Turn::To(ParserState::OffDelay),
+            Word::Close => Turn::To(ParserState::InstanceStart),
+            other => Turn::Refused(misfit(other)),
+        }
+    }
+
+    /// Behind the third number of a delay.
+    pub fn off_end(&self, word: Word) -> Turn
+        ensures { IsTurn result (view self.now) (off_end (view self.now) word) }
     {
         match word {
             Word::Close => Turn::To(ParserState::InstanceStart),
@@ -173,5 +184,6 @@ fn with_number(delays: DelayTimes, of: DelayNumber, time: u64) -> DelayTimes
     match of {
         DelayNumber::Rise => DelayTimes::uniform(time),
         DelayNumber::Fall => delays.with_fall(time),
+        DelayNumber::Off => delays.with_off(time),
     }
 }

@@ -76,6 +76,10 @@ impl Draft {
                 Ok(self.delay_number(DelayNumber::Fall, ParserState::FallEnd, next.word))
             }
             ParserState::FallEnd => Ok(self.fall_end(next.word)),
+            ParserState::OffDelay => {
+                Ok(self.delay_number(DelayNumber::Off, ParserState::OffEnd, next.word))
+            }
+            ParserState::OffEnd => Ok(self.off_end(next.word)),
             ParserState::InstanceStart => self.instance_start(next.word),
             ParserState::InstanceOpen => Ok(self.instance_open(next.word)),
             ParserState::TerminalStart => self.terminal_start(

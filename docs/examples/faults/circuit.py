@@ -20,7 +20,7 @@ class Gate(NamedTuple):
 
 
 class Circuit(NamedTuple):
-    """What is needed of a design text that has one gate a line, as `nand g(y, a, b);`."""
+    """What is needed of a design text that has one gate a line, as `nand g(y, a, b);` or `bufif1 #(2,3,5) g(y, a, b);`."""
 
     inputs: List[str]
     outputs: List[str]
@@ -50,7 +50,7 @@ def read_circuit(path: str) -> Circuit:
     for direction in ("input", "output"):
         nets[direction] = [name for found in re.findall(rf"\b{direction}\b([^;]*);", text) for name in re.findall(r"\w+", found)]
     gates = []
-    for kind, name, pins in re.findall(r"^\s*(\w+)\s+(?:#\d+\s+)?(\w+)\s*\(([^)]*)\);", text, re.M):
+    for kind, name, pins in re.findall(r"^\s*(\w+)\s+(?:#(?:\d+|\([\d, ]+\))\s+)?(\w+)\s*\(([^)]*)\);", text, re.M):
         if kind != "module":
             output, *inputs = re.findall(r"\w+", pins)
             gates.append(Gate(name, kind, output, tuple(inputs)))

@@ -166,12 +166,55 @@ fn replaced_net(rt: HostRuntime) {
     check_shown(&rt, rt.alloc(), &TWO_BUFFERS, &[(&ANOTHER_KIND, want)]);
 }
 
-const OTHER_EDITS: [&str; 8] = [
+/// A gate that may stop driving its net.
+const DRIVER: [&str; 4] = [
+    "input d",
+    "input c",
+    "net n wire",
+    "gate g bufif1 2 3/5 n d c",
+];
+
+const TURN_OFF_DELAYS: [Case<'static>; 6] = [
+    (
+        &[],
+        "input d wire\ninput c wire\nnet n wire\ngate g bufif1 2 3/5 n d c\nhorizon 0\n",
+    ),
+    (
+        &["delay g 6 7/4"],
+        "input d wire\ninput c wire\nnet n wire\ngate g bufif1 6 7/4 n d c\nhorizon 0\n",
+    ),
+    (
+        &["delay g 2 3"],
+        "input d wire\ninput c wire\nnet n wire\ngate g bufif1 2 3 n d c\nhorizon 0\n",
+    ),
+    (
+        &["type g notif0"],
+        "input d wire\ninput c wire\nnet n wire\ngate g notif0 2 3/5 n d c\nhorizon 0\n",
+    ),
+    (
+        &["wire g n c 1'b1"],
+        "input d wire\ninput c wire\nnet n wire\ngate g bufif1 2 3/5 n c 1'b1\nhorizon 0\n",
+    ),
+    // Without a turn-off delay the gate may be of any kind.
+    (
+        &["delay g 2 3", "type g and"],
+        "input d wire\ninput c wire\nnet n wire\ngate g and 2 3 n d c\nhorizon 0\n",
+    ),
+];
+
+#[test]
+fn turn_off_delays_set_and_taken_away(rt: HostRuntime) {
+    check_shown(&rt, rt.alloc(), &DRIVER, &TURN_OFF_DELAYS);
+}
+
+const OTHER_EDITS: [&str; 10] = [
     "horizon 4",
     "wire g y a 1'b0",
     "stim a 3 x",
     "unstim a 4",
     "delay g 1 2",
+    "delay g 1 2/3",
+    "gate h bufif0 4 5/6 n a b",
     "type g or",
     "input a",
     "kind n tri",

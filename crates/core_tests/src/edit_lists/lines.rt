@@ -89,12 +89,15 @@ fn wired(rt: &impl Abort, alloc: Global, words: &[&str], name: Word) -> Edit {
     }
 }
 
-/// The delays that two words from this place on write.
+/// The delays that two words from this place on write, the second with a turn-off delay behind a slash, if it has one.
 fn delays(rt: &impl Abort, words: &[&str], place: usize) -> DelayTimes {
     assert!(rt; place < 4);
     let rise = number(rt, at(rt, words, place));
-    let fall = number(rt, at(rt, words, place + 1));
-    DelayTimes::new(rise, fall)
+    let second = at(rt, words, place + 1);
+    match second.split_once('/') {
+        Some((fall, off)) => { DelayTimes::new(rise, number(rt, fall)).with_off(number(rt, off)) }
+        None => DelayTimes::new(rise, number(rt, second)),
+    }
 }
 
 fn unwired(rt: &impl Abort, words: &[&str], name: Word) -> Edit {

@@ -5,7 +5,7 @@ use crate::edit_lists::lines::{carried_out, design_of, edit, edits, outcome, ref
 use crate::edit_lists::shown::show;
 use design::{Design, MAX_GATES, MAX_NETS, MAX_POINTS};
 use edits::EditFault::{
-    BadName, DelayTooLarge, DrivenInput, DuplicateName, NetInUse, NoSuchPoint, NotInput,
+    BadName, DelayTooLarge, DrivenInput, DuplicateName, NetInUse, NoSuchPoint, NoTurnOff, NotInput,
     TimeTooLarge, TooMany, UnknownGate, UnknownNet, WrongArity, ZeroDelay,
 };
 use edits::{Edit, EditFault, MAX_EDITS};
@@ -152,6 +152,65 @@ const EDITS_OF_GATES: [Case<'static>; 26] = [
 #[test]
 fn edits_of_gates(rt: HostRuntime) {
     check_edits(&rt, rt.alloc(), &EDITS_OF_GATES);
+}
+
+/// An input d, a control c, a net n, and the gates g, which may stop driving n, h and i.
+const BUS: [&str; 7] = [
+    "input d",
+    "input c",
+    "net n wire",
+    "gate g bufif1 2 3/5 n d c",
+    "gate h notif0 2 3 n d c",
+    "gate i and 2 3 n d c",
+    "horizon 30",
+];
+
+const TURN_OFF_DELAYS: [Case<'static>; 38] = [
+    ("gate k bufif1 1 2/3 n d c", None),
+    ("gate k bufif0 1 2/1000000 n d c", None),
+    ("gate k notif1 1 2/1 n d c", None),
+    ("gate k notif0 1 2/3 n d c", None),
+    ("gate k and 1 2/3 n d c", Some(NoTurnOff)),
+    ("gate k buf 1 2/3 n d", Some(NoTurnOff)),
+    ("gate k xnor 1 2/3 n d c", Some(NoTurnOff)),
+    ("gate k bufif1 1 2/0 n d c", Some(ZeroDelay)),
+    ("gate k and 1 2/0 n d c", Some(ZeroDelay)),
+    ("gate k and 0 2/3 n d c", Some(ZeroDelay)),
+    ("gate k bufif1 1 2/1000001 n d c", Some(DelayTooLarge)),
+    ("gate k and 1 2/1000001 n d c", Some(DelayTooLarge)),
+    ("gate k and 1000001 2/3 n d c", Some(DelayTooLarge)),
+    ("gate k bufif1 1000001 2/0 n d c", Some(ZeroDelay)),
+    ("gate k buf 1 2/3 n d c", Some(NoTurnOff)),
+    ("gate k buf 1 2/3 m d", Some(NoTurnOff)),
+    ("gate k buf 1 2/3 d d", Some(NoTurnOff)),
+    ("gate k bufif1 1 2/3 n d", Some(WrongArity)),
+    ("gate k bufif1 1 2/3 m d c", Some(UnknownNet)),
+    ("gate k bufif1 1 2/3 d d c", Some(DrivenInput)),
+    ("gate k' and 1 2/3 n d c", Some(BadName)),
+    ("gate i and 1 2/3 n d c", Some(DuplicateName)),
+    ("delay g 2 3", None),
+    ("delay g 6 7/4", None),
+    ("delay h 6 7/4", None),
+    ("delay i 6 7", None),
+    ("delay i 6 7/4", Some(NoTurnOff)),
+    ("delay i 6 7/0", Some(ZeroDelay)),
+    ("delay g 2 3/0", Some(ZeroDelay)),
+    ("delay i 6 7/1000001", Some(DelayTooLarge)),
+    ("delay k 6 7/4", Some(UnknownGate)),
+    ("type g notif0", None),
+    ("type g and", Some(NoTurnOff)),
+    ("type g xor", Some(NoTurnOff)),
+    ("type g buf", Some(WrongArity)),
+    ("type h and", None),
+    ("type i bufif1", None),
+    ("wire g n c d", None),
+];
+
+#[test]
+fn turn_off_delays(rt: HostRuntime) {
+    let design = design_of(&rt, rt.alloc(), &BUS);
+    check_each(&rt, rt.alloc(), &design, &TURN_OFF_DELAYS);
+    drop(design);
 }
 
 const EDITS_OF_THE_STIMULUS: [Case<'static>; 14] = [
@@ -395,6 +454,7 @@ fn numbers_and_names(rt: HostRuntime) {
         (NoSuchPoint, 12, "NoSuchPoint"),
         (TooMany, 13, "TooMany"),
         (EditFault::OutOfMemory, 14, "OutOfMemory"),
+        (NoTurnOff, 21, "NoTurnOff"),
     ] {
         equal(&rt, name, fault.code(), code);
         equal(&rt, code, fault.name(), name);

@@ -48,7 +48,12 @@ fn add_gate(rt: &impl Abort, text: &mut String, design: &Design, gate: &Gate) {
     let rise = delay(&gate.delays(), Value::One);
     let fall = delay(&gate.delays(), Value::Zero);
     let output = name_of(rt, design, gate.output());
-    write!(text, "gate {name} {kind} {rise} {fall} {output}").expect(rt, "a gate");
+    write!(text, "gate {name} {kind} {rise} {fall}").expect(rt, "a gate");
+    if gate.delays().has_off() {
+        let off = delay(&gate.delays(), Value::HighZ);
+        write!(text, "/{off}").expect(rt, "a turn-off delay");
+    }
+    write!(text, " {output}").expect(rt, "what it drives");
     for terminal in gate.inputs() {
         add_input(rt, text, design, *terminal);
     }

@@ -43,7 +43,12 @@ fn task(rt: &impl Abort, dice: &mut Dice) -> Task
     ensures { IsReady MOMENT result }
 {
     let kind = KINDS[dice.below(6) as usize];
-    let delays = Delays::new(1 + dice.below(9), 1 + dice.below(9)).expect(rt, "lawful delays");
+    let (rise, fall, off) = (1 + dice.below(9), 1 + dice.below(9), dice.below(9));
+    let delays = match off {
+        0 => Delays::new(rise, fall),
+        _ => Delays::with_off(rise, fall, off),
+    }
+    .expect(rt, "lawful delays");
     let inputs = Inputs::of(&[value(dice), value(dice)]);
     assert!(rt; fits(kind, inputs.len()));
     Task::new(kind, delays, state(dice), inputs)

@@ -32,6 +32,9 @@ const KINDS: [&str; 6] = ["and", "nor", "xor", "nand", "bufif1", "notif0"];
 
 const VALUES: [&str; 4] = ["0", "1", "x", "z"];
 
+/// What stands behind a fall: mostly no turn-off delay, which the gates of some kinds refuse.
+const OFFS: [&str; 4] = ["", "", "/1", "/7"];
+
 fn input(dice: &mut Dice) -> &'static str {
     INPUTS[dice.below(2) as usize]
 }
@@ -69,15 +72,16 @@ fn gate_line(rt: &impl Abort, alloc: Global, dice: &mut Dice) -> String {
     let (name, kind, output) = (gate(dice), kind(dice), net(dice));
     let (first, second) = (pin(dice), pin(dice));
     let (rise, fall) = (dice.below(5), 1 + dice.below(5));
+    let off = OFFS[dice.below(4) as usize];
     match dice.below(8) {
         0 => format!(in alloc; "drop {name}").expect(rt, "a line"),
         1 => format!(in alloc; "type {name} {kind}").expect(rt, "a line"),
-        2 | 3 => format!(in alloc; "delay {name} {rise} {fall}").expect(rt, "a line"),
+        2 | 3 => format!(in alloc; "delay {name} {rise} {fall}{off}").expect(rt, "a line"),
         4 => format!(in alloc; "wire {name} {output} {first} {second}").expect(rt, "a line"),
         _ => {
-            format!(in alloc; "gate {name} {kind} {rise} {fall} {output} {first} {second}").expect(
-                rt, "a line",
-            )
+            format!(in alloc;
+                "gate {name} {kind} {rise} {fall}{off} {output} {first} {second}"
+            ).expect(rt, "a line")
         }
     }
 }

@@ -127,6 +127,77 @@ const TWO_BUFFERS: [&str; 9] = [
     "stim b 0 1",
 ];
 
+const LET_GO: [&str; 8] = [
+    "input d",
+    "input c",
+    "net n wire",
+    "gate g bufif1 2 3/5 n d c",
+    "stim d 0 1",
+    "stim c 0 1",
+    "stim c 10 0",
+    "stim c 20 x",
+];
+
+// The gate is another one, so it is evaluated wherever it is stirred: at 0, 10 and 20, where its control changes, and where
+// each of its three events is due.
+const TURN_OFF_DELAYS: [Case<'static>; 5] = [
+    Case {
+        name: "a turn-off delay taken away",
+        first: &LET_GO,
+        horizon: 30,
+        edits: &["delay g 2 3"],
+        waves: &[("n", " 0:x 2:1 12:z 22:x")],
+        tasks: 6,
+    },
+    Case {
+        name: "another turn-off delay",
+        first: &LET_GO,
+        horizon: 30,
+        edits: &["delay g 6 7/4"],
+        waves: &[("n", " 0:x 6:1 14:z 24:x")],
+        tasks: 6,
+    },
+    Case {
+        name: "a turn-off delay alone",
+        first: &LET_GO,
+        horizon: 30,
+        edits: &["delay g 2 3/6"],
+        waves: &[("n", " 0:x 2:1 16:z 22:x")],
+        tasks: 6,
+    },
+    // Each change takes as long as before, and yet the gate has other delays.
+    Case {
+        name: "a turn-off delay that is the rise",
+        first: &[
+            "input d",
+            "input c",
+            "net n wire",
+            "gate g bufif1 2 3 n d c",
+            "stim d 0 1",
+            "stim c 0 1",
+            "stim c 10 0",
+            "stim c 20 x",
+        ],
+        horizon: 30,
+        edits: &["delay g 2 3/2"],
+        waves: &[("n", " 0:x 2:1 12:z 22:x")],
+        tasks: 6,
+    },
+    Case {
+        name: "the same turn-off delay",
+        first: &LET_GO,
+        horizon: 30,
+        edits: &["delay g 2 3/5"],
+        waves: &[("n", " 0:x 2:1 15:z 22:x")],
+        tasks: 0,
+    },
+];
+
+#[test]
+fn turn_off_delays(rt: HostRuntime) {
+    check_all(&rt, rt.alloc(), &TURN_OFF_DELAYS);
+}
+
 const COMMITS: [Case<'static>; 10] = [
     // At 10 the gate isn't stirred any more; at 12 its input rises, at 17 its event is due.
     Case {

@@ -9,7 +9,7 @@ use crate::reruns::plain::{Row, rows};
 use crate::reruns::random::check_run;
 use design::Design;
 use edits::{Edit, Pin, Pins};
-use fourstate::{DelayTimes, GateKind, NetKind, Value};
+use fourstate::{DelayTimes, GateKind, NetKind, Value, takes_off};
 use gatestep::Serial;
 use scratch::plain::values;
 use std::alloc::Global;
@@ -43,6 +43,16 @@ fn pins(rt: &impl Abort, alloc: Global, dice: &mut Dice, count: u64) -> Pins {
     pins
 }
 
+/// A rise and a fall, and a turn-off delay for half the gates that take one.
+fn delays(dice: &mut Dice, kind: GateKind) -> DelayTimes {
+    let times = DelayTimes::new(1 + dice.below(5), 1 + dice.below(5));
+    if takes_off(kind) && dice.below(2) == 0 {
+        times.with_off(1 + dice.below(7))
+    } else {
+        times
+    }
+}
+
 fn gate(rt: &impl Abort, alloc: Global, dice: &mut Dice, name: &str) -> Edit {
     let kind = GateKind::ALL[dice.below(12) as usize];
     let count = match kind {
@@ -52,7 +62,7 @@ fn gate(rt: &impl Abort, alloc: Global, dice: &mut Dice, name: &str) -> Edit {
     Edit::AddGate {
         name: word(rt, alloc, name),
         kind,
-        delays: DelayTimes::new(1 + dice.below(5), 1 + dice.below(5)),
+        delays: delays(dice, kind),
         output: word(rt, alloc, NETS[dice.below(4) as usize]),
         inputs: pins(rt, alloc, dice, count),
     }

@@ -26,6 +26,70 @@ fn check_all(rt: &impl Abort, alloc: Global, cases: &[Case<'_>]) {
     }
 }
 
+const LET_GO: [Case<'static>; 4] = [
+    (
+        &[
+            "input d",
+            "input c",
+            "net n wire",
+            "gate g bufif1 2 3/5 n d c",
+            "stim d 0 1",
+            "stim c 0 1",
+            "stim c 10 0",
+            "stim c 20 x",
+            "horizon 30",
+        ],
+        &[("n", " 0:x 2:1 15:z 22:x")],
+    ),
+    (
+        &[
+            "input d",
+            "input c",
+            "net n wire",
+            "gate g bufif1 6 7/4 n d c",
+            "stim d 0 1",
+            "stim c 0 1",
+            "stim c 10 0",
+            "stim c 20 x",
+            "horizon 30",
+        ],
+        &[("n", " 0:x 6:1 14:z 24:x")],
+    ),
+    // The net is held for longer than the control is inactive, so it is not let go.
+    (
+        &[
+            "input d",
+            "input c",
+            "net n wire",
+            "gate g bufif1 2 3/12 n d c",
+            "stim d 0 1",
+            "stim c 0 1",
+            "stim c 10 0",
+            "stim c 20 1",
+            "horizon 40",
+        ],
+        &[("n", " 0:x 2:1")],
+    ),
+    // One driver is slow to let go, and the other one drives the net by then.
+    (
+        &[
+            "input c",
+            "net n wire",
+            "gate g bufif1 1 1/4 n 1'b0 c",
+            "gate h bufif0 1 1/4 n 1'b1 c",
+            "stim c 0 1",
+            "stim c 10 0",
+            "horizon 20",
+        ],
+        &[("n", " 0:x 4:0 11:x 14:1")],
+    ),
+];
+
+#[test]
+fn nets_that_are_let_go_late(rt: HostRuntime) {
+    check_all(&rt, rt.alloc(), &LET_GO);
+}
+
 const GATES: [Case<'static>; 4] = [
     (
         &[

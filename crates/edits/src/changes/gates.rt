@@ -5,7 +5,7 @@ ghost use Rattle.fourstate.specs.Gates.{takes_inputs};
 ghost use Rattle.design.specs.Keys.{gate_by_key, name_of, netlist};
 ghost use Rattle.design.specs.Netlist.{with_delays, with_gate, with_gate_kind, with_wiring, without_gate};
 ghost use Rattle.edits.specs.Changes.{FindsGate, Passes, Resolves, RewiresGate, TakesGate, TakesGateName, gate_name, gate_of_names};
-ghost use Rattle.edits.specs.Checks.{delay_checks, gate_there, new_gate_checks};
+ghost use Rattle.edits.specs.Checks.{delay_checks, gate_there, is_off_misplaced, new_gate_checks};
 ghost use Rattle.edits.specs.Edits.{connection_of};
 ghost use Rattle.edits.specs.Touched.{Touches};
 ghost use Rattle.edits.specs.declared.edit.Edit.TheVariants as edit;
@@ -16,7 +16,7 @@ use crate::changes::wiring::{find_wiring, terminals};
 use crate::fault::EditFault;
 use crate::pin::Pin;
 use design::{Design, Gate, GateKey, MAX_GATES, Name, NetKey};
-use fourstate::{DelayTimes, Delays, GateKind, fits};
+use fourstate::{DelayTimes, Delays, GateKind, fits, takes_off};
 use std::alloc::{AllocError, Global};
 
 pub fn resolve_add_gate<'e>(
@@ -57,14 +57,22 @@ fn check_new_gate(design: &Design, name: &str) -> Result<(), EditFault>
 }
 
 /// The delays of these times, where a gate of the kind may have them.
-fn check_delays(_kind: GateKind, times: DelayTimes) -> Result<Delays, EditFault>
-    ensures { Passes (delay_checks _kind times) result (λ delays. delays ≡ times) }
+fn check_delays(kind: GateKind, times: DelayTimes) -> Result<Delays, EditFault>
+    ensures { Passes (delay_checks kind times) result (λ delays. delays ≡ times) }
 {
     match Delays::from_times(times) {
+        Some(delays) if is_off_misplaced(kind, delays) => Err(EditFault::NoTurnOff),
         Some(delays) => Ok(delays),
         None if times.has_zero() => Err(EditFault::ZeroDelay),
         None => Err(EditFault::DelayTooLarge),
     }
+}
+
+/// Whether a turn-off delay is given for a kind that takes none.
+fn is_off_misplaced(kind: GateKind, delays: Delays) -> bool
+    ensures { result ≡ is_off_misplaced kind delays }
+{
+    delays.has_off() && !takes_off(kind)
 }
 
 pub fn add_gate(
@@ -132,7 +140,7 @@ pub fn set_delays(
     Ok((new, Touch::Gate(gate)))
 }
 
-#[tactic(auto, using(crate::proofs::ChangeLemmas::kind_fits_of))]
+#[tactic(auto, using(crate::proofs::ChangeLemmas::keeps_off_of, crate::proofs::ChangeLemmas::kind_fits_of))]
 pub fn resolve_gate_kind<'e>(
     design: &Design,
     name: &str,
@@ -141,10 +149,13 @@ pub fn resolve_gate_kind<'e>(
     ensures { Resolves design.now (edit.SetGateKind name.now kind) result }
 {
     let gate = find_gate(design, name)?;
-    if fits(kind, design.gate_of(gate).inputs().len()) {
-        Ok(Change::SetGateKind(gate, kind))
-    } else {
+    let found = design.gate_of(gate);
+    if !fits(kind, found.inputs().len()) {
         Err(EditFault::WrongArity)
+    } else if is_off_misplaced(kind, found.delays()) {
+        Err(EditFault::NoTurnOff)
+    } else {
+        Ok(Change::SetGateKind(gate, kind))
     }
 }
 

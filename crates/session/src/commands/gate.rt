@@ -10,7 +10,7 @@ use crate::commands::times::take_delays;
 use crate::words::{WordRef, Words};
 use fourstate::GateKind;
 
-/// `gate G KIND R F OUT IN..`.
+/// `gate G KIND R F OUT IN..`, or `F/Z` in place of `F`.
 pub fn read_gate(words: Words<'_>) -> Option<EditLine<'_>>
     ensures { result ≡ gate_edit words.entry }
 {

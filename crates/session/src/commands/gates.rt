@@ -17,7 +17,7 @@ pub fn read_drop(words: Words<'_>) -> Option<EditLine<'_>>
     Some(EditLine::DropGate { name })
 }
 
-/// `delay G R F`.
+/// `delay G R F`, or `F/Z` in place of `F`.
 pub fn read_delay(words: Words<'_>) -> Option<EditLine<'_>>
     ensures { result ≡ delay_edit words.entry }
 {

@@ -2,7 +2,7 @@
 //! word; none where the words are unreadable.
 
 ghost use Rattle.std.specs.Prelude.{◌≡◌, MatchOption};
-ghost use Rattle.session.specs.EditLines.{delays_of, horizon_edit, stim_edit, unstim_edit};
+ghost use Rattle.session.specs.EditLines.{delays_of, horizon_edit, stim_edit, times_of, unstim_edit};
 ghost use Rattle.session.specs.Words.{name_and_time, value_of};
 
 use crate::commands::edit_line::EditLine;
@@ -45,13 +45,26 @@ pub fn read_name_and_time(words: Words<'_>) -> Option<(WordRef<'_>, u64)>
     Some((net, time))
 }
 
-/// Takes `R F`, the words of delays, and gives the delays that they write.
+/// Takes `R F` or `R F/Z`, the words of delays, and gives the delays that they write.
 pub fn take_delays(words: &mut Words<'_>) -> Option<DelayTimes>
     ensures { MatchOption result (delays_of words.old ≡ None) (λ delays. delays_of words.old ≡ Some (delays, words.new)) }
 {
     let rise = number(words.next()?.as_bytes())?;
-    let fall = number(words.next()?.as_bytes())?;
-    Some(DelayTimes::new(rise, fall))
+    read_times(rise, words.next()?.as_str())
+}
+
+/// The delays of a rise and of the word `F` or `F/Z`, a fall with or without a turn-off delay.
+#[tactic(auto, using(crate::proofs::TimeLemmas::parted, crate::proofs::TimeLemmas::whole))]
+fn read_times(rise: u64, word: &str) -> Option<DelayTimes>
+    ensures { result ≡ times_of rise word.now }
+{
+    let Some((fall, off)) = word.split_once('/') else {
+        let fall = number(word.as_bytes())?;
+        return Some(DelayTimes::new(rise, fall));
+    };
+    let fall = number(fall.as_bytes())?;
+    let off = number(off.as_bytes())?;
+    Some(DelayTimes::new(rise, fall).with_off(off))
 }
 
 /// The value that a word writes: `0`, `1`, `x` or `z`.

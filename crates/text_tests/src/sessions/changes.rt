@@ -95,3 +95,42 @@ fn refused_edits_change_nothing(rt: HostRuntime) {
         check_refused(&rt, rt.alloc(), line, cause);
     }
 }
+
+const LET_GO: &[u8] = b"module m(d,c,n); input d,c; output n; bufif1 #(2,3,5) g(n,d,c); endmodule";
+
+const TURN_OFF_DELAYS: &[u8] =
+    b"stim d 0 1\nstim c 0 1\nstim c 10 0\nstim c 20 x\nwave n\ndelay g 2 3\nwave n\ndelay g 6 7/4\nwave n\ntype g and\n\
+delay g 2 3/0\ndelay g 2 3/\nbegin\ndelay g 6 7\ntype g and\ncommit\ndelay g 1 1/1\ntype g bufif0\ndelay g 2 3/007\nwave n\n";
+
+const TURN_OFF_REPLIES: &[u8] =
+    b"ok 1\nok 2\nok 3\nok 4\n0 x\n2 1\n15 z\n22 x\nok 4\nok 5\n0 x\n2 1\n12 z\n22 x\nok 5\nok 6\n0 x\n6 1\n14 z\n24 x\nok 6\n\
+no 21 NoTurnOff\nno 5 ZeroDelay\nno 16 BadCommand\nok 6\nok 6\nok 6\nok 7\nno 21 NoTurnOff\nok 8\nok 9\n0 x\n7 z\n12 1\n22 x\nok 9\n";
+
+#[test]
+fn turn_off_delays(rt: HostRuntime) {
+    check(
+        &rt,
+        rt.alloc(),
+        LET_GO,
+        30,
+        TURN_OFF_DELAYS,
+        TURN_OFF_REPLIES,
+    );
+}
+
+const LINES: &[u8] =
+    b"delay g 2 3/\ndelay g 2 /3\ndelay g 2 /\ndelay g 2/3 3\ndelay g 2/ 3\ndelay g 2 3 /4\ndelay g 2 3/ 4\ndelay g 2 3/4/5\n\
+delay g 2 3//4\ndelay g 2 3/x\ndelay g 2 3/+4\ndelay g 2 3,4\ndelay g/2 3/4\ngate h bufif1 2 3/ n d c\ngate h bufif1 2/3 4 n d c\n\
+delay q 2 3/4\ndelay g 2 3/99999999999999999999\ndelay g 2 3/1000001\ndelay g 0 3/1000001\ngate h and 2 3/4 n d c\n\
+gate h and 2 3/4 n d' c\ngate h buf 2 3/4 q d c\ngate g and 2 3/0 n d c\ngate h notif1 2 3/1000000 n d c\ndelay h 3/2 1\n";
+
+const LINE_REPLIES: &[u8] =
+    b"no 16 BadCommand\nno 16 BadCommand\nno 16 BadCommand\nno 16 BadCommand\nno 16 BadCommand\nno 16 BadCommand\nno 16 BadCommand\n\
+no 16 BadCommand\nno 16 BadCommand\nno 16 BadCommand\nno 16 BadCommand\nno 16 BadCommand\nno 16 BadCommand\nno 16 BadCommand\n\
+no 16 BadCommand\nno 2 UnknownGate\nno 6 DelayTooLarge\nno 6 DelayTooLarge\nno 5 ZeroDelay\nno 21 NoTurnOff\n\
+no 16 BadCommand\nno 21 NoTurnOff\nno 3 DuplicateName\nok 1\nno 16 BadCommand\n";
+
+#[test]
+fn words_of_turn_off_delays(rt: HostRuntime) {
+    check(&rt, rt.alloc(), LET_GO, 30, LINES, LINE_REPLIES);
+}
