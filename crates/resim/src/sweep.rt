@@ -1,11 +1,11 @@
 //! The run of a design beside a former one, moment by moment as from scratch: where most of the design differs, this is less
 //! work than to look for what does.
 
-ghost use Rattle.std.specs.Prelude.{◌≡◌, ◌≤◌, ◌+◌, ◌++◌, ℕ, suc, List, IfOk, OnErr, OnOk, if◌then◌else◌};
+ghost use Rattle.std.specs.Prelude.{◌≡◌, ◌<◌, ◌≤◌, ◌+◌, ◌++◌, ℕ, suc, List, IfOk, OnErr, OnOk};
 ghost use Rattle.gatestep.specs.Step.{Evaluation};
 ghost use Rattle.design.specs.Keys.{netlist};
 ghost use Rattle.scratch.specs.Kept.{IsWiring};
-ghost use Rattle.scratch.specs.Lost.{loses_a_worker};
+ghost use Rattle.scratch.specs.Lost.{CountsLoss};
 ghost use Rattle.scratch.specs.Run.{IsRun};
 ghost use Rattle.scratch.specs.Stands.{Stands};
 ghost use Rattle.scratch.specs.Work.{HasGrownOrNot};
@@ -18,7 +18,7 @@ use design::Design;
 use fourstate::Value;
 use gatestep::{Driver, StepFault, Stepper};
 use rundiff::OldLines;
-use scratch::{Engine, Opening, Wiring, wire};
+use scratch::{Engine, Opening, Wiring, resume, wire};
 use std::alloc::Global;
 use waveform::{Run, Timeline};
 
@@ -62,7 +62,9 @@ fn sweep_beside<S: Stepper>(
         fresh: Vec::new(alloc),
     };
     let engine = open_beside(alloc, lines, old, new, &wiring, stepper, &mut room)?;
-    sweep_on(alloc, lines, old, new, &wiring, engine, stepper, &mut room)
+    sweep_on(
+        alloc, lines, old, new, &wiring, engine, 1, stepper, &mut room,
+    )
 }
 
 /// The lists of one moment, which live through a run.
@@ -92,7 +94,7 @@ fn open_beside<S: Stepper>(
     ensures stands { IfOk result (λ engine. Stands S.answer (netlist new.now) engine 1) }
     ensures asked { OnOk result (S.asked stepper.new ≡ S.asked stepper.old ++ rework_at S.answer (netlist old.now) (netlist new.now) 0) }
     ensures part { OnErr result (HasGrownOrNot (S.asked stepper.old) (S.asked stepper.new) (rework_at S.answer (netlist old.now) (netlist new.now) 0)) }
-    ensures lost { S.losses stepper.new ≡ S.losses stepper.old + (if loses_a_worker result then 1 else 0) }
+    ensures lost { CountsLoss (S.losses stepper.old) (S.losses stepper.new) result }
 {
     let mut opening = Opening::before::<S>(alloc, new, wiring)?;
     lines.advance(alloc, 0)?;
@@ -141,7 +143,7 @@ fn pass_beside<S: Stepper>(
     ensures stands { OnOk result (Stands S.answer (netlist new.now) engine.new (t + 1)) }
     ensures asked { OnOk result (S.asked stepper.new ≡ S.asked stepper.old ++ rework_at S.answer (netlist old.now) (netlist new.now) t) }
     ensures part { OnErr result (HasGrownOrNot (S.asked stepper.old) (S.asked stepper.new) (rework_at S.answer (netlist old.now) (netlist new.now) t)) }
-    ensures lost { S.losses stepper.new ≡ S.losses stepper.old + (if loses_a_worker result then 1 else 0) }
+    ensures lost { CountsLoss (S.losses stepper.old) (S.losses stepper.new) result }
 {
     old.lawful();
     engine.stir::<S>(alloc, new, wiring, t)?;
@@ -166,7 +168,41 @@ fn pass_beside<S: Stepper>(
     Ok(())
 }
 
-/// The run of the new design by an engine of which moment 0 is done.
+/// The run of the new design, of which the run up to an earlier horizon was made: `level` is the new design with that horizon.
+pub fn sweep_after<S: Stepper>(
+    alloc: Global,
+    old: &Design,
+    run: &Run,
+    new: &Design,
+    level: &Design,
+    made: &Run,
+    stepper: &mut S,
+) -> Result<Run, StepFault>
+    requires run { IsRun S.answer old.now run.now }
+    requires horizon { (netlist new.now).horizon ≤ (netlist old.now).horizon }
+    requires level { level.now ≡ record new.now { horizon = level.now.horizon } }
+    requires earlier { (netlist level.now).horizon < (netlist new.now).horizon }
+    requires made { IsRun S.answer level.now made.now }
+    ensures reruns { (was : List (Evaluation × ℕ)) →
+        S.asked stepper.old ≡ was ++ rework_below S.answer (netlist old.now) (netlist new.now) (suc (netlist level.now).horizon) →
+        Reruns S.answer old.now new.now was (S.asked stepper.new) (S.losses stepper.old) (S.losses stepper.new) result }
+{
+    let blank_wave = Timeline::open(alloc, Value::Unknown)?;
+    let blank_trace = Timeline::open(alloc, Driver::start())?;
+    let mut lines = OldLines::find::<S>(alloc, old, run, new, &blank_wave, &blank_trace)?;
+    let wiring = wire(alloc, new)?;
+    let mut room = Room {
+        clean: Vec::new(alloc),
+        fresh: Vec::new(alloc),
+    };
+    let engine = resume::<S>(alloc, level, &wiring, made)?;
+    let start = level.horizon() + 1;
+    sweep_on(
+        alloc, &mut lines, old, new, &wiring, engine, start, stepper, &mut room,
+    )
+}
+
+/// The run of the new design by an engine of which the moments below `start` are done.
 fn sweep_on<S: Stepper>(
     alloc: Global,
     lines: &mut OldLines,
@@ -174,22 +210,24 @@ fn sweep_on<S: Stepper>(
     new: &Design,
     wiring: &Wiring,
     engine: Engine,
+    start: u64,
     stepper: &mut S,
     room: &mut Room,
 ) -> Result<Run, StepFault>
     requires lines { AreOldLines S.answer (netlist old.now) (netlist new.now) lines.old }
-    requires waves { waves_done lines.old ≤ 1 }
-    requires traces { traces_done lines.old ≤ 1 }
+    requires waves { waves_done lines.old ≤ start }
+    requires traces { traces_done lines.old ≤ start }
     requires wired { IsWiring (netlist new.now) wiring.now }
-    requires stands { Stands S.answer (netlist new.now) engine 1 }
+    requires stands { Stands S.answer (netlist new.now) engine start }
+    requires within { start ≤ suc (netlist new.now).horizon }
     requires horizon { (netlist new.now).horizon ≤ (netlist old.now).horizon }
     ensures reruns { (was : List (Evaluation × ℕ)) →
-        S.asked stepper.old ≡ was ++ rework_below S.answer (netlist old.now) (netlist new.now) 1 →
+        S.asked stepper.old ≡ was ++ rework_below S.answer (netlist old.now) (netlist new.now) start →
         Reruns S.answer old.now new.now was (S.asked stepper.new) (S.losses stepper.old) (S.losses stepper.new) result }
 {
     let horizon = new.horizon();
     let mut engine = engine;
-    let mut t = engine.advance::<S>(new, 1);
+    let mut t = engine.advance::<S>(new, start);
     while t <= horizon {
         pass_beside(
             &mut engine,
