@@ -6,3 +6,4 @@ mod many_points;
 pub mod plain;
 pub mod random;
 mod rows;
+mod ways;

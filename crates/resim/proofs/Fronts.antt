@@ -65,42 +65,39 @@ any_more p q more (x ∷ xs) any = step (p x) refl any
 module _ (answer : Evaluation → ℕ → State) (old new : Netlist) (front : Front) (n : ℕ) where
   -- The new design with another horizon.
   module _ (h : ℕ) where
-    level : Netlist
-    level = with_horizon new h
-
-    new_waves : (waves : PlaceMap (PatchRecord Value)) → AreWaves answer old new waves n → AreWaves answer old level waves n
+    new_waves : (waves : PlaceMap (PatchRecord Value)) → AreWaves answer old new waves n → AreWaves answer old (with_horizon new h) waves n
     new_waves waves are p low =
         subst (λ f. Keeps same_value standing (read_at answer old (to_net (net_at new p).name)) (f (net_at new p)) (kept_at waves p) n) (sym (values answer new h)) (are p low)
 
-    new_traces : AreTraces answer old new front.traces n → AreTraces answer old level front.traces n
+    new_traces : AreTraces answer old new front.traces n → AreTraces answer old (with_horizon new h) front.traces n
     new_traces are p low =
         subst (λ f. Keeps same_state due (named_state answer old (gate_at new p).name) (f (gate_at new p)) (kept_at front.traces p) n) (sym (states answer new h)) (are p low)
 
-    new_agrees : (live : List ℕ → Bool) → Agrees answer old new live n → Agrees answer old level live n
+    new_agrees : (live : List ℕ → Bool) → Agrees answer old new live n → Agrees answer old (with_horizon new h) live n
     new_agrees live agree = record {
       states = subst (λ s. All (λ g. live g.output ≡ false → state_before answer old n g ≡ s n g) new.gates) (sym (befores answer new h)) agree.states;
       inputs = subst (λ r. All (λ g. live g.output ≡ false → All (λ connection. SameBefore (read_at answer old connection) (r connection) n) g.inputs) new.gates) (sym (reads answer new h)) agree.inputs;
       nets = subst (λ f. All (λ x. live x.name ≡ false → SameBefore (read_at answer old (to_net x.name)) (f x) n) new.nets) (sym (values answer new h)) agree.nets;
     }
 
-    new_closed : (live : List ℕ → Bool) → IsClosed old new live → IsClosed old level live
+    new_closed : (live : List ℕ → Bool) → IsClosed old new live → IsClosed old (with_horizon new h) live
     new_closed live closed = record {
       gates = closed.gates;
-      nets = All-weaker (λ x. live x.name ≡ false → IsSameNet old new x) (λ x. live x.name ≡ false → IsSameNet old level x) (λ x same dead. let is = same dead in record { net = is.net; drivers = is.drivers }) new.nets closed.nets;
+      nets = All-weaker (λ x. live x.name ≡ false → IsSameNet old new x) (λ x. live x.name ≡ false → IsSameNet old (with_horizon new h) x) (λ x same dead. let is = same dead in record { net = is.net; drivers = is.drivers }) new.nets closed.nets;
     }
 
-    new_drivers : (live held : ℕ → Bool) → AreDrivers new live held → AreDrivers level live held
+    new_drivers : (live held : ℕ → Bool) → AreDrivers new live held → AreDrivers (with_horizon new h) live held
     new_drivers live held are = record { nets = are.nets; gates = are.gates; drivers = are.drivers }
 
-    new_at_live : (live : ℕ → Bool) (c : Connection) → is_at_live level live c ≡ is_at_live new live c
+    new_at_live : (live : ℕ → Bool) (c : Connection) → is_at_live (with_horizon new h) live c ≡ is_at_live new live c
     new_at_live live (to_net name) = refl
     new_at_live live (to_constant v) = refl
 
-    new_inputs : (live : ℕ → Bool) (p t : ℕ) → input_moves answer old level live p t ≡ input_moves answer old new live p t
+    new_inputs : (live : ℕ → Bool) (p t : ℕ) → input_moves answer old (with_horizon new h) live p t ≡ input_moves answer old new live p t
     new_inputs live p t = λ i. list_any (λ c. not (new_at_live live c i) && old_moves answer old new c t) (gate_at new p).inputs
 
     new_noted : (live held : ℕ → Bool) (events_at inputs_at nets_at : ℕ → List ℕ) →
-        IsNoted answer old new live held held n events_at inputs_at nets_at n → IsNoted answer old level live held held n events_at inputs_at nets_at n
+        IsNoted answer old new live held held n events_at inputs_at nets_at n → IsNoted answer old (with_horizon new h) live held held n events_at inputs_at nets_at n
     new_noted live held events_at inputs_at nets_at is = record {
       events = subst (λ s. Covers (λ p t. held p && pends (s n (gate_at new p)) t) events_at n) (sym (befores answer new h)) is.events;
       inputs = subst (λ moves. Announces (λ p t. held p && (t == 0 || moves p t)) inputs_at n) (λ i p t. sym (new_inputs live p t) i) is.inputs;
@@ -110,7 +107,7 @@ module _ (answer : Evaluation → ℕ → State) (old new : Netlist) (front : Fr
       no_early_net = is.no_early_net;
     }
 
-    pub new_front : IsFront answer old new front n → IsFront answer old level front n
+    pub new_front : IsFront answer old new front n → IsFront answer old (with_horizon new h) front n
     new_front is = record {
       live = record {
         drivers = new_drivers (live_in front) (held_in front) is.live.drivers;
@@ -133,60 +130,57 @@ module _ (answer : Evaluation → ℕ → State) (old new : Netlist) (front : Fr
 
   -- The old design with an earlier horizon.
   module _ (h : ℕ) (early : h ≤ old.horizon) where
-    former : Netlist
-    former = with_horizon old h
-
-    old_waves : (waves : PlaceMap (PatchRecord Value)) → AreWaves answer old new waves n → AreWaves answer former new waves n
+    old_waves : (waves : PlaceMap (PatchRecord Value)) → AreWaves answer old new waves n → AreWaves answer (with_horizon old h) new waves n
     old_waves waves are p low =
         subst (λ r. Keeps same_value standing (r (to_net (net_at new p).name)) (value answer new (net_at new p)) (kept_at waves p) n) (sym (reads answer old h)) (are p low)
 
-    old_traces : AreTraces answer old new front.traces n → AreTraces answer former new front.traces n
+    old_traces : AreTraces answer old new front.traces n → AreTraces answer (with_horizon old h) new front.traces n
     old_traces are p low =
         subst (λ s. Keeps same_state due (s (gate_at new p).name) (state_after answer new (gate_at new p)) (kept_at front.traces p) n) (sym (named answer old h)) (are p low)
 
-    old_agrees : (live : List ℕ → Bool) → Agrees answer old new live n → Agrees answer former new live n
+    old_agrees : (live : List ℕ → Bool) → Agrees answer old new live n → Agrees answer (with_horizon old h) new live n
     old_agrees live agree = record {
       states = subst (λ s. All (λ g. live g.output ≡ false → s n g ≡ state_before answer new n g) new.gates) (sym (befores answer old h)) agree.states;
       inputs = subst (λ r. All (λ g. live g.output ≡ false → All (λ connection. SameBefore (r connection) (read_at answer new connection) n) g.inputs) new.gates) (sym (reads answer old h)) agree.inputs;
       nets = subst (λ r. All (λ x. live x.name ≡ false → SameBefore (r (to_net x.name)) (value answer new x) n) new.nets) (sym (reads answer old h)) agree.nets;
     }
 
-    old_closed : (live : List ℕ → Bool) → IsClosed old new live → IsClosed former new live
+    old_closed : (live : List ℕ → Bool) → IsClosed old new live → IsClosed (with_horizon old h) new live
     old_closed live closed = record {
       gates = closed.gates;
-      nets = All-weaker (λ x. live x.name ≡ false → IsSameNet old new x) (λ x. live x.name ≡ false → IsSameNet former new x) (λ x same dead. let is = same dead in record { net = is.net; drivers = is.drivers }) new.nets closed.nets;
+      nets = All-weaker (λ x. live x.name ≡ false → IsSameNet old new x) (λ x. live x.name ≡ false → IsSameNet (with_horizon old h) new x) (λ x same dead. let is = same dead in record { net = is.net; drivers = is.drivers }) new.nets closed.nets;
     }
 
     -- what moves up to the earlier horizon moves
-    moves_more : (c : Connection) (t : ℕ) → old_moves answer former new c t ≡ true → old_moves answer old new c t ≡ true
+    moves_more : (c : Connection) (t : ℕ) → old_moves answer (with_horizon old h) new c t ≡ true → old_moves answer old new c t ≡ true
     moves_more c t moves =
         and_more (nat_le t h) (not (same_value (read_at answer old c t) (read_at answer old c (t - 1)))) (nat_le t old.horizon) (not (same_value (read_at answer old c t) (read_at answer old c (t - 1))))
         (λ low. grind (arith, nat_tests)) (λ moves. moves)
         (subst (λ r. (nat_le t h && not (same_value (r c t) (r c (t - 1)))) ≡ true) (reads answer old h) moves)
 
-    inputs_more : (live : ℕ → Bool) (p t : ℕ) → input_moves answer former new live p t ≡ true → input_moves answer old new live p t ≡ true
+    inputs_more : (live : ℕ → Bool) (p t : ℕ) → input_moves answer (with_horizon old h) new live p t ≡ true → input_moves answer old new live p t ≡ true
     inputs_more live p t =
-        any_more (λ c. not (is_at_live new live c) && old_moves answer former new c t) (λ c. not (is_at_live new live c) && old_moves answer old new c t)
-        (λ c. and_more (not (is_at_live new live c)) (old_moves answer former new c t) (not (is_at_live new live c)) (old_moves answer old new c t) (λ at. at) (moves_more c t))
+        any_more (λ c. not (is_at_live new live c) && old_moves answer (with_horizon old h) new c t) (λ c. not (is_at_live new live c) && old_moves answer old new c t)
+        (λ c. and_more (not (is_at_live new live c)) (old_moves answer (with_horizon old h) new c t) (not (is_at_live new live c)) (old_moves answer old new c t) (λ at. at) (moves_more c t))
         (gate_at new p).inputs
 
-    wants_gate_more : (live held : ℕ → Bool) (p t : ℕ) → wants_gate answer former new live held p t ≡ true → wants_gate answer old new live held p t ≡ true
+    wants_gate_more : (live held : ℕ → Bool) (p t : ℕ) → wants_gate answer (with_horizon old h) new live held p t ≡ true → wants_gate answer old new live held p t ≡ true
     wants_gate_more live held p t =
-        and_more (held p) (t == 0 || input_moves answer former new live p t) (held p) (t == 0 || input_moves answer old new live p t) (λ at. at)
-        (or_more (t == 0) (input_moves answer former new live p t) (input_moves answer old new live p t) (inputs_more live p t))
+        and_more (held p) (t == 0 || input_moves answer (with_horizon old h) new live p t) (held p) (t == 0 || input_moves answer old new live p t) (λ at. at)
+        (or_more (t == 0) (input_moves answer (with_horizon old h) new live p t) (input_moves answer old new live p t) (inputs_more live p t))
 
-    net_more : (p t : ℕ) → net_moves answer former new p t ≡ true → net_moves answer old new p t ≡ true
+    net_more : (p t : ℕ) → net_moves answer (with_horizon old h) new p t ≡ true → net_moves answer old new p t ≡ true
     net_more p t =
-        or_more (has_point (net_at new p).points t) (old_moves answer former new (to_net (net_at new p).name) t) (old_moves answer old new (to_net (net_at new p).name) t)
+        or_more (has_point (net_at new p).points t) (old_moves answer (with_horizon old h) new (to_net (net_at new p).name) t) (old_moves answer old new (to_net (net_at new p).name) t)
         (moves_more (to_net (net_at new p).name) t)
 
-    wants_net_more : (live : ℕ → Bool) (p t : ℕ) → wants_net answer former new live p t ≡ true → wants_net answer old new live p t ≡ true
+    wants_net_more : (live : ℕ → Bool) (p t : ℕ) → wants_net answer (with_horizon old h) new live p t ≡ true → wants_net answer old new live p t ≡ true
     wants_net_more live p t =
-        and_more (live p) (t == 0 || net_moves answer former new p t) (live p) (t == 0 || net_moves answer old new p t) (λ at. at)
-        (or_more (t == 0) (net_moves answer former new p t) (net_moves answer old new p t) (net_more p t))
+        and_more (live p) (t == 0 || net_moves answer (with_horizon old h) new p t) (live p) (t == 0 || net_moves answer old new p t) (λ at. at)
+        (or_more (t == 0) (net_moves answer (with_horizon old h) new p t) (net_moves answer old new p t) (net_more p t))
 
     old_noted : (live held : ℕ → Bool) (events_at inputs_at nets_at : ℕ → List ℕ) →
-        IsNoted answer old new live held held n events_at inputs_at nets_at n → IsNoted answer former new live held held n events_at inputs_at nets_at n
+        IsNoted answer old new live held held n events_at inputs_at nets_at n → IsNoted answer (with_horizon old h) new live held held n events_at inputs_at nets_at n
     old_noted live held events_at inputs_at nets_at is = record {
       events = is.events;
       inputs = λ p t from wants. is.inputs p t from (wants_gate_more live held p t wants);
@@ -196,7 +190,7 @@ module _ (answer : Evaluation → ℕ → State) (old new : Netlist) (front : Fr
       no_early_net = is.no_early_net;
     }
 
-    pub old_front : IsFront answer old new front n → IsFront answer former new front n
+    pub old_front : IsFront answer old new front n → IsFront answer (with_horizon old h) new front n
     old_front is = record {
       live = record {
         drivers = is.live.drivers;

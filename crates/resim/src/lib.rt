@@ -14,4 +14,4 @@ mod widening;
 pub use cut::shorten;
 pub use incremental::{rerun, rerun_touched};
 pub use level::follow;
-pub use spending::Limit;
+pub use spending::{LOOK_COST, Limit, RUN_SHARE};

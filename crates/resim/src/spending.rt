@@ -6,10 +6,10 @@ use rundiff::Front;
 use waveform::Run;
 
 /// To look at a net or a gate beside the old run takes about as long as to evaluate so many gates from scratch (own).
-const LOOK: u64 = 12;
+pub const LOOK_COST: u64 = 12;
 
 /// A run goes on through the whole design once it has taken one of so many parts of a run from scratch, and not before (own).
-const SHARE: u64 = 5;
+pub const RUN_SHARE: u64 = 5;
 
 /// When a run that follows what differs goes on through the whole design. The run is the same in any case.
 #[derive(Clone, Copy)]
@@ -64,8 +64,8 @@ impl Spending {
 
     /// Whether the looks cost too much. Each gate has an entry at least, so these are not counted before that may be so.
     fn is_dear(&mut self, run: &Run, new: &Design, next: u64) -> bool {
-        let spent = self.looks.saturating_mul(LOOK);
-        let share = spent.saturating_mul(SHARE);
+        let spent = self.looks.saturating_mul(LOOK_COST);
+        let share = spent.saturating_mul(RUN_SHARE);
         if share < new.gate_count() as u64 {
             return false;
         }

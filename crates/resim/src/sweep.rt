@@ -1,7 +1,7 @@
 //! The run of a design beside a former one, moment by moment as from scratch: where most of the design differs, this is less
 //! work than to look for what does.
 
-ghost use Rattle.std.specs.Prelude.{◌≡◌, ◌<◌, ◌≤◌, ◌+◌, ◌++◌, ℕ, suc, List, IfOk, OnErr, OnOk};
+ghost use Rattle.std.specs.Prelude.{◌≡◌, ◌≤◌, ◌+◌, ◌++◌, ℕ, suc, List, IfOk, OnErr, OnOk};
 ghost use Rattle.gatestep.specs.Step.{Evaluation};
 ghost use Rattle.design.specs.Keys.{netlist};
 ghost use Rattle.scratch.specs.Kept.{IsWiring};
@@ -18,7 +18,7 @@ use design::Design;
 use fourstate::Value;
 use gatestep::{Driver, StepFault, Stepper};
 use rundiff::OldLines;
-use scratch::{Engine, Opening, Wiring, resume, wire};
+use scratch::{Engine, Opening, Wiring, wire};
 use std::alloc::Global;
 use waveform::{Run, Timeline};
 
@@ -57,10 +57,7 @@ fn sweep_beside<S: Stepper>(
         (S.losses stepper.old) (S.losses stepper.new) result }
 {
     let wiring = wire(alloc, new)?;
-    let mut room = Room {
-        clean: Vec::new(alloc),
-        fresh: Vec::new(alloc),
-    };
+    let mut room = Room::new(alloc);
     let engine = open_beside(alloc, lines, old, new, &wiring, stepper, &mut room)?;
     sweep_on(
         alloc, lines, old, new, &wiring, engine, 1, stepper, &mut room,
@@ -69,9 +66,19 @@ fn sweep_beside<S: Stepper>(
 
 /// The lists of one moment, which live through a run.
 #[derive(Drop)]
-struct Room {
+pub struct Room {
     clean: Vec<bool>,
     fresh: Vec<Driver>,
+}
+
+impl Room {
+    /// Empty lists.
+    pub fn new(alloc: Global) -> Room {
+        Room {
+            clean: Vec::new(alloc),
+            fresh: Vec::new(alloc),
+        }
+    }
 }
 
 /// What stands after moment 0.
@@ -168,42 +175,8 @@ fn pass_beside<S: Stepper>(
     Ok(())
 }
 
-/// The run of the new design, of which the run up to an earlier horizon was made: `level` is the new design with that horizon.
-pub fn sweep_after<S: Stepper>(
-    alloc: Global,
-    old: &Design,
-    run: &Run,
-    new: &Design,
-    level: &Design,
-    made: &Run,
-    stepper: &mut S,
-) -> Result<Run, StepFault>
-    requires run { IsRun S.answer old.now run.now }
-    requires horizon { (netlist new.now).horizon ≤ (netlist old.now).horizon }
-    requires level { level.now ≡ record new.now { horizon = level.now.horizon } }
-    requires earlier { (netlist level.now).horizon < (netlist new.now).horizon }
-    requires made { IsRun S.answer level.now made.now }
-    ensures reruns { (was : List (Evaluation × ℕ)) →
-        S.asked stepper.old ≡ was ++ rework_below S.answer (netlist old.now) (netlist new.now) (suc (netlist level.now).horizon) →
-        Reruns S.answer old.now new.now was (S.asked stepper.new) (S.losses stepper.old) (S.losses stepper.new) result }
-{
-    let blank_wave = Timeline::open(alloc, Value::Unknown)?;
-    let blank_trace = Timeline::open(alloc, Driver::start())?;
-    let mut lines = OldLines::find::<S>(alloc, old, run, new, &blank_wave, &blank_trace)?;
-    let wiring = wire(alloc, new)?;
-    let mut room = Room {
-        clean: Vec::new(alloc),
-        fresh: Vec::new(alloc),
-    };
-    let engine = resume::<S>(alloc, level, &wiring, made)?;
-    let start = level.horizon() + 1;
-    sweep_on(
-        alloc, &mut lines, old, new, &wiring, engine, start, stepper, &mut room,
-    )
-}
-
 /// The run of the new design by an engine of which the moments below `start` are done.
-fn sweep_on<S: Stepper>(
+pub fn sweep_on<S: Stepper>(
     alloc: Global,
     lines: &mut OldLines,
     old: &Design,
