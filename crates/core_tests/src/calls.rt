@@ -10,7 +10,7 @@ use crate::counting::Counting;
 use design::Design;
 use edits::{Edit, Touched, apply_all_with_touched};
 use gatestep::Stepper;
-use resim::rerun_touched;
+use resim::{Limit, follow, rerun_touched};
 use scratch::simulate;
 use std::alloc::Global;
 use std::process::Abort;
@@ -53,4 +53,23 @@ pub fn rerun(
     ensures { IsRun advance new.now result }
 {
     rerun_touched(alloc, old, run, new, touched, stepper).expect(rt, "a run")
+}
+
+/// The same for a run that follows what differs up to a limit, where both designs have the same horizon.
+pub fn followed(
+    rt: &impl Abort,
+    alloc: Global,
+    old: &Design,
+    run: &Run,
+    new: &Design,
+    touched: &Touched,
+    limit: Limit,
+    stepper: &mut Counting,
+) -> Run
+    requires run { IsRun advance old.now run.now }
+    requires touched { IsTouched old.now new.now touched.now.nets.items touched.now.gates.items }
+    ensures { IsRun advance new.now result }
+{
+    assert!(rt; new.horizon() == old.horizon());
+    follow(alloc, old, run, new, touched, limit, stepper).expect(rt, "a run")
 }

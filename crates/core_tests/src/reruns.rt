@@ -7,3 +7,4 @@ pub mod plain;
 mod pulls;
 pub mod random;
 mod rows;
+mod ways;

@@ -59,6 +59,12 @@ stopped answer old new before now losses lost_before lost A e (Err f) is grown s
   lost = count ∙ ap (λ (n : ℕ). n + (if loses_a_worker {A = A} (Err e) then 1 else 0)) same ∙ ap (λ b. losses + (if b then 1 else 0)) (lost_as A RunRecord e f is);
 }
 
+-- what is promised where memory ran out, and the moments below n were done
+pub refused : (answer : Evaluation → ℕ → State) (old new : Keyed) (before now : List (Evaluation × ℕ)) (losses n : ℕ) (r : Result RunRecord StepFault) →
+    IsErrAnd r (λ f. f ≡ OutOfMemory) → n ≤ suc (netlist new).horizon → now ≡ before ++ rework_below answer (netlist old) (netlist new) n → Reruns answer old new before now losses losses r
+refused answer old new before now losses n r is within asked =
+    stopped answer old new before now losses losses losses (Unit {0}) OutOfMemory r is (n, within, asked) refl (omega arith)
+
 -- a front that is right at a moment, where that is known by another name
 pub front_at : (answer : Evaluation → ℕ → State) (old new : Netlist) (front : Front) (n m : ℕ) → m ≡ n → IsFront answer old new front n → IsFront answer old new front m
 front_at answer old new front n m same is = subst (λ k. IsFront answer old new front k) (sym same) is

@@ -26,7 +26,7 @@ horizon_is : (d : Keyed) → (netlist d).horizon ≡ d.horizon
 unfolding netlist
 horizon_is d = refl
 
-levelled : (d : Keyed) (h : ℕ) → netlist (record d { horizon = h }) ≡ with_horizon (netlist d) h
+pub levelled : (d : Keyed) (h : ℕ) → netlist (record d { horizon = h }) ≡ with_horizon (netlist d) h
 unfolding netlist
 levelled d h = refl
 

@@ -1,5 +1,7 @@
 pub mod Asked
 pub mod Cutting
+pub mod Fronts
 pub mod Levels
 pub mod Reworks
 pub mod Weaving
+pub mod Widening

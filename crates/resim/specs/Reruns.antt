@@ -1,5 +1,5 @@
 -- What a run of a new design from that of an old one promises.
-use Rattle.std.specs.Prelude.{◌≡◌, ◌≤◌, ◌+◌, ◌++◌, ℕ, suc, List, Option, Result, IfOk, OnErr, OnOk, if◌then◌else◌}
+use Rattle.std.specs.Prelude.{◌≡◌, ◌≤◌, ◌++◌, ℕ, suc, List, Option, Result, IfOk, OnErr, OnOk}
 use Rattle.std.specs.Borrow.{Bor}
 use Rattle.std.specs.Option.{ForSome}
 use Rattle.gatestep.specs.Step.{State, Evaluation}
@@ -9,7 +9,7 @@ use Rattle.design.specs.Netlist.{Netlist}
 use Rattle.edits.specs.Touched.{IsTouched}
 use Rattle.edits.specs.declared.touched.Touched.{Touched}
 use Rattle.waveform.specs.Runs.{RunRecord}
-use Rattle.scratch.specs.Lost.{loses_a_worker}
+use Rattle.scratch.specs.Lost.{CountsLoss}
 use Rattle.scratch.specs.Run.{IsRun}
 use Rattle.rundiff.specs.Dirty.{rework_below}
 
@@ -32,7 +32,7 @@ pub record Reruns (answer : Evaluation → ℕ → State) (old new : Keyed) (bef
   -- where a fault came, it was asked for those of the moments below some moment
   pub part : OnErr result (HasGrownInPart answer (netlist old) (netlist new) before now)
   -- the fault is that a worker was lost exactly where the stepper lost one
-  pub lost : losses_now ≡ losses + (if loses_a_worker result then 1 else 0)
+  pub lost : CountsLoss losses losses_now result
 
 -- where it is known what edits touched, the new design is the old one outside of that
 abbrev pub IsTouchedIfKnown : (old new : Keyed) → Option (Bor Touched) → Type 0

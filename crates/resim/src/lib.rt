@@ -6,8 +6,12 @@ mod cut;
 mod incremental;
 mod level;
 mod other_horizon;
+mod spending;
 mod sweep;
 mod wide;
+mod widening;
 
 pub use cut::shorten;
 pub use incremental::{rerun, rerun_touched};
+pub use level::follow;
+pub use spending::{LOOK_COST, Limit, RUN_SHARE};

@@ -78,7 +78,7 @@ fn rerun_past<S: Stepper>(
 }
 
 /// The same design, up to another horizon.
-fn with_horizon(design: &Design, horizon: u64) -> Result<Design, AllocError>
+pub fn with_horizon(design: &Design, horizon: u64) -> Result<Design, AllocError>
     requires { horizon ≤ MAX_TIME }
     ensures { IfOk result (λ made. made ≡ record design.now { horizon = horizon }) }
 {

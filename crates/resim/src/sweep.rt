@@ -1,11 +1,11 @@
 //! The run of a design beside a former one, moment by moment as from scratch: where most of the design differs, this is less
 //! work than to look for what does.
 
-ghost use Rattle.std.specs.Prelude.{◌≡◌, ◌≤◌, ◌+◌, ◌++◌, ℕ, suc, List, IfOk, OnErr, OnOk, if◌then◌else◌};
+ghost use Rattle.std.specs.Prelude.{◌≡◌, ◌≤◌, ◌+◌, ◌++◌, ℕ, suc, List, IfOk, OnErr, OnOk};
 ghost use Rattle.gatestep.specs.Step.{Evaluation};
 ghost use Rattle.design.specs.Keys.{netlist};
 ghost use Rattle.scratch.specs.Kept.{IsWiring};
-ghost use Rattle.scratch.specs.Lost.{loses_a_worker};
+ghost use Rattle.scratch.specs.Lost.{CountsLoss};
 ghost use Rattle.scratch.specs.Run.{IsRun};
 ghost use Rattle.scratch.specs.Stands.{Stands};
 ghost use Rattle.scratch.specs.Work.{HasGrownOrNot};
@@ -57,19 +57,28 @@ fn sweep_beside<S: Stepper>(
         (S.losses stepper.old) (S.losses stepper.new) result }
 {
     let wiring = wire(alloc, new)?;
-    let mut room = Room {
-        clean: Vec::new(alloc),
-        fresh: Vec::new(alloc),
-    };
+    let mut room = Room::new(alloc);
     let engine = open_beside(alloc, lines, old, new, &wiring, stepper, &mut room)?;
-    sweep_on(alloc, lines, old, new, &wiring, engine, stepper, &mut room)
+    sweep_on(
+        alloc, lines, old, new, &wiring, engine, 1, stepper, &mut room,
+    )
 }
 
 /// The lists of one moment, which live through a run.
 #[derive(Drop)]
-struct Room {
+pub struct Room {
     clean: Vec<bool>,
     fresh: Vec<Driver>,
+}
+
+impl Room {
+    /// Empty lists.
+    pub fn new(alloc: Global) -> Room {
+        Room {
+            clean: Vec::new(alloc),
+            fresh: Vec::new(alloc),
+        }
+    }
 }
 
 /// What stands after moment 0.
@@ -92,7 +101,7 @@ fn open_beside<S: Stepper>(
     ensures stands { IfOk result (λ engine. Stands S.answer (netlist new.now) engine 1) }
     ensures asked { OnOk result (S.asked stepper.new ≡ S.asked stepper.old ++ rework_at S.answer (netlist old.now) (netlist new.now) 0) }
     ensures part { OnErr result (HasGrownOrNot (S.asked stepper.old) (S.asked stepper.new) (rework_at S.answer (netlist old.now) (netlist new.now) 0)) }
-    ensures lost { S.losses stepper.new ≡ S.losses stepper.old + (if loses_a_worker result then 1 else 0) }
+    ensures lost { CountsLoss (S.losses stepper.old) (S.losses stepper.new) result }
 {
     let mut opening = Opening::before::<S>(alloc, new, wiring)?;
     lines.advance(alloc, 0)?;
@@ -141,7 +150,7 @@ fn pass_beside<S: Stepper>(
     ensures stands { OnOk result (Stands S.answer (netlist new.now) engine.new (t + 1)) }
     ensures asked { OnOk result (S.asked stepper.new ≡ S.asked stepper.old ++ rework_at S.answer (netlist old.now) (netlist new.now) t) }
     ensures part { OnErr result (HasGrownOrNot (S.asked stepper.old) (S.asked stepper.new) (rework_at S.answer (netlist old.now) (netlist new.now) t)) }
-    ensures lost { S.losses stepper.new ≡ S.losses stepper.old + (if loses_a_worker result then 1 else 0) }
+    ensures lost { CountsLoss (S.losses stepper.old) (S.losses stepper.new) result }
 {
     old.lawful();
     engine.stir::<S>(alloc, new, wiring, t)?;
@@ -166,30 +175,32 @@ fn pass_beside<S: Stepper>(
     Ok(())
 }
 
-/// The run of the new design by an engine of which moment 0 is done.
-fn sweep_on<S: Stepper>(
+/// The run of the new design by an engine of which the moments below `start` are done.
+pub fn sweep_on<S: Stepper>(
     alloc: Global,
     lines: &mut OldLines,
     old: &Design,
     new: &Design,
     wiring: &Wiring,
     engine: Engine,
+    start: u64,
     stepper: &mut S,
     room: &mut Room,
 ) -> Result<Run, StepFault>
     requires lines { AreOldLines S.answer (netlist old.now) (netlist new.now) lines.old }
-    requires waves { waves_done lines.old ≤ 1 }
-    requires traces { traces_done lines.old ≤ 1 }
+    requires waves { waves_done lines.old ≤ start }
+    requires traces { traces_done lines.old ≤ start }
     requires wired { IsWiring (netlist new.now) wiring.now }
-    requires stands { Stands S.answer (netlist new.now) engine 1 }
+    requires stands { Stands S.answer (netlist new.now) engine start }
+    requires within { start ≤ suc (netlist new.now).horizon }
     requires horizon { (netlist new.now).horizon ≤ (netlist old.now).horizon }
     ensures reruns { (was : List (Evaluation × ℕ)) →
-        S.asked stepper.old ≡ was ++ rework_below S.answer (netlist old.now) (netlist new.now) 1 →
+        S.asked stepper.old ≡ was ++ rework_below S.answer (netlist old.now) (netlist new.now) start →
         Reruns S.answer old.now new.now was (S.asked stepper.new) (S.losses stepper.old) (S.losses stepper.new) result }
 {
     let horizon = new.horizon();
     let mut engine = engine;
-    let mut t = engine.advance::<S>(new, 1);
+    let mut t = engine.advance::<S>(new, start);
     while t <= horizon {
         pass_beside(
             &mut engine,

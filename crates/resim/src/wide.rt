@@ -111,11 +111,16 @@ fn are_busy(run: &Run, new: &Design, touched: &Touched) -> bool {
     for gate in touched.gates.as_slice() {
         count = count.saturating_add(entries_of(run, readers_behind(new, *gate)));
     }
+    count.saturating_mul(LOOK) >= all_entries(run, new)
+}
+
+/// How many entries the old run keeps of all gates of the new design: about what a run from scratch evaluates.
+pub fn all_entries(run: &Run, new: &Design) -> usize {
     let mut all = 0usize;
     for place in 0..new.gate_count() {
         all = all.saturating_add(entry_count(run, new.gate_key_at(place)));
     }
-    count.saturating_mul(LOOK) >= all
+    all
 }
 
 /// How many entries the old run keeps of some gates.

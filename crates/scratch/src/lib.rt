@@ -25,6 +25,7 @@ pub use extending::extend;
 pub use moment::{read_input, task_at};
 pub use opening::Opening;
 pub use packed_input::PackedInput;
+pub use resuming::resume;
 pub use run::simulate;
 pub use waves::{wave_at, wave_named};
 pub use wiring::{Cell, Input, Wiring, wire};

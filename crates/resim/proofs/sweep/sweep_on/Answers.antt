@@ -14,7 +14,7 @@ loop-t-init g c =
     record {
       stands = c.advance-t.ensures.stands;
       within = let is = c.horizon-horizon.ensures.horizon in let within = c.advance-t.ensures.within in omega arith;
-      asked = λ was is. is ∙ ap (λ l. was ++ l) (sym (rework_idle answer old new 1 c.advance-t.result c.advance-t.ensures.from c.advance-t.ensures.quiet));
+      asked = λ was is. is ∙ ap (λ l. was ++ l) (sym (rework_idle answer old new c.args.start c.advance-t.result c.advance-t.ensures.from c.advance-t.ensures.quiet));
       lines = c.requires.lines;
       waves = let from = c.advance-t.ensures.from in let done = c.requires.waves in omega (arith, from, done);
       traces = let from = c.advance-t.ensures.from in let done = c.requires.traces in omega (arith, from, done);
@@ -62,12 +62,12 @@ pub returns-in_err-finish : goal.returns-in_err-finish
 returns-in_err-finish g c =
     let answer = g.S.Stepper.answer in let old = c.args.old.now in let new = c.args.new.now in
     let losses = g.S.Stepper.losses in
-    let last : c.loop-t.t ≡ suc (netlist new).horizon = let past = c.loop-t-test.false in let within = c.loop-t.invariant.within in let is = c.horizon-horizon.ensures.horizon in omega arith in
     record {
       reruns = λ was began.
-          stopped answer old new was (g.S.Stepper.asked c.loop-t.stepper) (losses c.args.stepper.now) (losses c.loop-t.stepper) (losses c.loop-t.stepper)
-          (Unit {0}) OutOfMemory c.from_residual-in_err-finish.result c.from_residual-in_err-finish.ensures.1
-          (c.loop-t.t, omega (arith, last), c.loop-t.invariant.asked was began) c.loop-t.invariant.losses (omega arith);
+          let last : c.loop-t.t ≤ suc (netlist new).horizon = let within = c.loop-t.invariant.within in let is = c.horizon-horizon.ensures.horizon in omega arith in
+          subst (λ l. Reruns answer old new was (g.S.Stepper.asked c.loop-t.stepper) l (losses c.loop-t.stepper) c.from_residual-in_err-finish.result) c.loop-t.invariant.losses
+          (refused answer old new was (g.S.Stepper.asked c.loop-t.stepper) (losses c.loop-t.stepper) c.loop-t.t c.from_residual-in_err-finish.result c.from_residual-in_err-finish.ensures.1
+          last (c.loop-t.invariant.asked was began));
     }
 
 pub returns : goal.returns

@@ -14,7 +14,7 @@ invariant-loop-t g l =
     record {
       stands : Stands answer new l.engine l.t;
       within : l.t ≤ suc l.horizon;
-      asked : (was : List (Evaluation × ℕ)) → g.S.Stepper.asked l.fn.stepper ≡ was ++ rework_below answer old new 1 → g.S.Stepper.asked l.stepper ≡ was ++ rework_below answer old new l.t;
+      asked : (was : List (Evaluation × ℕ)) → g.S.Stepper.asked l.fn.stepper ≡ was ++ rework_below answer old new l.fn.start → g.S.Stepper.asked l.stepper ≡ was ++ rework_below answer old new l.t;
       lines : AreOldLines answer old new l.lines;
       waves : waves_done l.lines ≤ l.t;
       traces : traces_done l.lines ≤ l.t;

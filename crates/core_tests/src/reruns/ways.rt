@@ -1,0 +1,168 @@
+//! Runs that follow what differs up to a limit, and go on through the whole design then: at each limit, and beside it.
+
+ghost use Rattle.gatestep.specs.Step.{advance};
+ghost use Rattle.scratch.specs.Run.{IsRun};
+
+use super::plain::rows;
+use super::random::check_run;
+use crate::calls::{changed, followed, simulated};
+use crate::compare::equal;
+use crate::counting::Counting;
+use crate::edit_lists::lines::{edit, edits, made_of};
+use design::Design;
+use gatestep::Serial;
+use resim::Limit;
+use std::alloc::Global;
+use std::process::Abort;
+use waveform::Run;
+
+/// What a commit asks of a stepper that is dealt no step: the steps and tasks of the moments at which what differs is followed,
+/// and the tasks of those at which the whole design is gone through.
+type Asked = (u64, u64, u64);
+
+/// A commit to a design, and what it asks from which limit on.
+#[derive(Clone, Copy)]
+struct Case<'a> {
+    name: &'a str,
+    first: &'a [&'a str],
+    edits: &'a [&'a str],
+    asked: &'a [(u64, Asked)],
+}
+
+/// What the commit asks at this limit. The run is that of the reference implementation.
+fn asked_at(
+    rt: &impl Abort,
+    alloc: Global,
+    old: &Design,
+    run: &Run,
+    lines: &[&str],
+    limit: Limit,
+) -> Asked
+    requires { IsRun advance old.now run.now }
+{
+    let edits = edits(rt, alloc, lines);
+    let (new, touched) = changed(alloc, old, &edits).expect(rt, "accepted edits");
+    let mut stepper = Counting::new(usize::MAX);
+    let made = followed(rt, alloc, old, run, &new, &touched, limit, &mut stepper);
+    let wanted = rows(rt, alloc, &new);
+    check_run(rt, &new, &made, wanted.as_slice());
+    drop(wanted);
+    drop(made);
+    drop(new);
+    drop(touched);
+    drop(edits);
+    stepper.asked()
+}
+
+/// What is wanted at this limit.
+fn wanted_at(case: &Case<'_>, limit: u64) -> Option<Asked> {
+    let mut wanted = None;
+    for (least, asked) in case.asked {
+        if *least <= limit {
+            wanted = Some(*asked);
+        }
+    }
+    wanted
+}
+
+fn check(rt: &impl Abort, alloc: Global, case: &Case<'_>) {
+    let old = made_of(rt, alloc, edits(rt, alloc, case.first));
+    let run = simulated(rt, alloc, &old, &mut Serial::new());
+    for limit in 0..40 {
+        let asked = asked_at(rt, alloc, &old, &run, case.edits, Limit::Looks(limit));
+        equal(rt, (case.name, limit), Some(asked), wanted_at(case, limit));
+    }
+    drop(run);
+    drop(old);
+}
+
+const LATCH: Case<'static> = Case {
+    name: "a latch reset",
+    first: &[
+        "input s",
+        "input r",
+        "net q wire",
+        "net p wire",
+        "gate g nor 1 1 q r p",
+        "gate h nor 1 1 p s q",
+        "stim s 0 1",
+        "stim r 0 0",
+        "stim s 5 0",
+        "stim r 10 0",
+        "horizon 20",
+    ],
+    edits: &["stim r 10 1"],
+    asked: &[(0, (0, 0, 5))],
+};
+
+const RING: Case<'static> = Case {
+    name: "another kind of gate in a ring",
+    first: &[
+        "input en",
+        "net n wire",
+        "net o wire",
+        "gate g nand 2 1 n en o",
+        "gate h buf 1 1 o n",
+        "stim en 0 0",
+        "stim en 4 1",
+        "horizon 14",
+    ],
+    edits: &["type h not"],
+    asked: &[(0, (0, 0, 5))],
+};
+
+#[test]
+fn each_limit(rt: HostRuntime) {
+    for case in [LATCH, RING] {
+        check(&rt, rt.alloc(), &case);
+    }
+}
+
+/// So many rings, of which the first one has an input of its own.
+fn rings(rt: &impl Abort, alloc: Global, count: u64) -> Design {
+    let first = [
+        "input a",
+        "input b",
+        "net n0 wire",
+        "gate g0 nand 1 1 n0 a n0",
+        "stim a 0 0",
+        "stim a 5 1",
+        "stim b 0 0",
+        "stim b 5 1",
+        "horizon 400",
+    ];
+    let mut edits = edits(rt, alloc, &first);
+    for n in 1..count {
+        let net = format!(in alloc; "net n{n} wire").expect(rt, "a line");
+        let gate = format!(in alloc; "gate g{n} nand 1 1 n{n} b n{n}").expect(rt, "a line");
+        let net = edit(rt, alloc, net.as_str());
+        let gate = edit(rt, alloc, gate.as_str());
+        edits.push(net).expect(rt, "one edit more");
+        edits.push(gate).expect(rt, "one edit more");
+    }
+    made_of(rt, alloc, edits)
+}
+
+/// What it asks that the first one of so many rings swings a moment later.
+fn asked_of_rings(rt: &impl Abort, alloc: Global, count: u64) -> Asked {
+    let old = rings(rt, alloc, count);
+    let run = simulated(rt, alloc, &old, &mut Serial::new());
+    let asked = asked_at(
+        rt,
+        alloc,
+        &old,
+        &run,
+        &["unstim a 5", "stim a 6 1"],
+        Limit::Cost,
+    );
+    drop(run);
+    drop(old);
+    asked
+}
+
+#[test]
+fn where_looks_cost_too_much(rt: HostRuntime) {
+    for count in [1, 2, 10, 20, 22, 23, 24, 25, 26, 30] {
+        equal(&rt, count, asked_of_rings(&rt, rt.alloc(), count), (0, 0, 0));
+    }
+}

@@ -1,0 +1,42 @@
+-- A design with another horizon beside the one that it was made of.
+use Rattle.std.proofs.Common.{◌≡◌, ◌≤◌, ◌∙◌, ap, sym, subst, ℕ, List}
+use Rattle.gatestep.specs.Step.{Evaluation, State}
+use Rattle.design.specs.Keys.{Keyed, netlist}
+use Rattle.design.specs.Netlist.{Netlist, with_horizon}
+use Rattle.edits.specs.Touched.{IsTouched}
+use Rattle.rundiff.specs.Fronts.{IsFront}
+use Rattle.rundiff.specs.declared.front.Front.{Front}
+use Rattle.resim.proofs.Fronts.{new_front, old_front}
+use Rattle.resim.proofs.Levels.{levelled}
+
+module _ (d made : Keyed) (h : ℕ) (is : made ≡ record d { horizon = h }) where
+  made_is : netlist made ≡ with_horizon (netlist d) h
+  made_is = ap netlist is ∙ levelled d h
+
+  pub horizon_of : (netlist made).horizon ≡ h
+  horizon_of = ap (λ (n : Netlist). n.horizon) made_is
+
+  -- it is the same but for its own horizon
+  pub own_horizon : made ≡ record d { horizon = made.horizon }
+  own_horizon = is ∙ ap (λ (u : ℕ). record d { horizon = u }) (sym (ap (λ (k : Keyed). k.horizon) is))
+
+  -- edits touched the same where the new design has another horizon
+  pub touched_new : (old : Keyed) (nets gates : List ℕ) → IsTouched old d nets gates → IsTouched old made nets gates
+  touched_new old nets gates same =
+      subst (λ k. IsTouched old k nets gates) (sym is)
+      (record { nets_stay = same.nets_stay; drivers_stay = same.drivers_stay; gates_stay = same.gates_stay; names_stay = same.names_stay })
+
+  -- and where the old one has
+  pub touched_old : (new : Keyed) (nets gates : List ℕ) → IsTouched d new nets gates → IsTouched made new nets gates
+  touched_old new nets gates same =
+      subst (λ k. IsTouched k new nets gates) (sym is)
+      (record { nets_stay = same.nets_stay; drivers_stay = same.drivers_stay; gates_stay = same.gates_stay; names_stay = same.names_stay })
+
+  module _ (answer : Evaluation → ℕ → State) (front : Front) (n : ℕ) where
+    -- a front beside the old design, where the new one has another horizon
+    pub front_new : (old : Netlist) → IsFront answer old (netlist d) front n → IsFront answer old (netlist made) front n
+    front_new old right = subst (λ k. IsFront answer old k front n) (sym made_is) (new_front answer old (netlist d) front n h right)
+
+    -- and where the old one has an earlier one
+    pub front_old : (new : Netlist) → h ≤ (netlist d).horizon → IsFront answer (netlist d) new front n → IsFront answer (netlist made) new front n
+    front_old new early right = subst (λ k. IsFront answer k new front n) (sym made_is) (old_front answer (netlist d) new front n h early right)
