@@ -160,6 +160,6 @@ class Checks(WithFolder):
             self.assertIn("usage:", said)
 
     def test_the_expectations_of_the_examples(self) -> None:
-        for example in ("glitch",):
+        for example in ("glitch", "bus"):
             status, printed, _ = self.run_check(os.path.join(EXAMPLES, example, "expectations"))
             self.assertEqual(status, 0, printed)

@@ -6,8 +6,6 @@ from typing import Tuple
 
 from .support import EXAMPLES, INVERTER, ROOT, WithFolder
 
-GLITCH = os.path.join(EXAMPLES, "glitch")
-
 
 class Draws(WithFolder):
     def setUp(self) -> None:
@@ -36,12 +34,13 @@ class Draws(WithFolder):
         status, printed, _ = self.draw("m.v", "--to", "3", encoding="ascii")
         self.assertEqual((status, printed), (0, "moment  0\n        |\na       xxxx\ny       xxxx\n"))
 
-    def test_the_picture_of_the_documents_is_the_one_that_it_draws(self) -> None:
-        words = "--nets s sn p q y w --from 16 --to 31 --svg".split()
-        files = [os.path.join(GLITCH, it) for it in ("design.v", "commands")]
-        self.assertEqual(self.draw(*files, *words, "waves.svg"), (0, "", ""))
-        with open(os.path.join(GLITCH, "waves.svg"), encoding="utf-8") as file:
-            self.assertEqual(self.read("waves.svg"), file.read())
+    def test_the_pictures_of_the_documents_are_those_that_it_draws(self) -> None:
+        for example, lines, nets in (("glitch", "commands", "s sn p q y w"), ("bus", "expectations", "a_on b_on line seen")):
+            files = [os.path.join(EXAMPLES, example, it) for it in ("design.v", lines, "waves.svg")]
+            words = ["--nets", *nets.split(), "--from", "16", "--to", "31", "--svg", "waves.svg"]
+            self.assertEqual(self.draw(*files[:2], *words), (0, "", ""), example)
+            with open(files[2], encoding="utf-8") as file:
+                self.assertEqual(self.read("waves.svg"), file.read(), example)
 
     def test_a_command_that_is_refused(self) -> None:
         self.write("commands", "stim a 0 0\n\nstim q 10 1\n")
