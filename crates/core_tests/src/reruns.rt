@@ -4,5 +4,6 @@ mod definition;
 mod horizons;
 mod many_points;
 pub mod plain;
+mod pulls;
 pub mod random;
 mod rows;

@@ -30,7 +30,12 @@ fn check_net(rt: &impl Abort, kind: NetKind, table: Table) {
             equal(rt, (kind, first, second), value.symbol(), *symbol);
         }
     }
-    equal(rt, "resolve", resolve(kind, &[]), Value::HighZ);
+    equal(
+        rt,
+        (kind, "no driver"),
+        resolve(kind, &[]).symbol(),
+        table[3][3],
+    );
 }
 
 fn check_delays(rt: &impl Abort, rise: u64, fall: u64, table: [u32; 4]) {
@@ -149,14 +154,16 @@ fn numbers_of_inputs(rt: HostRuntime) {
     }
 }
 
-// IEEE 1364-2005, 4.6, tables 4-2 to 4-4.
-const NETS: [(NetKind, Table); 6] = [
+// IEEE 1364-2005, 4.6, tables 4-2 to 4-6. Without a driver a net has what two drivers of z give it.
+const NETS: [(NetKind, Table); 8] = [
     (NetKind::Wire, [b"0xx0", b"x1x1", b"xxxx", b"01xz"]),
     (NetKind::Tri, [b"0xx0", b"x1x1", b"xxxx", b"01xz"]),
     (NetKind::Wand, [b"0000", b"01x1", b"0xxx", b"01xz"]),
     (NetKind::Triand, [b"0000", b"01x1", b"0xxx", b"01xz"]),
     (NetKind::Wor, [b"01x0", b"1111", b"x1xx", b"01xz"]),
     (NetKind::Trior, [b"01x0", b"1111", b"x1xx", b"01xz"]),
+    (NetKind::Tri0, [b"0xx0", b"x1x1", b"xxxx", b"01x0"]),
+    (NetKind::Tri1, [b"0xx0", b"x1x1", b"xxxx", b"01x1"]),
 ];
 
 #[test]
@@ -180,6 +187,25 @@ fn nets_of_one_driver(rt: HostRuntime) {
         equal(&rt, kind, kind.passes_lone_driver(), true);
         for value in ORDER {
             equal(&rt, (kind, value), resolve(kind, &[value]), value);
+        }
+    }
+}
+
+#[test]
+fn pulled_nets_of_one_driver(rt: HostRuntime) {
+    for (kind, rule, values) in [
+        (NetKind::Tri0, NetRule::Pulldown, b"01x0"),
+        (NetKind::Tri1, NetRule::Pullup, b"01x1"),
+    ] {
+        equal(&rt, kind, kind.rule(), rule);
+        equal(&rt, kind, kind.passes_lone_driver(), false);
+        for (value, symbol) in ORDER.iter().zip(values) {
+            equal(
+                &rt,
+                (kind, value),
+                resolve(kind, &[*value]).symbol(),
+                *symbol,
+            );
         }
     }
 }
@@ -249,9 +275,12 @@ const GATE_WORDS: [(&[u8], Option<GateKind>); 4] = [
     (b"nands", None),
 ];
 
-const NET_WORDS: [(&[u8], Option<NetKind>); 3] = [
+const NET_WORDS: [(&[u8], Option<NetKind>); 6] = [
     (b"triand", Some(NetKind::Triand)),
-    (b"tri0", None),
+    (b"tri0", Some(NetKind::Tri0)),
+    (b"tri1", Some(NetKind::Tri1)),
+    (b"tri2", None),
+    (b"trireg", None),
     (b"", None),
 ];
 
@@ -265,6 +294,7 @@ fn words(rt: HostRuntime) {
     }
     equal(&rt, "keyword", GateKind::Xnor.keyword(), "xnor");
     equal(&rt, "keyword", NetKind::Trior.keyword(), "trior");
+    equal(&rt, "keyword", NetKind::Tri1.keyword(), "tri1");
 }
 
 #[test]

@@ -83,7 +83,7 @@ fn connected_ports(rt: HostRuntime) {
     check_all(&rt, rt.alloc(), &CONNECTED);
 }
 
-const UNCONNECTED: [Case<'static>; 7] = [
+const UNCONNECTED: [Case<'static>; 8] = [
     // It is a net of the instance, and no input of the design.
     (
         "module m; h u(); endmodule module h(input p, output q); not #1 g(q,p); endmodule",
@@ -110,6 +110,10 @@ const UNCONNECTED: [Case<'static>; 7] = [
     (
         "module m; n u(); endmodule module n(input wand p, output trior q); o v(p,q); endmodule module o(input p, output wor q); not #1 g(q,p); endmodule",
         "m: u.p:wand u.q:trior / u.v.g=not #(1,1) u.q u.p",
+    ),
+    (
+        "module m; n u(); endmodule module n(input tri0 p, output tri1 q); not #1 g(q,p); endmodule",
+        "m: u.p:tri0 u.q:tri1 / u.g=not #(1,1) u.q u.p",
     ),
     // A port in between that is not connected, and one below.
     (

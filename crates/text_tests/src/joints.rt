@@ -3,7 +3,7 @@
 use crate::readings::{Case, check_all};
 
 // A port `p` of this kind of `h` is joined to the net `a` of that kind.
-const KINDS: [Case<'static>; 12] = [
+const KINDS: [Case<'static>; 22] = [
     (
         "module h(input wand p); endmodule\nmodule m; wire a; h\nu(a); endmodule",
         "line 2: 9 PortKind",
@@ -51,6 +51,46 @@ const KINDS: [Case<'static>; 12] = [
     (
         "module h(output tri p, q); endmodule\nmodule m; triand a; wor b; h\nu(a,b); endmodule",
         "m: a:triand b:wor",
+    ),
+    (
+        "module h(input tri0 p); endmodule\nmodule m; wire a; h\nu(a); endmodule",
+        "line 2: 9 PortKind",
+    ),
+    (
+        "module h(input tri0 p); endmodule\nmodule m; h\nu(a); endmodule",
+        "line 2: 9 PortKind",
+    ),
+    (
+        "module h(input tri0 p); endmodule\nmodule m; tri1 a; h\nu(a); endmodule",
+        "line 2: 9 PortKind",
+    ),
+    (
+        "module h(input tri0 p); endmodule\nmodule m; tri0 a; h\nu(a); endmodule",
+        "m: a:tri0",
+    ),
+    (
+        "module h(output tri1 p); endmodule\nmodule m; tri a; h\nu(a); endmodule",
+        "line 2: 9 PortKind",
+    ),
+    (
+        "module h(output tri1 p); endmodule\nmodule m; tri0 a; h\nu(a); endmodule",
+        "line 2: 9 PortKind",
+    ),
+    (
+        "module h(output tri1 p); endmodule\nmodule m; wor a; h\nu(a); endmodule",
+        "line 2: 9 PortKind",
+    ),
+    (
+        "module h(output tri1 p); endmodule\nmodule m; tri1 a; h\nu(.p(a)); endmodule",
+        "m: a:tri1",
+    ),
+    (
+        "module h(output wand p); endmodule\nmodule m; tri1 a; h\nu(a); endmodule",
+        "line 2: 9 PortKind",
+    ),
+    (
+        "module h(output tri p, q); endmodule\nmodule m; tri0 a; tri1 b; h\nu(a,b); endmodule",
+        "m: a:tri0 b:tri1",
     ),
 ];
 

@@ -118,7 +118,7 @@ fn a_netlist(rt: HostRuntime) {
     check(&rt, rt.alloc(), NETLIST, None, "line 9: 11 ZeroDelay");
 }
 
-const SMALL: [Case<'static>; 7] = [
+const SMALL: [Case<'static>; 8] = [
     ("module m;endmodule", "m:"),
     ("module \\a+b (); endmodule", "a+b:"),
     // Both ways to declare an input of a kind.
@@ -127,6 +127,10 @@ const SMALL: [Case<'static>; 7] = [
         "m: <a:trior <b:trior c:wire",
     ),
     ("module m(a); triand a; input a; endmodule", "m: <a:triand"),
+    (
+        "module m(input tri0 a, output b); tri1 b; tri0 c, d; endmodule",
+        "m: <a:tri0 b:tri1 c:tri0 d:tri0",
+    ),
     // A net may have several drivers, and a gate may read and drive one net.
     (
         "module m; xor #1 (y,y,1'b0,1'Bz); or #1 (y,1'b1,y); endmodule",

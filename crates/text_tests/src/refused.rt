@@ -8,7 +8,7 @@ use std::process::Abort;
 use vread::{ReadFault, ReadFaultKind, read};
 
 // The keywords of IEEE 1364-2005, Annex B, that are refused (own).
-const WORDS: [&str; 85] = [
+const WORDS: [&str; 83] = [
     "always",
     "assign",
     "automatic",
@@ -84,8 +84,6 @@ const WORDS: [&str; 85] = [
     "tran",
     "tranif0",
     "tranif1",
-    "tri0",
-    "tri1",
     "trireg",
     "unsigned",
     "uwire",

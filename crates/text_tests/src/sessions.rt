@@ -7,6 +7,7 @@ mod batches;
 mod bytes;
 mod changes;
 mod last_moment;
+mod pulls;
 mod questions;
 mod scopes;
 mod texts;

@@ -110,11 +110,14 @@ fn nothing(rt: HostRuntime) {
     drop(bench);
 }
 
-const KINDS: [&str; 6] = [
+// The input has the value of its point, though nothing else would give its kind a z.
+const KINDS: [&str; 8] = [
     "net w wand",
     "net t tri",
     "input a",
-    "kind a trior",
+    "kind a tri0",
+    "net p tri1",
+    "net o trior",
     "stim a 2 z",
     "horizon 3",
 ];
@@ -124,7 +127,9 @@ $timescale 1 ns $end
 $scope module m $end
 $var wand 1 ! w $end
 $var tri 1 \" t $end
-$var trior 1 # a $end
+$var tri0 1 # a $end
+$var tri1 1 $ p $end
+$var trior 1 % o $end
 $upscope $end
 $enddefinitions $end
 #0
@@ -132,6 +137,8 @@ $dumpvars
 z!
 z\"
 x#
+1$
+z%
 $end
 #2
 z#

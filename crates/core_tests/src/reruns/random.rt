@@ -26,7 +26,7 @@ const NETS: [&str; 4] = ["n", "o", "p", "q"];
 
 const GATES: [&str; 6] = ["g", "h", "i", "j", "k", "l"];
 
-const NET_KINDS: [&str; 3] = ["wire", "wand", "wor"];
+const NET_KINDS: [&str; 5] = ["wire", "wand", "wor", "tri0", "tri1"];
 
 const KINDS: [&str; 6] = ["and", "nor", "xor", "nand", "bufif1", "notif0"];
 
@@ -57,7 +57,7 @@ fn kind(dice: &mut Dice) -> &'static str {
 }
 
 fn net_line(rt: &impl Abort, alloc: Global, dice: &mut Dice) -> String {
-    let (name, kind) = (net(dice), NET_KINDS[dice.below(3) as usize]);
+    let (name, kind) = (net(dice), NET_KINDS[dice.below(5) as usize]);
     match dice.below(5) {
         0 => format!(in alloc; "dropnet {name}").expect(rt, "a line"),
         1 | 2 => format!(in alloc; "kind {name} {kind}").expect(rt, "a line"),

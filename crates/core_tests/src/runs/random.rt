@@ -64,7 +64,7 @@ fn add(rt: &impl Abort, edits: &mut Vec<Edit>, edit: Edit) {
 
 fn add_nets(rt: &impl Abort, alloc: Global, dice: &mut Dice, edits: &mut Vec<Edit>) {
     for net in NETS {
-        let kind = NetKind::ALL[dice.below(6) as usize];
+        let kind = NetKind::ALL[dice.below(8) as usize];
         let name = word(rt, alloc, net);
         add(rt, edits, Edit::AddNet { name, kind });
     }

@@ -81,6 +81,72 @@ fn gates(rt: HostRuntime) {
     check_all(&rt, rt.alloc(), &GATES);
 }
 
+// Nets that are pulled where nothing drives them.
+const PULLS: [Case<'static>; 4] = [
+    // One driver, which lets go at 11.
+    (
+        &[
+            "input a",
+            "input c",
+            "net n tri0",
+            "net y wire",
+            "gate g bufif1 1 1 n a c",
+            "gate h buf 2 2 y n",
+            "stim a 0 1",
+            "stim c 0 1",
+            "stim c 10 0",
+            "horizon 20",
+        ],
+        &[("n", " 0:x 1:1 11:0"), ("y", " 0:x 3:1 13:0")],
+    ),
+    // Two, of which the last lets go at 7 and gives x at 11.
+    (
+        &[
+            "input a",
+            "input c",
+            "input d",
+            "net n tri1",
+            "gate g bufif1 1 1 n a c",
+            "gate h bufif1 1 1 n a d",
+            "stim a 0 0",
+            "stim c 0 1",
+            "stim d 0 1",
+            "stim c 3 0",
+            "stim d 6 0",
+            "stim d 10 x",
+            "horizon 20",
+        ],
+        &[("n", " 0:x 1:0 7:1 11:x")],
+    ),
+    // None, and a gate that reads it.
+    (
+        &[
+            "net n tri1",
+            "net o tri0",
+            "net y wire",
+            "gate g and 1 2 y n o",
+            "horizon 5",
+        ],
+        &[("n", " 0:1"), ("o", " 0:0"), ("y", " 0:x 2:0")],
+    ),
+    // An input has the value of its points, whatever its kind.
+    (
+        &[
+            "input a",
+            "kind a tri1",
+            "stim a 2 z",
+            "stim a 4 0",
+            "horizon 5",
+        ],
+        &[("a", " 0:x 2:z 4:0")],
+    ),
+];
+
+#[test]
+fn pulls(rt: HostRuntime) {
+    check_all(&rt, rt.alloc(), &PULLS);
+}
+
 const BUFFERS: [Case<'static>; 5] = [
     // A short pulse is swallowed.
     (
