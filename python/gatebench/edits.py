@@ -18,7 +18,7 @@ class Edits(ABC, Generic[Result]):
         """Takes an edit by its line."""
 
     def net(self, net: str, kind: str = "wire") -> Result:
-        """Adds a net without drivers, of the kind wire, tri, wand, triand, wor or trior."""
+        """Adds a net without drivers, of the kind wire, tri, wand, triand, wor, trior, tri0 or tri1."""
         return self.edit(line_of("net", net, kind))
 
     def input(self, net: str) -> Result:
