@@ -77,6 +77,17 @@ class Inverter(WithFolder):
         self.assertEqual([edits.drop("h"), edits.dropnet("n"), edits.horizon(30)], [12, 13, 14])
         self.assertEqual(self.session.wave("y").horizon, 30)
 
+    def test_a_net_is_pulled_where_nothing_drives_it(self) -> None:
+        self.session.net("p", "tri1")
+        self.assertEqual(words(self.session, "p"), "0 1")
+        # The driver gives 0 while a is 1, and lets go while a is 0, each after 2.
+        self.session.gate("h", "bufif1", 2, 2, "p", constant(0), "a")
+        self.assertEqual(words(self.session, "p"), "0 x 2 1 12 0")
+        self.session.kind("p", "tri0")
+        self.assertEqual(words(self.session, "p"), "0 x 2 0")
+        self.session.kind("p", "tri")
+        self.assertEqual(words(self.session, "p"), "0 x 2 z 12 0")
+
     def test_the_horizon_is_known_wherever_it_moves(self) -> None:
         for horizon in (0, 1, 999, 1000, 1001, 1_099_511_627_776):
             self.session.horizon(horizon)
