@@ -85,7 +85,7 @@ class Commands(Gatebench):
 
 class Scripts(Gaterace):
     def test_lengths(self) -> None:
-        for lines in [it for it in ODD if it <= 4242]:
+        for lines in [*(it for it in ODD if it <= 1025), 4001]:
             edits = "".join(f"stim a {place} {place % 2}\n" for place in range(lines))
             self.assertEqual(self.race(edits, 1, 1), right(1), lines)
 
