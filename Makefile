@@ -25,9 +25,13 @@ programs:
 scripts:
 	@tools/scripts
 
-# Refuses each allocation of bin/gatebench over the examples, alone and with all after it, after a demo.
+# After a demo: refuses each allocation of bin/gatebench over the examples, alone and with all after it; lets its reads and writes
+# fail; and refuses each allocation of the program refusals, which it proves and builds first.
 refusals:
 	@tools/refusals
+	@tools/failures
+	@cd crates/refusals && rt run > /dev/null
+	@tools/refusals_inside
 
 # Finds the stuck-at faults that the stimulus of two circuits shows, with bin/gatebench, after a demo.
 faults:

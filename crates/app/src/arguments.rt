@@ -42,6 +42,8 @@ pub enum ArgsFault {
     OutOfMemory = 2,
 }
 
+const _: () = prove!(ArgsFault::Refused as u8 == 1 && ArgsFault::OutOfMemory as u8 == 2);
+
 impl From<AllocError> for ArgsFault {
     ghost use Rattle.std.specs.Prelude.{◌≡◌};
     ghost use Rattle.app.specs.declared.arguments.ArgsFault.TheVariants.{OutOfMemory};

@@ -17,4 +17,5 @@ pub mod Traffic
 pub mod Transcripts
 pub mod Talk
 pub mod Opening
+pub mod SessionFaults
 pub mod Outcomes

@@ -1,5 +1,8 @@
 //! Why a session did not open, or broke off.
 
+ghost use Rattle.std.specs.Prelude.{◌≡◌};
+ghost use Rattle.session.specs.SessionFaults.{fault_number};
+
 use edits::EditFault;
 use thiserror::Error;
 use vtext::ReadFault;
@@ -25,4 +28,20 @@ pub enum SessionFault {
     /// The sink failed. An exact beginning of the replies to the lines that were read stands written.
     #[error("write failed")]
     Write,
+}
+
+impl SessionFault {
+    /// The fault's number.
+    pub fn code(self) -> u8
+        ensures { result ≡ fault_number self }
+    {
+        match self {
+            SessionFault::Design(_) => 1,
+            SessionFault::Edit(_) => 2,
+            SessionFault::OutOfMemory => 3,
+            SessionFault::WorkerLost => 4,
+            SessionFault::Read => 5,
+            SessionFault::Write => 6,
+        }
+    }
 }

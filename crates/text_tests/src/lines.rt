@@ -1,9 +1,9 @@
 //! Lines, each read by itself.
 
 use crate::compare::equal;
-use edits::Edit;
+use edits::{Edit, EditFault};
 use fourstate::Value;
-use session::{Line, LineFault, line};
+use session::{Line, LineFault, SessionFault, line};
 use std::alloc::Global;
 use std::process::Abort;
 
@@ -75,7 +75,17 @@ fn long_lines_are_told(rt: HostRuntime) {
 }
 
 #[test]
-fn faults_have_numbers(rt: HostRuntime) {
+fn faults_of_sessions_have_numbers(rt: HostRuntime) {
+    let horizon = SessionFault::Edit(EditFault::TimeTooLarge);
+    equal(&rt, "Edit", horizon.code(), 2);
+    equal(&rt, "OutOfMemory", SessionFault::OutOfMemory.code(), 3);
+    equal(&rt, "WorkerLost", SessionFault::WorkerLost.code(), 4);
+    equal(&rt, "Read", SessionFault::Read.code(), 5);
+    equal(&rt, "Write", SessionFault::Write.code(), 6);
+}
+
+#[test]
+fn faults_of_lines_have_numbers(rt: HostRuntime) {
     equal(&rt, "BadCommand", LineFault::BadCommand as u8, 1);
     equal(&rt, "LongLine", LineFault::LongLine as u8, 2);
     equal(&rt, "OutOfMemory", LineFault::OutOfMemory as u8, 3);

@@ -12,7 +12,7 @@ use crate::counting::Counting;
 use crate::dice::Dice;
 use crate::edit_lists::lines::{design_of, edit};
 use design::Design;
-use edits::{Edit, apply_all_with_touched};
+use edits::{Edit, EditFault, apply_all_with_touched};
 use gatestep::Serial;
 use resim::{rerun, rerun_touched};
 use scratch::{simulate, wave_named};
@@ -214,8 +214,12 @@ fn commit(rt: &impl Abort, alloc: Global, old: &State, edits: &[Edit]) -> Option
     requires { IsRun advance old.now.design old.now.run }
     ensures { IfSome result (λ made. IsRun advance made.0.design made.0.run) }
 {
-    let Ok((design, touched)) = apply_all_with_touched(alloc, &old.design, edits) else {
-        return None;
+    let (design, touched) = match apply_all_with_touched(alloc, &old.design, edits) {
+        Ok(made) => made,
+        Err((_, fault)) => {
+            assert!(rt; fault != EditFault::OutOfMemory);
+            return None;
+        }
     };
     let mut stepper = Counting::new(0);
     let made = rerun_touched(

@@ -1,0 +1,51 @@
+//! What is said of calls that are refused.
+
+use std::env;
+use std::env::Env;
+
+/// How often a call is made before it is given up.
+pub const TRIES: u32 = 40;
+
+/// Why the program comes to no end.
+#[derive(Clone, Copy, Debug, PartialEq, Eq)]
+pub enum Stop {
+    /// A call was refused for memory each time.
+    Refused,
+    /// This call answered what it may not answer, or changed something though it was refused.
+    Wrong(&'static str),
+}
+
+/// Whether there is a word behind the program's name.
+pub fn says_calls<R: Env + AllocGlobal>(rt: &R) -> bool {
+    for _ in 0..TRIES {
+        if let Ok(words) = env::args(rt) {
+            return words.len() > 1;
+        }
+    }
+    false
+}
+
+/// Says which calls were refused, where it is to.
+#[derive(Clone, Copy)]
+pub struct Report<R> {
+    rt: R,
+    is_on: bool,
+}
+
+impl<R: Eprint> Report<R> {
+    pub fn new(rt: R, is_on: bool) -> Report<R> {
+        Report { rt, is_on }
+    }
+
+    /// The call was refused for memory, and is made again.
+    pub fn refused(&self, call: &'static str) {
+        if self.is_on {
+            let _said = eprintln!(self.rt; "{call}");
+        }
+    }
+
+    /// The call did what it may not do.
+    pub fn wrong(&self, call: &'static str) {
+        let _said = eprintln!(self.rt; "wrong: {call}");
+    }
+}
