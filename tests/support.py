@@ -29,10 +29,10 @@ class WithProgram(unittest.TestCase):
         self.addCleanup(room.cleanup)
         self.folder = room.name
 
-    def write(self, name: str, text: str) -> str:
+    def write(self, name: str, text: Union[str, bytes]) -> str:
         """A file of the folder with this text; its name."""
-        with open(os.path.join(self.folder, name), "w", encoding="utf-8", newline="\n") as file:
-            file.write(text)
+        with open(os.path.join(self.folder, name), "wb") as file:
+            file.write(text if isinstance(text, bytes) else text.encode())
         return name
 
     def run_with(self, words: List[Union[str, bytes]], commands: str = "", **streams: Any) -> Ended:

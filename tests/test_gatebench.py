@@ -1,6 +1,7 @@
 """The program gatebench: what its words ask for, which words it refuses, and how it ends."""
 import os
 import unittest
+from typing import Union
 
 from .support import MAX_TEXT, Ended, WithProgram
 
@@ -124,6 +125,60 @@ class RefusedWords(Gatebench):
         self.assertIn("    module m(input a, output y); not #(2,3) g(y, a); endmodule\n", said)
         self.assertIn("docs/GUIDE.md", said)
         self.assertLessEqual(len(said.splitlines()), 20)
+
+
+def levels(count: int, instances: str = "u()") -> str:
+    """Modules `c1`, `c2` and so on, one a line, each with these instances of the next one."""
+    lines = [f"module c{level}; c{level + 1} {instances}; endmodule\n" for level in range(1, count)]
+    return "".join([*lines, f"module c{count}; endmodule\n"])
+
+
+class Texts(Gatebench):
+    def check(self, text: Union[str, bytes], wanted: Ended) -> None:
+        self.write("text.v", text)
+        self.assertEqual(self.run_with(["text.v"], "quit\n"), wanted, text[:80])
+
+    def test_each_is_refused_at_its_line(self) -> None:
+        wanted = {
+            b"module m;\n\n": "line 3: 2 Syntax",
+            b"module m(a);\n\x80": "line 2: 1 Text",
+            b"module m; always": "line 1: 3 Unsupported",
+            b"": "line 1: 6 NoTop",
+            b" " * (MAX_TEXT + 1): "line 1: 1 Text",
+        }
+        for text, line in wanted.items():
+            self.check(text, Ended(1, "", line + "\n"))
+
+    def test_levels_of_modules(self) -> None:
+        """32 are as many as there may be, and with two instances in each there are more than 65,536 of these."""
+        self.check(levels(32), Ended(0, "ok 0\n", ""))
+        for text in (levels(33), levels(32, "u(), w()")):
+            self.check(text, Ended(1, "", "line 1: 11 TooMany\n"))
+
+
+class Commands(Gatebench):
+    def setUp(self) -> None:
+        super().setUp()
+        self.write("d.v", "module m(a,y); input a; output y; buf #(3,3) g(y,a); endmodule")
+
+    def check(self, commands: str, replies: str) -> None:
+        self.assertEqual(self.run_with(["d.v", "--horizon", "1000"], commands), Ended(0, replies, ""))
+
+    def test_large_numbers_and_held_names(self) -> None:
+        wanted = {
+            "stim a 99999999999999999999 1": "no 11 TimeTooLarge",
+            "delay g 99999999999999999999 1": "no 6 DelayTooLarge",
+            "wave q": "no 1 UnknownNet",
+            "hold k": "ok 0",
+            "at k at k wave y": "no 16 BadCommand",
+            "at q wave y": "no 18 UnknownHold",
+        }
+        self.check("".join(line + "\n" for line in wanted), "".join(reply + "\n" for reply in wanted.values()))
+
+    def test_the_edits_of_a_batch(self) -> None:
+        """4,096 are kept, and committed though a further one was refused."""
+        commands = "begin\n" + "stim a 0 1\n" * 4097 + "commit\n"
+        self.check(commands, "ok 0\n" * 4097 + "no 13 TooMany\nok 1\n")
 
 
 class Files(Gatebench):

@@ -4,6 +4,8 @@
 #[cfg(test)]
 mod compare;
 #[cfg(test)]
+mod cuts;
+#[cfg(test)]
 mod hierarchies;
 #[cfg(test)]
 mod instances;

@@ -489,33 +489,3 @@ fn long_names(rt: HostRuntime) {
 fn nothing_in_a_text_without_bytes(rt: HostRuntime) {
     check(&rt, rt.alloc(), b"", Some(2), "");
 }
-
-// The line of a text's end.
-fn last_line(text: &[u8]) -> u64 {
-    let mut line = 1u64;
-    for byte in text {
-        if *byte == b'\n' {
-            line = line.saturating_add(1);
-        }
-    }
-    line
-}
-
-// A beginning of the netlist has a fault in its last line: of its last token it may be that it is a word that is refused.
-fn check_cut(rt: &impl Abort, alloc: Global, text: &[u8]) {
-    let fault = fault_of(alloc, text, Some(2)).expect(rt, "a fault");
-    let kind = if text.ends_with(b"\nend") {
-        ReadFaultKind::Unsupported
-    } else {
-        ReadFaultKind::Syntax
-    };
-    equal(rt, text, fault.line, last_line(text));
-    equal(rt, text, fault.kind, kind);
-}
-
-#[test]
-fn texts_cut_anywhere(rt: HostRuntime) {
-    for end in 1..NETLIST.len() {
-        check_cut(&rt, rt.alloc(), &NETLIST[..end]);
-    }
-}

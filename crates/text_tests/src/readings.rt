@@ -100,7 +100,8 @@ fn shown(rt: &impl Abort, alloc: Global, text: &str, default: Option<u32>) -> St
     shown
 }
 
-fn check(rt: &impl Abort, alloc: Global, text: &str, default: Option<u32>, want: &str) {
+/// What a text spells, or its fault, is this, where gates without a delay have the default one.
+pub fn check(rt: &impl Abort, alloc: Global, text: &str, default: Option<u32>, want: &str) {
     let read = shown(rt, alloc, text, default);
     equal(rt, text, read.as_str(), want);
     drop(read);
