@@ -114,7 +114,8 @@ class Reader:
     def port(self, token, net):
         if token.says in self.made.ports:
             raise Fault("DuplicateName", token.place)
-        self.check_bits(token, net)
+        if net.direction:
+            self.come(token, net)
         self.made.ports.append(token.says)
         self.made.nets[token.says] = net
 
@@ -170,18 +171,18 @@ class Reader:
         net = self.made.nets.setdefault(token.says, Net())
         if net.implicit or (net.direction and said.direction) or (net.kind and said.kind):
             raise Fault("DuplicateName", token.place)
-        self.check_bits(token, said)
-        if net.is_declared() and net.range != said.range:
+        if not net.is_declared():
+            self.come(token, said)
+        elif net.range != said.range:
             raise Fault("WidthMismatch", token.place)
         net.range, net.kind, net.direction = said.range, net.kind or said.kind, net.direction or said.direction
 
-    def check_bits(self, token, net):
-        """No net has the name of a bit of another one."""
-        name, nets = token.says, self.made.nets
-        bits = [] if net.range is None else [f"{name}[{bit}]" for bit in net.bits()]
-        if self.made.bit_names.get(name, name) != name or any(bit in nets for bit in bits):
+    def come(self, token, net):
+        """A net comes to be, with its bits, none of which has the name of another net or bit of the module."""
+        names = net.flat(token.says)
+        if not self.made.flat.isdisjoint(names):
             raise Fault("DuplicateName", token.place)
-        self.made.bit_names.update((bit, name) for bit in bits)
+        self.made.flat.update(names)
 
     # Gates.
 
@@ -260,7 +261,7 @@ class Reader:
         token = self.name_token()
         net = self.made.nets.setdefault(token.says, Net())
         if not net.is_declared():
-            self.check_bits(token, net)
+            self.come(token, net)
             net.implicit = True
         if not self.at("["):
             if net.range is not None and not may_be_vector:

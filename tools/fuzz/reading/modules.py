@@ -26,6 +26,10 @@ class Net:
     def is_declared(self):
         return bool(self.kind or self.direction or self.implicit)
 
+    def flat(self, name):
+        """The names of the nets that it is."""
+        return [name if bit is None else f"{name}[{bit}]" for bit in self.bits()]
+
     def bits(self):
         """The indices of its bits from the left, or one None."""
         if self.range is None:
@@ -67,7 +71,7 @@ class Module:
     gates: List[Gate] = field(default_factory=list)
     instances: List[Instance] = field(default_factory=list)
     taken: set = field(default_factory=set)
-    bit_names: Dict[str, str] = field(default_factory=dict)
+    flat: set = field(default_factory=set)
     unnamed: int = 0
 
 

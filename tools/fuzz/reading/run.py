@@ -42,8 +42,9 @@ def next_moment(design, drivers, time):
 def waves(design):
     """The waves of a design's run. Between the moments that it looks at no gate's state changes."""
     drivers = [Driver(gate) for gate in design.gates.values()]
-    of = {name: [it for it in drivers if it.gate.output == name] for name in design.nets}
-    made, time = {name: [] for name in design.nets}, 0
+    of, made, time = {name: [] for name in design.nets}, {name: [] for name in design.nets}, 0
+    for driver in drivers:
+        of[driver.gate.output].append(driver)
     while time <= design.horizon:
         for driver in drivers:
             driver.let_due(time)

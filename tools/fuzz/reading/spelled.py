@@ -61,7 +61,6 @@ class Spelling:
     def __init__(self, text, top):
         self.text, self.top = text, top
         self.nets, self.gates, self.faults = {}, {}, set()
-        self.net_count = self.gate_count = 0
 
         @lru_cache(maxsize=None)
         def size(name):
@@ -77,24 +76,14 @@ class Spelling:
         if holds:
             self.faults.add(fault)
 
-    def named(self, path, name, many):
-        """The name of a net or gate of the instance on this path. Beyond the limit of their number none is kept."""
-        full = path + name
-        self.note("BadName", len(full) > MAX_NAME)
-        self.note("TooMany", many)
-        return full
-
     def new_net(self, path, module, name):
-        """The bits of a net that an instance of this module adds; names of bits beyond the limit are not made."""
+        """The bits of a net that an instance of this module adds."""
         net = module.nets[name]
-        indices = net.bits()
-        self.net_count += len(indices)
-        is_input = module is self.top and net.direction == "input"
-        bits = [self.named(path, name if it is None else f"{name}[{it}]", False) for it in indices]
-        self.note("TooMany", self.net_count > MAX_NETS)
-        if self.net_count <= MAX_NETS:
-            self.nets.update((bit, design.Net(net.kind or "wire", is_input)) for bit in bits)
-        self.kinds.update((bit, net.kind or "wire") for bit in bits)
+        bits = net.flat(path + name)
+        made = design.Net(net.kind or "wire", module is self.top and net.direction == "input")
+        self.note("BadName", any(len(bit) > MAX_NAME for bit in bits))
+        self.nets.update(dict.fromkeys(bits, made))
+        self.note("TooMany", len(self.nets) > MAX_NETS)
         return bits
 
     def bits_of(self, module, nets, terminal):
@@ -102,7 +91,7 @@ class Spelling:
         if terminal.value:
             return [f"1'b{terminal.value}"]
         bits = nets[terminal.name]
-        return bits if terminal.index is None else [bits[list(module.nets[terminal.name].bits()).index(terminal.index)]]
+        return bits if terminal.index is None else [bits[module.nets[terminal.name].bits().index(terminal.index)]]
 
     def instance(self, path, module, given):
         """Adds the nets and gates of an instance on this path, whose ports are given these bits, and all that is in it."""
@@ -110,7 +99,8 @@ class Spelling:
         for name, net in module.nets.items():
             if name in given:
                 nets[name] = given[name]
-                self.note("PortKind", any("'" not in bit and not is_joined(net.kind or "wire", self.kinds[bit]) for bit in nets[name]))
+                joined = {self.nets[bit].kind for bit in given[name] if "'" not in bit}
+                self.note("PortKind", not all(is_joined(net.kind or "wire", kind) for kind in joined))
             else:
                 nets[name] = self.new_net(path, module, name)
         for gate in module.gates:
@@ -122,14 +112,14 @@ class Spelling:
 
     def gate(self, path, module, nets, gate):
         output, *inputs = (self.bits_of(module, nets, it)[0] for it in [gate.output, *gate.inputs])
-        self.gate_count += 1
-        name = self.named(path, gate.name, self.gate_count > MAX_GATES)
+        name = path + gate.name
+        self.gates[name] = design.Gate(gate.kind, gate.delays, output, tuple(inputs))
+        self.note("BadName", len(name) > MAX_NAME)
+        self.note("TooMany", len(self.gates) > MAX_GATES)
         self.note("PortKind", "'" in output)
         self.note("DrivenInput", output in self.nets and self.nets[output].is_input)
-        self.gates[name] = design.Gate(gate.kind, gate.delays, output, tuple(inputs))
 
     def made(self):
-        self.kinds = {}
         self.instance("", self.top, {})
         for fault in ("PortKind", "BadName", "TooMany", "DrivenInput"):
             if fault in self.faults:
