@@ -1,0 +1,210 @@
+"""Cases at the limits, on both sides of each, and what a stranger may write: they are tried in every run."""
+from case import Case
+
+HEAD = b"module m(input a, output y);\n"
+END = b"\nendmodule\n"
+
+
+def in_module(body):
+    return HEAD + body + END
+
+
+def listed(template, count):
+    return b", ".join(template % number for number in range(count))
+
+
+def levels(count):
+    """A chain of so many modules, each with an instance of the next."""
+    inner = [b"module m%d; m%d u(); endmodule\n" % (number, number + 1) for number in range(1, count)]
+    return b"".join([*inner, b"module m%d; endmodule\n" % count])
+
+
+def halves(count, rest=b""):
+    """Each of so many modules has two instances of the next; the last has this inside."""
+    inner = [b"module m%d; m%d u(), v(); endmodule\n" % (number, number + 1) for number in range(1, count)]
+    return b"".join([*inner, b"module m%d; %s endmodule\n" % (count, rest)])
+
+
+def instances(count):
+    return b"module k; endmodule\nmodule m;\nk %s;\nendmodule\n" % listed(b"u%d()", count)
+
+
+def path(length):
+    """A net and a gate whose names have so many bytes with that of their instance."""
+    name = b"n" * (length - 1001)
+    return b"module k; not #1 g(%s, %s); endmodule\nmodule m; k %s(); endmodule\n" % (name, name, b"u" * 1000)
+
+
+def gate_path(name, length):
+    """A gate with this name for its outputs, in an instance whose name has so many bytes."""
+    return b"module k(input a); buf #1 %s(b, c, a); endmodule\nmodule m; k %s(); endmodule\n" % (name, b"u" * length)
+
+
+def sizes():
+    yield b"module m;\nendmodule".ljust(4_194_304)
+    yield b"module m;\nendmodule".ljust(4_194_305)
+    yield b"module m;/*" + b" /*\n" * 500_000 + b"*/endmodule"
+    yield b"module m;(*" + b"(*)" * 500_000 + b" "
+    yield in_module(b"buf #1 g(y, a);" + b"/" * 100_000)
+    for length in (1023, 1024, 1025):
+        name = b"n" * length
+        yield b"module " + name + b"; endmodule"
+        yield b"module m; wire \\" + name + b" ; endmodule"
+        yield in_module(b"not #1 " + name + b"(y, a);")
+        yield in_module(b"buf #1 " + name[2:] + b"(y, b, a);")
+        yield in_module(b"buf #1 " + name + b"(y, b, a);")
+        yield b"module m; wire [9:8] " + name[3:] + b"; endmodule"
+        yield path(length)
+        yield gate_path(b"g", length - 4)
+        yield gate_path(b"", length - 5)
+        yield b"module k; endmodule module m; k " + name + b"(); endmodule"
+        yield b"module k; endmodule module l; k v(); endmodule module m; l " + name + b"(); endmodule"
+
+
+def counts():
+    for count in (1, 63, 64, 65):
+        for kind in (b"and", b"xnor", b"buf", b"bufif1"):
+            yield in_module(b"%s #1 g(y, %s);" % (kind, b", ".join([b"a"] * count)))
+    yield in_module(b"buf #1 g(%s, a);" % listed(b"n%d", 70))
+    for delay in (b"0", b"1", b"1000000", b"1000001", b"4294967295", b"4294967296", b"9" * 5000, b"0_", b"0" * 5000 + b"1"):
+        yield in_module(b"not #%s g(y, a);" % delay)
+        yield in_module(b"not #(%s) g(y, a);" % delay)
+        yield in_module(b"not #(1, %s) g(y, a);" % delay)
+    for bound in (b"65535", b"65536", b"4294967296"):
+        yield b"module m; wire [%s:65535] w; endmodule" % bound
+        yield b"module m; wire [65534:%s] w; not #1 g(w[%s], w[65534]); endmodule" % (bound, bound)
+    yield b"module m; wire [65535:0] w; endmodule"
+    yield b"module m; wire [0:65535] w; wire v; endmodule"
+    yield b"module k; wire [32767:0] w; endmodule module m; k u(), v(); endmodule"
+    yield b"module k; wire [32767:0] w; endmodule module m; k u(), v(); wire w; endmodule"
+    yield b"module m(input a);\nwire %s;\nendmodule" % listed(b"n%d", 65_535)
+    yield b"module m(input a);\nwire %s;\nendmodule" % listed(b"n%d", 65_536)
+    yield b"module m(output y);\nnot #1 %s;\nendmodule" % listed(b"g%d(y, y)", 65_536)
+    yield b"module m(output y);\nnot #1 %s;\nendmodule" % listed(b"g%d(y, y)", 65_537)
+    yield b"module m(output y);\nbuf #1 g(%s, y);\nendmodule" % listed(b"n%d", 65_535)
+
+
+def depths():
+    for count in (31, 32, 33):
+        yield levels(count)
+        yield halves(count)
+    yield halves(16)
+    yield halves(17)
+    yield halves(10, b"wire a; not #1 (a, a);")
+    yield instances(65_536)
+    yield instances(65_537)
+
+
+def odd_texts():
+    """Small texts at which two rules meet."""
+    yield from (b"", b"\n\n", b"//", b"/*", b"(*", b"(*)", b"/*/", b"\\", b"\\ ", b"`", b"`timescale", b"module", b"\x00", b"\x7f", b"\xff")
+    for scale in (b"1ns/1ns", b"1 ns / 1 ns", b"100s/1fs", b"1ns", b"1000ns/1ns", b"1ns/1nsx", b"1/*c*/ns//d\n/(*e*)1 s", b"1ns//*c*/1ns",
+                  b"1ns/1ns(*)", b"2ns/1ns", b"1NS/1ns", b"10us/10us`timescale 10 us/1ns", b"1ns/1ns`timescale 1ps/1ns", b"1\xffns/1ns",
+                  b"1ns/1ns module m; `timescale 1ns/1ns endmodule", b"1ns/1ns module m; `timescale 1ps/1ns endmodule"):  # fmt: skip
+        yield b"`timescale " + scale + b" module k; endmodule"
+        yield b"`timescale" + scale + b"\nmodule k; endmodule"
+    yield b"module m; `timescale 1ns/1ns endmodule `timescale 1ps/1ns"
+    yield b"module m; endmodule `timescale 1ps/1ns `timescale 1 ps/10ns `timescale 10ps/1ns"
+    for body in (b"and", b"and /*", b"and \xff", b"and \\", b"and g", b"and # ", b"and #\xff", b"and #(1", b"and #(1,2,3) g(y,a);", b"and #1.5 g(y,a);",
+                 b"and #1 (y);", b"and #1 (1'b0);", b"and #1 g(1'b0, y), g(y,a);", b"and #1 g(y, a), g(y, a);", b"and #1 (y, q[0]);",
+                 b"buf #1 (y, 1'b0, a);", b"buf #1 \\$1 (y,a), (y,a);", b"buf #1 (y,a), \\$1 (y,a);", b"buf #1 g$1(y,a), g(y,b,a);",
+                 b"buf #1 g(y,b,a), g$2(y,a);", b"buf #1 (y,b,a), (y,a);", b"buf #1 \\$1$1 (y,a), (y,b,a);", b"buf #1 \\$2 (y,a), (b,a), (b,a);",
+                 b"wire y;", b"wire y; wire y;", b"input a;", b"wire q; input q;", b"output wire", b"wire [1:0] w; not #1 (w, a);",
+                 b"wire [1:0] w; not #1 (w /*", b"wire [1:0] w; not #1 (w w", b"wire [1:0] w; not #1 (w[2], a);", b"wire [1:0] w; not #1 (w[0], a[0]);",
+                 b"wire [1:0] w; not #1 (w[65536], a);", b"wire [1:0] w; not #1 (w[x], a);", b"wire [1:0] w; wire \\w[0] ;",
+                 b"wire \\w[0] ; wire [1:0] w;", b"not #1 (y, \\w[0] ); wire [1:0] w;", b"wire [1:0] w; not #1 (y, \\w[1] );",
+                 b"wire [1:0] \\w[0] ; wire [1:0] w;", b"wire [1:0] w; wire [1:0] \\w[0] ;", b"wire [1:0] w; wire \\w[2] , \\w[01] ;",
+                 b"not #1 (y, q); wire q;", b"k u(q); wire q;", b"k u(q[0]);", b"k u(1'b0, 1'b1,);", b"k u;", b"k u(.a(), b);",
+                 b"k u(a, .b());", b"k #(1) u();", b"k u(), u();", b"and #1 u(y, a); k u();", b"k g(); and #1 g(y, a);", b"\\and g(y, a);",
+                 b"k (a);", b"reg q;", b"assign y = a;", b"1 x;", b"1'b0;", b"(y);", b"wire \\$end ;", b"wire \\a.b , \xff;", b"wire \\a'b ;",
+                 b"wire \\wire , wire;", b"wire $a;", b"wire _, _$, \\_ ;", b"wire \\a ;", b"wire (* c *) q (* d *) ; (* e", b"wire [1:0] [1:0] q;",
+                 b"wire [0:0] q; not #1 (q, a);", b"wire [0:0] q; not #1 (q[0], a);", b"wire [1] q;", b"wire [-1:0] q;", b"wire [1:1'b0] q;",
+                 b"buf #1 (y);", b"buf #1 ();", b"bufif1 #1 (y,a);", b"xor #1 (y,a,);", b"endmodule", b"endmodule;", b"module k;",
+                 b"xor #(2)(y,a)", b"xor #(2,)(y,a);", b"not #1 (a, y);", b"not #1 (y, a) (y, a);", b";", b"output y;", b"k u(1'b0[0]);"):  # fmt: skip
+        yield in_module(body)
+        yield b"module k; endmodule " + in_module(body)
+    yield from odd_headers()
+
+
+def odd_headers():
+    for module in (b"m", b"m()", b"m(a)", b"m(a);", b"m(a,a);", b"m(a,);", b"m(,a);", b"m(a, input b);", b"m(input a, b, output wire c, d);", b"m(input a, a);",
+                   b"m(); input a;", b"m; input a;", b"m; output wire a;", b"m(input a); output b;", b"m(input a); input a;", b"m(input a); wire a;",
+                   b"m(input wire a); wire a;", b"m(input tri a, b); wand b;", b"m(input [1:0] a); wire a;", b"m(input [1:0] a); wire [0:1] a;",
+                   b"m(input [1:0] a); wire [1:0] a;", b"m(a); wire a;", b"m(a); wire [1:0] a; input a;", b"m(a); wand a; input wire a;",
+                   b"m(a); input b;", b"m(a); input a; input a;", b"m(a); not #1 (a, a); input a;", b"m(a); not #1 (a, a); wire a;", b"m(a); not #1 (a, a);",
+                   b"m(a); input \\a.b ;", b"m(a); input a, \\b ;", b"m(a, \\a[0] ); input [1:0] a; input \\a[0] ;", b"m(a, \\a[0] ); input \\a[0] ; input [1:0] a;",
+                   b"m(\\a[0] , a); input [1:0] a;", b"m(input [1:0] a, \\a[0] );", b"m(input \\a[0] , input [1:0] a);", b"m(input wire [1:0] a, b, output c);",
+                   b"m(input [65536:0] a);", b"m(input [0:0] a); wire [0:0] a;", b"m(wire a);", b"m(inout a);", b"m(input reg a);", b"m(input [1:0]);",
+                   b"m(input a,);", b"m(a b);", b"m(input and);", b"m #(1) (a);", b"m(a) /*", b"m(.a(b));", b"m([1:0] a);", b"m(input output a);"):  # fmt: skip
+        for rest in (b"", b";", b" endmodule", b"; endmodule"):
+            yield b"module " + module + rest
+
+
+def joined():
+    """Modules and what is connected: each fault of the later passes, and two at once."""
+    for top in (b"k u();", b"k u(a);", b"k u(a,y);", b"k u(a,y,a);", b"k u(,y);", b"k u(.p(a));", b"k u(.p(a),.p());", b"k u(.o(a));", b"k u(.q(a),.o());",
+                b"k u(w);", b"k u(.p(w[0]), .q(y));", b"k u(1'b0, y);", b"k u(a, 1'b0);", b"k u(w, 1'b0);", b"k u(1'bx, w);", b"k u(.q(1'b0), .p(w));",
+                b"o u();", b"o u(), v(); k w2(a,y,y,y);", b"k u(a,y); k v(y,y);", b"k u(n, n);", b"k u(y, a);", b"m u();"):  # fmt: skip
+        for inner in (b"input p, output q", b"input [1:0] p, output q", b"input wand p, output wor q", b"input [0:0] p, output tri q", b""):
+            for body in (b"", b"not #1 (q, p);", b"not #1 (p, p);"):
+                text = b"module k(%s); %s endmodule\n" % (inner, body if inner and b":" not in inner else b"")
+                yield text + b"module m(input a, output y);\nwire [1:0] w;\n" + top + b"\nendmodule\n"
+    yield b"module a; b u(); endmodule module b; a u(); endmodule"
+    yield b"module t; b u(); endmodule module b; c u(); endmodule module c; b u(); endmodule"
+    yield b"module a; endmodule module b; endmodule"
+    yield b"module a; endmodule\nmodule b; b u(); endmodule\nmodule c; endmodule"
+    yield b"`timescale 1ns/1ns"
+    yield from passed_on()
+
+
+def passed_on():
+    """Ports that are connected through a module between."""
+    for kind in (b"", b"wand", b"tri", b"triand"):
+        for outer in (b"wire", b"wand", b"wor"):
+            for driver in (b"", b"not #1 (p, a);"):
+                yield (b"module l(inout_ %s p, input a); %s endmodule\n" % (kind, driver)).replace(b"inout_", b"output") + (
+                    b"module k(output p, input a); l u(p, a); endmodule\nmodule m(input a);\n%s n; k u(n, a); endmodule\n" % outer
+                )
+    for given in (b"1'b0", b"a", b"n", b""):
+        for direction in (b"input", b"output"):
+            yield b"module l(output p); not #1 (p, p); endmodule\nmodule k(%s p); l u(p); endmodule\nmodule m(input a);\nk u(%s); endmodule\n" % (direction, given)
+            yield b"module l(input p); buf #1 (q, p); endmodule\nmodule k(%s p); l u(p); endmodule\nmodule m(input a);\nk u(%s); endmodule\n" % (direction, given)
+
+
+def sessions():
+    """Sessions at the limits."""
+    edit = b"stim a 0 1\n"
+    for count in (4095, 4096, 4097, 4098):
+        yield b"begin\n" + edit * count + b"frob\nnet a wire\ncommit\nwave a\nbegin\n" + edit + b"commit\nwave a\n"
+    held = b"".join(b"hold h%d\n" % number for number in range(66))
+    yield held + b"free h3\nhold h3\nhold h3\nhold x\nat h64 vcd\nat h3 vcd\nfree h64\n"
+    for length in (1021, 1022, 1023, 1024, 1025):
+        name = b"n" * length
+        yield b"input %s\nstim %s 1 1\ngate %s not 1 1 y %s\nvcd\nhold %s\nat %s vcd\nwave %s\ndrop %s\n" % ((name,) * 8)
+    for length in (4095, 4096, 4097):
+        yield b"".join(begin.ljust(length) + end for begin in (b"vcd", b"", b"#", b"\xff") for end in (b"\n", b"\r\n", b"\r\r\n"))
+        yield b"vcd".ljust(length)
+    for number in (b"0", b"5", b"6", b"1000000000", b"1000000001", b"18446744073709551615", b"18446744073709551616", b"9" * 4000):
+        yield b"".join(line.replace(b"%s", number) + b"\n" for line in (b"stim a %s 1", b"unstim a %s", b"value y %s", b"next a %s", b"prev a %s", b"seek a %s 1",
+                                                         b"delay g %s 1", b"delay g 1 %s", b"horizon %s", b"stim a %s 0", b"next a 4", b"vcd"))  # fmt: skip
+    for count in (0, 1, 63, 64, 65):
+        yield b"gate h nor 1 2 y%s\nwire g y%s\ntype g and\nwire g y%s\nstim a 2 1\nvcd\n" % ((b" a" * count,) * 3)
+    yield b"net n wire\nnet o wire\ninput p\nnet q wand\ndropnet n\nnet n wor\nnet r wire\nvcd\n"
+
+
+def texts():
+    for group in (sizes, counts, depths, odd_texts, joined):
+        yield from group()
+
+
+def cases():
+    """The cases at the limits; texts in which gates need a delay are given one too."""
+    for text in texts():
+        yield Case(text, ("--horizon", "5"), b"vcd\n" if len(text) < 10_000 else b"")
+        if len(text) < 10_000:
+            yield Case(text, ("--horizon", "5", "--delay", "2"), b"stim a 1 1\nvcd\n")
+    buffer = b"module m(input a, output y); buf #1 g(y, a); endmodule\n"
+    wide = b"module m(input a, output y); buf #1 g(y, a); wire [65532:0] w; endmodule\n"
+    for commands in sessions():
+        yield Case(buffer, ("--horizon", "5"), commands)
+    yield Case(wide, ("--horizon", "5"), commands)

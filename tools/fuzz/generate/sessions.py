@@ -1,0 +1,160 @@
+"""Sessions over a design: edits of every kind, batches, held snapshots and questions, and lines that are none."""
+from reading.session import QUESTIONS, Session
+
+from .layout import BYTES
+from .words import Words
+
+# The last moment of the run of a design in which a gate's output comes back to its input.
+LOOP_HORIZON = 150
+ENDS = ["\r", " ", "\t", " \r", "  x", "\r\r"]
+ODD_LINES = ["", " ", "\t", "#", "# quit", " # \x80\xff", "quit now", "begin 1", "commit x", "vcd 1", "at", "at s", "at s at s wave a",
+             "at s quit", "hold", "hold a b", "free", "frob", "Wave a", "\r", "\rvcd", "wave", "stim a 0", "\xe9", "\x00", "wire g",
+             "wire g0 a", "gate", "at s drop g0", "next a", "net a", "kind a", "#" * 4097, " " * 4097, "\x7f"]  # fmt: skip
+
+
+class TooLong(Exception):
+    """The run of a design would take too long, here and in the program."""
+
+
+def is_looped(design):
+    """Whether a gate's output comes back to an input of its own."""
+    left = {name: set() for name in design.nets}
+    for gate in design.gates.values():
+        for name in set(gate.inputs) & set(left):
+            left[name].add(gate.output)
+    while left:
+        ends = [name for name, to in left.items() if not to & set(left)]
+        if not ends:
+            return True
+        left = {name: to for name, to in left.items() if name not in ends}
+    return False
+
+
+def guard(design):
+    """Refuses to go on with a design whose run would take too long."""
+    if design.horizon > LOOP_HORIZON and is_looped(design):
+        raise TooLong()
+
+
+class Lines:
+    """Makes lines for a session, which is told of each."""
+
+    def __init__(self, rng, design, horizon):
+        self.rng, self.session = rng, Session(design, horizon, guard)
+        self.words = Words(rng, self.session, max(3, min(horizon, 60)))
+        self.verbs = {
+            "net": self.net, "input": self.input, "dropnet": self.dropnet, "kind": self.kind, "gate": self.gate, "drop": self.drop,
+            "delay": self.delay, "type": self.type, "wire": self.wire, "stim": self.stim, "unstim": self.unstim,
+            "horizon": self.horizon,
+        }  # fmt: skip
+        self.edits = [*self.verbs, "gate", "gate", "wire", *["stim"] * 9]
+
+    # The words behind the verb of an edit.
+
+    def net(self):
+        return [self.words.new(), self.words.net_kind()]
+
+    def input(self):
+        return [self.words.new()]
+
+    def dropnet(self):
+        return [self.words.net()]
+
+    def kind(self):
+        return [self.words.net(), self.words.net_kind()]
+
+    def gate(self):
+        kind = self.words.gate_kind()
+        return [self.words.new(), kind, *self.words.delays(), self.words.output(), *self.words.inputs(kind)]
+
+    def drop(self):
+        return [self.words.gate()]
+
+    def delay(self):
+        return [self.words.gate(), *self.words.delays()]
+
+    def type(self):
+        return [self.words.gate(), self.words.gate_kind()]
+
+    def wire(self):
+        name = self.words.gate()
+        there = self.words.design().gates.get(name)
+        return [name, self.words.output(), *self.words.inputs(there.kind if there else "and")]
+
+    def stim(self):
+        return [self.words.input(), self.words.time(), self.words.value()]
+
+    def unstim(self):
+        points = [(name, str(time)) for name, net in self.words.design().nets.items() for time in net.points]
+        return self.rng.choice(points) if points and self.words.often(0.8) else [self.words.input(), self.words.time()]
+
+    def horizon(self):
+        return [self.words.horizon()]
+
+    # Lines.
+
+    def edit(self):
+        verb = self.rng.choice(self.edits)
+        return [verb, *self.verbs[verb]()]
+
+    def question(self):
+        verb = self.rng.choice([*QUESTIONS, "wave", "wave", "wave"])
+        words = [] if verb == "vcd" else [self.words.net()] if verb == "wave" else [self.words.net(), self.words.time()]
+        return [verb, *words, *([self.words.value()] if verb == "seek" else [])]
+
+    def held(self):
+        held = list(self.session.holds)
+        if not held or self.words.often(0.2):
+            return ["hold", self.words.of(["s", "old", "$", "u.s", *held])]
+        return ["free" if self.words.often(0.15) else "at", self.words.of(held), *self.question()]
+
+    def batch(self):
+        verb = "begin" if self.session.batch is None else self.rng.choice(["commit", "commit", "commit", "abort"])
+        return [verb if self.words.often(0.9) else self.rng.choice(["begin", "commit", "abort"])]
+
+    def line(self):
+        """A line without its end."""
+        share = self.rng.random()
+        if share < 0.03:
+            return self.rng.choice(ODD_LINES).encode("latin-1")
+        made = self.edit if share < 0.58 else self.question if share < 0.8 else self.held if share < 0.9 else self.batch
+        line = self.rng.choice([" "] * 12 + ["  ", "\t"]).join(made()).encode("latin-1")
+        if self.words.often(0.02):
+            line += self.rng.choice(ENDS).encode()
+        return self.mangled(line) if self.words.often(0.03) else line
+
+    def mangled(self, line):
+        place = self.rng.randrange(len(line) + 1)
+        if self.words.often(0.2):
+            return line.ljust(self.rng.choice([4095, 4096, 4097])) + self.rng.choice([b"", b"\r"])
+        byte = self.rng.choice([it for it in BYTES if it != 10])
+        return self.rng.choice([line[:place] + line[place + 1 :], line[:place] + bytes([byte]) + line[place:], line[:place]])
+
+    def told(self, line):
+        """The line, or another one where the run would take too long; the session has gone on by it."""
+        if not line.split()[:1] or line.split()[0].decode("latin-1") in [*QUESTIONS, "at"]:
+            return line
+        try:
+            self.session.reply(line)
+        except TooLong:
+            return b"abort" if line.split()[0] == b"commit" else b"# too long"
+        return line
+
+
+def session(rng, design, horizon, count):
+    """The commands of a session of about so many lines."""
+    lines = Lines(rng, design, horizon)
+    made = [lines.told(lines.line()) for _ in range(count)]
+    if rng.random() < 0.2:
+        made.insert(rng.randrange(len(made) + 1), b"quit")
+    return b"\n".join(made) + rng.choice([b"", b"\n", b"\n"])
+
+
+def show_all(rng, design, horizon):
+    """Commands that show all of a design that a text spells: points, dumps, and the name and kind of each gate."""
+    made = ["vcd", "begin"]
+    for name, net in design.nets.items():
+        times = rng.sample(range(horizon + 1), min(3, horizon + 1)) if net.is_input else []
+        made += [f"stim {name} {time} {rng.choice('0101xz')}" for time in times]
+    made += ["commit", "vcd", *(f"type {name} {gate.kind}" for name, gate in design.gates.items())]
+    return "\n".join([*made, ""]).encode()

@@ -1,0 +1,24 @@
+"""A difference in words: what the program is given, and how it and the reading go on."""
+import difflib
+
+LINES = 40
+
+
+def lines_of(text):
+    return [repr(line)[2:-1] for line in text.splitlines(keepends=True)]
+
+
+def block(name, lines):
+    further = [f"    .. {len(lines) - LINES} further lines"] if len(lines) > LINES else []
+    return [f"{name}:", *(f"    {line if len(line) < 200 else line[:200] + ' ..'}" for line in lines[:LINES]), *further]
+
+
+def ended(answer):
+    return [f"status {answer.status}", *lines_of(answer.said), *lines_of(answer.printed)]
+
+
+def shown(case, answer):
+    """What the program is given, and its answer beside that of the reading: lines of both, of the one and of the other."""
+    other = list(difflib.unified_diff(ended(case.answer()), ended(answer), lineterm="", n=3))[3:]
+    made = [f"gatebench design.v {' '.join(case.words)}", *block("design.v", lines_of(case.text))]
+    return "\n".join([*made, *block("commands", lines_of(case.commands)), *block("the reading (-), the program (+)", other)])
