@@ -1,6 +1,6 @@
 # The tasks of the repository; each works on a machine that has only the toolchain.
 
-.PHONY: all test try demo programs scripts refusals faults mutants speed fmt
+.PHONY: all test try demo programs scripts refusals faults mutants speed slow fmt
 
 all: try
 
@@ -44,6 +44,10 @@ mutants:
 # Times the proved programs over generated circuits (docs/BENCHMARKS.md).
 speed:
 	@tools/speed/run
+
+# Runs bin/gatebench over inputs at the limits that might be slow, after a demo; it fails where one takes long (docs/BENCHMARKS.md).
+slow:
+	@tools/slow_inputs
 
 # Lays out every source and proof file.
 fmt:
