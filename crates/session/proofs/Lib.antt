@@ -6,6 +6,5 @@ pub mod AnswerLemmas
 pub mod LineLemmas
 pub mod PinLemmas
 pub mod TalkLemmas
-pub mod TimeLemmas
 pub mod TranscriptLemmas
 pub mod WordLemmas

@@ -1,6 +1,5 @@
 -- The lines of edits (own).
-use Rattle.std.specs.Prelude.{ℕ, if◌then◌else◌, List, [], ◌∷◌, Option, None, Some, option_map, option_and_then}
-use Rattle.std.specs.List.{after_first, before_first, list_any}
+use Rattle.std.specs.Prelude.{ℕ, ◌+◌, if◌then◌else◌, List, [], ◌∷◌, take, drop, position, Option, None, Some, option_map, option_and_then}
 use Rattle.fourstate.specs.Delays.{delay_times, with_off}
 use Rattle.fourstate.specs.Keywords.{gate_kind_of, net_kind_of}
 use Rattle.fourstate.specs.declared.delay_times.DelayTimes.{DelayTimes}
@@ -49,12 +48,14 @@ horizon_edit ws = option_and_then (λ word. option_map (λ time. Horizon time) (
 abbrev pub drop_edit : List (List ℕ) → Option EditLine
 drop_edit ws = option_map (λ name. DropGate name) (one_word ws)
 
--- behind a rise: F, a fall, or F/Z, a fall, and a turn-off delay behind the first slash
+-- behind a rise, a word with its first slash at this place, if it has one: F, a fall, or F/Z, a fall and a turn-off delay
+abbrev pub times_at : ℕ → List ℕ → Option ℕ → Option DelayTimes
+times_at rise word None = option_map (λ fall. delay_times rise fall) (number_of word)
+times_at rise word (Some slash) =
+    option_and_then (λ fall. option_map (λ off. with_off (delay_times rise fall) off) (number_of (drop (slash + 1) word))) (number_of (take slash word))
+
 abbrev pub times_of : ℕ → List ℕ → Option DelayTimes
-times_of rise word =
-    if list_any is_slash word
-    then option_and_then (λ fall. option_map (λ off. with_off (delay_times rise fall) off) (number_of (after_first is_slash word))) (number_of (before_first is_slash word))
-    else option_map (λ fall. delay_times rise fall) (number_of word)
+times_of rise word = times_at rise word (position is_slash word)
 
 -- R F or R F/Z, with which words begin: the delays that they write, and the words behind them
 abbrev pub delays_of : List (List ℕ) → Option (DelayTimes × List (List ℕ))

@@ -1,9 +1,9 @@
 //! The commands that change stimulus and horizon, and the moments, delays and values of lines. Each command is read behind its first
 //! word; none where the words are unreadable.
 
-ghost use Rattle.std.specs.Prelude.{◌≡◌, MatchOption};
+ghost use Rattle.std.specs.Prelude.{◌≡◌, ◌<◌, IfSome, MatchOption, length, position};
 ghost use Rattle.session.specs.EditLines.{delays_of, horizon_edit, stim_edit, times_of, unstim_edit};
-ghost use Rattle.session.specs.Words.{name_and_time, value_of};
+ghost use Rattle.session.specs.Words.{is_slash, name_and_time, value_of};
 
 use crate::commands::edit_line::EditLine;
 use crate::words::{WordRef, Words, number};
@@ -50,21 +50,39 @@ pub fn take_delays(words: &mut Words<'_>) -> Option<DelayTimes>
     ensures { MatchOption result (delays_of words.old ≡ None) (λ delays. delays_of words.old ≡ Some (delays, words.new)) }
 {
     let rise = number(words.next()?.as_bytes())?;
-    read_times(rise, words.next()?.as_str())
+    let times = read_times(rise, words.next()?.as_bytes())?;
+    Some(times)
 }
 
 /// The delays of a rise and of the word `F` or `F/Z`, a fall with or without a turn-off delay.
-#[tactic(auto, using(crate::proofs::TimeLemmas::parted, crate::proofs::TimeLemmas::whole))]
-fn read_times(rise: u64, word: &str) -> Option<DelayTimes>
+fn read_times(rise: u64, word: &[u8]) -> Option<DelayTimes>
     ensures { result ≡ times_of rise word.now }
 {
-    let Some((fall, off)) = word.split_once('/') else {
-        let fall = number(word.as_bytes())?;
-        return Some(DelayTimes::new(rise, fall));
-    };
-    let fall = number(fall.as_bytes())?;
-    let off = number(off.as_bytes())?;
-    Some(DelayTimes::new(rise, fall).with_off(off))
+    match slash_place(word) {
+        Some(slash) => {
+            let fall = number(&word[..slash])?;
+            let off = number(&word[slash + 1..])?;
+            Some(DelayTimes::new(rise, fall).with_off(off))
+        }
+        None => {
+            let fall = number(word)?;
+            Some(DelayTimes::new(rise, fall))
+        }
+    }
+}
+
+fn slash_place(word: &[u8]) -> Option<usize>
+    ensures place { result ≡ position is_slash word.now }
+    ensures within { IfSome result (λ place. place < length word.now) }
+{
+    word.iter().position(|byte| is_slash(*byte))
+}
+
+/// Whether a byte parts a fall from a turn-off delay.
+fn is_slash(byte: u8) -> bool
+    ensures { result ≡ is_slash byte }
+{
+    byte == b'/'
 }
 
 /// The value that a word writes: `0`, `1`, `x` or `z`.
