@@ -26,9 +26,8 @@ refused_words =
     codes "repeat" ∷ codes "rnmos" ∷ codes "rpmos" ∷ codes "rtran" ∷ codes "rtranif0" ∷ codes "rtranif1" ∷
     codes "scalared" ∷ codes "signed" ∷ codes "small" ∷ codes "specify" ∷ codes "specparam" ∷ codes "strong0" ∷
     codes "strong1" ∷ codes "supply0" ∷ codes "supply1" ∷ codes "table" ∷ codes "task" ∷ codes "time" ∷
-    codes "tran" ∷ codes "tranif0" ∷ codes "tranif1" ∷ codes "tri0" ∷ codes "tri1" ∷ codes "trireg" ∷
-    codes "unsigned" ∷ codes "uwire" ∷ codes "vectored" ∷ codes "wait" ∷ codes "weak0" ∷ codes "weak1" ∷
-    codes "while" ∷ []
+    codes "tran" ∷ codes "tranif0" ∷ codes "tranif1" ∷ codes "trireg" ∷ codes "unsigned" ∷ codes "uwire" ∷
+    codes "vectored" ∷ codes "wait" ∷ codes "weak0" ∷ codes "weak1" ∷ codes "while" ∷ []
 
 -- a word is refused
 unfoldable pub is_refused : List ℕ → Bool

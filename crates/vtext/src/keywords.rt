@@ -11,7 +11,7 @@ use design::MAX_NAME;
 use fourstate::{GateKind, NetKind};
 
 /// The words of Verilog that are refused.
-const REFUSED: [&str; 85] = [
+const REFUSED: [&str; 83] = [
     "always",
     "assign",
     "automatic",
@@ -87,8 +87,6 @@ const REFUSED: [&str; 85] = [
     "tran",
     "tranif0",
     "tranif1",
-    "tri0",
-    "tri1",
     "trireg",
     "unsigned",
     "uwire",
