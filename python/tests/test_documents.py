@@ -1,4 +1,4 @@
-"""The scripts and the commands of the documents, with what they say is printed."""
+"""The scripts and the commands of the documents, with what they say is printed, and the limit that they name."""
 import os
 import re
 import subprocess
@@ -8,10 +8,14 @@ from typing import List
 from .support import INVERTER, ROOT, WithFolder
 
 
+def text_of(name: str) -> str:
+    with open(os.path.join(ROOT, name), encoding="utf-8") as file:
+        return file.read()
+
+
 def blocks(name: str) -> List[str]:
     """The indented blocks of a document, without their indentation."""
-    with open(os.path.join(ROOT, name), encoding="utf-8") as file:
-        found = re.findall(r"(?:^    .*\n(?:\n+(?=    ))?)+", file.read(), re.M)
+    found = re.findall(r"(?:^    .*\n(?:\n+(?=    ))?)+", text_of(name), re.M)
     return [re.sub("^    ", "", it, flags=re.M) for it in found]
 
 
@@ -55,3 +59,16 @@ class Documents(WithFolder):
     def test_the_check_of_the_guide(self) -> None:
         [block] = [it for it in blocks("docs/GUIDE.md") if it.startswith("PYTHONPATH") and "check" in it]
         self.assertTrue(self.printed(*block.split()[2:]).endswith("failures: 0\n"))
+
+    def test_the_last_moment_is_that_of_the_code(self) -> None:
+        [digits] = re.findall(r"MAX_TIME: u64 = ([0-9_]+);", text_of("crates/fourstate/src/limits.rt"))
+        last = int(digits.replace("_", ""))
+        named = {
+            "README.md": (f"{last:,}", 1),
+            "crates/app/src/help.rt": (f"{last}", 1),
+            "docs/GLOSSARY.md": (f"{last:,}", 1),
+            "docs/GUIDE.md": (f"{last}", 2),
+            "docs/SPEC.md": (f"{last:,}", 2),
+        }
+        for name, (number, times) in named.items():
+            self.assertEqual(len(re.findall(rf"\b{number}\b", text_of(name))), times, name)

@@ -60,7 +60,7 @@ fn resolve_drivers(
     Ok(resolve(kind, driven.as_slice()))
 }
 
-/// The value of the net at a place at the moment `t` from the states of the gates. One driver alone gives what it drives.
+/// The value of the net at a place at the moment `t` from the states of the gates. A lone driver gives it what it drives.
 #[inline(always)]
 fn resolved(
     design: &Design,
