@@ -13,8 +13,8 @@ use gatestep::Stepper;
 use hub::{Editor, Hub, HubFault, HubName, Log, Parts, Viewer};
 use std::alloc::Global;
 use std::marker::Brand;
-use std::sync::ledger::Ledger;
 use std::sync::Wait;
+use std::sync::ledger::Ledger;
 use vcd::text;
 
 /// The parts of a hub of two viewers. Where they are refused the bench is gone, so it is made anew.
@@ -58,7 +58,14 @@ pub fn two_viewers<S: Stepper + Drop, M: Maker<S>, R: Wait + Eprint + Copy + Dro
 }
 
 /// Whether the hub opened; then it has ended too.
-fn is_over<J: HubName, L: Ledger, M: Ledger, S: Stepper + Drop, R: Wait + Eprint + Copy + Drop, W: Sink>(
+fn is_over<
+    J: HubName,
+    L: Ledger,
+    M: Ledger,
+    S: Stepper + Drop,
+    R: Wait + Eprint + Copy + Drop,
+    W: Sink,
+>(
     rt: R,
     alloc: Global,
     report: &Report<R>,
@@ -109,11 +116,22 @@ fn show_log<J: HubName, W: Sink>(out: &mut Writer<'_, W>, log: &Log<J>) {
         out.number(u64::from(entry.editor));
         show_number(out, b", edits: ", entry.edits.len() as u64);
     }
-    out.text(if log.shown { b"shown\n" } else { b"not shown\n" });
+    out.text(if log.shown {
+        b"shown\n"
+    } else {
+        b"not shown\n"
+    });
 }
 
 /// Both viewers look, the first editor commits, and both look again: the second one was told of the commit.
-fn watch<J: HubName, L: Ledger, M: Ledger, S: Stepper + Drop, R: Wait + Eprint + Copy + Drop, W: Sink>(
+fn watch<
+    J: HubName,
+    L: Ledger,
+    M: Ledger,
+    S: Stepper + Drop,
+    R: Wait + Eprint + Copy + Drop,
+    W: Sink,
+>(
     rt: &R,
     alloc: Global,
     report: &Report<R>,

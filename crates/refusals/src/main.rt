@@ -45,10 +45,7 @@ fn main(rt: HostRuntime) -> ExitCode {
 }
 
 // All parts, one after another.
-fn all<
-    R: Threads + Wait + RandomSource + Eprint + Copy + Drop + Send + Sync + 'static,
-    W: Sink,
->(
+fn all<R: Threads + Wait + RandomSource + Eprint + Copy + Drop + Send + Sync + 'static, W: Sink>(
     rt: R,
     alloc: Global,
     report: &Report<R>,

@@ -20,7 +20,12 @@ use waveform::Run;
 const BUFFERS: &[u8] =
     b"module m(a,y,z); input a; output y,z; buf #(3,3) g(y,a), h(z,a); endmodule";
 
-const PULSE: [&[u8]; 4] = [b"horizon 100", b"stim a 0 0", b"stim a 10 1", b"stim a 13 0"];
+const PULSE: [&[u8]; 4] = [
+    b"horizon 100",
+    b"stim a 0 0",
+    b"stim a 10 1",
+    b"stim a 13 0",
+];
 
 const SLOWER: [&[u8]; 1] = [b"delay h 4 4"];
 

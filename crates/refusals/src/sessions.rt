@@ -68,7 +68,15 @@ fn ended<'c, T: Wait + RandomSource + Eprint>(
         horizon,
         delay: None,
     };
-    let result = run(rt, alloc, text, &options, &mut source, &mut sink, Serial::new());
+    let result = run(
+        rt,
+        alloc,
+        text,
+        &options,
+        &mut source,
+        &mut sink,
+        Serial::new(),
+    );
     (result, source.inner, sink.inner)
 }
 

@@ -115,7 +115,13 @@ pub fn all<R: Threads + Wait + Eprint + Copy + Drop + Send + Sync + 'static, W: 
     let mut pool = InTwoThreads::new(rt, alloc, *report).stepper()?;
     steps(alloc, report, "Pool::step", &mut pool, 5)?;
     show_number(out, b"a pool's steps of ", 5);
-    steps(alloc, report, "Bulk::step", &mut Bulk::open(rt, alloc), MANY)?;
+    steps(
+        alloc,
+        report,
+        "Bulk::step",
+        &mut Bulk::open(rt, alloc),
+        MANY,
+    )?;
     show_number(out, b"a map's steps of ", MANY as u64);
     Ok(())
 }

@@ -60,7 +60,7 @@ fn accepted<J: HubName, L: Ledger, M: Ledger, S: Stepper + Drop, R: Wait + Eprin
     ensures { editor.new.number ≡ editor.old.number }
 {
     let before = look(report, viewer)?;
-    for _ in 0..TRIES {
+    'tries: for _ in 0..TRIES {
         let receipt = hub.submit(rt, editor, edits);
         let is_shown = receipt.reply.is_ok() && receipt.shown;
         if !is_shown && !is_same(&*look(report, viewer)?, &before) {
@@ -85,7 +85,7 @@ fn shown<J: HubName, L: Ledger, M: Ledger, S: Stepper + Drop, R: Wait + Eprint +
 ) -> Result<Receipt<J>, Stop>
     ensures { editor.new.number ≡ editor.old.number }
 {
-    for _ in 0..TRIES {
+    'tries: for _ in 0..TRIES {
         let receipt = hub.submit(rt, editor, edits);
         match (receipt.reply, editor.count()) {
             (Err(CommitFault::Edit(0, EditFault::UnknownNet)), 1) if receipt.shown => {

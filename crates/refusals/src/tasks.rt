@@ -42,7 +42,7 @@ pub fn tasks_of(
     ensures { IfOk result (λ tasks. All (IsReady 0) tasks.items) }
 {
     let mut tasks = room(alloc, report, count)?;
-    for n in 0..count {
+    'tasks: for n in 0..count {
         let Some(task) = task(kind, n) else {
             return Err(Stop::Wrong("a task"));
         };
