@@ -1,5 +1,5 @@
-//! A bench of two buffers with delays of 3, `y` of the input `a` and `z` of the input `b`, all of which are x at first. The
-//! horizon is 400.
+//! A bench of two buffers with delays of 3, `g` from the input `a` to `y` and `h` from the input `b` to `z`, all of which are x
+//! at first. The horizon is 400.
 
 ghost use Rattle.std.specs.Prelude.{◌≡◌};
 ghost use Rattle.gatestep.specs.Step.{advance};
@@ -16,6 +16,11 @@ use std::process::Abort;
 /// How many nets the design has before any commit.
 pub const NETS: usize = 4;
 
+/// The rise and the fall of both buffers before any commit.
+pub const DELAY: u64 = 3;
+
+pub const HORIZON: u64 = 400;
+
 fn word(rt: &impl Abort, alloc: Global, text: &str) -> Word {
     Word::new(alloc, text).expect(rt, "a word")
 }
@@ -27,7 +32,7 @@ fn buffer(rt: &impl Abort, alloc: Global, name: &str, input: &str, output: &str)
     Edit::AddGate {
         name: word(rt, alloc, name),
         kind: GateKind::Buf,
-        delays: DelayTimes::uniform(3),
+        delays: DelayTimes::uniform(DELAY),
         output: word(rt, alloc, output),
         inputs,
     }
@@ -48,7 +53,7 @@ fn edits(rt: &impl Abort, alloc: Global) -> Vec<Edit> {
         let gate = buffer(rt, alloc, name, from, to);
         edits.push(gate).expect(rt, "room");
     }
-    let horizon = Edit::Horizon { time: 400 };
+    let horizon = Edit::Horizon { time: HORIZON };
     edits.push(horizon).expect(rt, "room");
     edits
 }
@@ -79,6 +84,21 @@ pub fn bench(rt: &impl Abort, alloc: Global) -> Bench<Serial> {
 pub fn input(rt: &impl Abort, alloc: Global, name: &str) -> Edit {
     Edit::AddInput {
         name: word(rt, alloc, name),
+    }
+}
+
+/// The net of this name goes.
+pub fn without(rt: &impl Abort, alloc: Global, name: &str) -> Edit {
+    Edit::DropNet {
+        name: word(rt, alloc, name),
+    }
+}
+
+/// The buffer of this name has another rise.
+pub fn rise(rt: &impl Abort, alloc: Global, gate: &str, rise: u64) -> Edit {
+    Edit::SetDelay {
+        name: word(rt, alloc, gate),
+        delays: DelayTimes::new(rise, DELAY),
     }
 }
 

@@ -73,7 +73,7 @@ fn end_beside<
                     .push(child.expect(rt, "a thread"))
                     .expect(rt, "room");
             }
-            let one = edit(rt, alloc, &hub, one, sender);
+            let one = edit(rt, alloc, &hub, one, sender, 40);
             drop(hub.close((one, other)));
             let mut viewers = Vec::new(alloc);
             for child in looking {

@@ -1,14 +1,14 @@
-//! What editors commit in a race. The commit of the first editor at a place adds the input `p` with the place behind it and
-//! gives `a` a point, and that of the second one adds `q` with the place and gives `b` a point: at 10 times the place, 1 and 0
-//! in turn. So the names of the inputs tell which commits a snapshot has, and in which order.
+//! What editors commit in a race. Each commit of the first editor gives the buffer `g` a rise that is one more than before, and
+//! `a` another value at 0, 1 and 0 in turn; each of the second one does so of `h` and `b`. So the delays tell how many commits
+//! of each editor a snapshot has, and the waves follow from them.
 
 ghost use Rattle.std.specs.Prelude.{◌≡◌};
 
-use super::buffers::{input, stim};
+use super::buffers::{DELAY, input, rise, stim};
 use crate::compare::equal;
 use bench::CommitFault;
 use crossbeam_channel::Sender;
-use edits::EditFault;
+use edits::{Edit, EditFault};
 use fourstate::Value;
 use gatestep::Serial;
 use hub::{Editor, Hub, HubName, Receipt};
@@ -17,22 +17,34 @@ use std::process::Abort;
 use std::sync::Wait;
 use std::sync::ledger::Ledger;
 
-/// How many commits each editor makes.
-pub const COMMITS: u64 = 40;
+/// How much is done in a race.
+#[derive(Clone, Copy)]
+pub struct Plan {
+    /// How many commits each editor makes.
+    pub commits: u64,
+    /// How often each viewer looks.
+    pub looks: u64,
+    /// Whether it waits for a receipt before each look.
+    pub waits: bool,
+}
 
-/// What names of inputs begin with, by the number of the editor.
-pub const LETTERS: [&str; 2] = ["p", "q"];
+/// The buffers that the two editors change, by their numbers.
+pub const BUFFERS: [&str; 2] = ["g", "h"];
 
 const INPUTS: [&str; 2] = ["a", "b"];
 
-/// The point at a place.
-pub fn point(place: u64) -> (u64, Value) {
-    let value = if place % 2 == 0 {
-        Value::One
-    } else {
+/// The rise of an editor's buffer after so many of its commits.
+pub fn rise_after(count: u64) -> u64 {
+    count.wrapping_add(DELAY)
+}
+
+/// The value of its input at 0 then, if there are any.
+pub fn value_after(count: u64) -> Value {
+    if count % 2 == 0 {
         Value::Zero
-    };
-    (place.wrapping_mul(10), value)
+    } else {
+        Value::One
+    }
 }
 
 /// The commit of an editor at a place.
@@ -46,16 +58,45 @@ pub fn commit<J: HubName, L: Ledger, M: Ledger, R: Wait + Abort>(
     ensures { editor.new.number ≡ editor.old.number }
 {
     let number = editor.number() as usize;
-    let name = format!(in alloc; "{}{place}", LETTERS[number]).expect(rt, "a name");
-    let (time, value) = point(place);
+    let count = place.wrapping_add(1);
     let edits = [
-        input(rt, alloc, name.as_str()),
-        stim(rt, alloc, INPUTS[number], time, value),
+        rise(rt, alloc, BUFFERS[number], rise_after(count)),
+        stim(rt, alloc, INPUTS[number], 0, value_after(count)),
     ];
     let receipt = hub.submit(rt, editor, &edits);
     drop(edits);
-    drop(name);
     receipt
+}
+
+// Whether an edit gives the editor's buffer its rise after so many commits.
+fn is_rise(edit: &Edit, editor: usize, count: u64) -> bool {
+    match edit {
+        Edit::SetDelay { name, delays } => {
+            editor < 2
+                && name.as_str() == BUFFERS[editor]
+                && delays.rise == rise_after(count)
+                && delays.fall == DELAY
+        }
+        _ => false,
+    }
+}
+
+// Whether an edit gives the editor's input its value after so many commits.
+fn is_point(edit: &Edit, editor: usize, count: u64) -> bool {
+    match edit {
+        Edit::Stim { net, time, value } => {
+            editor < 2
+                && net.as_str() == INPUTS[editor]
+                && *time == 0
+                && *value == value_after(count)
+        }
+        _ => false,
+    }
+}
+
+/// Whether these are the edits of an editor's commit that has so many of it, itself with them.
+pub fn are_edits(edits: &[Edit], editor: usize, count: u64) -> bool {
+    edits.len() == 2 && is_rise(&edits[0], editor, count) && is_point(&edits[1], editor, count)
 }
 
 /// A commit whose second edit is refused changes nothing.
@@ -98,18 +139,19 @@ fn step<J: HubName, L: Ledger, M: Ledger, R: Wait + Abort>(
     refused(rt, alloc, hub, editor);
 }
 
-/// An editor makes all its commits. It is given back.
+/// An editor makes so many commits. It is given back.
 pub fn edit<J: HubName, L: Ledger, M: Ledger, R: Wait + Abort>(
     rt: &R,
     alloc: Global,
     hub: &Hub<J, L, M, Serial, &R>,
     editor: Editor<L, M>,
     viewers: &Sender<Receipt<J>>,
+    commits: u64,
 ) -> Editor<L, M>
     ensures { result.number ≡ editor.number }
 {
     let mut editor = editor;
-    'places: for place in 0..COMMITS {
+    'places: for place in 0..commits {
         step(rt, alloc, hub, &mut editor, place, viewers);
     }
     editor

@@ -10,6 +10,8 @@ mod commits;
 #[cfg(test)]
 mod compare;
 #[cfg(test)]
+mod held;
+#[cfg(test)]
 mod looks;
 #[cfg(test)]
 mod lost;
@@ -17,3 +19,5 @@ mod lost;
 mod rows;
 #[cfg(test)]
 mod threads;
+#[cfg(test)]
+mod turns;

@@ -431,8 +431,8 @@ fn check_unit(rt: &impl Abort, read: &Modules) {
 }
 
 // The fault of a text, as its line and kind.
-fn fault_of(alloc: Global, text: &[u8], default: Option<u32>) -> Option<ReadFault> {
-    match modules(alloc, NameHasher::fixed(), text, default) {
+fn fault_of(alloc: Global, text: &[u8]) -> Option<ReadFault> {
+    match modules(alloc, NameHasher::fixed(), text, None) {
         Ok(read) => {
             drop(read);
             None
@@ -454,7 +454,7 @@ fn named(rt: &impl Abort, alloc: Global, length: usize) -> Vec<u8> {
 
 fn check_fault(rt: &impl Abort, alloc: Global, text: &[u8], want: Option<(u64, ReadFaultKind)>) {
     let want = want.map(|(line, kind)| ReadFault { line, kind });
-    equal(rt, "fault", fault_of(alloc, text, None), want);
+    equal(rt, "fault", fault_of(alloc, text), want);
 }
 
 #[test]

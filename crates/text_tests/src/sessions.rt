@@ -6,7 +6,9 @@ ghost use Rattle.std.specs.Prelude.{◌<◌};
 mod batches;
 mod bytes;
 mod changes;
+mod faulty;
 mod last_moment;
+mod once;
 mod pulls;
 mod questions;
 mod scopes;
@@ -15,7 +17,7 @@ mod vectors;
 
 use crate::compare::equal;
 use devices::Device;
-use devices::faulty::{Failing, Pieces};
+use devices::faulty::Pieces;
 use edits::EditFault;
 use gatestep::Serial;
 use session::{Options, SessionFault, run};
@@ -129,116 +131,6 @@ const FIRST_REPLIES: &[u8] = b"ok 1\nok 2\nok 3\nok 4\n0 x\n2 1\nok 4\n";
 #[test]
 fn the_first_wave(rt: HostRuntime) {
     check(&rt, rt.alloc(), EMPTY, 10, FIRST, FIRST_REPLIES);
-}
-
-#[test]
-fn pieces_make_no_difference(rt: HostRuntime) {
-    check_in_pieces(&rt, rt.alloc(), 10, FIRST, FIRST_REPLIES);
-}
-
-// What the first wave is answered into a sink that fails behind so many bytes.
-fn into_failing(
-    rt: &(impl Wait + RandomSource),
-    alloc: Global,
-    place: usize,
-) -> (Result<(), SessionFault>, Vec<u8>) {
-    let mut source = Device::new(FIRST);
-    let mut sink = Device::new(Failing::new(Vec::new(alloc), place));
-    let result = run(
-        rt,
-        alloc,
-        EMPTY,
-        &up_to(10),
-        &mut source,
-        &mut sink,
-        Serial::new(),
-    );
-    (result, sink.inner.inner)
-}
-
-fn check_failing_sink(rt: &(impl Wait + RandomSource + Abort), alloc: Global, place: usize) {
-    let (result, replies) = into_failing(rt, alloc, place);
-    let want = if place >= FIRST_REPLIES.len() {
-        Ok(())
-    } else {
-        Err(SessionFault::Write)
-    };
-    let end = place.min(FIRST_REPLIES.len());
-    equal(rt, place, result, want);
-    equal(rt, place, replies.as_slice(), &FIRST_REPLIES[..end]);
-    drop(replies);
-}
-
-#[test]
-fn a_sink_that_fails_holds_a_beginning(rt: HostRuntime) {
-    for place in 0..35 {
-        check_failing_sink(&rt, rt.alloc(), place);
-    }
-}
-
-// The replies to the whole lines among the first bytes of the input.
-fn replies_before(place: usize) -> &'static [u8] {
-    match place {
-        0..=7 => b"".as_slice(),
-        8..=18 => b"ok 1\n".as_slice(),
-        19..=37 => b"ok 1\nok 2\n".as_slice(),
-        38..=48 => b"ok 1\nok 2\nok 3\n".as_slice(),
-        49..=55 => b"ok 1\nok 2\nok 3\nok 4\n".as_slice(),
-        _ => FIRST_REPLIES,
-    }
-}
-
-// What is answered to an input whose source fails behind so many bytes.
-fn from_failing(
-    rt: &(impl Wait + RandomSource),
-    alloc: Global,
-    input: &[u8],
-    place: usize,
-) -> (Result<(), SessionFault>, Vec<u8>) {
-    let mut source = Device::new(Failing::new(input, place));
-    let mut sink = Device::new(Vec::new(alloc));
-    let result = run(
-        rt,
-        alloc,
-        EMPTY,
-        &up_to(10),
-        &mut source,
-        &mut sink,
-        Serial::new(),
-    );
-    (result, sink.inner)
-}
-
-fn check_failing_source(
-    rt: &(impl Wait + RandomSource + Abort),
-    alloc: Global,
-    input: &[u8],
-    place: usize,
-    want: Result<(), SessionFault>,
-    want_replies: &[u8],
-) {
-    let (result, replies) = from_failing(rt, alloc, input, place);
-    equal(rt, place, result, want);
-    equal(rt, place, replies.as_slice(), want_replies);
-    drop(replies);
-}
-
-#[test]
-fn a_source_that_fails_leaves_the_replies_to_whole_lines(rt: HostRuntime) {
-    for place in 0..59 {
-        let want = if place > 56 {
-            Ok(())
-        } else {
-            Err(SessionFault::Read)
-        };
-        check_failing_source(&rt, rt.alloc(), FIRST, place, want, replies_before(place));
-    }
-}
-
-#[test]
-fn a_source_that_would_fail_is_left_alone_after_quit(rt: HostRuntime) {
-    let input = b"input a\nquit\n";
-    check_failing_source(&rt, rt.alloc(), input, input.len(), Ok(()), b"ok 1\nok 1\n");
 }
 
 // What a session that reads byte by byte writes for this input, and what it leaves of it.

@@ -38,18 +38,6 @@ gate g0 buf 1 1 n a\ngate g1 buf 1 1 n b\ngate h buf 1 1 q n\ncommit\nwave n\nwa
     check(&rt, rt.alloc(), text, 10, lines, want);
 }
 
-// The third edit has a delay of 0, and so none of the five is carried out; `old` is held before.
-#[test]
-fn a_refused_batch_changes_nothing(rt: HostRuntime) {
-    let lines =
-        b"stim a 0 0\nstim a 10 1\nstim a 12 0\nhold old\nbegin\nstim a 20 1\nstim a 25 0\ndelay g 0 3\n\
-horizon 50\nstim a 30 1\nvalue y 23\ncommit\nwave y\nat old wave y\n";
-    let want =
-        b"ok 1\nok 2\nok 3\nok 3\nok 3\nok 3\nok 3\nok 3\nok 3\nok 3\n0\nok 3\nno 5 ZeroDelay\n\
-0 x\n3 0\nok 3\n0 x\n3 0\nok 3\n";
-    check(&rt, rt.alloc(), BUFFER, 30, lines, want);
-}
-
 #[test]
 fn a_shorter_horizon_keeps_the_points(rt: HostRuntime) {
     let lines =
@@ -128,12 +116,8 @@ const HELD: &[(&[u8], &[u8])] = &[
     (b"wave a", b"0 x\n5 0\nok 5\n"),
 ];
 
-// The lines of rows, each with an end, and the replies to them.
-pub(super) fn joined(
-    rt: &impl Abort,
-    alloc: Global,
-    rows: &[(&[u8], &[u8])],
-) -> (Vec<u8>, Vec<u8>) {
+/// The lines of rows, each with an end, and the replies to them.
+pub fn joined(rt: &impl Abort, alloc: Global, rows: &[(&[u8], &[u8])]) -> (Vec<u8>, Vec<u8>) {
     let mut lines = Vec::new(alloc);
     let mut want = Vec::new(alloc);
     for (line, reply) in rows {
