@@ -1,6 +1,6 @@
 # The tasks of the repository; each works on a machine that has only the toolchain.
 
-.PHONY: all test try demo programs scripts refusals faults mutants speed fmt
+.PHONY: all test try demo programs scripts refusals fuzz race faults mutants speed fmt
 
 all: try
 
@@ -28,6 +28,15 @@ scripts:
 # Refuses each allocation of bin/gatebench over the examples, alone and with all after it, after a demo.
 refusals:
 	@tools/refusals
+
+# Compares bin/gatebench with a second reading of docs/SPEC.md over generated texts and sessions, after a demo: make fuzz
+# SEED=2 TEXTS=100000 SESSIONS=20000
+fuzz:
+	@tools/fuzz/run $(if $(SEED),--seed $(SEED)) $(if $(TEXTS),--texts $(TEXTS)) $(if $(SESSIONS),--sessions $(SESSIONS))
+
+# Races 64 viewers of bin/gaterace with its editors, 100,000 looks, and once more with busy processors, after a demo.
+race:
+	@tools/race
 
 # Finds the stuck-at faults that the stimulus of two circuits shows, with bin/gatebench, after a demo.
 faults:
