@@ -1,6 +1,6 @@
 # The tasks of the repository; each works on a machine that has only the toolchain.
 
-.PHONY: all test try demo programs scripts refusals faults mutants speed slow fmt
+.PHONY: all test try demo programs scripts refusals fuzz race faults mutants speed slow fmt
 
 all: try
 
@@ -32,6 +32,15 @@ refusals:
 	@tools/failures
 	@cd crates/refusals && rt run > /dev/null
 	@tools/refusals_inside
+
+# Compares bin/gatebench with a second reading of docs/SPEC.md over generated texts and sessions, after a demo: make fuzz
+# SEED=2 TEXTS=100000 SESSIONS=20000
+fuzz:
+	@tools/fuzz/run $(if $(SEED),--seed $(SEED)) $(if $(TEXTS),--texts $(TEXTS)) $(if $(SESSIONS),--sessions $(SESSIONS))
+
+# Races 64 viewers of bin/gaterace with its editors, 100,000 looks, and once more with busy processors, after a demo.
+race:
+	@tools/race
 
 # Finds the stuck-at faults that the stimulus of two circuits shows, with bin/gatebench, after a demo.
 faults:

@@ -1,5 +1,6 @@
 """Cases at the limits, on both sides of each, and what a stranger may write: they are tried in every run."""
 from case import Case
+from reading.tables import VERILOG
 
 HEAD = b"module m(input a, output y);\n"
 END = b"\nendmodule\n"
@@ -126,6 +127,13 @@ def odd_texts():
     yield from odd_headers()
 
 
+def words():
+    """Each word of Verilog, and words that are none, as a name and at the beginning of an item."""
+    for word in [*VERILOG.split(), "Module", "WIRE", "uwires", "wait1", "signed$", "_and", "unsigned1", "logic", "bit", "do"]:
+        yield b"module m; wire " + word.encode() + b"; endmodule"
+        yield b"module m; " + word.encode() + b" u(a"
+
+
 def odd_headers():
     for module in (b"m", b"m()", b"m(a)", b"m(a);", b"m(a,a);", b"m(a,);", b"m(,a);", b"m(a, input b);", b"m(input a, b, output wire c, d);", b"m(input a, a);",
                    b"m(); input a;", b"m; input a;", b"m; output wire a;", b"m(input a); output b;", b"m(input a); input a;", b"m(input a); wire a;",
@@ -193,7 +201,7 @@ def sessions():
 
 
 def texts():
-    for group in (sizes, counts, depths, odd_texts, joined):
+    for group in (sizes, counts, depths, words, odd_texts, joined):
         yield from group()
 
 

@@ -1,6 +1,8 @@
 """Tokens of a text laid out with white space between them, and texts that are mangled token by token or byte by byte."""
 import re
 
+from reading.tables import VERILOG
+
 SPACES = [" "] * 24 + ["\n"] * 8 + ["\t", "\r\n", "\f", "  \n", "// c\n", "/* c */", "(* c *)", "/* \n */", "(* \n*)", "//\n",
                                     "/**/", "(**)", "/*/ */", "(*) *)", "// /*\n", "/* // */", "/* (* */"]  # fmt: skip
 # What a token is replaced by: each word and mark of the grammar, and what does not belong to it.
@@ -10,7 +12,7 @@ TOKENS = """
     1'b0 1'b1 1'bx 1'bz 1'BX 1'b2 2'b0 assign always reg initial inout supply0 parameter nmos tran pullup trireg = + { } ? ' " @ ` \\
     \\a \\a[0] \\a.b \\$end \\module \\$1 \\g$1 $1 a$1 g$1 _ `timescale `define (* *) /* */ // (*) /*/ \\\\ é
 """.split()
-TOKENS += ["`timescale 1ns/1ps", "`timescale 10 us / 1 us", "`timescale 1ns / 1", "`timescale 2ns/1ns", "99999999999999999999"]
+TOKENS += VERILOG.split()[::3] + ["`timescale 1ns/1ps", "`timescale 10 us / 1 us", "`timescale 1ns / 1", "`timescale 2ns/1ns", "99999999999999999999"]
 BYTES = [0, 1, 8, 9, 10, 11, 12, 13, 27, 32, 33, 36, 39, 40, 41, 42, 44, 46, 47, 48, 58, 59, 91, 92, 93, 96, 126, 127, 128, 255]
 WORDLIKE = re.compile(r"[A-Za-z0-9_$'`]")
 

@@ -117,7 +117,7 @@ def delay_to(value, delays):
 
 # The words of a text that it uses, beside the kinds of gates and of nets.
 OTHER_WORDS = ("module", "endmodule", "input", "output")
-# The words of Verilog (IEEE 1364-2005, annex B) that are left out, beside those that stand in a table above.
+# The words of Verilog (IEEE 1364-2005, annex B), and those of them that are names here.
 VERILOG = """
     always and assign automatic begin buf bufif0 bufif1 case casex casez cell cmos config deassign default defparam design
     disable edge else end endcase endconfig endfunction endgenerate endmodule endprimitive endspecify endtable endtask event
@@ -128,8 +128,12 @@ VERILOG = """
     strong0 strong1 supply0 supply1 table task time tran tranif0 tranif1 tri tri0 tri1 triand trior trireg unsigned use uwire
     vectored wait wand weak0 weak1 while wire wor xnor xor
 """
+FREE_WORDS = """
+    cell config design endconfig highz0 highz1 ifnone incdir include instance liblist library noshowcancelled
+    pulsestyle_ondetect pulsestyle_onevent showcancelled use
+"""
 USED_WORDS = {*GATES, *NETS, *OTHER_WORDS}
-LEFT_OUT = set(VERILOG.split()) - USED_WORDS
+LEFT_OUT = set(VERILOG.split()) - set(FREE_WORDS.split()) - USED_WORDS
 
 # The faults of a text whose code is 11 have the name of the edit's cause.
 TEXT_FAULTS = {
