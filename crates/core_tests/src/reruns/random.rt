@@ -2,19 +2,21 @@
 //! implementation and the count by the definition.
 
 ghost use Rattle.std.specs.Prelude.{IfSome};
+ghost use Rattle.edits.specs.Touched.{IsTouched};
 ghost use Rattle.gatestep.specs.Step.{advance};
 ghost use Rattle.scratch.specs.Run.{IsRun};
 
 use super::definition::{Side, count};
 use super::plain::{Row, rows};
+use crate::calls;
 use crate::compare::equal;
 use crate::counting::Counting;
 use crate::dice::Dice;
 use crate::edit_lists::lines::{design_of, edit};
 use design::Design;
-use edits::{Edit, EditFault, apply_all_with_touched};
+use edits::{Edit, EditFault, Touched, apply_all_with_touched};
 use gatestep::Serial;
-use resim::{rerun, rerun_touched};
+use resim::{Limit, rerun};
 use scratch::{simulate, wave_named};
 use std::alloc::Global;
 use std::process::Abort;
@@ -209,8 +211,47 @@ fn check(rt: &impl Abort, alloc: Global, old: &State, new: &State, tasks: u64) {
     drop(after);
 }
 
+/// The run of the design from the former one: by the way that a commit takes, or by what differs up to a random limit.
+fn run_beside(
+    rt: &impl Abort,
+    alloc: Global,
+    dice: &mut Dice,
+    old: &State,
+    design: &Design,
+    touched: &Touched,
+    stepper: &mut Counting,
+) -> Run
+    requires run { IsRun advance old.now.design old.now.run }
+    requires touched { IsTouched old.now.design design.now touched.now.nets.items touched.now.gates.items }
+    ensures { IsRun advance design.now result }
+{
+    if design.horizon() != old.design.horizon() || dice.below(4) == 0 {
+        return calls::rerun(rt, alloc, &old.design, &old.run, design, touched, stepper);
+    }
+    let looks = match dice.below(4) {
+        0 => u64::MAX,
+        _ => dice.below(24),
+    };
+    calls::followed(
+        rt,
+        alloc,
+        &old.design,
+        &old.run,
+        design,
+        touched,
+        Limit::Looks(looks),
+        stepper,
+    )
+}
+
 /// The design with the edits and its run from the former one, and how much that asked; none where the edits are refused.
-fn commit(rt: &impl Abort, alloc: Global, old: &State, edits: &[Edit]) -> Option<(State, u64)>
+fn commit(
+    rt: &impl Abort,
+    alloc: Global,
+    dice: &mut Dice,
+    old: &State,
+    edits: &[Edit],
+) -> Option<(State, u64)>
     requires { IsRun advance old.now.design old.now.run }
     ensures { IfSome result (λ made. IsRun advance made.0.design made.0.run) }
 {
@@ -222,15 +263,8 @@ fn commit(rt: &impl Abort, alloc: Global, old: &State, edits: &[Edit]) -> Option
         }
     };
     let mut stepper = Counting::new(0);
-    let made = rerun_touched(
-        alloc,
-        &old.design,
-        &old.run,
-        &design,
-        &touched,
-        &mut stepper,
-    );
-    let run = made.expect(rt, "a run");
+    let run = run_beside(rt, alloc, dice, old, &design, &touched, &mut stepper);
+    drop(touched);
     Some((State { design, run }, stepper.tasks(rt)))
 }
 
@@ -250,7 +284,7 @@ fn turn(rt: &impl Abort, alloc: Global, dice: &mut Dice, old: State, accepted: &
     ensures { IsRun advance result.design result.run }
 {
     let edits = random_edits(rt, alloc, dice);
-    let Some((new, tasks)) = commit(rt, alloc, &old, edits.as_slice()) else {
+    let Some((new, tasks)) = commit(rt, alloc, dice, &old, edits.as_slice()) else {
         return old;
     };
     check(rt, alloc, &old, &new, tasks);

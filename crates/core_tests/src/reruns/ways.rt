@@ -163,6 +163,11 @@ fn asked_of_rings(rt: &impl Abort, alloc: Global, count: u64) -> Asked {
 #[test]
 fn where_looks_cost_too_much(rt: HostRuntime) {
     for count in [1, 2, 10, 20, 22, 23, 24, 25, 26, 30] {
-        equal(&rt, count, asked_of_rings(&rt, rt.alloc(), count), (0, 0, 0));
+        equal(
+            &rt,
+            count,
+            asked_of_rings(&rt, rt.alloc(), count),
+            (0, 0, 0),
+        );
     }
 }
