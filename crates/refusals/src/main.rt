@@ -1,13 +1,17 @@
 //! The program refusals: calls of each layer that take memory, each made again where memory ran out. Whichever allocation is
-//! refused, it writes the same bytes: those that `stdout` beside this folder has. With a word behind its name it also writes
-//! the name of each call that was refused to the standard error.
+//! refused, it writes the same bytes: those that `stdout` beside this folder has. Its first word names a part that is run alone,
+//! `sessions`, `steps`, `serial` or `pool`; with a second word it writes the name of each refused call to the standard error.
 #![tactic(auto)]
+
+ghost use Rattle.std.specs.Prelude.{◌≡◌};
+ghost use Rattle.gatestep.specs.Step.{advance};
 
 mod benches;
 mod commits;
 mod cores;
 mod hubs;
 mod makers;
+mod parts;
 mod report;
 mod runs;
 mod sessions;
@@ -18,8 +22,10 @@ mod tasks;
 mod texts;
 
 use devices::{Device, Sink, Writer};
-use makers::{InTwoThreads, OnThisThread};
-use report::{Report, Stop, says_calls};
+use gatestep::Stepper;
+use makers::{InTwoThreads, Maker, OnThisThread};
+use parts::{Part, asked};
+use report::{Report, Stop};
 use std::alloc::Global;
 use std::process::ExitCode;
 use std::random::RandomSource;
@@ -29,8 +35,9 @@ use std::thread::Threads;
 fn main(rt: HostRuntime) -> ExitCode {
     let mut output = Device::new(rt.stdout());
     let mut out = Writer::new(&mut output);
-    let report = Report::new(rt, says_calls(&rt));
-    let end = all(rt, rt.alloc(), &report, &mut out);
+    let (part, names_calls) = asked(&rt);
+    let report = Report::new(rt, names_calls);
+    let end = run(rt, rt.alloc(), &report, part, &mut out);
     let sent = out.flush();
     let _output = out.finish();
     match (end, sent) {
@@ -44,22 +51,42 @@ fn main(rt: HostRuntime) -> ExitCode {
     }
 }
 
-// All parts, one after another.
-fn all<R: Threads + Wait + RandomSource + Eprint + Copy + Drop + Send + Sync + 'static, W: Sink>(
+// A part, or all of them, one after another.
+fn run<R: Threads + Wait + RandomSource + Eprint + Copy + Drop + Send + Sync + 'static, W: Sink>(
     rt: R,
     alloc: Global,
     report: &Report<R>,
+    part: Part,
     out: &mut Writer<'_, W>,
 ) -> Result<(), Stop> {
-    sessions::all(&rt, alloc, report, out)?;
-    cores::all(alloc, report, out)?;
-    steps::all(rt, alloc, report, out)?;
-    let alone = OnThisThread;
-    runs::pulse(alloc, report, &alone, out)?;
-    benches::refused_batch(alloc, report, &alone, out)?;
-    hubs::two_viewers(rt, alloc, report, &alone, out)?;
-    let pool = InTwoThreads::new(rt, alloc, *report);
-    runs::pulse(alloc, report, &pool, out)?;
-    benches::refused_batch(alloc, report, &pool, out)?;
-    hubs::two_viewers(rt, alloc, report, &pool, out)
+    if part.has(Part::Sessions) {
+        sessions::all(&rt, alloc, report, out)?;
+    }
+    if part.has(Part::Steps) {
+        cores::all(alloc, report, out)?;
+        steps::all(rt, alloc, report, out)?;
+    }
+    if part.has(Part::Serial) {
+        runs_by(rt, alloc, report, &OnThisThread, out)?;
+    }
+    if part.has(Part::Pool) {
+        let pool = InTwoThreads::new(rt, alloc, *report);
+        runs_by(rt, alloc, report, &pool, out)?;
+    }
+    Ok(())
+}
+
+// Runs, commits and a hub by steppers of this maker.
+fn runs_by<S: Stepper + Drop, M: Maker<S>, R: Wait + Eprint + Copy + Drop, W: Sink>(
+    rt: R,
+    alloc: Global,
+    report: &Report<R>,
+    maker: &M,
+    out: &mut Writer<'_, W>,
+) -> Result<(), Stop>
+    requires { S.answer ≡ advance }
+{
+    runs::pulse(alloc, report, maker, out)?;
+    benches::refused_batch(alloc, report, maker, out)?;
+    hubs::two_viewers(rt, alloc, report, maker, out)
 }

@@ -1,8 +1,5 @@
 //! What is said of calls that are refused.
 
-use std::env;
-use std::env::Env;
-
 /// How often a call is made before it is given up.
 pub const TRIES: u32 = 40;
 
@@ -13,16 +10,6 @@ pub enum Stop {
     Refused,
     /// This call answered what it may not answer, or changed something though it was refused.
     Wrong(&'static str),
-}
-
-/// Whether there is a word behind the program's name.
-pub fn says_calls<R: Env + AllocGlobal>(rt: &R) -> bool {
-    for _ in 0..TRIES {
-        if let Ok(words) = env::args(rt) {
-            return words.len() > 1;
-        }
-    }
-    false
 }
 
 /// Says which calls were refused, where it is to.
