@@ -199,7 +199,8 @@ class Maker:
     # Modules.
 
     def module(self, name, lower):
-        made = Made(name, [self.signal(self.pick(["input", "input", "output"])) for _ in range(self.pick([0, 1, 2, 3, 3, 4, 5]))])
+        directions = [self.pick(["input", "input", "output"]) for _ in range(self.pick([0, 1, 2, 3, 3, 4, 5]))]
+        made = Made(name, [self.signal(it) for it in directions])
         form = self.pick(["inline", "inline", "older"])
         body = self.items(lower)
         if form == "inline":
