@@ -1,8 +1,17 @@
-"""Parts of small texts at which two rules meet, a part a line. <FF> is the byte 255 and <LF> a line feed."""
+"""Parts of small texts at which two rules meet, a part a line, in which words between angles stand for others."""
+from reading.tables import MAX_TIME
+
+STAND_FOR = {b"<FF>": b"\xff", b"<LF>": b"\n", b"<LAST>": b"%d" % MAX_TIME, b"<PAST>": b"%d" % (MAX_TIME + 1)}
+
+
+def part(line):
+    for word, other in STAND_FOR.items():
+        line = line.replace(word, other)
+    return line
 
 
 def parts(lines):
-    return [line.replace(b"<FF>", b"\xff").replace(b"<LF>", b"\n") for line in lines.strip(b"\n").split(b"\n")]
+    return [part(line) for line in lines.strip(b"\n").split(b"\n")]
 
 
 # What stands behind the word of a time unit.
@@ -211,8 +220,8 @@ NUMBERS = rb"""
 0
 5
 6
-1000000000
-1000000001
+<LAST>
+<PAST>
 18446744073709551615
 18446744073709551616
 00000000000000000000000000000005
