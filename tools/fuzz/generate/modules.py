@@ -136,18 +136,21 @@ class Maker:
 
     # Items.
 
-    def delays(self):
+    def delays(self, kind):
         if self.often(0.35 if self.delay else self.slips):
             return []
         one, two = (self.pick([1, 1, 2, 3, 4, 5, 7, 10]) for _ in "rf")
         if self.slip():
             two = self.pick([0, 1000000, 1000001, 4294967296, 12])
         text = self.pick([str(one), str(one), f"0{one}", f"{one}_"])
-        return self.pick([["#", text], ["#", "(", text, ")"], ["#", "(", text, ",", str(two), ")"]])
+        off = [",", str(two), ",", str(self.pick([1, 2, 3, 6, 9]))]
+        if self.often(0.4) if GATES[kind] == 2 else self.slip():
+            return ["#", "(", text, *off, ")"]
+        return self.pick([["#", text], ["#", "(", text, ")"], ["#", "(", text, *off[:2], ")"]])
 
     def gate(self):
         kind = self.pick(list(GATES))
-        tokens = [kind, *self.delays()]
+        tokens = [kind, *self.delays(kind)]
         for number in range(self.pick([1, 1, 1, 2, 3])):
             tokens += [","] if number else []
             tokens += [spell(self.gate_name())] if self.often(0.6) else []

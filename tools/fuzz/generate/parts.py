@@ -46,6 +46,12 @@ and #<FF>
 and #(1
 and #(1,2,3) g(y,a);
 and #1.5 g(y,a);
+bufif1 #(1,2,3) g(y,a,a);
+notif0 #(1,2,0) g(y,a,a);
+bufif0 #(1,2,1000001) g(y,a,a);
+notif1 #(1,2,3,4) g(y,a,a);
+bufif1 #(1,2,) g(y,a,a);
+bufif1 #(0,2,0) g(y,a,a);
 and #1 (y);
 and #1 (1'b0);
 and #1 g(1'b0, y), g(y,a);
@@ -235,6 +241,10 @@ prev a <N>
 seek a <N> 1
 delay g <N> 1
 delay g 1 <N>
+delay g 1 1/<N>
+gate b<N> bufif1 1 1/<N> y a a
+gate c<N> bufif1 1 1/<N> y a
+gate d<N> and 1 1/<N> y a
 horizon <N>
 stim a <N> 0
 next a 4

@@ -57,7 +57,8 @@ class Words:
         return self.time() if self.often(0.6) else self.pick(HORIZONS)
 
     def delays(self):
-        return [self.pick("1112234589") if self.often(0.95) else self.pick(EDGES + UNREADABLE) for _ in "rf"]
+        rise, fall, off = (self.pick("1112234589") if self.often(0.95) else self.pick(EDGES + UNREADABLE) for _ in "rfz")
+        return [rise, f"{fall}/{off}" if self.often(0.2) else fall if self.often(0.98) else self.pick([f"{fall}/", f"/{off}", "1/2/3"])]
 
     def value(self):
         return self.pick("01xz") if self.often(0.98) else self.pick(["X", "1'b0", "2", "Z"])
