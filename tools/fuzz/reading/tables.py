@@ -9,7 +9,7 @@ MAX_NAME = 1_024
 MAX_NUMBER = 4_294_967_295
 MAX_BOUND = 65_535
 MAX_DELAY = 1_000_000
-MAX_TIME = 1_000_000_000
+MAX_TIME = 1_099_511_627_776
 MAX_NETS = 65_536
 MAX_GATES = 65_536
 MAX_POINTS = 1_048_576
@@ -91,6 +91,8 @@ NETS = {
     "triand": ("and", "z"),
     "wor": ("or", "z"),
     "trior": ("or", "z"),
+    "tri0": ("equal", "0"),
+    "tri1": ("equal", "1"),
 }
 # Of each rule which value wins where several are there; without one it is x.
 WINNERS = {"equal": "", "and": "0x", "or": "1x"}
