@@ -15,7 +15,8 @@ class Program:
         self.files = {name: os.path.join(folder, name) for name in ("design.v", "in", "out", "err")}
         reads, writes = os.O_RDONLY, os.O_WRONLY | os.O_CREAT | os.O_TRUNC
         modes = [("in", reads), ("out", writes), ("err", writes)]
-        self.streams = [(os.POSIX_SPAWN_OPEN, number, self.files[name], mode, 0o600) for number, (name, mode) in enumerate(modes)]
+        opened = [(self.files[name], mode, 0o600) for name, mode in modes]
+        self.streams = [(os.POSIX_SPAWN_OPEN, number, *it) for number, it in enumerate(opened)]
         signal.signal(signal.SIGALRM, lambda *_: os.kill(self.pid, signal.SIGKILL))
 
     def write(self, name, content):

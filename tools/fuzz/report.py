@@ -1,7 +1,18 @@
 """A difference in words: what the program is given, and how it and the reading go on."""
 import difflib
+import re
+from itertools import zip_longest
 
 LINES = 40
+
+
+def kind_of(answer, other):
+    """In what two answers differ: their statuses and the first lines that differ, without their numbers; or nothing."""
+    if answer == other:
+        return None
+    lines = ([*it.said.splitlines(), *it.printed.splitlines()] for it in (answer, other))
+    first = next((pair for pair in zip_longest(*lines) if pair[0] != pair[1]), (None, None))
+    return answer.status, other.status, *(line and re.sub(rb"[0-9]+", b"0", line) for line in first)
 
 
 def lines_of(text):

@@ -1,7 +1,13 @@
 """Cuts a case down to the least pieces that still show a difference."""
 import re
+from itertools import product
 
-PIECE = re.compile(rb"\s+|[\w$']+|.", re.DOTALL)
+# How often a difference is looked for again while it is cut down.
+TRIES = 3000
+# By what a text is cut, one after the other: lines, items, what stands between commas and brackets, and pieces.
+SPLITS = [re.compile(it, re.DOTALL) for it in (
+    rb"[^\n]*\n|[^\n]+", rb"[^;]*;|[^;]+", rb"[^,()]*,|[^,()]+|[()]", rb"\s+|[\w$']+|.",
+)]  # fmt: skip
 
 
 def without(pieces, keeps):
@@ -27,14 +33,20 @@ def pairs(words):
 def cut(case, differs):
     """The least case found that `differs`: fewer options, commands, lines and pieces of the text, pieces of commands."""
 
+    left = TRIES
+
     def reduce(parts, made):
-        return without(parts, lambda fewer: differs(made(fewer)))
+        def keeps(fewer):
+            nonlocal left
+            left -= 1
+            return left >= 0 and differs(made(fewer))
+
+        return without(parts, keeps)
 
     for _ in range(2):
         options = reduce(pairs(case.words), lambda fewer: case._replace(words=tuple(it for pair in fewer for it in pair)))
         case = case._replace(words=tuple(it for pair in options for it in pair))
-        for split in (lambda text: text.splitlines(keepends=True), PIECE.findall):
-            for name in ("commands", "text"):
-                parts = reduce(split(getattr(case, name)), lambda fewer, name=name: case._replace(**{name: b"".join(fewer)}))
-                case = case._replace(**{name: b"".join(parts)})
+        for name, split in product(("commands", "text"), SPLITS):
+            parts = reduce(split.findall(getattr(case, name)), lambda fewer, name=name: case._replace(**{name: b"".join(fewer)}))
+            case = case._replace(**{name: b"".join(parts)})
     return case

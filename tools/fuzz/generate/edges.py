@@ -1,6 +1,10 @@
 """Cases at the limits, on both sides of each, and what a stranger may write: they are tried in every run."""
+from itertools import product
+
 from case import Case
 from reading.tables import VERILOG
+
+from .parts import BODIES, HEADERS, INNER, NUMBERED, NUMBERS, SCALES, TOPS, parts
 
 HEAD = b"module m(input a, output y);\n"
 END = b"\nendmodule\n"
@@ -98,30 +102,14 @@ def depths():
 
 def odd_texts():
     """Small texts at which two rules meet."""
-    yield from (b"", b"\n\n", b"//", b"/*", b"(*", b"(*)", b"/*/", b"\\", b"\\ ", b"`", b"`timescale", b"module", b"\x00", b"\x7f", b"\xff")
-    for scale in (b"1ns/1ns", b"1 ns / 1 ns", b"100s/1fs", b"1ns", b"1000ns/1ns", b"1ns/1nsx", b"1/*c*/ns//d\n/(*e*)1 s", b"1ns//*c*/1ns",
-                  b"1ns/1ns(*)", b"2ns/1ns", b"1NS/1ns", b"10us/10us`timescale 10 us/1ns", b"1ns/1ns`timescale 1ps/1ns", b"1\xffns/1ns",
-                  b"1ns/1ns module m; `timescale 1ns/1ns endmodule", b"1ns/1ns module m; `timescale 1ps/1ns endmodule"):  # fmt: skip
+    yield from (b"", b"\n\n", b"//", b"/*", b"(*", b"(*)", b"/*/", b"\\", b"\\ ", b"`", b"`timescale", b"module", b"\x00")
+    yield from (b"\x7f", b"\xff", b"module\x80m;")
+    for scale in parts(SCALES):
         yield b"`timescale " + scale + b" module k; endmodule"
         yield b"`timescale" + scale + b"\nmodule k; endmodule"
     yield b"module m; `timescale 1ns/1ns endmodule `timescale 1ps/1ns"
     yield b"module m; endmodule `timescale 1ps/1ns `timescale 1 ps/10ns `timescale 10ps/1ns"
-    for body in (b"and", b"and /*", b"and \xff", b"and \\", b"and g", b"and # ", b"and #\xff", b"and #(1", b"and #(1,2,3) g(y,a);", b"and #1.5 g(y,a);",
-                 b"and #1 (y);", b"and #1 (1'b0);", b"and #1 g(1'b0, y), g(y,a);", b"and #1 g(y, a), g(y, a);", b"and #1 (y, q[0]);",
-                 b"buf #1 (y, 1'b0, a);", b"buf #1 \\$1 (y,a), (y,a);", b"buf #1 (y,a), \\$1 (y,a);", b"buf #1 g$1(y,a), g(y,b,a);",
-                 b"buf #1 g(y,b,a), g$2(y,a);", b"buf #1 (y,b,a), (y,a);", b"buf #1 \\$1$1 (y,a), (y,b,a);", b"buf #1 \\$2 (y,a), (b,a), (b,a);",
-                 b"wire y;", b"wire y; wire y;", b"input a;", b"wire q; input q;", b"output wire", b"wire [1:0] w; not #1 (w, a);",
-                 b"wire [1:0] w; not #1 (w /*", b"wire [1:0] w; not #1 (w w", b"wire [1:0] w; not #1 (w[2], a);", b"wire [1:0] w; not #1 (w[0], a[0]);",
-                 b"wire [1:0] w; not #1 (w[65536], a);", b"wire [1:0] w; not #1 (w[x], a);", b"wire [1:0] w; wire \\w[0] ;",
-                 b"wire \\w[0] ; wire [1:0] w;", b"not #1 (y, \\w[0] ); wire [1:0] w;", b"wire [1:0] w; not #1 (y, \\w[1] );",
-                 b"wire [1:0] \\w[0] ; wire [1:0] w;", b"wire [1:0] w; wire [1:0] \\w[0] ;", b"wire [1:0] w; wire \\w[2] , \\w[01] ;",
-                 b"not #1 (y, q); wire q;", b"k u(q); wire q;", b"k u(q[0]);", b"k u(1'b0, 1'b1,);", b"k u;", b"k u(.a(), b);",
-                 b"k u(a, .b());", b"k #(1) u();", b"k u(), u();", b"and #1 u(y, a); k u();", b"k g(); and #1 g(y, a);", b"\\and g(y, a);",
-                 b"k (a);", b"reg q;", b"assign y = a;", b"1 x;", b"1'b0;", b"(y);", b"wire \\$end ;", b"wire \\a.b , \xff;", b"wire \\a'b ;",
-                 b"wire \\wire , wire;", b"wire $a;", b"wire _, _$, \\_ ;", b"wire \\a ;", b"wire (* c *) q (* d *) ; (* e", b"wire [1:0] [1:0] q;",
-                 b"wire [0:0] q; not #1 (q, a);", b"wire [0:0] q; not #1 (q[0], a);", b"wire [1] q;", b"wire [-1:0] q;", b"wire [1:1'b0] q;",
-                 b"buf #1 (y);", b"buf #1 ();", b"bufif1 #1 (y,a);", b"xor #1 (y,a,);", b"endmodule", b"endmodule;", b"module k;",
-                 b"xor #(2)(y,a)", b"xor #(2,)(y,a);", b"not #1 (a, y);", b"not #1 (y, a) (y, a);", b";", b"output y;", b"k u(1'b0[0]);"):  # fmt: skip
+    for body in parts(BODIES):
         yield in_module(body)
         yield b"module k; endmodule " + in_module(body)
     yield from odd_headers()
@@ -135,28 +123,19 @@ def words():
 
 
 def odd_headers():
-    for module in (b"m", b"m()", b"m(a)", b"m(a);", b"m(a,a);", b"m(a,);", b"m(,a);", b"m(a, input b);", b"m(input a, b, output wire c, d);", b"m(input a, a);",
-                   b"m(); input a;", b"m; input a;", b"m; output wire a;", b"m(input a); output b;", b"m(input a); input a;", b"m(input a); wire a;",
-                   b"m(input wire a); wire a;", b"m(input tri a, b); wand b;", b"m(input [1:0] a); wire a;", b"m(input [1:0] a); wire [0:1] a;",
-                   b"m(input [1:0] a); wire [1:0] a;", b"m(a); wire a;", b"m(a); wire [1:0] a; input a;", b"m(a); wand a; input wire a;",
-                   b"m(a); input b;", b"m(a); input a; input a;", b"m(a); not #1 (a, a); input a;", b"m(a); not #1 (a, a); wire a;", b"m(a); not #1 (a, a);",
-                   b"m(a); input \\a.b ;", b"m(a); input a, \\b ;", b"m(a, \\a[0] ); input [1:0] a; input \\a[0] ;", b"m(a, \\a[0] ); input \\a[0] ; input [1:0] a;",
-                   b"m(\\a[0] , a); input [1:0] a;", b"m(input [1:0] a, \\a[0] );", b"m(input \\a[0] , input [1:0] a);", b"m(input wire [1:0] a, b, output c);",
-                   b"m(input [65536:0] a);", b"m(input [0:0] a); wire [0:0] a;", b"m(wire a);", b"m(inout a);", b"m(input reg a);", b"m(input [1:0]);",
-                   b"m(input a,);", b"m(a b);", b"m(input and);", b"m #(1) (a);", b"m(a) /*", b"m(.a(b));", b"m([1:0] a);", b"m(input output a);"):  # fmt: skip
+    for module in parts(HEADERS):
         for rest in (b"", b";", b" endmodule", b"; endmodule"):
             yield b"module " + module + rest
 
 
 def joined():
     """Modules and what is connected: each fault of the later passes, and two at once."""
-    for top in (b"k u();", b"k u(a);", b"k u(a,y);", b"k u(a,y,a);", b"k u(,y);", b"k u(.p(a));", b"k u(.p(a),.p());", b"k u(.o(a));", b"k u(.q(a),.o());",
-                b"k u(w);", b"k u(.p(w[0]), .q(y));", b"k u(1'b0, y);", b"k u(a, 1'b0);", b"k u(w, 1'b0);", b"k u(1'bx, w);", b"k u(.q(1'b0), .p(w));",
-                b"o u();", b"o u(), v(); k w2(a,y,y,y);", b"k u(a,y); k v(y,y);", b"k u(n, n);", b"k u(y, a);", b"m u();"):  # fmt: skip
-        for inner in (b"input p, output q", b"input [1:0] p, output q", b"input wand p, output wor q", b"input [0:0] p, output tri q", b""):
-            for body in (b"", b"not #1 (q, p);", b"not #1 (p, p);"):
-                text = b"module k(%s); %s endmodule\n" % (inner, body if inner and b":" not in inner else b"")
-                yield text + b"module m(input a, output y);\nwire [1:0] w;\n" + top + b"\nendmodule\n"
+    for top, inner in product(parts(TOPS), parts(INNER)):
+        rest = b"module m(input a, output y);\nwire [1:0] w;\n" + top + b"\nendmodule\n"
+        yield b"module k(%s); endmodule\n" % inner + rest
+        if inner and b":" not in inner:
+            yield from (b"module k(%s); not #1 (%s, p); endmodule\n" % (inner, output) + rest for output in (b"q", b"p"))
+    yield b"module k; endmodule\nmodule m; k u(); endmodule"
     yield b"module a; b u(); endmodule module b; a u(); endmodule"
     yield b"module t; b u(); endmodule module b; c u(); endmodule module c; b u(); endmodule"
     yield b"module a; endmodule module b; endmodule"
@@ -167,16 +146,14 @@ def joined():
 
 def passed_on():
     """Ports that are connected through a module between."""
-    for kind in (b"", b"wand", b"tri", b"triand"):
-        for outer in (b"wire", b"wand", b"wor"):
-            for driver in (b"", b"not #1 (p, a);"):
-                yield (b"module l(inout_ %s p, input a); %s endmodule\n" % (kind, driver)).replace(b"inout_", b"output") + (
-                    b"module k(output p, input a); l u(p, a); endmodule\nmodule m(input a);\n%s n; k u(n, a); endmodule\n" % outer
-                )
-    for given in (b"1'b0", b"a", b"n", b""):
-        for direction in (b"input", b"output"):
-            yield b"module l(output p); not #1 (p, p); endmodule\nmodule k(%s p); l u(p); endmodule\nmodule m(input a);\nk u(%s); endmodule\n" % (direction, given)
-            yield b"module l(input p); buf #1 (q, p); endmodule\nmodule k(%s p); l u(p); endmodule\nmodule m(input a);\nk u(%s); endmodule\n" % (direction, given)
+    for kind, outer, driver in product((b"", b"wand", b"tri", b"triand"), (b"wire", b"wand", b"wor"), (b"", b"not #1 (p, a);")):
+        inner = b"module l(output %s p, input a); %s endmodule\n" % (kind, driver)
+        between = b"module k(output p, input a); l u(p, a); endmodule\n"
+        yield inner + between + b"module m(input a);\n%s n; k u(n, a); endmodule\n" % outer
+    drives, reads = b"module l(output p); not #1 (p, p); endmodule\n", b"module l(input p); buf #1 (q, p); endmodule\n"
+    for inner, direction, given in product((drives, reads), (b"input", b"output"), (b"1'b0", b"a", b"n", b"")):
+        between = b"module k(%s p); l u(p); endmodule\n" % direction
+        yield inner + between + b"module m(input a);\nk u(%s); endmodule\n" % given
 
 
 def sessions():
@@ -190,11 +167,11 @@ def sessions():
         name = b"n" * length
         yield b"input %s\nstim %s 1 1\ngate %s not 1 1 y %s\nvcd\nhold %s\nat %s vcd\nwave %s\ndrop %s\n" % ((name,) * 8)
     for length in (4095, 4096, 4097):
-        yield b"".join(begin.ljust(length) + end for begin in (b"vcd", b"", b"#", b"\xff") for end in (b"\n", b"\r\n", b"\r\r\n"))
+        lines = product((b"vcd", b"", b"#", b"\xff"), (b"\n", b"\r\n", b"\r\r\n"))
+        yield b"".join(begin.ljust(length) + end for begin, end in lines)
         yield b"vcd".ljust(length)
-    for number in (b"0", b"5", b"6", b"1000000000", b"1000000001", b"18446744073709551615", b"18446744073709551616", b"9" * 4000):
-        yield b"".join(line.replace(b"%s", number) + b"\n" for line in (b"stim a %s 1", b"unstim a %s", b"value y %s", b"next a %s", b"prev a %s", b"seek a %s 1",
-                                                         b"delay g %s 1", b"delay g 1 %s", b"horizon %s", b"stim a %s 0", b"next a 4", b"vcd"))  # fmt: skip
+    for number in parts(NUMBERS):
+        yield b"".join(line.replace(b"<N>", number) + b"\n" for line in parts(NUMBERED))
     for count in (0, 1, 63, 64, 65):
         yield b"gate h nor 1 2 y%s\nwire g y%s\ntype g and\nwire g y%s\nstim a 2 1\nvcd\n" % ((b" a" * count,) * 3)
     yield b"net n wire\nnet o wire\ninput p\nnet q wand\ndropnet n\nnet n wor\nnet r wire\nvcd\n"

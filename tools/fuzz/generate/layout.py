@@ -9,10 +9,11 @@ SPACES = [" "] * 24 + ["\n"] * 8 + ["\t", "\r\n", "\f", "  \n", "// c\n", "/* c 
 TOKENS = """
     module endmodule input output wire tri wand triand wor trior tri0 tri1 and or xor nand nor xnor buf not bufif1 bufif0 notif1
     notif0 ( ( ) ) , , ; ; . # [ ] : a b c y g u v m k 0 1 2 3 10 65535 65536 1000000 1000001 4294967295 4294967296 007 1_0
-    1'b0 1'b1 1'bx 1'bz 1'BX 1'b2 2'b0 assign always reg initial inout supply0 parameter nmos tran pullup trireg = + { } ? ' " @ ` \\
+    1'b0 1'b1 1'bx 1'bz 1'BX 1'b2 2'b0 assign always reg initial inout supply0 parameter nmos tran pullup = + { } ? ' " @ ` \\
     \\a \\a[0] \\a.b \\$end \\module \\$1 \\g$1 $1 a$1 g$1 _ `timescale `define (* *) /* */ // (*) /*/ \\\\ é
 """.split()
-TOKENS += VERILOG.split()[::3] + ["`timescale 1ns/1ps", "`timescale 10 us / 1 us", "`timescale 1ns / 1", "`timescale 2ns/1ns", "99999999999999999999"]
+TOKENS += ["`timescale 1ns/1ps", "`timescale 10 us / 1 us", "`timescale 1ns / 1", "`timescale 2ns/1ns", "99999999999999999999"]
+TOKENS += VERILOG.split()[::3]
 BYTES = [0, 1, 8, 9, 10, 11, 12, 13, 27, 32, 33, 36, 39, 40, 41, 42, 44, 46, 47, 48, 58, 59, 91, 92, 93, 96, 126, 127, 128, 255]
 WORDLIKE = re.compile(r"[A-Za-z0-9_$'`]")
 

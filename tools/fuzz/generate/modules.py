@@ -2,9 +2,13 @@
 from dataclasses import dataclass, field
 from typing import Any, List, Optional, Tuple
 
+from reading.tables import NETS
+
 GATES = {"and": 3, "or": 3, "xor": 3, "nand": 3, "nor": 3, "xnor": 3, "buf": 1, "not": 1, "bufif1": 2, "bufif0": 2, "notif1": 2,
          "notif0": 2}  # fmt: skip
-KINDS = ["wire", "wire", "wire", "tri", "wand", "triand", "wor", "trior"]
+# Kinds of nets; those that each net may be connected to stand first, and ports have them mostly.
+KINDS = ["wire", "wire", "wire", *NETS]
+JOINED = 5
 NAMES = ["a", "b", "c", "d", "e", "f", "n1", "n2", "\\+", "\\a[0]", "_x", "y$", "\\1", "\\$2", "\\wire", "\\n[2]", "q"]
 # Names that no net may have, and the longest ones.
 BAD_NAMES = ["\\a.b", "\\a'b", "\\$end", "\\.", "x" * 1024, "\\" + "x" * 1024, "x" * 1025, "\\" + "y" * 1025]
@@ -84,7 +88,7 @@ class Maker:
             low = self.pick([0, 0, 0, 1, 2, 7])
             bounds = (low, low + self.rng.randrange(4))
             bounds = bounds if self.often(0.4) else bounds[::-1]
-        kinds = KINDS if not direction or self.often(0.15) else KINDS[:4]
+        kinds = KINDS if not direction or self.often(0.15) else KINDS[:JOINED]
         kind = self.pick(kinds) if self.often(0.25) else ""
         made = Signal(self.name(), bounds, kind, direction)
         self.signals.append(made)
@@ -132,18 +136,21 @@ class Maker:
 
     # Items.
 
-    def delays(self):
+    def delays(self, kind):
         if self.often(0.35 if self.delay else self.slips):
             return []
         one, two = (self.pick([1, 1, 2, 3, 4, 5, 7, 10]) for _ in "rf")
         if self.slip():
             two = self.pick([0, 1000000, 1000001, 4294967296, 12])
         text = self.pick([str(one), str(one), f"0{one}", f"{one}_"])
-        return self.pick([["#", text], ["#", "(", text, ")"], ["#", "(", text, ",", str(two), ")"]])
+        off = [",", str(two), ",", str(self.pick([1, 2, 3, 6, 9]))]
+        if self.often(0.4) if GATES[kind] == 2 else self.slip():
+            return ["#", "(", text, *off, ")"]
+        return self.pick([["#", text], ["#", "(", text, ")"], ["#", "(", text, *off[:2], ")"]])
 
     def gate(self):
         kind = self.pick(list(GATES))
-        tokens = [kind, *self.delays()]
+        tokens = [kind, *self.delays(kind)]
         for number in range(self.pick([1, 1, 1, 2, 3])):
             tokens += [","] if number else []
             tokens += [spell(self.gate_name())] if self.often(0.6) else []
@@ -199,7 +206,8 @@ class Maker:
     # Modules.
 
     def module(self, name, lower):
-        made = Made(name, [self.signal(self.pick(["input", "input", "output"])) for _ in range(self.pick([0, 1, 2, 3, 3, 4, 5]))])
+        directions = [self.pick(["input", "input", "output"]) for _ in range(self.pick([0, 1, 2, 3, 3, 4, 5]))]
+        made = Made(name, [self.signal(it) for it in directions])
         form = self.pick(["inline", "inline", "older"])
         body = self.items(lower)
         if form == "inline":

@@ -7,9 +7,10 @@ from .words import Words
 # The last moment of the run of a design in which a gate's output comes back to its input.
 LOOP_HORIZON = 150
 ENDS = ["\r", " ", "\t", " \r", "  x", "\r\r"]
-ODD_LINES = ["", " ", "\t", "#", "# quit", " # \x80\xff", "quit now", "begin 1", "commit x", "vcd 1", "at", "at s", "at s at s wave a",
-             "at s quit", "hold", "hold a b", "free", "frob", "Wave a", "\r", "\rvcd", "wave", "stim a 0", "\xe9", "\x00", "wire g",
-             "wire g0 a", "gate", "at s drop g0", "next a", "net a", "kind a", "#" * 4097, " " * 4097, "\x7f"]  # fmt: skip
+ODD_LINES = ["", " ", "\t", "#", "# quit", " # \x80\xff", "quit now", "begin 1", "commit x", "vcd 1", "at", "at s",
+             "at s at s wave a", "at s quit", "hold", "hold a b", "free", "frob", "Wave a", "\r", "\rvcd", "wave", "stim a 0",
+             "\xe9", "\x00", "wire g", "wire g0 a", "gate", "at s drop g0", "next a", "net a", "kind a", "\x7f", "#" * 4097,
+             " " * 4097]  # fmt: skip
 
 
 class TooLong(Exception):
@@ -42,11 +43,8 @@ class Lines:
     def __init__(self, rng, design, horizon):
         self.rng, self.session = rng, Session(design, horizon, guard)
         self.words = Words(rng, self.session, max(3, min(horizon, 60)))
-        self.verbs = {
-            "net": self.net, "input": self.input, "dropnet": self.dropnet, "kind": self.kind, "gate": self.gate, "drop": self.drop,
-            "delay": self.delay, "type": self.type, "wire": self.wire, "stim": self.stim, "unstim": self.unstim,
-            "horizon": self.horizon,
-        }  # fmt: skip
+        verbs = "net", "input", "dropnet", "kind", "gate", "drop", "delay", "type", "wire", "stim", "unstim", "horizon"
+        self.verbs = {verb: getattr(self, verb) for verb in verbs}
         self.edits = [*self.verbs, "gate", "gate", "wire", *["stim"] * 9]
 
     # The words behind the verb of an edit.

@@ -1,14 +1,14 @@
 """Words of commands over a design: mostly ones that fit it."""
-from reading.tables import GATES, NETS
+from reading.tables import GATES, MAX_DELAY, MAX_TIME, MAX_WORD, NETS
 
 CONSTANTS = ["1'b0", "1'b1", "1'bx", "1'bz"]
 NEW_NAMES = ["a", "b", "p", "q", "r", "u.t", "u.s", "u.v.t", "w[0]", "w[1]", "g0", "g1", "h", "k1"]
 ODD_NAMES = [".", "a..b", "$end", "u.$end", "a'b", "x'", "\\a", "#", "z" * 1024, "z" * 1025, "none", "1'b0", "1'bX", "$end.x"]
 # Numbers near the limits of times and delays.
-EDGES = ["0", "00", "1000000", "1000001", "999999999", "1000000000", "1000000001", "18446744073709551615", "18446744073709551616",
-         "99999999999999999999999", "4294967296", "0000000000000000000000000000005"]  # fmt: skip
+LIMITS = [str(it + off) for it in (MAX_DELAY, MAX_TIME, MAX_WORD) for off in (-1, 0, 1)]
+EDGES = [*LIMITS, "0", "00", "4294967296", "99999999999999999999999", "0000000000000000000000000000005"]
 UNREADABLE = ["-1", "+1", "1.5", "x", "1_0", "0x1"]
-HORIZONS = ["5", "20", "40", "60", "1000", "100000", "1000000000"]
+HORIZONS = ["5", "20", "40", "60", "1000", "100000", str(MAX_TIME)]
 
 
 class Words:
@@ -57,7 +57,8 @@ class Words:
         return self.time() if self.often(0.6) else self.pick(HORIZONS)
 
     def delays(self):
-        return [self.pick("1112234589") if self.often(0.95) else self.pick(EDGES + UNREADABLE) for _ in "rf"]
+        rise, fall, off = (self.pick("1112234589") if self.often(0.95) else self.pick(EDGES + UNREADABLE) for _ in "rfz")
+        return [rise, f"{fall}/{off}" if self.often(0.2) else fall if self.often(0.98) else self.pick([f"{fall}/", f"/{off}", "1/2/3"])]
 
     def value(self):
         return self.pick("01xz") if self.often(0.98) else self.pick(["X", "1'b0", "2", "Z"])

@@ -2,7 +2,7 @@
 from dataclasses import replace
 
 from .design import Gate, Net
-from .tables import MAX_DELAY, MAX_GATES, MAX_NAME, MAX_NETS, MAX_POINTS, MAX_TIME, Refused, fits
+from .tables import MAX_DELAY, MAX_GATES, MAX_NAME, MAX_NETS, MAX_POINTS, MAX_TIME, TURN_OFF, Refused, fits
 
 
 def check(holds, cause):
@@ -25,6 +25,10 @@ def check_new(name, there, most):
 def check_delays(delays):
     check(0 not in delays, "ZeroDelay")
     check(max(delays) <= MAX_DELAY, "DelayTooLarge")
+
+
+def check_turn_off(word, delays):
+    check(len(delays) == 2 or word in TURN_OFF, "NoTurnOff")
 
 
 def check_wires(design, output, inputs):
@@ -69,6 +73,7 @@ def kind(design, name, word):
 def gate(design, name, word, delays, output, inputs):
     check_new(name, design.gates, MAX_GATES)
     check_delays(delays)
+    check_turn_off(word, delays)
     check(fits(word, len(inputs)), "WrongArity")
     check_wires(design, output, inputs)
     return with_gate(design, name, Gate(word, delays, output, inputs))
@@ -82,12 +87,14 @@ def drop(design, name):
 def delay(design, name, delays):
     check(name in design.gates, "UnknownGate")
     check_delays(delays)
+    check_turn_off(design.gates[name].kind, delays)
     return with_gate(design, name, replace(design.gates[name], delays=delays))
 
 
 def type(design, name, word):
     check(name in design.gates, "UnknownGate")
     check(fits(word, len(design.gates[name].inputs)), "WrongArity")
+    check_turn_off(word, design.gates[name].delays)
     return with_gate(design, name, replace(design.gates[name], kind=word))
 
 

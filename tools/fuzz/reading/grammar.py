@@ -1,6 +1,6 @@
 """The first pass over a design text: token by token, what it says of each module, or its first fault."""
 from .modules import Gate, Instance, Module, Net, Terminal, Text
-from .tables import GATES, MANY_OUTPUTS, MAX_BOUND, MAX_DELAY, MAX_NAME, NETS, Fault, fits
+from .tables import GATES, MANY_OUTPUTS, MAX_BOUND, MAX_DELAY, MAX_NAME, NETS, TURN_OFF, Fault, fits
 from .tokens import tokens
 
 NAMES = ("NAME", "ESCAPED")
@@ -192,22 +192,24 @@ class Reader:
             raise Fault("DelayTooLarge" if self.next.says else "ZeroDelay", self.next.place)
         return self.take_kind("NUMBER").says
 
-    def delays(self):
+    def delays(self, most):
+        """Takes one delay, or up to so many between brackets; one is rise and fall."""
         if not self.at("("):
             return (self.delay(),) * 2
         self.step()
-        rise = fall = self.delay()
-        if self.take(",", ")") == ",":
-            fall = self.delay()
-            self.take(")")
-        return rise, fall
+        delays = [self.delay()]
+        while len(delays) < most and self.at(","):
+            self.step()
+            delays.append(self.delay())
+        self.take(")")
+        return tuple(delays) if len(delays) > 1 else (delays[0],) * 2
 
     def gates(self):
         word = self.step()
         delays = (self.default_delay,) * 2
         if self.at("#"):
             self.step()
-            delays = self.delays()
+            delays = self.delays(3 if word.says in TURN_OFF else 2)
         elif not self.default_delay:
             raise Fault("ZeroDelay", word.place)
         self.listed(lambda: self.gate(word.says, delays), ";")

@@ -82,7 +82,8 @@ def terminal(word):
 
 
 def delays(rise, fall):
-    return number(rise), number(fall)
+    fall, mark, off = fall.partition("/")
+    return (number(rise), number(fall), *([number(off)] if mark else []))
 
 
 net_kind, gate_kind, of_value = one_of(NETS), one_of(GATES), one_of(tuple(VALUES))

@@ -9,7 +9,7 @@ MAX_NAME = 1_024
 MAX_NUMBER = 4_294_967_295
 MAX_BOUND = 65_535
 MAX_DELAY = 1_000_000
-MAX_TIME = 1_000_000_000
+MAX_TIME = 1_099_511_627_776
 MAX_NETS = 65_536
 MAX_GATES = 65_536
 MAX_POINTS = 1_048_576
@@ -70,6 +70,8 @@ GATES = {
 }
 # The kinds that may have several outputs in a text: all but the last terminal.
 MANY_OUTPUTS = ("buf", "not")
+# The kinds that may have a turn-off delay.
+TURN_OFF = ("bufif1", "bufif0", "notif1", "notif0")
 
 
 def output_of(kind, inputs):
@@ -89,6 +91,8 @@ NETS = {
     "triand": ("and", "z"),
     "wor": ("or", "z"),
     "trior": ("or", "z"),
+    "tri0": ("equal", "0"),
+    "tri1": ("equal", "1"),
 }
 # Of each rule which value wins where several are there; without one it is x.
 WINNERS = {"equal": "", "and": "0x", "or": "1x"}
@@ -111,8 +115,9 @@ def is_joined(port, net):
 
 
 def delay_to(value, delays):
-    """How long a change to a value takes, of the delays of a gate: rise, fall."""
-    return delays["01".index(value) ^ 1] if value in "01" else min(delays)
+    """How long a change to a value takes, of the delays of a gate: rise, fall, and the turn-off delay where it has one."""
+    rise, fall, *off = delays
+    return {"1": rise, "0": fall, "z": off[0] if off else min(rise, fall), "x": min(delays)}[value]
 
 
 # The words of a text that it uses, beside the kinds of gates and of nets.
@@ -145,6 +150,7 @@ CAUSES = {
     1: "UnknownNet", 2: "UnknownGate", 3: "DuplicateName", 4: "BadName", 5: "ZeroDelay", 6: "DelayTooLarge", 7: "WrongArity",
     8: "DrivenInput", 9: "NotInput", 10: "NetInUse", 11: "TimeTooLarge", 12: "NoSuchPoint", 13: "TooMany", 16: "BadCommand",
     17: "LongLine", 18: "UnknownHold", 19: "NoBatch", 20: "InBatch",
+    21: "NoTurnOff",
 }  # fmt: skip
 CODES = {name: code for code, name in CAUSES.items()}
 
