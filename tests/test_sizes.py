@@ -65,7 +65,8 @@ class Commands(Gatebench):
         commands = printed = ""
         for version, size in enumerate(sizes):
             commands += "begin\n" + "".join(f"stim a {place} {place % 2}\n" for place in range(size)) + "commit\nvalue a 0\n"
-            printed += f"ok {version}\n" * (size + 1) + f"ok {version + 1}\n" + ("0\n" if version else "x\n") + f"ok {version + 1}\n"
+            value = "0" if version else "x"
+            printed += f"ok {version}\n" * (size + 1) + f"ok {version + 1}\n{value}\nok {version + 1}\n"
         self.check(commands, printed)
 
     def test_held_snapshots(self) -> None:
