@@ -1,13 +1,12 @@
 """A case: a design text, the words of the command line and the commands; and what the reading answers to it."""
 from functools import lru_cache
+from importlib import import_module
 from typing import NamedTuple, Optional, Tuple
 
 from generate.sessions import TooLong, guard
-from reading import spelled
-from reading.session import Session
-from reading.tables import Fault
 
 USUAL_HORIZON = 1000
+READING = "reading"
 
 
 class Answer(NamedTuple):
@@ -19,11 +18,12 @@ class Answer(NamedTuple):
 
 
 @lru_cache(maxsize=4)
-def reading_of(text, delay):
-    """The design that a text spells, or its fault."""
+def spelled_by(reading, text, delay):
+    """The design that a text spells by a reading, or its fault."""
+    spelled = import_module(f"{reading}.spelled")
     try:
         return spelled.read(text, delay)
-    except Fault as fault:
+    except spelled.Fault as fault:
         return fault
 
 
@@ -41,17 +41,21 @@ class Case(NamedTuple):
     def horizon(self):
         return self.option("--horizon", USUAL_HORIZON)
 
+    def found(self, reading):
+        return spelled_by(reading, self.text, self.option("--delay", None))
+
     def design(self):
         """The design of its text, or nothing."""
-        found = reading_of(self.text, self.option("--delay", None))
-        return None if isinstance(found, Fault) else found
+        found = self.found(READING)
+        return None if isinstance(found, Exception) else found
 
-    def answer(self) -> Optional[Answer]:
-        """What the reading answers; nothing where the run would take too long."""
-        found = reading_of(self.text, self.option("--delay", None))
-        if isinstance(found, Fault):
-            return Answer(1, b"", spelled.refusal(self.text, found))
+    def answer(self, reading=READING) -> Optional[Answer]:
+        """What a reading answers, by the name of its package; nothing where the run would take too long."""
+        found = self.found(reading)
+        if isinstance(found, Exception):
+            return Answer(1, b"", import_module(f"{reading}.spelled").refusal(self.text, found))
+        session = import_module(f"{reading}.session")
         try:
-            return Answer(0, Session(found, self.horizon(), guard).replies(self.commands), b"")
+            return Answer(0, session.Session(found, self.horizon(), guard).replies(self.commands), b"")
         except TooLong:
             return None
