@@ -300,8 +300,9 @@ def one_line(size: int) -> Lines:
 def all_limits_text(size: int) -> Lines:
     """Nets, gates and bytes of a text up to their limits (at the full size): a row of buffers behind one input."""
     yield "module m(input a, b);\nbuf #1000000 g(y0, a);"
-    yield from (f"buf #(1,1000000) {'g' * 26}{place:05}(y{place:05}, y{place - 1 if place > 1 else 0:05});" if place > 1 else
-                f"buf #(1,1000000) {'g' * 26}{place:05}(y{place:05}, y0);" for place in range(1, size - 2))  # fmt: skip
+    for place in range(1, size - 2):
+        before = f"y{place - 1:05}" if place > 1 else "y0"
+        yield f"buf #(1,1000000) {'g' * 22}{place:05}(y{place:05}, {before});"
     yield "endmodule"
 
 
@@ -335,7 +336,7 @@ SLOW: List[Slow] = [
     Slow("ports by name", "ports", ports_by_name, nothing, 65_000, 8_000),
     Slow("points of one input, in batches", "points", a_buffer, lambda size: in_batches(points(size)), 1_048_576, 8_192),
     Slow("points of one input, in batches, far horizon", "points", a_buffer, lambda size: [f"horizon {MAX_TIME}", *in_batches(points(size))],
-         1_048_576, 2_048),
+         1_048_576, 16_384),
     Slow("points of one input, alone", "points", a_buffer, points, 1_048_576, 1_024),
     Slow("points of one input, alone, far horizon", "points", a_buffer, far_points, 65_536, 256),
     Slow("points of one input, alone, the last first", "points", a_buffer, backward_points, 65_536, 256),
@@ -346,13 +347,13 @@ SLOW: List[Slow] = [
     Slow("bufif1 to one net, one enable", "gates", three_state, edits_of_three_state, 65_000, 1_024),
     Slow("drivers of one net in turns", "gates", drivers_in_turns, points_in_turns, 65_000, 256),
     Slow("drivers of one net in turns, from scratch", "gates", drivers_in_turns, lambda size: [*points_in_turns(size)][1:] + [f"horizon {3 * size}"],
-         65_000, 256),
+         65_000, 1_024),
     Slow("readers of one net, 66 edits", "gates", readers, edits_of_readers, 65_000, 512),
     Slow("a row of buffers", "gates", row_of_buffers, edits_of_a_row, 65_535, 1_024),
-    Slow("seeks that find nothing", "changes and seeks", a_buffer, seeks, 65_536, 4_096),
+    Slow("seeks that find nothing", "changes and seeks", a_buffer, seeks, 65_536, 8_192),
     Slow("looks at a wave", "changes and looks", a_buffer, looks, 262_144, 4_096),
-    Slow("nets come and go, alone", "nets", a_pin, nets_come_and_go, 65_535, 256),
-    Slow("gates come and go, alone", "gates", a_pin, gates_come_and_go, 65_535, 256),
+    Slow("nets come and go, alone", "nets", a_pin, nets_come_and_go, 65_535, 512),
+    Slow("gates come and go, alone", "gates", a_pin, gates_come_and_go, 65_535, 512),
     Slow("64 held versions", "gates", readers, holds, 20_000, 128),
     Slow("a line without an end", "bytes", a_pin, one_line, 67_108_864, 1_048_576, refused="no 17 LongLine"),
     Slow("all limits at once", "gates", all_limits_text, all_limits, 65_530, 128),
