@@ -2,7 +2,7 @@
 from itertools import product
 
 from case import Case
-from reading.tables import VERILOG
+from reading.tables import GATES, VERILOG
 
 from .parts import BODIES, HEADERS, INNER, NUMBERED, NUMBERS, SCALES, TOPS, parts
 
@@ -67,9 +67,8 @@ def sizes():
 
 
 def counts():
-    for count in (1, 63, 64, 65):
-        for kind in (b"and", b"xnor", b"buf", b"bufif1"):
-            yield in_module(b"%s #1 g(y, %s);" % (kind, b", ".join([b"a"] * count)))
+    for kind, count in product(GATES, (1, 2, 3, 63, 64, 65)):
+        yield in_module(b"%s #1 g(y, %s);" % (kind.encode(), b", ".join([b"a"] * count)))
     yield in_module(b"buf #1 g(%s, a);" % listed(b"n%d", 70))
     for delay in (b"0", b"1", b"1000000", b"1000001", b"4294967295", b"4294967296", b"9" * 5000, b"0_", b"0" * 5000 + b"1"):
         yield in_module(b"not #%s g(y, a);" % delay)

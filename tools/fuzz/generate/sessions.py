@@ -63,21 +63,26 @@ class Lines:
 
     def gate(self):
         kind = self.words.gate_kind()
-        return [self.words.new(), kind, *self.words.delays(), self.words.output(), *self.words.inputs(kind)]
+        return [self.words.new(), kind, *self.words.delays(kind), self.words.output(), *self.words.inputs(kind)]
 
     def drop(self):
         return [self.words.gate()]
 
     def delay(self):
-        return [self.words.gate(), *self.words.delays()]
+        name = self.words.gate()
+        return [name, *self.words.delays(self.kind_of(name))]
 
     def type(self):
         return [self.words.gate(), self.words.gate_kind()]
 
     def wire(self):
         name = self.words.gate()
+        return [name, self.words.output(), *self.words.inputs(self.kind_of(name))]
+
+    def kind_of(self, name):
+        """The kind of a gate that is there, or any."""
         there = self.words.design().gates.get(name)
-        return [name, self.words.output(), *self.words.inputs(there.kind if there else "and")]
+        return there.kind if there else "and"
 
     def stim(self):
         return [self.words.input(), self.words.time(), self.words.value()]

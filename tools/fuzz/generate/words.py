@@ -1,5 +1,5 @@
 """Words of commands over a design: mostly ones that fit it."""
-from reading.tables import GATES, MAX_DELAY, MAX_TIME, MAX_WORD, NETS
+from reading.tables import GATES, MAX_DELAY, MAX_TIME, MAX_WORD, NETS, TURN_OFF
 
 CONSTANTS = ["1'b0", "1'b1", "1'bx", "1'bz"]
 NEW_NAMES = ["a", "b", "p", "q", "r", "u.t", "u.s", "u.v.t", "w[0]", "w[1]", "g0", "g1", "h", "k1"]
@@ -56,9 +56,12 @@ class Words:
     def horizon(self):
         return self.time() if self.often(0.6) else self.pick(HORIZONS)
 
-    def delays(self):
+    def delays(self, kind):
+        """Delays of a gate of this kind."""
         rise, fall, off = (self.pick("1112234589") if self.often(0.95) else self.pick(EDGES + UNREADABLE) for _ in "rfz")
-        return [rise, f"{fall}/{off}" if self.often(0.2) else fall if self.often(0.98) else self.pick([f"{fall}/", f"/{off}", "1/2/3"])]
+        if self.often(0.5 if kind in TURN_OFF else 0.06):
+            fall = f"{fall}/{off}" if self.often(0.97) else self.pick([f"{fall}/", f"/{off}", "1/2/3"])
+        return [rise, fall]
 
     def value(self):
         return self.pick("01xz") if self.often(0.98) else self.pick(["X", "1'b0", "2", "Z"])
