@@ -9,7 +9,7 @@ use crate::compare::equal;
 use bench::CommitFault;
 use crossbeam_channel::Sender;
 use edits::{Edit, EditFault};
-use fourstate::Value;
+use fourstate::{DelayTimes, Value};
 use gatestep::Serial;
 use hub::{Editor, Hub, HubName, Receipt};
 use std::alloc::Global;
@@ -74,8 +74,7 @@ fn is_rise(edit: &Edit, editor: usize, count: u64) -> bool {
         Edit::SetDelay { name, delays } => {
             editor < 2
                 && name.as_str() == BUFFERS[editor]
-                && delays.rise == rise_after(count)
-                && delays.fall == DELAY
+                && *delays == DelayTimes::new(rise_after(count), DELAY)
         }
         _ => false,
     }
