@@ -1,5 +1,5 @@
 -- What a run beside an old one has asked of its stepper, and what it promises where it ends.
-use Rattle.std.proofs.Common.{◌≡◌, ◌≤◌, ◌∙◌, ap, sym, subst, refl, ℕ, suc, List, [], ◌∷◌, ◌+◌, ◌++◌, append_assoc, map, Result, Ok, Err, OnErr, if◌then◌else◌, inl, inr, arith}
+use Rattle.std.proofs.Common.{◌≡◌, ◌≤◌, ◌∙◌, ap, sym, subst, refl, ℕ, suc, List, [], ◌∷◌, ◌+◌, ◌++◌, append_assoc, map, Result, Ok, Err, IfOk, OnErr, OnOk, if◌then◌else◌, inl, inr, arith}
 use Rattle.std.specs.Result.{IsErrAnd}
 use Rattle.gatestep.specs.Step.{State, Evaluation}
 use Rattle.gatestep.specs.declared.fault.StepFault.{StepFault}
@@ -46,6 +46,18 @@ lost_as A B e f is = same e ∙ ap (λ (x : StepFault). loses_a_worker {A = B} (
     same : (x : StepFault) → loses_a_worker {A = A} (Err x) ≡ loses_a_worker {A = B} (Err x)
     same OutOfMemory = refl
     same WorkerLost = refl
+
+-- a fault that is handed on is lost as it was
+pub lost_on : (A B : Type 0) (e : StepFault) (r : Result B StepFault) (losses lost_before lost : ℕ) → IsErrAnd r (λ f. f ≡ e) → lost_before ≡ losses →
+    lost ≡ lost_before + (if loses_a_worker {A = A} (Err e) then 1 else 0) → lost ≡ losses + (if loses_a_worker r then 1 else 0)
+lost_on A B e (Ok x) losses lost_before lost is same count = absurd is
+lost_on A B e (Err f) losses lost_before lost is same count =
+    count ∙ ap (λ (n : ℕ). n + (if loses_a_worker {A = A} (Err e) then 1 else 0)) same ∙ ap (λ b. losses + (if b then 1 else 0)) (lost_as A B e f is)
+
+-- and there is no answer
+pub no_answer : {A : Type 0} (e : StepFault) (r : Result A StepFault) (P : A → Type 0) → IsErrAnd r (λ f. f ≡ e) → IfOk r P
+no_answer e (Ok x) P is = absurd is
+no_answer e (Err f) P is = tt
 
 -- what is promised where a fault is handed on
 pub stopped : (answer : Evaluation → ℕ → State) (old new : Keyed) (before now : List (Evaluation × ℕ)) (losses lost_before lost : ℕ) (A : Type 0) (e : StepFault) (r : Result RunRecord StepFault) →

@@ -4,4 +4,4 @@ pub mod Fronts
 pub mod Levels
 pub mod Reworks
 pub mod Weaving
-pub mod Widening
+pub mod Behind

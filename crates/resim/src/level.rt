@@ -101,12 +101,13 @@ fn follow_until<S: Stepper>(
     let mut answers = Vec::new(alloc);
     let mut spending = Spending::new(limit);
     let mut next = 0;
-    let mut is_over = false;
-    while next < end && !is_over {
+    while next < end {
         pass(front, alloc, old, run, new, stepper, next, &mut answers)?;
         spending.add(front, next);
         next = front.next_moment::<S>(old, new, end);
-        is_over = spending.is_over(run, new, next);
+        if spending.is_over(run, new, next) {
+            return Ok(next);
+        }
     }
     Ok(next)
 }

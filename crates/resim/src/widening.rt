@@ -17,7 +17,7 @@ use edits::Touched;
 use fourstate::Value;
 use gatestep::{Driver, StepFault, Stepper};
 use rundiff::{Front, OldLines};
-use scratch::{resume, wire};
+use scratch::{resume_later, wire};
 use std::alloc::{AllocError, Global};
 use waveform::{Run, Timeline};
 
@@ -94,7 +94,7 @@ fn sweep_after<S: Stepper>(
     let mut lines = OldLines::find::<S>(alloc, old, run, new, &blank_wave, &blank_trace)?;
     let wiring = wire(alloc, new)?;
     let mut room = Room::new(alloc);
-    let engine = resume::<S>(alloc, level, &wiring, made)?;
+    let engine = resume_later::<S>(alloc, level, made, new, &wiring)?;
     let start = level.horizon() + 1;
     sweep_on(
         alloc, &mut lines, old, new, &wiring, engine, start, stepper, &mut room,

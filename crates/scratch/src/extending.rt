@@ -2,16 +2,19 @@
 
 ghost use Rattle.std.specs.Prelude.{◌≡◌, ◌≤◌, ◌++◌, ℕ, suc, IfOk, OnErr, OnOk};
 ghost use Rattle.design.specs.Keys.{netlist};
+ghost use Rattle.scratch.specs.Kept.{IsWiring};
 ghost use Rattle.scratch.specs.Lost.{CountsLoss};
 ghost use Rattle.scratch.specs.Run.{IsRun};
+ghost use Rattle.scratch.specs.Stands.{Stands};
 ghost use Rattle.scratch.specs.Work.{work_from};
 
 use crate::continuing::run_on;
+use crate::engine::Engine;
 use crate::resuming::resume;
-use crate::wiring::wire;
+use crate::wiring::{Wiring, wire};
 use design::Design;
 use gatestep::{StepFault, Stepper};
-use std::alloc::Global;
+use std::alloc::{AllocError, Global};
 use waveform::Run;
 
 /// The run of a design from the run of the same design up to an earlier horizon: only the moments after that one are gone
@@ -35,7 +38,25 @@ pub fn extend<S: Stepper>(
     ensures lost { CountsLoss (S.losses stepper.old) (S.losses stepper.new) result }
 {
     let wiring = wire(alloc, design)?;
-    let engine = resume::<S>(alloc, former, &wiring, run)?;
+    let engine = resume_later::<S>(alloc, former, run, design, &wiring)?;
     let start = former.horizon() + 1;
     run_on(alloc, design, &wiring, engine, start, stepper)
+}
+
+/// What stands after the last moment of the run of a design, for the same design with another horizon. It shares nothing with
+/// the run.
+pub fn resume_later<S: Stepper>(
+    alloc: Global,
+    former: &Design,
+    run: &Run,
+    design: &Design,
+    wiring: &Wiring,
+) -> Result<Engine, AllocError>
+    requires same { former.now ≡ record design.now { horizon = former.now.horizon } }
+    requires run { IsRun S.answer former.now run.now }
+    requires wired { IsWiring (netlist design.now) wiring.now }
+    ensures { IfOk result (λ engine. Stands S.answer (netlist design.now) engine (suc (netlist former.now).horizon)) }
+{
+    let engine = resume::<S>(alloc, former, wiring, run)?;
+    Ok(engine)
 }

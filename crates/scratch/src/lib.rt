@@ -21,11 +21,10 @@ mod waves;
 mod wiring;
 
 pub use engine::Engine;
-pub use extending::extend;
+pub use extending::{extend, resume_later};
 pub use moment::{read_input, task_at};
 pub use opening::Opening;
 pub use packed_input::PackedInput;
-pub use resuming::resume;
 pub use run::simulate;
 pub use waves::{wave_at, wave_named};
 pub use wiring::{Cell, Input, Wiring, wire};

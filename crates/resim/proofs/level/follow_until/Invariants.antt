@@ -1,10 +1,10 @@
-use Rattle.std.proofs.Common.{◌-◌, ◌<◌, ◌≡◌, ◌≤◌, ◌++◌, true}
+use Rattle.std.proofs.Common.{◌-◌, ◌≡◌, ◌≤◌, ◌++◌}
 use Rattle.design.specs.Keys.{netlist}
 use Rattle.rundiff.specs.Dirty.{rework_below}
 use Rattle.rundiff.specs.Fronts.{IsFront}
 use Rattle.resim.proofs.level.follow_until.Given as goal
 
--- the moments below `next` are done, and one of them was gone through where the limit is reached
+-- the moments below `next` are done
 abbrev pub invariant-loop-next : goal.invariant-loop-next
 invariant-loop-next g l =
     let answer = g.S.Stepper.answer in
@@ -12,7 +12,6 @@ invariant-loop-next g l =
     let now = netlist l.fn.new in
     record {
       front : IsFront answer before now l.front l.next;
-      begun : l.is_over ≡ true → 0 < l.next;
       within : l.next ≤ l.end;
       asked : g.S.Stepper.asked l.stepper ≡ g.S.Stepper.asked l.fn.stepper ++ rework_below answer before now l.next;
       losses : g.S.Stepper.losses l.stepper ≡ g.S.Stepper.losses l.fn.stepper;

@@ -3,18 +3,14 @@ use Rattle.design.specs.Keys.{netlist}
 use Rattle.scratch.specs.Stands.{Stands}
 use Rattle.scratch.specs.Work.{work_from}
 use Rattle.scratch.proofs.Asked.{err_on, ok_on}
-use Rattle.scratch.proofs.Later.{stands_in, wired_in}
 use Rattle.scratch.proofs.extending.extend.Goals as goal
-
-pub resume-requires-clause-wired : goal.resume-requires-clause-wired
-resume-requires-clause-wired g c = wired_in c.in_ok-wiring.wiring c.args.former.now c.args.design.now c.requires.same c.in_ok-wiring.ensures
 
 pub run_on-requires-clause-stands : goal.run_on-requires-clause-stands
 run_on-requires-clause-stands g c =
     let answer = g.S.Stepper.answer in let former = c.args.former.now in let design = c.args.design.now in let engine = c.in_ok-engine.engine in
     let h = (netlist former).horizon in
     let start : suc h ≡ c.horizon-start.result + 1 = let is = c.horizon-start.ensures.horizon in omega arith in
-    subst (Stands answer (netlist design) engine) start (stands_in answer engine (suc h) former design c.requires.same c.in_ok-engine.ensures)
+    subst (Stands answer (netlist design) engine) start c.in_ok-engine.ensures
 
 pub returns-clause-asked : goal.returns-clause-asked
 returns-clause-asked g c =
