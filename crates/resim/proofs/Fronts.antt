@@ -52,15 +52,15 @@ or_more false b d second either = second either
 
 any_more : {X : Type 0} (p q : X → Bool) → ((x : X) → p x ≡ true → q x ≡ true) → (xs : List X) → list_any p xs ≡ true → list_any q xs ≡ true
 any_more p q more [] any = any
-any_more p q more (x ∷ xs) any = step (p x) refl any
+any_more p q more (x ∷ xs) any = step (p x) (more x) (any_more p q more xs) any
   where
-    step : (b : Bool) → p x ≡ b → (b || list_any p xs) ≡ true → (q x || list_any q xs) ≡ true
-    step true is any = rw (more x is) refl
-    step false is any = later (q x) (any_more p q more xs any)
-
     later : (b : Bool) → list_any q xs ≡ true → (b || list_any q xs) ≡ true
     later true on = refl
     later false on = on
+
+    step : (b : Bool) → (b ≡ true → q x ≡ true) → (list_any p xs ≡ true → list_any q xs ≡ true) → (b || list_any p xs) ≡ true → (q x || list_any q xs) ≡ true
+    step true here rest any = rw (here refl) refl
+    step false here rest any = later (q x) (rest any)
 
 module _ (answer : Evaluation → ℕ → State) (old new : Netlist) (front : Front) (n : ℕ) where
   -- The new design with another horizon.

@@ -1,11 +1,11 @@
 -- Places among places.
 use Rattle.std.proofs.Common.{◌≡◌, ◌<◌, ◌≤◌, ◌∙◌, sym, ap, refl, Bool, true, false, cond, ℕ, zero, suc, ◌+◌, List, [], ◌∷◌, ◌++◌, take, Some, slice_get, arith, ◌⊎◌, inl, inr, All}
-use Rattle.std.specs.Cmp.{nat_eq_equiv}
-use Rattle.std.specs.List.{filter, list_any}
+use Rattle.std.specs.Cmp.{both_ways, nat_eq_equiv}
+use Rattle.std.specs.List.{Contains, filter, list_any}
 use Rattle.std.specs.Prelude.{nat_eq, ◌||◌, ◌&&◌}
 use Rattle.std.proofs.lemmas.Bool.Decides.{nat_tests}
 use Rattle.std.proofs.lemmas.List.Folds.{list_any-append}
-use Rattle.std.proofs.lemmas.Map.Views.{All-from_any}
+use Rattle.std.proofs.lemmas.Map.Views.{All-from_any, Contains-from_any, list_any-from_Contains, exact_unsigned_eq}
 use Rattle.scratch.specs.Places.{AreRising, has}
 use Rattle.scratch.proofs.Lists.{take_next}
 
@@ -164,3 +164,10 @@ same_members a b (k ∷ ks) (j ∷ js) r s h =
     let s' : AreRising (suc k) js = rw e s.1 in
     let h' : (m : ℕ) → has m (k ∷ ks) ≡ has m (k ∷ js) = λ m. h m ∙ ap (λ z. has m (z ∷ js)) (sym e) in
     ap (λ l. k ∷ l) (same_members (suc k) (suc k) ks js r.1 s' (λ m. more_of k ks js r.1 s' h' m (nat_eq m k) refl)) ∙ ap (λ m. m ∷ js) e
+
+-- lists with the same members
+pub same_among : (xs ys : List ℕ) → ((x : ℕ) → Contains xs x → Contains ys x) → ((x : ℕ) → Contains ys x → Contains xs x) → (m : ℕ) → has m xs ≡ has m ys
+same_among xs ys there back m =
+    both_ways (has m xs) (has m ys)
+    (λ h. list_any-from_Contains nat_eq_equiv m ys (there m (Contains-from_any exact_unsigned_eq m xs h)))
+    (λ h. list_any-from_Contains nat_eq_equiv m xs (back m (Contains-from_any exact_unsigned_eq m ys h)))

@@ -105,22 +105,37 @@ fn note_next_points(
     Ok(())
 }
 
-/// Adds the net that a gate drives.
-fn add_output(wiring: &Wiring, gate: usize, nets: &mut Vec<usize>) -> Result<(), AllocError>
-    ensures { OnOk result (nets.new.items ≡ nets.old.items ++ output_at wiring.now.outputs.items gate) }
+/// Puts some places in order, each once.
+fn put_in_order(places: &mut Vec<usize>)
+    ensures { (m : ℕ) → has m places.new.items ≡ has m places.old.items }
 {
-    if let Some(net) = wiring.outputs.get(gate) {
-        nets.push(*net as usize)?;
-    }
-    Ok(())
+    places.sort_unstable();
+    places.dedup();
 }
 
-/// Adds the nets that some gates drive.
+/// Adds the net that a gate drives, and says whether the net has its value from other gates too.
+fn add_output(wiring: &Wiring, gate: usize, nets: &mut Vec<usize>) -> Result<bool, AllocError>
+    ensures { OnOk result (nets.new.items ≡ nets.old.items ++ output_at wiring.now.outputs.items gate) }
+{
+    let Some(net) = wiring.outputs.get(gate) else {
+        return Ok(false);
+    };
+    nets.push(*net as usize)?;
+    Ok(matches!(wiring.lone_drivers.get(*net as usize), Some(None)))
+}
+
+/// Adds the nets that some gates drive. Where several of these gates may drive one net, each net is left once: it is resolved from
+/// all of its drivers.
 fn add_outputs(wiring: &Wiring, gates: &[usize], nets: &mut Vec<usize>) -> Result<(), AllocError>
     ensures { OnOk result ((m : ℕ) → has m nets.new.items ≡ (has m nets.old.items || list_any (λ k. has m (output_at wiring.now.outputs.items k)) gates.now)) }
 {
+    let mut shared = 0usize;
     for place in gates {
-        add_output(wiring, *place, nets)?;
+        let is_shared = add_output(wiring, *place, nets)?;
+        shared = shared.saturating_add(usize::from(is_shared));
+    }
+    if shared > 1 {
+        put_in_order(nets);
     }
     Ok(())
 }
