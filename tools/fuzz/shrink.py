@@ -47,6 +47,7 @@ def cut(case, differs):
         options = reduce(pairs(case.words), lambda fewer: case._replace(words=tuple(it for pair in fewer for it in pair)))
         case = case._replace(words=tuple(it for pair in options for it in pair))
         for name, split in product(("commands", "text"), SPLITS):
-            parts = reduce(split.findall(getattr(case, name)), lambda fewer, name=name: case._replace(**{name: b"".join(fewer)}))
+            pieces = split.findall(getattr(case, name))
+            parts = reduce(pieces, lambda fewer, name=name: case._replace(**{name: b"".join(fewer)}))
             case = case._replace(**{name: b"".join(parts)})
     return case

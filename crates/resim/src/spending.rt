@@ -5,8 +5,9 @@ use design::Design;
 use rundiff::Front;
 use waveform::Run;
 
-/// To look at a net or a gate beside the old run takes about as long as to evaluate so many gates from scratch (own).
-pub const LOOK_COST: u64 = 12;
+/// To look at a net or a gate beside the old run takes about as long as a run from scratch takes for so many of the states that
+/// it keeps of gates (own).
+pub const LOOK_COST: u64 = 2;
 
 /// A run goes on through the whole design once it has taken one of so many parts of a run from scratch, and not before (own).
 pub const RUN_SHARE: u64 = 5;
@@ -29,7 +30,7 @@ pub struct Spending {
     looks: u64,
     /// The first moment after moment 0 at which that was done; 0 where there was none.
     since: u64,
-    /// About how many gates a run from scratch evaluates, once that was counted.
+    /// About how many states of gates a run from scratch keeps, once that was counted.
     whole: Option<u64>,
 }
 
@@ -73,7 +74,7 @@ impl Spending {
         share >= whole && is_as_much(spent, whole, next.saturating_sub(self.since), new.horizon())
     }
 
-    /// About how many gates a run from scratch evaluates.
+    /// About how many states of gates a run from scratch keeps.
     fn whole(&mut self, run: &Run, new: &Design) -> u64 {
         if let Some(whole) = self.whole {
             return whole;

@@ -114,7 +114,7 @@ fn are_busy(run: &Run, new: &Design, touched: &Touched) -> bool {
     count.saturating_mul(LOOK) >= all_entries(run, new)
 }
 
-/// How many entries the old run keeps of all gates of the new design: about what a run from scratch evaluates.
+/// How many entries the old run keeps of all gates of the new design: about as many as a run from scratch.
 pub fn all_entries(run: &Run, new: &Design) -> usize {
     let mut all = 0usize;
     for place in 0..new.gate_count() {

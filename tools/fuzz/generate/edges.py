@@ -141,6 +141,14 @@ def joined():
     yield b"module a; endmodule\nmodule b; b u(); endmodule\nmodule c; endmodule"
     yield b"`timescale 1ns/1ns"
     yield from passed_on()
+    yield from fourth_pass()
+
+
+def fourth_pass():
+    """Two faults of the last pass at once, beside those that come of sizes."""
+    faults = [b"k %s();" % (b"u" * 1024), b"l u(a);", b"k u(1'b0);", b"not #1 (a, y);", b"wire [65535:0] w;"]
+    inner = b"module k(input p); wire n; not #1 (p, n); endmodule\nmodule l(input wor p); endmodule\n"
+    yield from (inner + in_module(b" ".join(dict.fromkeys(pair))) for pair in product(faults, faults))
 
 
 def passed_on():
@@ -173,6 +181,8 @@ def sessions():
         yield b"".join(line.replace(b"<N>", number) + b"\n" for line in parts(NUMBERED))
     for count in (0, 1, 63, 64, 65):
         yield b"gate h nor 1 2 y%s\nwire g y%s\ntype g and\nwire g y%s\nstim a 2 1\nvcd\n" % ((b" a" * count,) * 3)
+    for word in (b"1'bX", b"1'B0", b"1'b2", b"1'b", b"x'", b"'", b"1'b01", b"2'b0", b"1'bz", b"1'bx", b"1"):
+        yield b"gate h and 1 1 y %s\nwire g y %s\nwire g %s a\nvalue %s 0\nnet %s wire\nvcd\n" % ((word,) * 5)
     yield b"net n wire\nnet o wire\ninput p\nnet q wand\ndropnet n\nnet n wor\nnet r wire\nvcd\n"
 
 

@@ -51,6 +51,9 @@ class Words:
     def time(self):
         if self.often(0.04):
             return self.pick(EDGES)
+        points = [time for net in self.design().nets.values() for time in net.points]
+        if points and self.often(0.4):
+            return str(self.pick(points) + self.rng.randrange(5))
         return str(self.rng.randint(0, self.span + 2)) if self.often(0.98) else self.pick(UNREADABLE)
 
     def horizon(self):

@@ -3,7 +3,7 @@
 ghost use Rattle.gatestep.specs.Step.{advance};
 ghost use Rattle.scratch.specs.Run.{IsRun};
 
-use crate::calls::{changed, rerun, simulated};
+use crate::calls::{changed, followed, rerun, simulated};
 use crate::compare::equal;
 use crate::counting::Counting;
 use crate::edit_lists::lines::{edits, made_of};
@@ -12,6 +12,7 @@ use crate::waves::{Named, check_waves};
 use design::Design;
 use edits::Edit;
 use gatestep::Serial;
+use resim::Limit;
 use std::alloc::Global;
 use std::process::Abort;
 use waveform::Run;
@@ -335,6 +336,31 @@ const AND_GATES_TOUCHED: Case<'static> = Case {
     ..TWO_POINTS_MOVED
 };
 
+/// What the commit asks of a stepper that deals the steps of so many tasks, where all that differs is followed.
+fn check_followed(
+    rt: &impl Abort,
+    alloc: Global,
+    case: &Case<'_>,
+    least_dealt: usize,
+    asked: (u64, u64, u64),
+) {
+    let old = twenty(rt, alloc);
+    let run = simulated(rt, alloc, &old, &mut Serial::new());
+    let edits = edits(rt, alloc, case.edits);
+    let (new, touched) = changed(alloc, &old, &edits).expect(rt, "accepted edits");
+    let mut stepper = Counting::new(least_dealt);
+    let limit = Limit::Looks(u64::MAX);
+    let made = followed(rt, alloc, &old, &run, &new, &touched, limit, &mut stepper);
+    check_waves(rt, alloc, &new, &made, case.waves);
+    drop(made);
+    drop(new);
+    drop(touched);
+    drop(edits);
+    equal(rt, (case.name, least_dealt), stepper.asked(), asked);
+    drop(run);
+    drop(old);
+}
+
 /// What the commit asks of a stepper that deals the steps of so many tasks.
 fn check_asked(
     rt: &impl Abort,
@@ -356,7 +382,7 @@ fn check_asked(
 #[test]
 fn twenty_gates_at_a_moment(rt: HostRuntime) {
     for least_dealt in [0, 20, 21] {
-        check_asked(&rt, rt.alloc(), &TWO_POINTS_MOVED, least_dealt, (4, 42, 0));
+        check_followed(&rt, rt.alloc(), &TWO_POINTS_MOVED, least_dealt, (4, 42, 0));
     }
     for (least_dealt, asked) in [(0, (4, 42, 0)), (20, (2, 40, 2)), (21, (0, 0, 42))] {
         check_asked(&rt, rt.alloc(), &AND_GATES_TOUCHED, least_dealt, asked);
