@@ -182,7 +182,7 @@ pub fn check_all(rt: &impl Abort, alloc: Global, cases: &[Case<'_>]) {
     }
 }
 
-const READ: [Case<'static>; 12] = [
+const READ: [Case<'static>; 14] = [
     ("", ""),
     ("module m;endmodule", "m:"),
     ("module m(); endmodule", "m:"),

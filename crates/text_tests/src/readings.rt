@@ -125,7 +125,7 @@ fn a_netlist(rt: HostRuntime) {
     check(&rt, rt.alloc(), NETLIST, None, "line 9: 11 ZeroDelay");
 }
 
-const SMALL: [Case<'static>; 8] = [
+const SMALL: [Case<'static>; 9] = [
     ("module m;endmodule", "m:"),
     ("module \\a+b (); endmodule", "a+b:"),
     // Both ways to declare an input of a kind.

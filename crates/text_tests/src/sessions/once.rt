@@ -1,6 +1,6 @@
 //! A device that fails once.
 
-ghost use Rattle.std.specs.Prelude.{◌≡◌, ◌≤◌, IfSome};
+ghost use Rattle.std.specs.Prelude.{◌<◌, ◌≤◌, IfSome};
 ghost use Rattle.std.specs.Io.{ReadsAtMost, WritesAtMost};
 ghost use Rattle.std.specs.Io.KnownBytes.{ReadConsumes, WriteAppends};
 
@@ -23,29 +23,28 @@ impl<T> FailsOnce<T> {
             left: Some(left),
         }
     }
+}
 
-    // How many of so many bytes go through now; none where it fails.
-    fn room(&mut self, most: usize) -> Option<usize>
-        ensures inner { self.new.inner ≡ self.old.inner }
-        ensures within { IfSome result (λ room. room ≤ most) }
-    {
-        match self.left {
-            None => Some(most),
-            Some(0) => {
-                self.left = None;
-                None
-            }
-            Some(left) => Some(left.min(most)),
+// How many of so many bytes go through now; none where it fails, and from then on all.
+fn room(left: &mut Option<usize>, most: usize) -> Option<usize>
+    ensures within { IfSome result (λ room. room ≤ most) }
+    ensures some { IfSome result (λ room. 0 < most → 0 < room) }
+{
+    match *left {
+        None => Some(most),
+        Some(0) => {
+            *left = None;
+            None
         }
+        Some(left) => Some(left.min(most)),
     }
+}
 
-    // So many bytes went through.
-    fn count(&mut self, bytes: usize)
-        ensures { self.new.inner ≡ self.old.inner }
-    {
-        if let Some(left) = self.left {
-            self.left = Some(left.saturating_sub(bytes));
-        }
+// What is left once so many bytes more went through.
+fn less(left: Option<usize>, bytes: usize) -> Option<usize> {
+    match left {
+        None => None,
+        Some(left) => Some(left.saturating_sub(bytes)),
     }
 }
 
@@ -56,11 +55,11 @@ impl<T: Read> Read for FailsOnce<T> {
         ensures bound { ReadsAtMost result buf.new }
         ensures bytes { ReadConsumes (T.remaining self.old.inner) (T.remaining self.new.inner) result buf.new }
     {
-        let Some(room) = self.room(buf.len()) else {
+        let Some(room) = room(&mut self.left, buf.len()) else {
             return Err(ErrorKind::Other.into());
         };
         let read = self.inner.read(&mut buf[..room])?;
-        self.count(read);
+        self.left = less(self.left, read);
         Ok(read)
     }
 }
@@ -72,11 +71,11 @@ impl<T: Write> Write for FailsOnce<T> {
         ensures bound { WritesAtMost result buf.now }
         ensures bytes { WriteAppends (T.contents self.old.inner) (T.contents self.new.inner) result buf.now }
     {
-        let Some(room) = self.room(buf.len()) else {
+        let Some(room) = room(&mut self.left, buf.len()) else {
             return Err(ErrorKind::Other.into());
         };
         let written = self.inner.write(&buf[..room])?;
-        self.count(written);
+        self.left = less(self.left, written);
         Ok(written)
     }
 
