@@ -4,10 +4,8 @@ ghost use Rattle.std.specs.Prelude.{◌≡◌};
 ghost use Rattle.gatestep.specs.Step.{advance};
 
 use crate::commits::{commit, held};
-use crate::makers::Maker;
-use crate::report::{Report, Stop, TRIES};
+use crate::report::{Report, Stop};
 use crate::show::show_snapshot;
-use crate::texts::{design_of, edits_of};
 use bench::{Bench, CommitFault};
 use design::Design;
 use devices::{Sink, Writer};
@@ -16,29 +14,29 @@ use gatestep::{StepFault, Stepper};
 use std::alloc::Global;
 use vcd::text;
 
+/// A gate that takes 3 to follow its input.
 pub const BUFFER: &[u8] = b"module m(a,y); input a; output y; buf #(3,3) g(y,a); endmodule";
 
-/// A bench of the design that a text spells, of which a stepper of this maker makes the runs. Where it is refused the design and
-/// the stepper are gone, so both are made anew.
-pub fn bench_of<S: Stepper + Drop, M: Maker<S>>(
+/// The last moment of the runs.
+pub const HORIZON: u64 = 30;
+
+/// A bench of a design, of which this stepper makes the runs; none where memory ran out.
+pub fn opened<S: Stepper + Drop>(
     alloc: Global,
     report: &Report<impl Eprint>,
-    maker: &M,
-    text: &[u8],
-    horizon: u64,
-) -> Result<Bench<S>, Stop>
+    design: Design,
+    stepper: S,
+) -> Result<Option<Bench<S>>, Stop>
     requires { S.answer ≡ advance }
 {
-    for _ in 0..TRIES {
-        let stepper = maker.stepper()?;
-        let design = design_of(alloc, report, text)?.set_horizon(horizon);
-        match Bench::open(alloc, design, stepper) {
-            Ok(bench) => return Ok(bench),
-            Err(StepFault::OutOfMemory) => report.refused("Bench::open"),
-            Err(StepFault::WorkerLost) => return Err(Stop::Wrong("Bench::open")),
+    match Bench::open(alloc, design, stepper) {
+        Ok(bench) => Ok(Some(bench)),
+        Err(StepFault::OutOfMemory) => {
+            report.refused("Bench::open");
+            Ok(None)
         }
+        Err(StepFault::WorkerLost) => Err(Stop::Wrong("Bench::open")),
     }
-    Err(Stop::Refused)
 }
 
 const REFUSED: [&[u8]; 5] = [
@@ -50,19 +48,7 @@ const REFUSED: [&[u8]; 5] = [
 ];
 
 /// The waves before and after the commits, and the dump of what stands then.
-pub fn refused_batch<S: Stepper + Drop, M: Maker<S>, R: Eprint, W: Sink>(
-    alloc: Global,
-    report: &Report<R>,
-    maker: &M,
-    out: &mut Writer<'_, W>,
-) -> Result<(), Stop>
-    requires { S.answer ≡ advance }
-{
-    let mut bench = bench_of(alloc, report, maker, BUFFER, 30)?;
-    commit_all(alloc, report, &mut bench, out)
-}
-
-fn commit_all<S: Stepper + Drop, R: Eprint, W: Sink>(
+pub fn refused_batch<S: Stepper + Drop, R: Eprint, W: Sink>(
     alloc: Global,
     report: &Report<R>,
     bench: &mut Bench<S>,

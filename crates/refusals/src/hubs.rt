@@ -1,13 +1,11 @@
 //! A hub of two viewers.
 
 ghost use Rattle.std.specs.Prelude.{◌≡◌};
-ghost use Rattle.gatestep.specs.Step.{advance};
 
-use crate::benches::{BUFFER, bench_of};
-use crate::makers::Maker;
-use crate::report::{Report, Stop, TRIES};
+use crate::report::{Report, Stop};
 use crate::show::{show_number, show_snapshot};
 use crate::submits::{look, submit};
+use bench::Bench;
 use devices::{Sink, Writer};
 use gatestep::Stepper;
 use hub::{Editor, Hub, HubFault, HubName, Log, Parts, Viewer};
@@ -17,48 +15,26 @@ use std::sync::Wait;
 use std::sync::ledger::Ledger;
 use vcd::text;
 
-/// The parts of a hub of two viewers. Where they are refused the bench is gone, so it is made anew.
-fn parts_of<S: Stepper + Drop, M: Maker<S>, R: Wait + Eprint>(
-    rt: &R,
-    alloc: Global,
-    report: &Report<R>,
-    maker: &M,
-) -> Result<Parts<S>, Stop>
-    requires { S.answer ≡ advance }
-{
-    for _ in 0..TRIES {
-        let bench = bench_of(alloc, report, maker, BUFFER, 30)?;
-        match Parts::new(rt, alloc, bench, 2) {
-            Ok(parts) => return Ok(parts),
-            Err(HubFault::OutOfMemory) => report.refused("Parts::new"),
-            Err(HubFault::NoPlace) => report.refused("Parts::new, a place"),
-            Err(HubFault::BadCount) => return Err(Stop::Wrong("Parts::new")),
-        }
-    }
-    Err(Stop::Refused)
-}
-
-/// What both viewers see over a commit, and the log. Where the hub does not open its parts are gone, so they are made anew.
-pub fn two_viewers<S: Stepper + Drop, M: Maker<S>, R: Wait + Eprint + Copy + Drop, W: Sink>(
+/// Whether a hub of two viewers over this bench opened; then it has ended too, and what both viewers saw over a commit is written.
+pub fn is_over<S: Stepper + Drop, R: Wait + Eprint + Copy + Drop, W: Sink>(
     rt: R,
     alloc: Global,
     report: &Report<R>,
-    maker: &M,
+    bench: Bench<S>,
     out: &mut Writer<'_, W>,
-) -> Result<(), Stop>
-    requires { S.answer ≡ advance }
-{
-    for _ in 0..TRIES {
-        let parts = parts_of(&rt, alloc, report, maker)?;
-        if is_over::<Brand, Brand, Brand, S, R, W>(rt, alloc, report, parts, out)? {
-            return Ok(());
+) -> Result<bool, Stop> {
+    match Parts::new(&rt, alloc, bench, 2) {
+        Ok(parts) => is_over_by::<Brand, Brand, Brand, S, R, W>(rt, alloc, report, parts, out),
+        Err(HubFault::OutOfMemory) => {
+            report.refused("Parts::new");
+            Ok(false)
         }
+        Err(_) => Err(Stop::Wrong("Parts::new")),
     }
-    Err(Stop::Refused)
 }
 
-/// Whether the hub opened; then it has ended too.
-fn is_over<
+/// Whether the hub of these parts opened; then it has ended too.
+fn is_over_by<
     J: HubName,
     L: Ledger,
     M: Ledger,

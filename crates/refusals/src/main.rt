@@ -3,17 +3,15 @@
 //! `sessions`, `steps`, `serial` or `pool`; with a second word it writes the name of each refused call to the standard error.
 #![tactic(auto)]
 
-ghost use Rattle.std.specs.Prelude.{◌≡◌};
-ghost use Rattle.gatestep.specs.Step.{advance};
-
 mod benches;
 mod commits;
 mod cores;
 mod hubs;
-mod makers;
 mod parts;
+mod pool;
 mod report;
 mod runs;
+mod serial;
 mod sessions;
 mod show;
 mod steps;
@@ -22,8 +20,6 @@ mod tasks;
 mod texts;
 
 use devices::{Device, Sink, Writer};
-use gatestep::Stepper;
-use makers::{InTwoThreads, Maker, OnThisThread};
 use parts::{Part, asked};
 use report::{Report, Stop};
 use std::alloc::Global;
@@ -67,26 +63,10 @@ fn run<R: Threads + Wait + RandomSource + Eprint + Copy + Drop + Send + Sync + '
         steps::all(rt, alloc, report, out)?;
     }
     if part.has(Part::Serial) {
-        runs_by(rt, alloc, report, &OnThisThread, out)?;
+        serial::all(rt, alloc, report, out)?;
     }
     if part.has(Part::Pool) {
-        let pool = InTwoThreads::new(rt, alloc, *report);
-        runs_by(rt, alloc, report, &pool, out)?;
+        pool::all(rt, alloc, report, out)?;
     }
     Ok(())
-}
-
-// Runs, commits and a hub by steppers of this maker.
-fn runs_by<S: Stepper + Drop, M: Maker<S>, R: Wait + Eprint + Copy + Drop, W: Sink>(
-    rt: R,
-    alloc: Global,
-    report: &Report<R>,
-    maker: &M,
-    out: &mut Writer<'_, W>,
-) -> Result<(), Stop>
-    requires { S.answer ≡ advance }
-{
-    runs::pulse(alloc, report, maker, out)?;
-    benches::refused_batch(alloc, report, maker, out)?;
-    hubs::two_viewers(rt, alloc, report, maker, out)
 }

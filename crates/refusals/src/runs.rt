@@ -1,10 +1,8 @@
 //! A pulse that passes a buffer: the run from scratch, and that from the run of a design without points.
 
-ghost use Rattle.std.specs.Prelude.{◌≡◌, IfOk};
-ghost use Rattle.gatestep.specs.Step.{advance};
+ghost use Rattle.std.specs.Prelude.{IfOk};
 ghost use Rattle.scratch.specs.Run.{IsRun};
 
-use crate::makers::Maker;
 use crate::report::{Report, Stop, TRIES};
 use crate::show::show_run;
 use crate::texts::{design_of, edits_of};
@@ -30,15 +28,12 @@ const PULSE: [&[u8]; 4] = [
 const SLOWER: [&[u8]; 1] = [b"delay h 4 4"];
 
 /// The waves of a pulse of 3 at two gates of which one takes 3 and the other one 4, so that it passes the first one alone.
-pub fn pulse<S: Stepper + Drop, M: Maker<S>, R: Eprint, W: Sink>(
+pub fn pulse<S: Stepper, R: Eprint, W: Sink>(
     alloc: Global,
     report: &Report<R>,
-    maker: &M,
+    stepper: &mut S,
     out: &mut Writer<'_, W>,
-) -> Result<(), Stop>
-    requires { S.answer ≡ advance }
-{
-    let mut stepper = maker.stepper()?;
+) -> Result<(), Stop> {
     let empty = design_of(alloc, report, BUFFERS)?;
     let passed = after(alloc, report, &empty, &PULSE)?;
     let slower = after(alloc, report, &passed, &SLOWER)?;

@@ -4,7 +4,7 @@
 ghost use Rattle.std.specs.Prelude.{All, ◌≡◌, [], IfOk};
 ghost use Rattle.gatestep.specs.Tasks.{IsReady};
 
-use crate::makers::{InTwoThreads, Maker};
+use crate::pool::pool_of;
 use crate::report::{Report, Stop, TRIES};
 use crate::show::show_number;
 use crate::tasks::tasks_of;
@@ -112,7 +112,7 @@ pub fn all<R: Threads + Wait + Eprint + Copy + Drop + Send + Sync + 'static, W: 
     report: &Report<R>,
     out: &mut Writer<'_, W>,
 ) -> Result<(), Stop> {
-    let mut pool = InTwoThreads::new(rt, alloc, *report).stepper()?;
+    let mut pool = pool_of(rt, alloc, report)?;
     steps(alloc, report, "Pool::step", &mut pool, 5)?;
     show_number(out, b"a pool's steps of ", 5);
     steps(
