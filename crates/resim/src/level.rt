@@ -104,9 +104,8 @@ fn follow_until<S: Stepper>(
     let mut is_over = false;
     while next < end && !is_over {
         pass(front, alloc, old, run, new, stepper, next, &mut answers)?;
-        spending.add(front, next);
         next = front.next_moment::<S>(old, new, end);
-        is_over = spending.is_over(run, new, next);
+        is_over = spending.add(front, run, new, next);
     }
     Ok(next)
 }
