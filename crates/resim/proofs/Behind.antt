@@ -44,6 +44,13 @@ module _ (d made : Keyed) (h : ℕ) (is : made ≡ record d { horizon = h }) whe
       subst (λ k. IsTouched k new nets gates) (sym is)
       (record { nets_stay = same.nets_stay; drivers_stay = same.drivers_stay; gates_stay = same.gates_stay; names_stay = same.names_stay })
 
+  -- what is promised behind the horizon of the one is promised behind that moment
+  pub swept : (answer : Evaluation → ℕ → State) (old : Keyed) (asked now : List (Evaluation × ℕ)) (losses lost : ℕ) (r : Result RunRecord StepFault) →
+      ((was : List (Evaluation × ℕ)) → asked ≡ was ++ rework_below answer (netlist old) (netlist d) (suc (netlist made).horizon) → Reruns answer old d was now losses lost r) →
+      (was : List (Evaluation × ℕ)) → asked ≡ was ++ rework_below answer (netlist old) (netlist d) (suc h) → Reruns answer old d was now losses lost r
+  swept answer old asked now losses lost r all was began =
+      all was (began ∙ ap (λ (u : ℕ). was ++ rework_below answer (netlist old) (netlist d) (suc u)) (sym horizon_of))
+
   module _ (answer : Evaluation → ℕ → State) (front : Front) (n : ℕ) where
     -- a front beside the old design, where the new one has another horizon
     pub front_new : (old : Netlist) → IsFront answer old (netlist d) front n → IsFront answer old (netlist made) front n

@@ -100,7 +100,7 @@ module _ (answer : Evaluation → ℕ → State) (old new : Netlist) (front : Fr
         IsNoted answer old new live held held n events_at inputs_at nets_at n → IsNoted answer old (with_horizon new h) live held held n events_at inputs_at nets_at n
     new_noted live held events_at inputs_at nets_at is = record {
       events = subst (λ s. Covers (λ p t. held p && pends (s n (gate_at new p)) t) events_at n) (sym (befores answer new h)) is.events;
-      inputs = subst (λ moves. Announces (λ p t. held p && (t == 0 || moves p t)) inputs_at n) (λ i p t. sym (new_inputs live p t) i) is.inputs;
+      inputs = subst (λ (moves : ℕ → ℕ → Bool). Announces (λ p t. held p && (t == 0 || moves p t)) inputs_at n) (λ i p t. sym (new_inputs live p t) i) is.inputs;
       nets = is.nets;
       no_early_event = is.no_early_event;
       no_early_input = is.no_early_input;

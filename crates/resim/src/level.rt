@@ -103,9 +103,8 @@ fn follow_until<S: Stepper>(
     let mut next = 0;
     while next < end {
         pass(front, alloc, old, run, new, stepper, next, &mut answers)?;
-        spending.add(front, next);
         next = front.next_moment::<S>(old, new, end);
-        if spending.is_over(run, new, next) {
+        if spending.add(front, run, new, next) {
             return Ok(next);
         }
     }

@@ -174,14 +174,16 @@ fn asked_of_rings(rt: &impl Abort, alloc: Global, count: u64) -> Asked {
     asked
 }
 
-// The old run keeps 397 states of each ring's gate, and what differs is asked for at each moment from 6 on: 395 times. Looked at
-// are a at 0; a, n0 and g0 at 5 and 6; n0 and g0 at each moment behind it: 2 t - 5 up to the moment t. A look counts as 2 states,
-// of which a fifth of all is enough: 40 looks beside one ring, 159 beside four, after the moments 23 and 82. Beside five rings,
-// 4 at each moment, for the two looks, never come to 5 at each of the moments since 5.
-const BESIDE_RINGS: [(u64, Asked); 3] = [
-    (1, (18, 18, 377)),
-    (4, (77, 77, 318)),
-    (5, (395, 395, 0)),
+// The old run keeps 397 states of each ring's gate and 4 points, and what differs is asked for at each moment from 6 on: 395 times. Looked at
+// are a at 0; a, n0 and g0 at 5 and 6; n0 and g0 at each moment behind it. A look counts as 3 states, so a moment of two looks as
+// 6, of which a run from scratch keeps not quite one for each ring. The excess comes to a fifth of all states after the moments
+// 19, 159 and 386, beside one ring, four and five. Beside six rings it never does, and beside seven there is none.
+const BESIDE_RINGS: [(u64, Asked); 5] = [
+    (1, (14, 14, 381)),
+    (4, (154, 154, 241)),
+    (5, (381, 381, 14)),
+    (6, (395, 395, 0)),
+    (7, (395, 395, 0)),
 ];
 
 #[test]

@@ -42,8 +42,8 @@ returns-in_err-pass g c =
           c.loop-next.invariant.losses c.in_err-pass.ensures.lost;
     }
 
-pub returns-then-is_over-clause-asked : goal.returns-then-is_over-clause-asked
-returns-then-is_over-clause-asked g c =
+pub returns-then-add-clause-asked : goal.returns-then-add-clause-asked
+returns-then-add-clause-asked g c =
     let answer = g.S.Stepper.answer in let old = netlist c.args.old.now in let new = netlist c.args.new.now in
     let now = c.next_moment-next in
     let t = c.loop-next.next in
