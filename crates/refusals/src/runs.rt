@@ -37,7 +37,7 @@ pub fn pulse<S: Stepper, R: Eprint, W: Sink>(
     let empty = design_of(alloc, report, BUFFERS)?;
     let passed = after(alloc, report, &empty, &PULSE)?;
     let slower = after(alloc, report, &passed, &SLOWER)?;
-    show_all(alloc, report, [&empty, &passed, &slower], &mut stepper, out)
+    show_all(alloc, report, [&empty, &passed, &slower], stepper, out)
 }
 
 /// The design after the edits that these lines say.
