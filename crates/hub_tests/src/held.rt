@@ -108,14 +108,13 @@ fn commit_beside<
     M: Ledger,
     R: Threads + Wait + Abort + Copy + Drop + Send + Sync + 'static,
 >(
-    rt: R,
+    rt: &R,
     alloc: Global,
     hub: &Hub<J, L, M, Pool<Holding<R>, R>, R>,
     editor: Editor<L, M>,
     viewers: Vec<Viewer<J>>,
     hold: &Hold,
 ) -> Vec<Viewer<J>> {
-    let rt = &rt;
     thread::scope(thread::scope_env(), rt, move |scope| -> Vec<Viewer<J>> {
         let mut editor = editor;
         let mut looking = Vec::new(alloc);
@@ -155,7 +154,7 @@ fn hold_a_commit<
     let opened = Hub::<J, L, M, Pool<Holding<R>, R>, R>::open(rt, parts);
     let (hub, (editor, other), viewers) = opened.expect(&rt, "a hub");
     hold.is_armed.store(true, Ordering::SeqCst);
-    let mut viewers = commit_beside(rt, alloc, &hub, editor, viewers, hold);
+    let mut viewers = commit_beside(&rt, alloc, &hub, editor, viewers, hold);
     for viewer in viewers.iter_mut() {
         look_after(&rt, viewer);
     }
