@@ -1,5 +1,7 @@
 //! Submits to a hub, and looks at it.
 
+ghost use Rattle.std.specs.Prelude.{◌≡◌};
+
 use crate::commits::is_same;
 use crate::report::{Report, Stop, TRIES};
 use crate::texts::edits_of;
