@@ -25,13 +25,11 @@ programs:
 scripts:
 	@tools/scripts
 
-# After a demo: refuses each allocation of bin/gatebench over the examples, alone and with all after it; lets its reads and writes
-# fail; and refuses each allocation of the program refusals, which it proves and builds first.
+# After a demo: refuses each allocation of bin/gatebench over the examples, alone and with all after it; and lets its reads and
+# writes fail.
 refusals:
 	@tools/refusals
 	@tools/failures
-	@cd crates/refusals && rt run > /dev/null
-	@tools/refusals_inside
 
 # Compares bin/gatebench with a second reading of docs/SPEC.md over generated texts and sessions, after a demo: make fuzz
 # SEED=2 TEXTS=100000 SESSIONS=20000
