@@ -1,6 +1,6 @@
 # The tasks of the repository; each works on a machine that has only the toolchain.
 
-.PHONY: all test try demo programs scripts refusals fuzz race faults mutants speed slow fmt
+.PHONY: all test try demo install programs scripts view-tests refusals fuzz race faults mutants speed slow fmt
 
 all: try
 
@@ -9,13 +9,18 @@ all: try
 test:
 	@tools/ci
 
-# Runs the first example at once, unproved.
+# Runs the first example at once, and leaves bin/gatebench, unproved; tools/try DESIGN COMMANDS runs files of your own in this way.
 try:
 	@tools/try
 
 # Builds the proved programs into bin/ and runs each example with them.
 demo:
 	@tools/demo
+
+# Installs bin/gatebench and bin/gaterace, after a demo, with their manual pages, completions and guide: make install PREFIX=/usr/local
+PREFIX = $(HOME)/.local
+install:
+	@tools/install "$(PREFIX)"
 
 # Runs the tests of bin/gatebench and bin/gaterace, after a demo; tools/program_tests runs one of them alone.
 programs:
@@ -25,11 +30,17 @@ programs:
 scripts:
 	@tools/scripts
 
-# After a demo: refuses each allocation of bin/gatebench over the examples, alone and with all after it; and lets its reads and
-# writes fail.
+# Tests the page of `gatebench view` in a headless Chromium, after a demo; skipped, with a line, where there is none.
+view-tests:
+	@tools/view_tests/run
+
+# After a demo: refuses each allocation of bin/gatebench over the examples, alone and with all after it; lets its reads and writes
+# fail; and refuses each allocation of the program refusals, which it proves and builds first.
 refusals:
 	@tools/refusals
 	@tools/failures
+	@cd crates/refusals && rt run > /dev/null
+	@tools/refusals_inside
 
 # Compares bin/gatebench with a second reading of docs/SPEC.md over generated texts and sessions, after a demo: make fuzz
 # SEED=2 TEXTS=100000 SESSIONS=20000

@@ -1,16 +1,16 @@
 """Inputs that might be slow: each limit, and whatever a program could do by more work than the input has bytes. Each is made at
 any size, and what a run over it costs is measured: tools/slow_inputs shows the costs, test_growth compares two sizes."""
+import ctypes
 import math
 import os
 import resource
 import signal
 import subprocess
-import time
-from typing import Callable, Iterable, List, NamedTuple, Tuple
+from typing import Callable, Dict, Iterable, List, NamedTuple
 
 # Limits of a design and of a session (docs/SPEC.md).
 MAX_NAME = 1024
-MAX_TIME = 1_000_000_000
+MAX_TIME = 1_099_511_627_776
 MAX_BATCH = 4096
 Lines = Iterable[str]
 
@@ -372,47 +372,48 @@ def line_ends_of(path: str) -> int:
         return sum(block.count(b"\n") for block in iter(lambda: file.read(1 << 20), b""))
 
 
-def memory_of(process: int) -> int:
-    """The most bytes that the process has had at once so far; 0 if it has ended."""
-    try:
-        with open(f"/proc/{process}/status", encoding="ascii") as file:
-            return next((int(line.split()[1]) * 1024 for line in file if line.startswith("VmHWM")), 0)
-    except OSError:
-        return 0
+# A shell that says the number of a process and ends. The process has the three files for its streams, and becomes the program
+# once the shell's own input ends: so the shell can't see its end.
+START = 'exec 3<&0; { read -r _ <&3; exec "$@" 3<&-; } < "$COMMANDS" > "$REPLIES" 2> "$SAID" & echo $!'
+# What makes this process the parent of those whose own has ended (prctl of Linux).
+PR_SET_CHILD_SUBREAPER = 36
 
 
 def limit(seconds: float, memory: int) -> None:
-    """So much processor time and memory for this process."""
+    """So much processor time and memory for each process that this one becomes or starts."""
     resource.setrlimit(resource.RLIMIT_CPU, (math.ceil(seconds), math.ceil(seconds)))
     resource.setrlimit(resource.RLIMIT_AS, (memory, memory))
 
 
-def wait_for(process: int) -> Tuple[int, float, int]:
-    """The status of the process, its processor seconds and the most bytes that it had at once: what the system says of its
-    memory counts only above what this process has, from which it was made, so it is looked at all the time."""
-    most, own = 0, resource.getrusage(resource.RUSAGE_SELF).ru_maxrss
-    while True:
-        ended, status, used = os.wait4(process, os.WNOHANG)
-        if ended:
-            most = max(most, used.ru_maxrss * 1024 if used.ru_maxrss > own else 0)
-            return os.waitstatus_to_exitcode(status), used.ru_utime + used.ru_stime, most
-        most = max(most, memory_of(process))
-        time.sleep(0.002)
+def start(words: List[str], streams: Dict[str, str], seconds: float, memory: int) -> int:
+    """Starts a program, and gives its number, to be waited for.
+
+    The system counts as a process's most memory also what it had before it became this program, as the copy of the one that
+    started it. That is more than most runs take where Python does so. So a shell does, which ends, and the run is handed on."""
+    if ctypes.CDLL(None).prctl(PR_SET_CHILD_SUBREAPER, 1, 0, 0, 0):
+        raise OSError("this system does not hand on a process whose parent has ended")
+    waits, ends = os.pipe()
+    try:
+        started = subprocess.run(["sh", "-c", START, "sh", *words], env={**os.environ, **streams}, stdin=waits, stdout=subprocess.PIPE,
+                                 check=True, preexec_fn=lambda: limit(seconds, memory))  # fmt: skip
+    finally:
+        os.close(waits)
+        os.close(ends)
+    return int(started.stdout)
 
 
 def run(program: str, slow: Slow, size: int, folder: str, seconds: float, memory: int) -> Cost:
     """A run over the input at this size, with so much processor time and memory at most."""
-    paths = [os.path.join(folder, name) for name in ("m.v", "commands", "replies", "said")]
-    given = write(paths[0], slow.text(size)) + write(paths[1], slow.commands(size))
-    with open(paths[1], "rb") as commands, open(paths[2], "wb") as replies, open(paths[3], "wb") as said:
-        ran = subprocess.Popen([program, paths[0], "--horizon", "0"], stdin=commands, stdout=replies, stderr=said,
-                               preexec_fn=lambda: limit(seconds, memory))  # fmt: skip
-        ran.returncode, spent, most = wait_for(ran.pid)
-    with open(paths[3], encoding="utf-8", errors="replace") as file:
-        ended = ran.returncode, file.read(), first_refusal(paths[2])
-    wanted = int(bool(slow.said)), slow.said.format(last=line_ends_of(paths[0])), slow.refused
-    wrong = f"over {seconds:.0f} s" if ran.returncode == -signal.SIGKILL else f"status {ended[0]}: {ended[1]}{ended[2]}".strip()
-    return Cost(spent, most, given, "" if ended == wanted else wrong)
+    text, commands, replies, said = (os.path.join(folder, name) for name in ("m.v", "commands", "replies", "said"))
+    given = write(text, slow.text(size)) + write(commands, slow.commands(size))
+    process = start([program, text, "--horizon", "0"], {"COMMANDS": commands, "REPLIES": replies, "SAID": said}, seconds, memory)
+    _, status, used = os.wait4(process, 0)
+    code = os.waitstatus_to_exitcode(status)
+    with open(said, encoding="utf-8", errors="replace") as file:
+        ended = code, file.read(), first_refusal(replies)
+    wanted = int(bool(slow.said)), slow.said.format(last=line_ends_of(text)), slow.refused
+    wrong = f"over {seconds:.0f} s" if code == -signal.SIGKILL else f"status {ended[0]}: {ended[1]}{ended[2]}".strip()
+    return Cost(used.ru_utime + used.ru_stime, used.ru_maxrss * 1024, given, "" if ended == wanted else wrong)
 
 
 def first_refusal(path: str) -> str:

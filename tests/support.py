@@ -8,6 +8,8 @@ from typing import Any, List, NamedTuple, Union
 
 # The longest design text, in bytes.
 MAX_TEXT = 4_194_304
+# How long a run may take before it counts as one without an end, on a machine with much else to do.
+SECONDS = 300
 
 
 class Ended(NamedTuple):
@@ -40,7 +42,7 @@ class WithProgram(unittest.TestCase):
         given = {"stdout": subprocess.PIPE, "stderr": subprocess.PIPE, **streams}
         if "stdin" not in given:
             given["input"] = commands.encode()
-        ran = subprocess.run([self.program, *words], cwd=self.folder, timeout=60, **given)
+        ran = subprocess.run([self.program, *words], cwd=self.folder, timeout=SECONDS, **given)
         return Ended(ran.returncode, (ran.stdout or b"").decode(), (ran.stderr or b"").decode())
 
     def run_within(self, memory: int, words: List[Union[str, bytes]], commands: str = "") -> Ended:

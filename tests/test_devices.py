@@ -31,7 +31,9 @@ class Devices(WithProgram):
     def run_over(self, **devices: int) -> Ended:
         """A session over such devices."""
         numbers = {name: str(number) for name, number in devices.items()}
-        return self.run_with([self.design], self.commands, env={**os.environ, "LD_PRELOAD": self.library, **numbers})
+        # By its path from the program's folder: a blank or a colon would end a name here.
+        loaded = os.path.join(os.curdir, os.path.basename(self.library))
+        return self.run_with([self.design], self.commands, env={**os.environ, "LD_PRELOAD": loaded, **numbers})
 
     def test_input_in_pieces(self) -> None:
         for size in (1, 2, 4096):

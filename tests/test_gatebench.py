@@ -133,6 +133,13 @@ def levels(count: int, instances: str = "u()") -> str:
     return "".join([*lines, f"module c{count}; endmodule\n"])
 
 
+def crowded(more: str) -> str:
+    """65,536 nets, as many as there may be, of 256 instances, and this in the module at the top, which stands on line 2."""
+    nets, instances = (", ".join(f"{letter}{place}{end}" for place in range(256)) for letter, end in (("n", ""), ("u", "()")))
+    inner = "module j(p); input p; wand p; endmodule " if "j " in more else ""
+    return f"{inner}module k; wire {nets}; endmodule\nmodule m; {more} k {instances}; endmodule\n"
+
+
 class Texts(Gatebench):
     def check(self, text: Union[str, bytes], wanted: Ended) -> None:
         self.write("text.v", text)
@@ -154,6 +161,21 @@ class Texts(Gatebench):
         self.check(levels(32), Ended(0, "ok 0\n", ""))
         for text in (levels(33), levels(32, "u(), w()")):
             self.check(text, Ended(1, "", "line 1: 11 TooMany\n"))
+
+    def test_what_comes_before_too_many_nets(self) -> None:
+        """A net more is one too many; but a port of another rule, or a name over 1,024 bytes, is told first wherever it stands."""
+        self.check(crowded(""), Ended(0, "ok 0\n", ""))
+        wanted = {
+            "wire w;": "11 TooMany",
+            "wand w; j v(w), x(w);": "11 TooMany",
+            "wire w; j v(w);": "9 PortKind",
+            "wand w; wire y; j v(w), x(y);": "9 PortKind",
+            f"k {'v' * 1019}();": "11 TooMany",
+            f"k {'v' * 1020}();": "11 BadName",
+            f"wire w; j v(w); k {'v' * 1020}();": "9 PortKind",
+        }
+        for more, kind in wanted.items():
+            self.check(crowded(more), Ended(1, "", f"line 2: {kind}\n"))
 
 
 class Commands(Gatebench):

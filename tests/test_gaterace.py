@@ -26,6 +26,7 @@ class Scripts(Gaterace):
     def test_every_look_of_every_viewer(self) -> None:
         self.assertEqual(self.race(SCRIPT, 3, 50), right(150))
         self.assertEqual(self.race(SCRIPT, 64, 2), right(128))
+        self.assertEqual(self.race(SCRIPT, 1, 70), right(70))
 
     def test_without_a_fault(self) -> None:
         for script in (

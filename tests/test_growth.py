@@ -11,30 +11,18 @@ from .support import WithProgram
 
 TIMES = 8
 MOST = 24
-ROUNDS = 4
+ROUNDS = 10
 # What a run may have at most: a square would otherwise take minutes and the machine's memory.
-SECONDS = 20
+SECONDS = 60
 MEMORY = 2 * 10**9
 # Below this memory is what any run takes, and not the input's.
-LEAST_MEMORY = 1 << 20
-# What is known to take more than its share (docs/BENCHMARKS.md, Slow inputs), until it is mended.
-KNOWN = {
-    "instances of as many nets",
-    "points of one input, in batches, far horizon",
-    "points of one input, alone, far horizon",
-    "points of one input, alone, the last first",
-    "points taken away, the first first",
-    "drivers of one net in turns",
-    "drivers of one net in turns, from scratch",
-    "seeks that find nothing",
-    "nets come and go, alone",
-    "gates come and go, alone",
-}
+LEAST_MEMORY = 1 << 21
 
 
-def least(first: Cost, second: Cost) -> Cost:
-    """Of two runs over one input the least time and memory, and what went wrong, if anything did."""
-    return Cost(min(first.seconds, second.seconds), min(first.memory, second.memory), first.given, first.wrong or second.wrong)
+def nearest(first: Cost, second: Cost) -> Cost:
+    """Of two runs over one input the least time, the most memory, and what went wrong, if anything did: other work on the machine
+    makes a time longer, and a system with many processors may count some pages late."""
+    return Cost(min(first.seconds, second.seconds), max(first.memory, second.memory), first.given, first.wrong or second.wrong)
 
 
 class Growth(WithProgram):
@@ -46,19 +34,16 @@ class Growth(WithProgram):
             for size in (slow.small, TIMES * slow.small):
                 cost = run(self.program, slow, size, self.folder, SECONDS, MEMORY)
                 self.assertEqual(cost.wrong, "", f"{size} {slow.counts}")
-                costs[size] = least(costs.get(size, cost), cost)
+                costs[size] = nearest(costs.get(size, cost), cost)
             small, large = costs.values()
             if large.seconds <= MOST * small.seconds and large.memory <= MOST * max(small.memory, LEAST_MEMORY):
                 return
         self.fail(f"{TIMES} times {slow.small} {slow.counts}: {small.seconds:.3f} s and {small.memory} bytes became "
                   f"{large.seconds:.3f} s and {large.memory} bytes")  # fmt: skip
 
-    def test_what_is_known_to_grow_faster_is_there(self) -> None:
-        self.assertLessEqual(KNOWN, {slow.name for slow in SLOW if slow.small})
-
     def test_time_and_memory_grow_as_inputs_do(self) -> None:
         for slow in SLOW:
-            if slow.small and slow.name not in KNOWN:
+            if slow.small:
                 with self.subTest(slow.name):
                     self.check(slow)
 

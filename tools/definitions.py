@@ -14,6 +14,10 @@ WORD = re.compile(r"[^\s(){}\[\];,\\λ→×:|=]+")
 COMMENT = re.compile(r"--.*$")
 
 
+# A line of a definition of data that says a value of it.
+VARIANT = re.compile(r"^\s+([^\s:({]+)\s*:")
+
+
 class Definition:
     """A word, the comment above it, and its lines; a module's arguments count as part of no definition."""
 
@@ -30,12 +34,20 @@ class Definition:
     def place(self):
         return f"crates/{self.crate}/specs/{self.file}.antt:{self.line}"
 
+    def variants(self):
+        """The values that a definition of data gives names to."""
+        if not re.match(r"^\s*(pub )?data\b", self.lines[0]):
+            return []
+        return [it.group(1) for it in map(VARIANT.match, self.lines[1:]) if it]
+
 
 class Imports:
     """The words that a file takes from elsewhere: by name, or behind the name of a module."""
 
     def __init__(self):
         self.words, self.modules = {}, {}
+        # What the file says of itself at its beginning.
+        self.head = ""
 
     def read(self, line):
         """Takes an import in; whether the line is one."""
@@ -76,9 +88,21 @@ def blocks(lines):
         yield at, group
 
 
+def head_of(lines):
+    """The comment at the beginning of a file, up to its first line without words."""
+    found = []
+    for line in lines:
+        words = line[2:].strip()
+        if not line.startswith("--") or not words:
+            break
+        found.append(words)
+    return " ".join(found)
+
+
 def read_definitions(crate, file, text):
     """The definitions of a file and what it imports."""
     imports, found = Imports(), []
+    imports.head = head_of(text.split("\n"))
     for at, group in blocks(text.split("\n")):
         rest = [(at + i, line) for i, line in enumerate(group) if not imports.read(line)]
         comment = [line.strip()[2:].strip() for _, line in rest if line.strip().startswith("--")]
@@ -96,7 +120,7 @@ class Sources:
     """All definitions of the repository, and of each what it rests on."""
 
     def __init__(self):
-        self.definitions, self.imports = {}, {}
+        self.definitions, self.variants, self.imports = {}, {}, {}
         for crate in crates():
             folder = os.path.join(folder_of(crate), "specs")
             for name in sorted(os.listdir(folder)) if os.path.isdir(folder) else []:
@@ -108,13 +132,17 @@ class Sources:
             found, self.imports[crate, file] = read_definitions(crate, file, text.read())
         for it in found:
             self.definitions[it.key()] = it
+            for variant in it.variants():
+                self.variants[crate, file, variant] = it
 
     def resolve(self, module, name):
         """The definition of a word of a module, or nothing where it is of the library, or a type of the code."""
         parts = module.split(".")
         if len(parts) < 3 or parts[1] != "specs" or parts[2] == "declared":
             return None
-        return self.definitions.get((parts[0], parts[2], name))
+        key = parts[0], parts[2], name
+        handed_on = self.imports[key[:2]].find(name) if key[:2] in self.imports else None
+        return self.definitions.get(key) or self.variants.get(key) or (self.resolve(*handed_on) if handed_on else None)
 
     def below(self, it):
         """The definitions that one names, in the order of its words."""
@@ -125,10 +153,24 @@ class Sources:
         found = []
         for word in WORD.findall(text):
             there = imports.find(word)
-            it = self.resolve(*there) if there else self.definitions.get((*own, word.split(".")[0])) if own else None
+            key = (*own, word.split(".")[0]) if own else None
+            it = self.resolve(*there) if there else self.definitions.get(key) or self.variants.get(key)
             if it and it not in found:
                 found.append(it)
         return found
+
+    def borrowed(self, definitions):
+        """What definitions name that is none: words of the library, and words of the code with their modules."""
+        library, code = set(), {}
+        for it in definitions:
+            imports = self.imports[it.crate, it.file]
+            for module, name in filter(None, map(imports.find, WORD.findall(it.text()))):
+                parts = module.split(".")
+                if parts[0] == "std":
+                    library.add(name)
+                elif parts[1:3] == ["specs", "declared"]:
+                    code.setdefault(parts[0], {}).setdefault(".".join(parts[3:]), set()).add(name)
+        return library, code
 
     def closure(self, seeds):
         """All that these definitions rest on with them, what is rested on first."""
@@ -162,6 +204,11 @@ def clauses_of(lines, at):
     for line in lines[at:]:
         if re.match(r"^\s*\{\s*$|^\s*\{.*\}\s*$", line) and found:
             break
+        # A call of a trait has no body.
+        if line.rstrip().endswith("};"):
+            last = line.strip().rstrip(";")
+            found = [*found, last] if re.match(r"^(requires|ensures)\b", last) else [*found[:-1], found[-1] + " " + last]
+            break
         if re.match(r"^\s*(requires|ensures)\b", line):
             found.append(line.strip())
         elif found and line.strip() and not line.strip().startswith("//"):
@@ -172,9 +219,10 @@ def clauses_of(lines, at):
 
 
 def contract_of(call):
-    """The contract of crate::function or crate::Type::function."""
+    """The contract of crate::function, crate::module::function, crate::Type::function or crate::Trait::function."""
     parts = call.split("::")
-    crate, name, owner = parts[0], parts[-1], parts[1] if len(parts) == 3 else None
+    crate, name = parts[0], parts[-1]
+    owner = parts[1] if len(parts) == 3 and parts[1][0].isupper() else None
     folder = os.path.join(folder_of(crate), "src")
     for at, _, files in sorted(os.walk(folder)):
         for file in sorted(files):
@@ -194,13 +242,40 @@ def contract_of(call):
 
 def function_in(lines, name, owner):
     """The line of the head of a public function, in the block of its type where it has one."""
-    inside = owner is None
+    inside, head = owner is None, "pub fn"
     for number, line in enumerate(lines):
-        if owner and re.match(r"^impl\b", line):
+        if owner and re.match(r"^(impl|pub trait)\b", line):
             inside = " for " not in line and re.search(rf"\b{owner}\b", line) is not None
-        if inside and re.match(rf"^\s*pub fn {name}\b", line) and (owner is None) == (not line.startswith(" ")):
+            head = "pub fn" if line.startswith("impl") else "fn"
+        if inside and re.match(rf"^\s*{head} {name}\b", line) and (owner is None) == (not line.startswith(" ")):
             return number
     return None
+
+
+def answer_of(kind):
+    """The line that says the answer of a stepper, crate::Type, with its file."""
+    crate, name = kind.split("::")
+    folder = os.path.join(folder_of(crate), "src")
+    for file in sorted(os.listdir(folder)):
+        with open(os.path.join(folder, file), encoding="utf-8") as text:
+            found = re.search(rf"^impl\b[^\n]*\bStepper for {name}\b.*?^    (ghost answer = .*?;)", text.read(), re.S | re.M)
+        if found:
+            return os.path.relpath(os.path.join(folder, file), ROOT), found.group(1)
+    raise SystemExit(f"believe: no stepper {kind}")
+
+
+def constant_of(crate, module, name):
+    """The number that the code gives a constant, as it is written."""
+    path = os.path.join(folder_of(crate), "src", *module.split(".")[:-1]) + ".rt"
+    with open(path, encoding="utf-8") as text:
+        return re.search(rf"^pub const {name}: \w+ = (.*?);", text.read(), re.M).group(1)
+
+
+def is_pinned(crate, name):
+    """Whether a law of its crate says which number a constant of the code is."""
+    path = os.path.join(folder_of(crate), "src", "laws.rt")
+    with open(path, encoding="utf-8") as text:
+        return re.search(rf"\bensures\b[^\n]*\{{ {name} ≡ \d+ \}}", text.read()) is not None
 
 
 def value_of(lines, owner):

@@ -21,7 +21,7 @@ class Example:
     def __init__(self, folder):
         self.name = os.path.relpath(folder, ROOT)
         there = set(os.listdir(folder))
-        self.words = [os.path.join(folder, "design.v")]
+        self.words = [os.path.abspath(os.path.join(folder, "design.v"))]
         if "args" in there:
             self.words += contents(folder, "args").decode().split()
         given = [it for it in ("commands", "stdin") if it in there]

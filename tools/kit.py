@@ -3,6 +3,7 @@ import importlib.machinery
 import importlib.util
 import os
 import shutil
+import signal
 
 from workspace import fail
 
@@ -37,6 +38,26 @@ def must_fail(crate, edit, kept):
     """Whether the prover refuses an edit, and what to say of it. With nothing kept it checks from nothing."""
     outcome, said = RT.must_fail(CRATES[crate], edit, ["--jobs", "1"], kept)
     return outcome in REFUSALS, said
+
+
+def processors():
+    """How many checks the machine can do at one time, by what this process may use of it."""
+    return RT.processors() if hasattr(RT, "processors") else len(os.sched_getaffinity(0))
+
+
+def memory():
+    """The bytes that checks may take together, and no limit where the kit does not say."""
+    return 0.85 * RT.free() if hasattr(RT, "free") else float("inf")
+
+
+def need_of(crate):
+    """The most bytes that a check of a crate is likely to take."""
+    return RT.need(CRATES[crate]) if hasattr(RT, "need") else 0
+
+
+def is_killed(ran):
+    """Whether a check was ended from outside, most likely for want of memory."""
+    return ran.returncode == -signal.SIGKILL
 
 
 def is_unread(said, changed):

@@ -7,7 +7,7 @@ from typing import Any, NamedTuple, Union
 
 from workspace import ROOT
 
-SECONDS = 60
+SECONDS = 300
 
 
 class Ended(NamedTuple):
@@ -40,13 +40,16 @@ class Shim:
     """The library, and a folder for what it counts."""
 
     def __init__(self, library, room):
-        self.library, self.counts_file = library, os.path.join(room, "counts")
+        # The program runs in the library's folder, and has its path from there: a blank or a colon would end a name.
+        self.folder, name = os.path.split(library)
+        self.library, self.counts_file = os.path.join(os.curdir, name), os.path.join(room, "counts")
 
     def run(self, words, faults=None, **streams: Any):
         """A run of a program; `faults` has variables of the library, such as REFUSE, with their texts."""
         loaded = {**os.environ, "LD_PRELOAD": self.library, "COUNTS": self.counts_file, **(faults or {})}
+        pipes = {"stdout": subprocess.PIPE, "stderr": subprocess.PIPE}
         try:
-            ran = subprocess.run(words, stdout=subprocess.PIPE, stderr=subprocess.PIPE, timeout=SECONDS, env=loaded, **streams)
+            ran = subprocess.run(words, cwd=self.folder, timeout=SECONDS, env=loaded, **pipes, **streams)
         except subprocess.TimeoutExpired:
             return Ended("no end", b"", b"")
         return Ended(ran.returncode if ran.returncode >= 0 else f"signal {-ran.returncode}", ran.stdout, ran.stderr)

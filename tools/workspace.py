@@ -102,3 +102,11 @@ class Lanes:
     def stop(self):
         for _, _, started, _ in self.running.values():
             started.terminate()
+
+
+def link(name, path):
+    """Makes `path` a link to the file of this name beside it, also where something is there."""
+    if os.path.lexists(f"{path}.new"):
+        os.remove(f"{path}.new")
+    os.symlink(name, f"{path}.new")
+    os.replace(f"{path}.new", path)

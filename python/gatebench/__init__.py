@@ -8,9 +8,13 @@
             batch.stim("a", 10, 1)
         print(session.wave("y").pulses(shorter_than=3))
 
-`python -m gatebench check` runs files of commands with what they expect, and `python -m gatebench draw` draws waves.
-docs/GUIDE.md of the repository has a page for scripts, and docs/SPEC.md has the rules."""
-from .difference import Difference, diff
+`python -m gatebench check` runs files of commands with what they expect, `draw` draws waves, `faults` and `sweep` run many
+what-ifs over a design.
+docs/scripts.md of the repository is the page for it, and docs/SPEC.md has the rules."""
+from .bus import Bus, BusChange
+from .difference import Difference, Differences, diff
+from .draw_svg import draw_svg
+from .draw_text import draw_text
 from .dump import Dump, dump_of
 from .edits import Batch
 from .errors import (
@@ -22,40 +26,68 @@ from .errors import (
     NoReply,
     ProgramEnded,
     ProgramMissing,
+    QuestionMissing,
     Refused,
     TimedOut,
 )
+from .netlist import Gate, Netlist, netlist_of, read_netlist
+from .picture import Picture, window
 from .program import program_path
 from .questions import Questions
 from .replies import Reply
+from .rules import Violation, equal_at, no_pulse, one_hot, setup_and_hold, stable
 from .session import Held, Session
 from .values import Change, constant
+from .vcd_stimulus import stimulus_of_vcd
+from .version import __version__
 from .wave import Edge, Pulse, Wave
+from .wavedrom import wavedrom
 
 __all__ = [
     "BadReply",
     "Batch",
     "BatchRefused",
+    "Bus",
+    "BusChange",
     "Change",
     "Closed",
     "DesignRefused",
     "Difference",
+    "Differences",
     "Dump",
     "Edge",
+    "Gate",
     "GatebenchError",
     "Held",
+    "Netlist",
     "NoReply",
+    "Picture",
     "ProgramEnded",
     "ProgramMissing",
     "Pulse",
+    "QuestionMissing",
     "Questions",
     "Refused",
     "Reply",
     "Session",
     "TimedOut",
+    "Violation",
     "Wave",
+    "__version__",
     "constant",
     "diff",
+    "draw_svg",
+    "draw_text",
     "dump_of",
+    "equal_at",
+    "netlist_of",
+    "no_pulse",
+    "one_hot",
     "program_path",
+    "read_netlist",
+    "setup_and_hold",
+    "stable",
+    "stimulus_of_vcd",
+    "wavedrom",
+    "window",
 ]

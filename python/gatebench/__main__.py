@@ -1,7 +1,5 @@
-"""python -m gatebench check FILE.. and python -m gatebench draw DESIGN [COMMANDS]."""
-import sys
-
-from .command_line import main
+"""python -m gatebench check FILE.., and its other tasks."""
+from .command_line import run
 
 if __name__ == "__main__":
-    sys.exit(main(sys.argv[1:]))
+    run()

@@ -3,7 +3,8 @@ import os
 import select
 import subprocess
 import tempfile
-from typing import List, Optional, Sequence
+import weakref
+from typing import IO, Any, List, Optional, Sequence
 
 from .errors import BadReply, Closed, GatebenchError, NoReply, ProgramEnded, ProgramMissing, TimedOut
 from .replies import Reply, ReplyReader
@@ -16,23 +17,32 @@ GRACE = 5.0
 class Channel:
     """Writes while it reads, so neither pipe can fill up while both sides wait.
 
-    `timeout` is for how many seconds the program may neither take nor give a byte; None waits for ever. After an
-    exception of `exchange` the program has ended, and each further exchange raises the same again."""
+    `program` is the path of the program, and `words` are those that it is given, the name by which it goes first. `timeout`
+    is for how many seconds the program may neither take nor give a byte; None waits for ever. After an exception of
+    `exchange` the program has ended, and each further exchange raises the same again. A channel that nobody has any more
+    ends its program."""
 
-    def __init__(self, words: Sequence[str], timeout: Optional[float], pass_fds: Sequence[int] = ()) -> None:
+    def __init__(self, program: str, words: Sequence[str], timeout: Optional[float], pass_fds: Sequence[int] = ()) -> None:
         self._timeout = timeout
         self._errors = tempfile.TemporaryFile()
         self._reader = ReplyReader()
         self._failure: Optional[GatebenchError] = None
         try:
             self._process = subprocess.Popen(
-                list(words), stdin=subprocess.PIPE, stdout=subprocess.PIPE, stderr=self._errors, bufsize=0, pass_fds=pass_fds
+                list(words),
+                executable=program,
+                stdin=subprocess.PIPE,
+                stdout=subprocess.PIPE,
+                stderr=self._errors,
+                bufsize=0,
+                pass_fds=pass_fds,
             )
         except OSError as error:
             self._errors.close()
-            raise ProgramMissing(f"{words[0]} can't be started: {error.strerror}") from None
+            raise ProgramMissing(f"{program} can't be started: {error.strerror}") from None
         assert self._process.stdin is not None and self._process.stdout is not None
         self._stdin, self._stdout = self._process.stdin, self._process.stdout
+        self._end = weakref.finalize(self, end, self._process, (self._stdin, self._stdout, self._errors))
         os.set_blocking(self._stdin.fileno(), False)
 
     @property
@@ -141,7 +151,12 @@ class Channel:
 
     def _fail(self, failure: GatebenchError) -> None:
         self._failure = failure
-        self._process.kill()
-        self._process.wait()
-        for it in (self._stdin, self._stdout, self._errors):
-            it.close()
+        self._end()
+
+
+def end(process: "subprocess.Popen[bytes]", files: Sequence[IO[Any]]) -> None:
+    """Ends a program, and closes the files that lead to it."""
+    process.kill()
+    process.wait()
+    for it in files:
+        it.close()

@@ -1,10 +1,13 @@
 """Runs files of commands, and says where a reply is not the one that is expected."""
-from typing import Callable, Iterator, List, NamedTuple, Optional, Tuple
+import time
+from concurrent.futures import ThreadPoolExecutor
+from enum import IntEnum
+from typing import Callable, Iterator, List, NamedTuple, Optional, Sequence, Tuple
 
-from .errors import GatebenchError, NoReply
+from .errors import DesignRefused, GatebenchError, NoReply
 from .refusal import NO_EDIT, place_at_fault
 from .replies import Reply
-from .script import BadLine, Opening, Script, Step, got, read_script
+from .script import BadLine, Opening, Script, Step, read_script
 from .session import Session
 
 
@@ -13,6 +16,17 @@ class Failure(NamedTuple):
 
     number: int
     message: str
+
+
+class Outcome(IntEnum):
+    """What came of files, the worst last; the numbers are the statuses of the command."""
+
+    MET = 0
+    NOT_MET = 1
+    # A file, or its design, can't be read, or is none.
+    BAD_FILE = 3
+    # There is no program, or it ended before it had answered.
+    NO_PROGRAM = 4
 
 
 class Case(NamedTuple):
@@ -24,12 +38,19 @@ class Case(NamedTuple):
 
 
 class Report(NamedTuple):
-    """What came of a file: its steps, and its cases in order. `error` is why it could not be run to its end."""
+    """What came of a file: its steps, and its cases in order. `error` is why it could not be run to its end, and `cause` what
+    that was. `seconds` is how long it took."""
 
     path: str
     steps: List[Step]
     cases: List[Case]
     error: Optional[Failure] = None
+    cause: Outcome = Outcome.MET
+    seconds: float = 0.0
+
+    @property
+    def outcome(self) -> Outcome:
+        return self.cause or (Outcome.NOT_MET if self.failures() else Outcome.MET)
 
     @property
     def expectations(self) -> int:
@@ -47,16 +68,34 @@ class Report(NamedTuple):
 
 def check_file(path: str, default: Opening, program: Optional[str], timeout: Optional[float]) -> Report:
     """Runs a file. `default` opens its session where the file does not say how, with an empty design for none."""
+    since = time.monotonic()
+    report = report_of(path, default, program, timeout)
+    return report._replace(seconds=time.monotonic() - since)
+
+
+def check_files(
+    paths: Sequence[str], default: Opening, program: Optional[str], timeout: Optional[float], jobs: int
+) -> Iterator[Report]:
+    """Runs files, so many at one time; their reports come in the order of the files."""
+    with ThreadPoolExecutor(jobs) as pool:
+        yield from pool.map(lambda path: check_file(path, default, program, timeout), paths)
+
+
+def report_of(path: str, default: Opening, program: Optional[str], timeout: Optional[float]) -> Report:
     try:
         script = read_script(path)
     except BadLine as bad:
-        return Report(path, [], [], Failure(bad.number, f"expected {bad.wanted}, got {bad.line.strip()}"))
+        return bad_file(path, bad.number, f"expected {bad.wanted}, got {bad.line.strip()}")
     except OSError as error:
-        return Report(path, [], [], Failure(0, f"can't be read: {error.strerror}"))
+        return bad_file(path, 0, f"can't be read: {error.strerror}")
     opening = script.opening or default
     if not opening.design:
-        return Report(path, [], [], Failure(0, "has no line 'design FILE', and no --design was given"))
+        return bad_file(path, 0, "has no line 'design FILE', and no --design was given")
     return run_script(path, script, opening, program, timeout)
+
+
+def bad_file(path: str, number: int, message: str) -> Report:
+    return Report(path, [], [], Failure(number, message), Outcome.BAD_FILE)
 
 
 def run_script(path: str, script: Script, opening: Opening, program: Optional[str], timeout: Optional[float]) -> Report:
@@ -70,9 +109,15 @@ def run_script(path: str, script: Script, opening: Opening, program: Optional[st
     try:
         with open_session() as session:
             replies, error = answers(session, steps)
+    except OSError as failure:
+        return bad_file(path, 0, f"{opening.design} can't be read: {failure.strerror}")
+    except DesignRefused as failure:
+        # A failure is one line: what follows shows the line of the design.
+        return bad_file(path, 0, str(failure).split("\n")[0])
     except GatebenchError as failure:
-        return Report(path, steps, [], Failure(0, str(failure)))
-    return Report(path, steps, list(cases_of(steps, replies, open_session)), error)
+        return Report(path, steps, [], Failure(0, str(failure)), Outcome.NO_PROGRAM)
+    cause = Outcome.MET if error is None else Outcome.NO_PROGRAM
+    return Report(path, steps, list(cases_of(steps, replies, open_session)), error, cause)
 
 
 def answers(session: Session, steps: List[Step]) -> Tuple[List[Reply], Optional[Failure]]:
@@ -87,7 +132,7 @@ def cases_of(steps: List[Step], replies: List[Reply], open_session: Callable[[],
     """The expectations, met or not, and the commands that were refused. `open_session` gives a session for a second look."""
     for place, (step, reply) in enumerate(zip(steps, replies)):
         if not step.is_met(reply):
-            wrong = f"expected {step.wanted()}, got {got(reply)}"
+            wrong = f"expected {step.wanted()}, got {step.got(reply)}"
             if step.line.split() == ["commit"] and not reply.is_ok:
                 wrong += edit_at_fault(steps, replies, place, open_session)
             yield Case(step.number, step.text, Failure(step.number, wrong))

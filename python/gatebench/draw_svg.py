@@ -1,7 +1,8 @@
 """Waves as an SVG picture.
 
 A 1 is a line at the top of a row and a 0 one at its bottom; x is a hatched red field over the whole row, and z a
-dashed amber line in its middle, as wave viewers show them."""
+dashed amber line in its middle, as wave viewers show them. Of another version the wave stands in grey behind it, and where
+the two differ is shaded."""
 from typing import Iterator, List
 from xml.sax.saxutils import escape
 
@@ -24,6 +25,11 @@ text {{ font: 13px {FONT}; fill: #24292f; }}
 .wave {{ fill: none; stroke: #0a7f3f; stroke-width: 1.6; stroke-linejoin: miter; }}
 .x {{ fill: url(#hatch); stroke: #cf222e; stroke-width: 1.2; }}
 .z {{ fill: none; stroke: #b35900; stroke-width: 1.6; stroke-dasharray: 5 3; }}
+"""
+
+# What another version needs beside.
+GHOST_STYLE = """.differs { fill: #fff1b8; }
+.ghost { fill: none; stroke: #8c959f; stroke-width: 1.2; }
 """
 
 HATCH = (
@@ -60,7 +66,8 @@ class Drawing:
         size = f'width="{WIDTH}" height="{self.height:g}" viewBox="0 0 {WIDTH} {self.height:g}"'
         head = f'<svg xmlns="http://www.w3.org/2000/svg" {size} role="img">'
         title = f"<title>{escape(self.title())}</title>"
-        return "\n".join([head, title, f"<style>{STYLE}</style>", *body, "</svg>"]) + "\n"
+        style = STYLE + (GHOST_STYLE if self.picture.before else "")
+        return "\n".join([head, title, f"<style>{style}</style>", *body, "</svg>"]) + "\n"
 
     def title(self) -> str:
         nets = ", ".join(it.net for it in self.picture.waves)
@@ -80,11 +87,10 @@ class Drawing:
         changes = ", ".join(f"{it.value} at {it.time}" for it in wave.between(self.picture.start, self.picture.end))
         yield f"<g><title>{escape(wave.net)}: {changes or 'no change'}</title>"
         yield label(self.left - 12, top + HEIGHT / 2 + 4.5, wave.net, "net", "end")
+        if wave.net in self.picture.before:
+            yield from self.ghost(self.picture.before[wave.net], wave, top)
         found = spans(wave, self.picture.start, self.picture.end)
-        for span in found:
-            if span.value == "x":
-                width = max(LEAST, self.x(span.end) - self.x(span.start))
-                yield f'<rect class="x" x="{self.x(span.start):.1f}" y="{top:g}" width="{width:.1f}" height="{HEIGHT}"/>'
+        yield from (self.field("x", span.start, span.end, top) for span in found if span.value == "x")
         yield f'<path class="wave" d="{self.levels(found, top)}"/>'
         for span in found:
             if span.value == "z":
@@ -92,6 +98,24 @@ class Drawing:
                 end = max(start + LEAST, self.x(span.end))
                 yield f'<path class="z" d="M{start:.1f} {top + HEIGHT / 2:g}H{end:.1f}"/>'
         yield "</g>"
+
+    def field(self, style: str, start: int, end: int, top: float) -> str:
+        """A field over the whole row."""
+        width = max(LEAST, self.x(end) - self.x(start))
+        return f'<rect class="{style}" x="{self.x(start):.1f}" y="{top:g}" width="{width:.1f}" height="{HEIGHT}"/>'
+
+    def ghost(self, before: Wave, now: Wave, top: float) -> Iterator[str]:
+        """The wave of another version, and where it differs."""
+        last = min(self.picture.end, before.horizon)
+        if last < self.picture.start:
+            return
+        yield from (self.field("differs", *it, top) for it in before.differences(now, self.picture.start, last))
+        found = spans(before, self.picture.start, last)
+        yield from (self.field("ghost", it.start, it.end, top) for it in found if it.value == "x")
+        middles = "".join(
+            f"M{self.x(it.start):.1f} {top + HEIGHT / 2:g}H{self.x(it.end):.1f}" for it in found if it.value == "z"
+        )
+        yield f'<path class="ghost" d="{self.levels(found, top)}{middles}"/>'
 
     def levels(self, found: List[Span], top: float) -> str:
         """The lines of the levels 0 and 1, with an edge at each change between them and between one of them and z."""

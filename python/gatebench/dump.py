@@ -1,9 +1,31 @@
 """A value change dump (VCD), as the command `vcd` gives it, with the waves of all nets."""
-from typing import Dict, Iterable, Iterator, List, NamedTuple, Tuple
+from typing import Dict, Iterable, Iterator, List, Mapping, NamedTuple, Tuple
 
 from .errors import BadReply
 from .values import VALUES, Change
 from .wave import Wave
+
+# The changes of a net as a time and a value each.
+Changes = List[Tuple[int, str]]
+
+
+class Waves(Mapping[str, Wave]):
+    """The waves of nets by their names. Each is made when it is first asked for, since most of a dump is never looked at."""
+
+    def __init__(self, changes: Dict[str, Changes], horizon: int) -> None:
+        self._changes, self._horizon = changes, horizon
+        self._made: Dict[str, Wave] = {}
+
+    def __getitem__(self, net: str) -> Wave:
+        if net not in self._made:
+            self._made[net] = Wave(net, tuple(map(Change._make, self._changes[net])), self._horizon)
+        return self._made[net]
+
+    def __iter__(self) -> Iterator[str]:
+        return iter(self._changes)
+
+    def __len__(self) -> int:
+        return len(self._changes)
 
 
 class Dump(NamedTuple):
@@ -11,7 +33,7 @@ class Dump(NamedTuple):
 
     unit: str
     horizon: int
-    waves: Dict[str, Wave]
+    waves: Mapping[str, Wave]
 
 
 def dump_of(lines: Iterable[str]) -> Dump:
@@ -19,8 +41,13 @@ def dump_of(lines: Iterable[str]) -> Dump:
     rest = iter(lines)
     unit, names = read_head(rest)
     changes, horizon = read_changes(rest, names)
-    waves = {names[code]: Wave(names[code], tuple(found), horizon) for code, found in changes.items()}
-    return Dump(unit, horizon, waves)
+    return Dump(unit, horizon, Waves({names[code]: found for code, found in changes.items()}, horizon))
+
+
+def names_of(lines: Iterable[str]) -> List[str]:
+    """The names of the nets of a dump, in their order."""
+    _, names = read_head(iter(lines))
+    return list(names.values())
 
 
 def read_head(lines: Iterator[str]) -> Tuple[str, Dict[str, str]]:
@@ -42,15 +69,16 @@ def read_head(lines: Iterator[str]) -> Tuple[str, Dict[str, str]]:
     raise BadReply("the dump has no $enddefinitions")
 
 
-def read_changes(lines: Iterator[str], names: Dict[str, str]) -> Tuple[Dict[str, List[Change]], int]:
+def read_changes(lines: Iterable[str], names: Mapping[str, str]) -> Tuple[Dict[str, Changes], int]:
     """The changes of each code, and the horizon."""
-    changes: Dict[str, List[Change]] = {code: [] for code in names}
+    changes: Dict[str, Changes] = {code: [] for code in names}
     time = 0
     for line in lines:
-        if line.startswith("#"):
+        first = line[:1]
+        if first == "#":
             time = int(line[1:])
-        elif line[:1] in VALUES and line[1:] in changes:
-            changes[line[1:]].append(Change(time, line[0]))
-        elif not line.startswith("$"):
+        elif first in VALUES and line[1:] in changes:
+            changes[line[1:]].append((time, first))
+        elif first != "$":
             raise BadReply(f"{line!r} is no line of a dump")
     return changes, time

@@ -1,22 +1,43 @@
 """What can go wrong, each as an exception of its own. All of them are a GatebenchError."""
-from typing import TYPE_CHECKING, List, Optional
+from typing import TYPE_CHECKING, Any, Dict, List, Optional, Tuple, Type
+
+from .causes import of_command, of_text
+from .command_word import command_word
 
 if TYPE_CHECKING:
+    from .fault_word import FaultWord
     from .replies import Reply
 
 
 class GatebenchError(Exception):
-    """Anything that this package says of the program gatebench or of its answers."""
+    """Anything that this package says of the program gatebench or of its answers. It can be pickled, so that it comes
+    through from another process as it was raised."""
+
+    def __reduce__(self) -> Tuple[Any, ...]:
+        return same_error, (type(self), self.args, self.__dict__)
+
+
+def same_error(kind: Type[GatebenchError], args: Tuple[Any, ...], state: Dict[str, Any]) -> GatebenchError:
+    """An error of this kind that says and has the same; `args` are those of its message, and not of its kind."""
+    error = kind.__new__(kind, *args)
+    error.args = args
+    error.__dict__.update(state)
+    return error
 
 
 class Refused(GatebenchError):
     """The program refused a command: it answered `no CODE NAME`, and nothing changed.
 
-    `code` is the number and `name` the word of the refusal, as docs/GUIDE.md lists them; `command` is the line."""
+    `code` is the number and `name` the word of the refusal, as docs/commands.md lists them; `command` is the line, and `word` the
+    word of it that is at fault, None where that is not known. Its text says what the code means."""
 
-    def __init__(self, code: int, name: str, command: str) -> None:
-        super().__init__(f"no {code} {name}: {command}")
-        self.code, self.name, self.command = code, name, command
+    def __init__(self, code: int, name: str, command: str, word: Optional[str] = None) -> None:
+        self.code, self.name, self.command, self.word = code, name, command, word or command_word(command, code)
+        super().__init__(f"no {code} {name}: {command}{self._means()}")
+
+    def _means(self) -> str:
+        means = of_command(self.code, self.name)
+        return f": {quoted(cut(self.word))}{means}" if self.word and means else means
 
 
 class BatchRefused(Refused):
@@ -29,19 +50,56 @@ class BatchRefused(Refused):
         self.place = place
 
     def __str__(self) -> str:
-        return f"no {self.code} {self.name}: {self.command} (edit {self.place + 1} of the batch)"
+        return f"no {self.code} {self.name}: {self.command} (edit {self.place + 1} of the batch){self._means()}"
 
 
 class DesignRefused(GatebenchError):
-    """The program refused the design text at its line `line`, with `code` and `name` as docs/GUIDE.md lists them."""
+    """The program refused the design text at its line `line`, with `code` and `name` as docs/does-not-load.md lists them.
 
-    def __init__(self, design: str, line: int, code: int, name: str) -> None:
-        super().__init__(f"{design}:{line}: {code} {name}")
-        self.design, self.line, self.code, self.name = design, line, code, name
+    `word` is the word at fault, at the column `column` of the line `word_line`; the three are None where the text leaves open
+    which word it is. `text` is what stands on the word's line, or on the program's. Its own text says what helps."""
+
+    def __init__(self, design: str, line: int, code: int, name: str, text: str = "", at: "Optional[FaultWord]" = None) -> None:
+        place, word = (f"{at.line}:{at.column}", cut(at.word)) if at else (str(line), "")
+        what = f"{design}:{place}: {code} {name}{f' at {quoted(word)}' if word else ''}{of_text(code, name, word)}"
+        super().__init__("\n".join([what, *marked(text, at)]))
+        self.design, self.line, self.code, self.name, self.text = design, line, code, name, text.strip()[:SHOWN]
+        self.word, self.word_line, self.column = at if at else (None, None, None)
+
+
+# How much is shown of a word or of a line at fault, and of what stands before the word.
+SHOWN, SHOWN_BEFORE = 80, 30
+
+
+def cut(text: str) -> str:
+    return text if len(text) <= SHOWN else f"{text[: SHOWN - 2]}.."
+
+
+def quoted(word: str) -> str:
+    return f"`` {word} ``" if "`" in word else f"`{word}`"
+
+
+def marked(text: str, at: "Optional[FaultWord]") -> List[str]:
+    """A line of a text, and below it marks under the word at fault. Of a long one what stands round the word."""
+    margin = len(text) - len(text.lstrip())
+    column = at.column - 1 if at else margin
+    begin = max(margin, column - SHOWN_BEFORE) if len(text) - margin > SHOWN else margin
+    shown = "".join(it if it.isprintable() else " " for it in text[begin : begin + SHOWN].rstrip())
+    marks = "^" * min(len(at.word), len(shown) - column + begin) if at else ""
+    return [f"  {it}" for it in (shown, " " * (column - begin) + marks) if it.strip()]
 
 
 class ProgramMissing(GatebenchError):
     """There is no program to run, or it can't be started."""
+
+
+class QuestionMissing(GatebenchError):
+    """The program does not know a question: it is older than this package, or it was started by a script under another name than
+    gatetool (docs/tool-questions.md)."""
+
+    def __init__(self, question: str) -> None:
+        super().__init__(f"the program does not know the question {question}: build it anew, and start it as itself or as gatetool")
+        self.question = question
 
 
 class NoReply(GatebenchError):

@@ -32,20 +32,23 @@ def suite_of(report: Report) -> ElementTree.Element:
         tests=str(len(report.cases) + is_one),
         failures=str(failed),
         errors=str(int(report.error is not None)),
+        time=f"{report.seconds:.3f}",
     )
     for number, text, failure in report.cases:
-        case = add_case(suite, report, f"line {number}: {text.strip()}")
+        case = add_case(suite, report, f"line {number}: {text.strip()}", number)
         if failure is not None:
             note(case, "failure", f"{report.path}:{failure.number}: {failure.message}", failure.message)
     if is_one:
-        case = add_case(suite, report, "the file")
+        case = add_case(suite, report, "the file", report.error.number if report.error is not None else 0)
         if report.error is not None:
             note(case, "error", f"{report.path}:{report.error.number}: {report.error.message}", report.error.message)
     return suite
 
 
-def add_case(suite: ElementTree.Element, report: Report, name: str) -> ElementTree.Element:
-    return ElementTree.SubElement(suite, "testcase", classname=clean(report.path), name=clean(name))
+def add_case(suite: ElementTree.Element, report: Report, name: str, number: int) -> ElementTree.Element:
+    """A case of the line with this number; 0 is the file as a whole."""
+    path = clean(report.path)
+    return ElementTree.SubElement(suite, "testcase", classname=path, name=clean(name), file=path, line=str(max(1, number)))
 
 
 def note(case: ElementTree.Element, tag: str, text: str, message: str) -> None:

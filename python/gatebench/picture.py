@@ -1,16 +1,19 @@
 """What a drawing of waves shows: a time window, and where its axis has marks."""
-from typing import List, NamedTuple, Sequence
+from typing import List, Mapping, NamedTuple, Sequence, Tuple
 
 from .wave import Wave
 
 
 class Picture(NamedTuple):
-    """The waves to draw from the moment `start` to the moment `end`, both included; `unit` is the time unit as `1 ns`."""
+    """The waves to draw from the moment `start` to the moment `end`, both included; `unit` is the time unit as `1 ns`.
+
+    `before` has waves of another version by their nets: they are drawn behind, and where they differ is shaded."""
 
     waves: Sequence[Wave]
     start: int
     end: int
     unit: str
+    before: Mapping[str, Wave] = {}
 
     @property
     def moments(self) -> int:
@@ -49,8 +52,11 @@ def spans(wave: Wave, start: int, end: int) -> List[Span]:
     return [Span(before, after, value) for before, after, value in zip(times, times[1:], values)]
 
 
-def window(waves: Sequence[Wave], unit: str, horizon: int, start: int, end: int) -> Picture:
-    """A picture of this window. ValueError where it is not within 0 to the horizon."""
+def window(
+    waves: Sequence[Wave], unit: str, horizon: int, start: int, end: int, before: Sequence[Wave] = ()
+) -> Picture:
+    """A picture of this window, with the waves of another version behind where `before` has them. ValueError where the window
+    is not within 0 to the horizon."""
     if not 0 <= start <= end <= horizon:
         raise ValueError(f"{start} to {end} is not within 0 to {horizon}, the horizon")
-    return Picture(waves, start, end, unit)
+    return Picture(waves, start, end, unit, {it.net: it for it in before})

@@ -8,6 +8,9 @@ from .errors import ProgramMissing
 # The environment variable that names the program.
 VARIABLE = "GATEBENCH"
 
+# The name under which the program answers the questions of tools too; by any other name it does not know them.
+TOOL = "gatetool"
+
 
 def program_path(given: Optional[str] = None) -> str:
     """The path of the program: the given one; else that of the environment variable GATEBENCH; else bin/gatebench of
@@ -19,14 +22,12 @@ def program_path(given: Optional[str] = None) -> str:
     built = os.path.join(repository, "bin", "gatebench")
     found = built if os.access(built, os.X_OK) else shutil.which("gatebench")
     if found is None:
-        raise ProgramMissing(f"there is no program gatebench: build it by `make demo`, or name it in {VARIABLE}")
+        raise ProgramMissing(f"there is no program gatebench: build it by `make demo`, or unproved by `make try`, or name it in {VARIABLE}")
     return found
 
 
-def command_words(
-    program: str, design: str, horizon: Optional[int], delay: Optional[int], workers: Optional[int]
-) -> List[str]:
-    """The words that start the program. An option that is None is left out, so it is the program's default."""
+def command_words(design: str, horizon: Optional[int], delay: Optional[int], workers: Optional[int]) -> List[str]:
+    """The words that start the program, its name first. An option that is None is left out, so it is the program's default."""
     options = (("--horizon", horizon), ("--delay", delay), ("--workers", workers))
     given = [word for name, value in options if value is not None for word in (name, str(value))]
-    return [program, *given, "--", design]
+    return [TOOL, *given, "--", design]

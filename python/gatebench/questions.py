@@ -1,26 +1,22 @@
 """A method for each question about the waves of a version."""
-from abc import ABC, abstractmethod
-from typing import Dict, List, Optional, Sequence
+from typing import Dict, List, Optional, Sequence, Tuple
 
+from .asked import TIME_TOO_LARGE, TOOLS
+from .bus import Bus
 from .dump import Dump, dump_of
 from .errors import BadReply
 from .lines import Word, line_of
-from .replies import Reply
+from .stimulus import bits_among
+from .structure import Structure
 from .values import Change, GivenValue, change_of, value_of
 from .wave import Wave
 
-TIME_TOO_LARGE = 11
 
-
-class Questions(ABC):
-    """The six questions. Refused where the program refuses one: a net is not there, a moment is past the horizon."""
+class Questions(Structure):
+    """The questions about waves. Refused where the program refuses one: a net is not there, a moment is past the horizon."""
 
     # Where the horizon was last: most often it still is.
     _last_horizon = 1000
-
-    @abstractmethod
-    def ask(self, lines: Sequence[str]) -> List[Reply]:
-        """The replies to questions, asked of one version, by their lines."""
 
     def value(self, net: str, time: int) -> str:
         """The value of a net at a moment."""
@@ -32,12 +28,23 @@ class Questions(ABC):
 
     def waves(self, *nets: str) -> Dict[str, Wave]:
         """The waves of some nets, asked for in one block. `dump` has those of all nets."""
-        lines = [line_of("wave", net) for net in nets]
-        replies = self.ask(lines)
-        for line, reply in zip(lines, replies):
-            reply.version(line)
+        answers = self.answers([line_of("wave", net) for net in nets])
         horizon = self._horizon(nets[0]) if nets else 0
-        return {net: Wave(net, tuple(map(change_of, it.lines)), horizon) for net, it in zip(nets, replies)}
+        return {net: Wave(net, tuple(map(change_of, lines)), horizon) for net, lines in zip(nets, answers)}
+
+    def window(self, net: str, start: int, end: int) -> Tuple[Change, ...]:
+        """The value of a net at the moment `start`, and its changes behind it up to `end`, both included: what a long wave has
+        there, without the rest of it. A program that does not know the question is asked for all of the wave."""
+        if start > end:
+            raise ValueError(f"a window ends at or behind its start, and {end} is before {start}")
+        if self.knows(TOOLS):
+            return tuple(map(change_of, self.answer(line_of("window", net, start, end))))
+        _, [first], changes = self.answers([line_of("value", net, end), line_of("value", net, start), line_of("wave", net)])
+        return (Change(start, value_of(first)), *(it for it in map(change_of, changes) if start < it.time <= end))
+
+    def bus(self, name: str) -> Bus:
+        """The waves of a vector: of the nets `name[..]`. ValueError where there is none."""
+        return Bus(name, list(self.waves(*bits_among(name, self.nets())).values()))
 
     def next(self, net: str, time: int) -> Optional[Change]:
         """The first change after a moment, None where there is none."""
@@ -53,9 +60,7 @@ class Questions(ABC):
 
     def vcd(self) -> str:
         """The whole run as a value change dump, the text that wave viewers read."""
-        [reply] = self.ask(["vcd"])
-        reply.version("vcd")
-        return "".join(f"{line}\n" for line in reply.lines)
+        return "".join(f"{line}\n" for line in self.dump_lines())
 
     def write_vcd(self, path: str) -> None:
         """Writes the dump to a file."""
@@ -65,11 +70,16 @@ class Questions(ABC):
 
     def dump(self) -> Dump:
         """The waves of all nets, with the time unit and the horizon."""
-        return dump_of(self.vcd().splitlines())
+        return dump_of(self.dump_lines())
+
+    def dump_lines(self) -> Sequence[str]:
+        """The lines of a dump."""
+        return self.answer("vcd")
 
     def _answer(self, *words: Word) -> str:
         line = line_of(*words)
         [reply] = self.ask([line])
+        self.see_ok(line, reply)
         return reply.one_line(line)
 
     def _horizon(self, net: str) -> int:

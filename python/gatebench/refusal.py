@@ -5,6 +5,7 @@ place is found by halving: a beginning of the batch is tried once more, with an 
 certain, and for another cause. So no trial is carried out, and its answer says whether the edit at fault is in it."""
 from typing import Callable, List, Sequence
 
+from .asked import NO_WORD
 from .errors import BatchRefused, Refused
 from .replies import Reply
 
@@ -43,8 +44,8 @@ def place_at_fault(exchange: Exchange, edits: Sequence[str], refusal: Reply) -> 
     return good
 
 
-# Causes that lie with no edit: out of memory, and a worker that was lost.
-NO_EDIT = (14, 15)
+# Causes that lie with no edit.
+NO_EDIT = NO_WORD
 
 
 def commit_refused(exchange: Exchange, edits: Sequence[str], refusal: Reply) -> Refused:

@@ -55,8 +55,13 @@ class ReplyReader:
 
     def feed(self, data: bytes) -> List[Reply]:
         """The replies that end in this piece."""
-        lines = (self._rest + data.decode("ascii", "replace")).split("\n")
+        text = self._rest + data.decode("ascii", "replace")
+        lines = text.split("\n")
         self._rest = lines.pop()
+        if not (text.startswith(ENDS) or "\nok " in text or "\nno " in text):
+            # Most pieces of a dump have no end in them.
+            self._lines += lines
+            return []
         replies = []
         for line in lines:
             if line.startswith(ENDS):

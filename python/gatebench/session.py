@@ -1,24 +1,39 @@
 """A session: a running program with a design, its commands as methods."""
+import errno
 import os
 import re
+import stat
 import tempfile
 from contextlib import contextmanager
 from types import TracebackType
-from typing import IO, Iterator, List, Optional, Sequence, Type, Union
+from typing import IO, Iterable, Iterator, List, Optional, Sequence, Type, Union
 
+from . import html
 from .channel import Channel
-from .edits import Batch, Edits
-from .errors import BatchRefused, DesignRefused, ProgramEnded
+from .draw_svg import draw_svg
+from .edits import Batch, Edits, batches
+from .errors import BatchRefused, DesignRefused, ProgramEnded, Refused
+from .fault_word import fault_word
+from .limits import MOST_TEXT
 from .lines import checked_line, line_of
+from .names import Names, read_names
+from .picture import Picture
 from .program import command_words, program_path
 from .questions import Questions
 from .refusal import commit_refused
 from .replies import Reply
+from .stimulus import bits_among
 
 PathLike = Union[str, "os.PathLike[str]"]
 
 # For how many seconds the program may neither take nor give a byte, where nothing else is said.
 TIMEOUT = 600.0
+
+# How many nets a notebook shows of a session.
+SHOWN = 20
+
+# What the program says where a file, or its input, can't be read.
+READ_FAILED = "read failed\n"
 
 # A command that changes nothing, at a session's beginning: it is answered once the design is read and run.
 HARMLESS = "abort"
@@ -33,9 +48,10 @@ class Session(Edits[int], Questions):
     program (`program_path` says where it is looked for); `timeout` is for how many seconds the program may neither take
     nor give a byte before TimedOut is raised, None for ever.
 
-    DesignRefused where the text is refused, ProgramEnded where the program ends for another reason, ProgramMissing where
-    there is none. An edit gives the version that it makes; a question asks the present version; a refusal raises
-    Refused, and leaves all as it was. A session is for one thread at a time."""
+    OSError, as FileNotFoundError, where the file can't be read, DesignRefused where the text is refused, ProgramEnded where
+    the program ends for another reason, ProgramMissing where there is none. An edit gives the version that it makes; a
+    question asks the present version; a refusal raises Refused, and leaves all as it was. A session is for one thread at a
+    time."""
 
     def __init__(
         self,
@@ -53,16 +69,33 @@ class Session(Edits[int], Questions):
         self._text = None if text is None else text_file(text)
         path = os.fspath(design) if design is not None else ""
         files = [] if self._text is None else [self._text.fileno()]
-        words = command_words(program_path(program), path or f"/dev/fd/{files[0]}", horizon, delay, workers)
+        words = command_words(path or f"/dev/fd/{files[0]}", horizon, delay, workers)
         self.design = path or "the text"
+        self._names: Optional[Names] = None
         try:
-            self._channel = Channel(words, timeout, files)
+            self._channel = Channel(program_path(program), words, timeout, files)
             self.ask([HARMLESS])
         except ProgramEnded as ended:
-            raise refused_design(self.design, ended) or ended from None
+            if path and ended.errors.endswith(READ_FAILED):
+                see_readable(path)
+            raise refused_design(self.design, ended, text, delay) or ended from None
         finally:
             if self._text is not None:
                 self._text.close()
+
+    def __repr__(self) -> str:
+        return f"<Session of {self.design}{'' if self._channel.is_open else ', ended'}>"
+
+    def _repr_html_(self) -> str:
+        """What notebooks show: the waves of the first nets, which are the ports."""
+        if not self._channel.is_open:
+            return html.line(repr(self))
+        names = self.nets()
+        waves = list(self.waves(*names[:SHOWN]).values())
+        if not waves:
+            return html.line(f"{self.design}: no nets")
+        text = f"{self.design}: {len(waves)} of {len(names)} nets, to {waves[0].horizon}"
+        return html.line(text) + draw_svg(Picture(waves, 0, waves[0].horizon, "time unit"))
 
     def __enter__(self) -> "Session":
         return self
@@ -93,6 +126,7 @@ class Session(Edits[int], Questions):
     def command(self, line: str) -> int:
         """Carries out one command line, and gives the version of its reply. Refused where it is refused."""
         [reply] = self.ask([line])
+        self.see_ok(line, reply)
         return reply.version(line)
 
     def edit(self, line: str) -> int:
@@ -105,9 +139,22 @@ class Session(Edits[int], Questions):
 
         Questions in the block ask the version before it. BatchRefused, with the edit at fault, where an edit is refused:
         then none was carried out. Nothing is carried out either where the block raises."""
-        batch = Batch()
+        batch = Batch(self.nets)
         yield batch
         batch.version = self._commit([checked_line(it) for it in batch.lines])
+
+    def edits(self, lines: Iterable[str]) -> int:
+        """Carries out edits as one commit, and gives its version. BatchRefused where one is refused.
+
+        The program takes 4096 edits in a commit: where there are more, they are several, and those before the one at fault were
+        carried out."""
+        version = 0
+        for some in batches([checked_line(it) for it in lines]):
+            version = self._commit(some)
+        return version
+
+    def bits(self, name: str) -> List[str]:
+        return bits_among(name, self.nets())
 
     def begin(self) -> int:
         """Begins a batch of the program: edits are kept from here on, and `batch()` is not for use until its end."""
@@ -141,6 +188,14 @@ class Session(Edits[int], Questions):
         self.close()
         return version
 
+    @property
+    def names(self) -> Names:
+        """What commands call the nets and gates of an imported design, by the names that its source has for them:
+        `session.wave(session.names.net("u1/foo.x[3]"))`. Of another design each name is itself."""
+        if self._names is None:
+            self._names = read_names(self.design)
+        return self._names
+
     def _commit(self, edits: Sequence[str]) -> int:
         self.command("begin")
         replies = self.ask(edits)
@@ -162,12 +217,30 @@ class Held(Questions):
         self._session, self.name = session, name
         self._begin = line_of("at", name)
 
+    @property
+    def session(self) -> Session:
+        return self._session
+
     def ask(self, lines: Sequence[str]) -> List[Reply]:
         return self._session.ask([f"{self._begin} {checked_line(it)}" for it in lines])
+
+    def knows(self, questions: str) -> bool:
+        return self._session.knows(questions)
+
+    def refused(self, line: str, reply: Reply) -> Refused:
+        return self._session.refused(f"{self._begin} {line}", reply)
 
     def free(self) -> int:
         """Gives the name back. Refused where it was given back before."""
         return self._session.free(self.name)
+
+
+def see_readable(path: str) -> None:
+    """OSError where a file can't be read: the program says only that a read failed, and not of which file."""
+    if stat.S_ISDIR(os.stat(path).st_mode):
+        raise IsADirectoryError(errno.EISDIR, os.strerror(errno.EISDIR), path)
+    if not os.access(path, os.R_OK):
+        raise PermissionError(errno.EACCES, os.strerror(errno.EACCES), path)
 
 
 def text_file(text: str) -> IO[bytes]:
@@ -179,9 +252,26 @@ def text_file(text: str) -> IO[bytes]:
     return file
 
 
-def refused_design(design: str, ended: ProgramEnded) -> Optional[DesignRefused]:
-    """The refusal of the text that a program ended with, None where it ended for another reason."""
-    found = re.fullmatch(r"line (\d+): (\d+) (\w+)\n?", ended.errors)
+def refused_design(design: str, ended: ProgramEnded, text: Optional[str], delay: Optional[int]) -> Optional[DesignRefused]:
+    """The refusal of the text that a program ended with, None where it ended for another reason. `text` is the text of a design
+    that is no file."""
+    found = re.search(r"^line (\d+): (\d+) (\w+)\n?$", ended.errors, re.M)
     if ended.status != 1 or not found:
         return None
-    return DesignRefused(design, int(found[1]), int(found[2]), found[3])
+    line, code, name = int(found[1]), int(found[2]), found[3]
+    known = text_of(design) if text is None else text
+    at = fault_word(known, line, name, delay)
+    shown = known.split("\n")[(at.line if at else line) - 1 :][:1]
+    return DesignRefused(design, line, code, name, "".join(shown), at)
+
+
+def text_of(path: str) -> str:
+    """The text of a file, empty where it can't be read or is no file: a pipe was read before."""
+    try:
+        if not stat.S_ISREG(os.stat(path).st_mode):
+            return ""
+        with open(path, encoding="utf-8", errors="surrogateescape", newline="") as file:
+            # The program takes no longer text.
+            return file.read(MOST_TEXT)
+    except OSError:
+        return ""

@@ -1,5 +1,6 @@
 """The wave of a net: its value at each moment from 0 to the horizon."""
 from bisect import bisect_right
+from itertools import zip_longest
 from typing import List, NamedTuple, Optional, Tuple
 
 from .values import Change, GivenValue, value_of
@@ -50,6 +51,13 @@ class Wave:
         changes = " ".join(f"{it.time} {it.value}" for it in self.changes)
         return f"<Wave {self.net}: {changes}; to {self.horizon}>"
 
+    def _repr_svg_(self) -> str:
+        """What notebooks show: all of the run."""
+        from .draw_svg import draw_svg
+        from .picture import Picture
+
+        return draw_svg(Picture([self], 0, self.horizon, "time unit"))
+
     def at(self, time: int) -> str:
         """The value at a moment. A change counts from its own moment on. ValueError past the horizon."""
         if not 0 <= time <= self.horizon:
@@ -76,8 +84,23 @@ class Wave:
 
     def first_difference(self, other: "Wave") -> Optional[int]:
         """The first moment at which the two values differ, up to the lesser horizon; None where there is none."""
-        end = min(self.horizon, other.horizon)
-        for time in sorted({*self._times, *other._times}):
-            if time <= end and self.at(time) != other.at(time):
-                return time
+        # Up to the first change that is not in both, the values are the same; there only one of the waves changes, or both
+        # do to other values.
+        for before, after in zip_longest(self.changes, other.changes):
+            if before != after:
+                time = min(it.time for it in (before, after) if it is not None)
+                return time if time <= min(self.horizon, other.horizon) else None
         return None
+
+    def differences(self, other: "Wave", start: int = 0, end: Optional[int] = None) -> List[Tuple[int, int]]:
+        """Each span in which the two values differ, as from when on, and up to but not at when: between the moments `start` and
+        `end`, both included, and up to the lesser horizon."""
+        least = min(self.horizon, other.horizon)
+        last = least if end is None else min(end, least)
+        times = sorted({start, *(it.time for wave in (self, other) for it in wave.between(start + 1, last))})
+        found: List[Tuple[int, int]] = []
+        for time, until in zip(times, [*times[1:], last + 1]):
+            if time <= last and self.at(time) != other.at(time):
+                begin = found.pop()[0] if found and found[-1][1] == time else time
+                found.append((begin, until))
+        return found

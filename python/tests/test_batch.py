@@ -99,7 +99,7 @@ class Batches(unittest.TestCase):
     def test_the_last_edit_of_a_full_batch(self) -> None:
         found = self.refusal([GOOD] * 4095 + ["drop h"])
         self.assertEqual((found.place, found.command), (4095, "drop h"))
-        self.assertEqual(str(found), "no 2 UnknownGate: drop h (edit 4096 of the batch)")
+        self.assertEqual(str(found), "no 2 UnknownGate: drop h (edit 4096 of the batch): `h`: no gate has this name")
 
     def test_a_batch_in_a_batch_of_the_program(self) -> None:
         self.session.begin()

@@ -4,13 +4,15 @@ import time
 
 from gatebench import BadReply, Closed, DesignRefused, ProgramEnded, ProgramMissing, Session, TimedOut
 
-from .support import WithFolder
+from .support import INVERTER, WithFolder
 
 
 class BadPrograms(WithFolder):
     def session(self, body: str, timeout: float = 60.0) -> Session:
-        session = Session("m.v", program=self.stand_in(body), timeout=timeout)
+        """A session with this program. It may take longer to start, on a busy machine, than the timeout from then on."""
+        session = Session("m.v", program=self.stand_in(body))
         self.addCleanup(session.kill)
+        session._channel._timeout = timeout
         return session
 
     def test_a_program_that_dies_in_the_middle(self) -> None:
@@ -43,12 +45,12 @@ class BadPrograms(WithFolder):
     def test_a_program_that_answers_nothing(self) -> None:
         since = time.monotonic()
         with self.assertRaises(TimedOut) as caught:
-            self.session("time.sleep(60)", timeout=0.3)
+            Session("m.v", program=self.stand_in("time.sleep(60)"), timeout=0.3)
         self.assertEqual(caught.exception.seconds, 0.3)
-        self.assertLess(time.monotonic() - since, 20)
+        self.assertLess(time.monotonic() - since, 50)
 
     def test_a_program_that_stops_to_answer(self) -> None:
-        session = self.session("answer(3)\ntime.sleep(60)", timeout=0.5)
+        session = self.session("answer(3)\ntime.sleep(60)", timeout=3)
         with self.assertRaises(TimedOut) as caught:
             session.ask(["commit"] * 5)
         self.assertEqual(len(caught.exception.replies), 2)
@@ -59,7 +61,7 @@ class BadPrograms(WithFolder):
             session.ask(["commit"] * 200_000)
 
     def test_a_slow_program_is_no_dead_one(self) -> None:
-        session = self.session("for _ in range(8): answer(1); time.sleep(0.2)", timeout=1.5)
+        session = self.session("for _ in range(8): answer(1); time.sleep(0.6)", timeout=4)
         self.assertEqual(len(session.ask(["commit"] * 7)), 7)
 
     def test_a_program_that_closes_its_output(self) -> None:
@@ -151,13 +153,23 @@ class Starts(WithFolder):
             Session("m.v", program=program)
         found = caught.exception
         self.assertEqual((found.line, found.code, found.name), (6, 3, "Unsupported"))
-        self.assertEqual(str(found), "m.v:6: 3 Unsupported")
+        self.assertEqual(str(found), "m.v:6: 3 Unsupported: Verilog that is left out: write gates, or import it")
+
+    def test_a_program_that_says_something_when_it_starts(self) -> None:
+        design = self.write("m.v", "module m;\n  reg q;\nendmodule\n")
+        notice = "sys.stderr.write('gatebench: UNPROVED\\n"
+        with self.assertRaises(DesignRefused) as caught:
+            Session(design, program=self.stand_in(f"{notice}line 2: 3 Unsupported\\n')\nsys.exit(1)"))
+        self.assertEqual((caught.exception.line, caught.exception.text), (2, "reg q;"))
+        with self.assertRaises(FileNotFoundError):
+            Session("no.v", program=self.stand_in(f"{notice}read failed\\n')\nsys.exit(3)"))
 
     def test_another_end_is_no_refused_design(self) -> None:
+        design = self.write("m.v", INVERTER)
         for status, said in ((3, "line 6: 3 Unsupported\n"), (1, "read failed\n"), (3, "out of memory\n")):
             program = self.stand_in(f"sys.stderr.write({said!r})\nsys.exit({status})")
             with self.assertRaises(ProgramEnded) as caught:
-                Session("m.v", program=program)
+                Session(design, program=program)
             self.assertEqual((caught.exception.status, caught.exception.errors), (status, said))
 
     def test_a_program_that_is_not_there(self) -> None:
@@ -183,6 +195,6 @@ class Starts(WithFolder):
         with self.assertRaises(KeyError):
             with Session("m.v", program=program) as session:
                 raise KeyError
-        self.assertLess(time.monotonic() - since, 20)
+        self.assertLess(time.monotonic() - since, 50)
         with self.assertRaises(Closed):
             session.command("commit")

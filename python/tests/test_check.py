@@ -42,7 +42,8 @@ class Checks(WithFolder):
         self.write("commands", "design m.v --horizon 20\n" + text)
         status, printed, _ = self.run_check("commands")
         lines = printed.splitlines()
-        self.assertEqual((status, lines[-1].rpartition(", ")[2]), (int(len(lines) > 1), f"failures: {len(lines) - 1}"))
+        self.assertEqual((status != 0, lines[-1].rpartition(", ")[2]), (len(lines) > 1, f"failures: {len(lines) - 1}"))
+        self.status = status
         return lines[:-1]
 
     def test_a_file_that_is_met(self) -> None:
@@ -56,6 +57,19 @@ class Checks(WithFolder):
         self.assertEqual(
             self.failures("stim a 0 0\n\nexpect-wave y 0 x 3 1\n"), ["commands:4: expected 0 x 3 1, got 0 x 2 1"]
         )
+
+    def test_a_pulse_that_is_too_short(self) -> None:
+        text = "stim a 0 0\nstim a 10 1\nexpect-no-pulse y 11\nhold k\nstim a 14 0\nexpect-no-pulse y 4\nat k expect-no-pulse y 11\nexpect-no-pulse y 3\n"
+        self.assertEqual(self.failures(text), ["commands:7: expected no pulse shorter than 4, got 0 from 13 to 16"])
+        self.assertEqual(self.failures("expect-no-pulse q 4\n"), ["commands:2: expected no pulse shorter than 4, got no 1 UnknownNet"])
+
+    def test_files_that_run_at_one_time_are_reported_in_order(self) -> None:
+        names = [f"c{place}" for place in range(6)]
+        for place, name in enumerate(names):
+            self.write(name, f"design m.v --horizon 20\nstim a 0 0\nexpect y 2 {place % 2}\n")
+        status, printed, said = self.run_check("-j", "3", *names)
+        wanted = [f"c{place}:3: expected 0, got 1" for place in (0, 2, 4)] + ["files: 6, commands: 12, expectations: 6, failures: 3"]
+        self.assertEqual((status, printed.splitlines(), said), (1, wanted, ""))
 
     def test_refusals_that_nobody_wants(self) -> None:
         self.assertEqual(
@@ -96,12 +110,17 @@ class Checks(WithFolder):
     def test_a_design_that_is_refused(self) -> None:
         self.write("m.v", "module m;\nreg q;\nendmodule")
         [failure] = self.failures("wave y\n")
-        self.assertEqual(failure, "commands: m.v:2: 3 Unsupported")
+        self.assertEqual((self.status, failure), (3, "commands: m.v:2:1: 3 Unsupported at `reg`: `python3 -m gatebench import` with `--synthesize`"))
+
+    def test_a_design_that_is_not_there(self) -> None:
+        os.remove(os.path.join(self.folder, "m.v"))
+        [failure] = self.failures("wave y\n")
+        self.assertEqual((self.status, failure), (3, "commands: m.v can't be read: No such file or directory"))
 
     def test_files_that_are_not_there(self) -> None:
         self.write("well", WELL)
         status, printed, _ = self.run_check("nobody", "well")
-        self.assertEqual(status, 1)
+        self.assertEqual(status, 3)
         self.assertEqual(
             printed.splitlines(),
             ["nobody: can't be read: No such file or directory", "files: 2, commands: 10, expectations: 6, failures: 1"],
@@ -113,14 +132,14 @@ class Checks(WithFolder):
         self.write("well", WELL)
         self.assertEqual(self.run_check("well", "--design", "nobody", "--horizon", "5")[0], 0)
         status, printed, _ = self.run_check("commands")
-        self.assertEqual(status, 1)
+        self.assertEqual(status, 3)
         self.assertIn("commands: has no line 'design FILE'", printed)
 
     def test_a_program_that_dies_is_told_with_the_line(self) -> None:
         program = self.stand_in("answer(1)\nanswer(1)\nanswer(1, b'0\\nok 1\\n')\nsys.stderr.write('gone')\nsys.exit(3)")
         self.write("commands", "design m.v\nstim a 0 1\nexpect y 2 1\nstim a 9 0\nexpect y 9 1\n")
         status, printed, _ = self.run_check("commands", "--program", program)
-        self.assertEqual(status, 1)
+        self.assertEqual(status, 4)
         self.assertEqual(
             printed.splitlines()[:2],
             ["commands:3: expected 1, got 0", "commands:4: the program ended with status 3: gone"],
@@ -135,13 +154,13 @@ class Checks(WithFolder):
         }
         for path, said in causes.items():
             status, printed, _ = self.run_check("commands", "--program", path)
-            self.assertEqual((status, printed.splitlines()[0]), (1, f"commands: {said}"))
+            self.assertEqual((status, printed.splitlines()[0]), (4, f"commands: {said}"))
 
     def test_the_report_for_ci_systems(self) -> None:
         self.write("well", WELL)
         self.write("bad", "design m.v\nexpect y 0 1\nexpect y 0 x\ndrop <h>\n")
         status, _, _ = self.run_check("well", "bad", "nobody", "--junit", "report.xml")
-        self.assertEqual(status, 1)
+        self.assertEqual(status, 3)
         suites = ElementTree.parse(os.path.join(self.folder, "report.xml")).getroot().findall("testsuite")
         counts = [[suite.get(it) for it in ("name", "tests", "failures", "errors")] for suite in suites]
         self.assertEqual(counts, [["well", "6", "0", "0"], ["bad", "3", "2", "0"], ["nobody", "1", "0", "1"]])
@@ -151,10 +170,12 @@ class Checks(WithFolder):
         self.assertEqual(
             failures, ["bad:2: expected 1, got x", "bad:4: expected ok, got no 2 UnknownGate"]
         )
-        self.assertEqual(suites[1].findall("testcase")[2].get("name"), "line 4: drop <h>")
+        last = suites[1].findall("testcase")[2]
+        self.assertEqual([last.get(it) for it in ("name", "file", "line")], ["line 4: drop <h>", "bad", "4"])
+        self.assertGreater(float(str(suites[0].get("time"))), 0)
 
     def test_wrong_words_have_status_2(self) -> None:
-        for words in ((), ("--junit",), ("a", "--wibble")):
+        for words in ((), ("--junit",), ("a", "--wibble"), ("a", "-j", "0")):
             status, _, said = self.run_check(*words)
             self.assertEqual(status, 2)
             self.assertIn("usage:", said)

@@ -2,6 +2,7 @@
 import os
 import subprocess
 import sys
+import unittest
 from typing import Tuple
 
 from .support import EXAMPLES, INVERTER, ROOT, WithFolder
@@ -42,6 +43,22 @@ class Draws(WithFolder):
             with open(files[2], encoding="utf-8") as file:
                 self.assertEqual(self.read("waves.svg"), file.read(), example)
 
+    def test_the_picture_of_two_versions_in_the_documents(self) -> None:
+        files = [os.path.join(EXAMPLES, "glitch", it) for it in ("design.v", "expectations", "cured.svg")]
+        words = ["--horizon", "100", "--nets", "s", "p", "q", "y", "--from", "16", "--to", "31", "--before", "glitch", "--svg", "cured.svg"]
+        self.assertEqual(self.draw(*files[:2], *words), (0, "", ""))
+        with open(files[2], encoding="utf-8") as file:
+            self.assertEqual(self.read("cured.svg"), file.read())
+
+    def test_two_versions_as_text_and_for_wavedrom(self) -> None:
+        self.write("commands", "stim a 0 0\nhold early\ndelay g 4 3\n")
+        words = ["m.v", "commands", "--nets", "y", "--to", "7"]
+        status, printed, _ = self.draw(*words, "--before", "early", "--ascii")
+        self.assertEqual((status, printed.splitlines()[2:]), (0, ["y         xxxx----", "  before  xx------"]))
+        self.assertEqual(self.draw(*words, "--wavedrom", "y.json"), (0, "", ""))
+        self.assertIn('"wave": "x1"', self.read("y.json"))
+        self.assertIn("no 18 UnknownHold", self.draw(*words, "--before", "late")[2])
+
     def test_a_command_that_is_refused(self) -> None:
         self.write("commands", "stim a 0 0\n\nstim q 10 1\n")
         self.assertEqual(
@@ -56,7 +73,17 @@ class Draws(WithFolder):
             ("m.v", "--from", "9", "--to", "8"): "9 to 8 is not within 0 to 1000, the horizon",
             ("m.v", "--to", "1001"): "0 to 1001 is not within 0 to 1000, the horizon",
             ("m.v", "nobody"): "[Errno 2] No such file or directory: 'nobody'",
-            ("commands",): "commands:1: 2 Syntax",
+            ("commands",): "commands:1:1: 2 Syntax at `stim`: the word can't stand there, or a `;` is missing before it\n"
+            "  stim a 0 0\n  ^^^^",
         }
         for words, said in wrong.items():
             self.assertEqual(self.draw(*words), (1, "", f"gatebench draw: {said}\n"))
+
+
+class Words(unittest.TestCase):
+    def test_without_words_it_says_what_there_is(self) -> None:
+        environment = {**os.environ, "PYTHONPATH": os.path.join(ROOT, "python")}
+        ran = subprocess.run([sys.executable, "-m", "gatebench"], env=environment, capture_output=True, text=True, timeout=60)
+        self.assertEqual((ran.returncode, ran.stdout), (2, ""))
+        for task in ("check", "draw", "faults", "sweep", "view", "import"):
+            self.assertRegex(ran.stderr, rf"(?m)^ +{task} +[a-z]")

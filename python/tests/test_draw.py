@@ -1,14 +1,17 @@
-"""Drawings of waves, as text and as SVG."""
+"""Drawings of waves, as text, as SVG, for WaveDrom and in notebooks."""
+import json
 import re
 import unittest
 import xml.etree.ElementTree as ElementTree
-from typing import List
+from typing import Dict, List
 
-from gatebench import Wave
+from gatebench import Difference, Differences, Session, Wave, wavedrom
 from gatebench.draw_svg import HEIGHT, draw_svg
 from gatebench.draw_text import ASCII, UNICODE, draw_text
 from gatebench.picture import Picture, Span, round_step, spans, window
 from gatebench.values import changes_of
+
+from .support import INVERTER
 
 SVG = "{http://www.w3.org/2000/svg}"
 
@@ -38,6 +41,12 @@ class Pictures(unittest.TestCase):
             with self.assertRaises(ValueError):
                 window([A], "1 ns", 20, start, end)
         self.assertEqual(window([A], "1 ns", 20, 20, 20).moments, 1)
+
+
+    def test_where_two_waves_differ(self) -> None:
+        self.assertEqual(Y.differences(wave("y", "0 x 4 1"), 0, 20), [(2, 4), (13, 21)])
+        self.assertEqual(Y.differences(wave("y", "0 x 4 1"), 3, 13), [(3, 4), (13, 14)])
+        self.assertEqual(Y.differences(Y, 0, 20), [])
 
 
 class Texts(unittest.TestCase):
@@ -75,10 +84,49 @@ class Texts(unittest.TestCase):
         self.assertEqual(lines[2], "n" * 90 + "  " + "_" * 11)
         self.assertEqual(lines[3], "a" + " " * 91 + "_" * 5 + "-" * 6)
 
+    def test_another_version_stands_below(self) -> None:
+        picture = window([A, Y], "1 ns", 20, 0, 20, [wave("y", "0 x 4 1", 9)])
+        self.assertEqual(draw_text(picture, 100, ASCII).splitlines()[2:], [
+            "a         __________-----------", "y         xx-----------__zzzzzz", "  before  xxxx------",
+        ])  # fmt: skip
+
     def test_a_drawing_is_no_wider_than_wanted(self) -> None:
         for width in (40, 57, 80):
             text = draw_text(Picture([wave("y", "0 0 500 1", 1000)], 0, 1000, "1 ns"), width, ASCII)
             self.assertLessEqual(max(map(len, text.splitlines()[:3])), width)
+
+
+class WaveDrom(unittest.TestCase):
+    def test_a_cell_is_as_long_as_the_changes_allow(self) -> None:
+        waves = [wave("a", "0 0 10 1"), wave("y", "0 x 4 1 14 z")]
+        # The changes stand at 4, 10 and 14: cells of 2, 11 of them for 21 moments.
+        self.assertEqual(json.loads(wavedrom(Picture(waves, 0, 20, "1 ns"))), {
+            "signal": [{"name": "a", "wave": "0....1....."}, {"name": "y", "wave": "x.1....z..."}],
+            "head": {"text": "from 0 on, a cell is 2 x 1 ns"},
+        })  # fmt: skip
+
+    def test_a_window_without_changes_is_one_cell(self) -> None:
+        self.assertEqual(json.loads(wavedrom(Picture([A], 12, 18, "1 ns")))["signal"], [{"name": "a", "wave": "1"}])
+
+
+class Notebooks(unittest.TestCase):
+    def test_a_wave_shows_its_whole_run(self) -> None:
+        [row] = ElementTree.fromstring(Y._repr_svg_()).findall(SVG + "g")
+        self.assertEqual(row.findtext(SVG + "title"), "y: x at 0, 1 at 2, 0 at 13, z at 15")
+
+    def test_a_session_shows_its_ports(self) -> None:
+        session = Session(text=INVERTER, horizon=20)
+        text = session._repr_html_()
+        self.assertTrue(text.startswith("<p>the text: 2 of 2 nets, to 20</p><svg "))
+        session.close()
+        self.assertEqual(session._repr_html_(), "<p>&lt;Session of the text, ended&gt;</p>")
+
+    def test_differences_are_a_table(self) -> None:
+        self.assertEqual(Differences([Difference(3, "<y>", "0", None)])._repr_html_(), (
+            "<table><tr><th>from</th><th>net</th><th>before</th><th>now</th></tr>"
+            "<tr><td>3</td><td>&lt;y&gt;</td><td>0</td><td>not there</td></tr></table>"
+        ))  # fmt: skip
+        self.assertEqual(Differences()._repr_html_(), "<p>no net differs</p>")
 
 
 class Svgs(unittest.TestCase):
@@ -124,6 +172,23 @@ class Svgs(unittest.TestCase):
     def test_the_axis_has_its_moments_and_the_unit(self) -> None:
         texts = [it.text for it in self.drawing(A, Y).findall(SVG + "text")]
         self.assertEqual(texts, ["1 ns", "0", "2", "4", "6", "8", "10", "12", "14", "16", "18", "20"])
+
+    def test_another_version_stands_behind_and_what_differs_is_shaded(self) -> None:
+        # y is x up to 2, and 0 from 13 to 15 and z then; before it rose at 4, and stayed 1.
+        before = wave("y", "0 x 4 1")
+        root = ElementTree.fromstring(draw_svg(window([A, Y], "1 ns", 20, 0, 20, [before])))
+        a, y = root.findall(SVG + "g")
+        self.assertEqual([it.get("class") for it in a.findall(SVG + "rect") + a.findall(SVG + "path")], ["wave"])
+        fields = {str(it.get("class")): [] for it in y.findall(SVG + "rect")}  # type: Dict[str, List[List[float]]]
+        for it in y.findall(SVG + "rect"):
+            fields[str(it.get("class"))].append([float(str(it.get("x"))), float(str(it.get("width")))])
+        [(left, ghost)], [(_, x)] = fields["ghost"], fields["x"]
+        scale = x / 2
+        self.assertAlmostEqual(ghost, 4 * scale, delta=0.1)
+        for (start, width), (begin, length) in zip(fields["differs"], [(2, 2), (13, 8)]):
+            self.assertAlmostEqual(start - left, begin * scale, delta=0.5)
+            self.assertAlmostEqual(width, length * scale, delta=0.5)
+        self.assertEqual(len(fields["differs"]), 2)
 
     def numbers(self, row: ElementTree.Element, style: str) -> List[float]:
         [path] = [it for it in row.findall(SVG + "path") if it.get("class") == style]

@@ -5,11 +5,18 @@ import subprocess
 import sys
 import unittest
 import zipfile
-from typing import Optional
+from glob import glob
+from typing import List, Optional
 
 from .support import INVERTER, ROOT, WithFolder
 
 FOLDER = os.path.join(ROOT, "python")
+
+
+def sources(folder: str) -> List[str]:
+    """The files of a package below its folder, but for what Python compiled."""
+    found = (os.path.relpath(os.path.join(top, it), folder) for top, _, names in os.walk(folder) for it in names)
+    return sorted(it for it in found if "__pycache__" not in it)
 
 
 class Installs(WithFolder):
@@ -20,7 +27,7 @@ class Installs(WithFolder):
         if package:
             environment["PYTHONPATH"] = package
         ran = subprocess.run(
-            [sys.executable, *words], cwd=cwd or self.folder, env=environment, capture_output=True, text=True, timeout=60
+            [sys.executable, *words], cwd=cwd or self.folder, env=environment, capture_output=True, text=True, timeout=300
         )
         self.assertEqual(ran.returncode, 0, ran.stderr)
         return ran.stdout
@@ -42,9 +49,7 @@ class Installs(WithFolder):
         target = os.path.join(self.folder, "target")
         with zipfile.ZipFile(os.path.join(self.folder, name)) as wheel:
             wheel.extractall(target)
-        self.assertEqual(sorted(os.listdir(os.path.join(target, "gatebench"))), sorted(
-            it for it in os.listdir(os.path.join(FOLDER, "gatebench")) if it != "__pycache__"
-        ))  # fmt: skip
+        self.assertEqual(sources(os.path.join(target, "gatebench")), sources(os.path.join(FOLDER, "gatebench")))
         self.is_used(target)
 
     @unittest.skipUnless(importlib.util.find_spec("pip"), "this Python has no pip")
@@ -61,3 +66,20 @@ class Installs(WithFolder):
         archive = os.path.join(self.folder, name)
         self.python("-m", "pip", "install", "--quiet", "--no-index", "--target", target, archive)
         self.is_used(target)
+
+    @unittest.skipUnless(importlib.util.find_spec("pip"), "this Python has no pip")
+    def test_pip_installs_it_so_that_it_can_be_edited(self) -> None:
+        target = os.path.join(self.folder, "target")
+        self.python("-m", "pip", "install", "--quiet", "--no-index", "--prefix", target, "--editable", FOLDER)
+        [script] = glob(f"{target}/**/gatebench-py", recursive=True)
+        [link] = glob(f"{target}/**/__editable__.gatebench.pth", recursive=True)
+        site = os.path.dirname(link)
+        found = self.python("-c", f"import site; site.addsitedir({site!r}); import gatebench; print(gatebench.__file__)")
+        self.assertEqual(found.strip(), os.path.join(FOLDER, "gatebench", "__init__.py"))
+        [points] = glob(f"{site}/gatebench-*.dist-info/entry_points.txt")
+        with open(points, encoding="utf-8") as file:
+            self.assertEqual(file.read(), (
+                "[console_scripts]\ngatebench-py = gatebench.command_line:run\n\n"
+                "[pytest11]\ngatebench = gatebench.pytest_plugin\n"
+            ))  # fmt: skip
+        self.assertIn("check", self.python(script, "--help", package=FOLDER))

@@ -195,7 +195,12 @@ class Openings(WithFolder):
         with self.assertRaises(DesignRefused) as caught:
             Session(design)
         self.assertEqual((caught.exception.line, caught.exception.name), (10, "ZeroDelay"))
-        self.assertEqual(str(caught.exception), f"{design}:10: 11 ZeroDelay")
+        self.assertEqual(caught.exception.text, "nand NAND2_1 (N10, N1, N3);")
+        self.assertEqual(
+            str(caught.exception),
+            f"{design}:10:1: 11 ZeroDelay at `nand`: a delay is 0, or there is none: `--delay` gives one\n"
+            "  nand NAND2_1 (N10, N1, N3);\n  ^^^^",
+        )
 
     def test_the_program_s_default_horizon(self) -> None:
         with Session(text=INVERTER) as session:
@@ -205,6 +210,7 @@ class Openings(WithFolder):
         with self.assertRaises(DesignRefused) as caught:
             Session(text="")
         self.assertEqual((caught.exception.line, caught.exception.code, caught.exception.name), (1, 6, "NoTop"))
+        self.assertEqual(str(caught.exception), "the text:1: 6 NoTop: there is no module")
 
     def test_two_sessions_side_by_side(self) -> None:
         with Session(text=INVERTER, horizon=5) as one, Session(text=INVERTER, horizon=5) as two:

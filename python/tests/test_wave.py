@@ -58,6 +58,15 @@ class Waves(unittest.TestCase):
         self.assertIsNone(wave("0 0 30 1", horizon=40).first_difference(wave("0 0", horizon=29)))
         self.assertEqual(wave("0 0 30 1", horizon=40).first_difference(wave("0 0", horizon=30)), 30)
 
+    def test_each_span_that_differs(self) -> None:
+        # GLITCH is x, 1 from 3, 0 from 23 and 1 from 27 on.
+        late = wave("0 x 5 1 25 0 27 z 30 1")
+        self.assertEqual(GLITCH.differences(late), [(3, 5), (23, 25), (27, 30)])
+        self.assertEqual(late.differences(GLITCH, 4, 23), [(4, 5), (23, 24)])
+        self.assertEqual(GLITCH.differences(wave("0 x 3 1", horizon=25)), [(23, 26)])
+        self.assertEqual(GLITCH.differences(wave("0 x 3 0 23 1")), [(3, 27)])
+        self.assertEqual((GLITCH.differences(GLITCH), GLITCH.differences(late, 41)), ([], []))
+
     def test_a_wave_begins_at_0(self) -> None:
         for changes in ((), (Change(1, "0"),)):
             with self.assertRaises(ValueError):

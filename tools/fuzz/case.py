@@ -28,11 +28,12 @@ def spelled_by(reading, text, delay):
 
 
 class Case(NamedTuple):
-    """What the program is given. `words` are options of the command line with their values."""
+    """What the program is given. `words` are options of the command line with their values; `tool` says that it is gatetool."""
 
     text: bytes
     words: Tuple[str, ...] = ()
     commands: bytes = b""
+    tool: bool = False
 
     def option(self, name, usual):
         """The value of an option."""
@@ -56,6 +57,6 @@ class Case(NamedTuple):
             return Answer(1, b"", import_module(f"{reading}.spelled").refusal(self.text, found))
         session = import_module(f"{reading}.session")
         try:
-            return Answer(0, session.Session(found, self.horizon(), guard).replies(self.commands), b"")
+            return Answer(0, session.Session(found, self.horizon(), guard, self.tool).replies(self.commands), b"")
         except TooLong:
             return None

@@ -4,7 +4,7 @@ import signal
 
 from case import Answer
 
-SECONDS = 60
+SECONDS = 300
 
 
 class Program:
@@ -31,7 +31,7 @@ class Program:
         """How a run over a case ends."""
         self.write("design.v", case.text)
         self.write("in", case.commands)
-        words = [self.path, self.files["design.v"], *case.words]
+        words = ["gatetool" if case.tool else self.path, self.files["design.v"], *case.words]
         self.pid = os.posix_spawn(self.path, words, os.environ, file_actions=self.streams)
         signal.setitimer(signal.ITIMER_REAL, SECONDS)
         _, status = os.waitpid(self.pid, 0)

@@ -1,7 +1,7 @@
--- The form of the command line, as `clap` sees it: DESIGN, `--horizon H`, `--workers N` and `--delay D`, each at most once. The words come without the program's name.
+-- The form of the command line, as `clap` sees it: DESIGN, `--horizon H`, `--workers N` and `--delay D`, each at most once, or a call for help or for the
+-- version. The words come without the program's name.
 use Rattle.std.specs.Prelude.{Bool, List, Option, codes}
-use Rattle.clap.specs.Words.{App, Rule, Text, new_app, with_rule}
-use Rattle.clap.specs.Simple.{on_top}
+use Rattle.clap.specs.Words.{App, Rule, Text, with_rule}
 use Rattle.programs.specs.CommandLine as line
 
 abbrev pub design_rule : Rule
@@ -18,7 +18,7 @@ delay_rule = line.option_rule (codes "delay")
 
 unfoldable pub command_line : App
 command_line =
-    with_rule (with_rule (with_rule (with_rule (on_top line.nameless (new_app (codes "gatebench"))) design_rule) horizon_rule) workers_rule) delay_rule
+    with_rule (with_rule (with_rule (with_rule (line.of_program (codes "gatebench")) design_rule) horizon_rule) workers_rule) delay_rule
 
 -- `clap` takes the words
 abbrev pub is_taken : List Text → Bool

@@ -4,5 +4,6 @@ pub mod CommandLine
 pub mod Complaints
 pub mod Endings
 pub mod Numbers
+pub mod Programs
 pub mod Refusals
 pub mod Start

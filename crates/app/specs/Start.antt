@@ -14,6 +14,8 @@ use Rattle.app.specs.declared.arguments.Args.{Args}
 use Rattle.app.specs.declared.complaint.Complaint.TheVariants.{Words}
 use Rattle.app.specs.declared.complaint.StartFault.{StartFault}
 use Rattle.app.specs.declared.complaint.StartFault.TheVariants as start
+use Rattle.app.specs.declared.program.Program.{Program}
+use Rattle.app.specs.Programs.{is_tool}
 
 -- a text that there is not: a session breaks off for the same cause
 abbrev pub unread_by : Breakdown → SessionFault
@@ -34,6 +36,6 @@ stop_by none.NotText = start.Refused (Words NotText)
 abbrev pub no_words_fault : ErrorKind → StartFault
 no_words_fault kind = stop_by (no_words_by kind)
 
--- how the session is opened
-abbrev pub options_of : Args → Options
-options_of args = record { horizon = args.horizon; delay = args.delay }
+-- how the program opens the session
+abbrev pub options_of : Program → Args → Options
+options_of program args = record { horizon = args.horizon; delay = args.delay; tools = is_tool program }

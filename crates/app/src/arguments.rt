@@ -34,7 +34,7 @@ pub struct Args {
 /// Why the words ask for nothing.
 #[derive(Clone, Copy, Debug, PartialEq, Eq, Error)]
 pub enum ArgsFault {
-    /// The words are not of the form, or ask for help.
+    /// The words are not of the form, or ask for help or for the version.
     #[error("the command line was refused")]
     Refused = 1,
     /// An allocation was refused.
@@ -109,7 +109,7 @@ fn given_delay(text: Option<&str>) -> Option<Option<u32>>
 
 /// Reads the words after the program's name: DESIGN, and `--horizon H`, `--workers N` and `--delay D`, each at most once and
 /// also as `--horizon=H`, where H, N and D are digits alone, H is 0 to `MAX_TIME`, N is 1 to `MAX_WORKERS` and D is 1 to
-/// `MAX_DELAY`. Words that ask for help are refused too (own).
+/// `MAX_DELAY`. Words that ask for help or for the version ask for nothing (own).
 pub fn options<S: AsStr>(alloc: Global, words: &[S]) -> Result<Args, ArgsFault>
     ensures ok { IfOk result (λ args. asked (map S.text words.now)
         ≡ Some (record { design = string_bytes args.design; horizon = args.horizon; workers = args.workers; delay = args.delay })) }

@@ -6,7 +6,7 @@ use std::alloc::AllocError;
 /// What is wrong with the words, and which of them is at fault.
 #[derive(Debug, Drop)]
 pub enum Complaint {
-    /// They do not have the form of the command line, or ask for help.
+    /// They do not have the form of the command line, or ask for help or for the version.
     Words(WordsFault),
     /// DESIGN is missing.
     NoDesign,
@@ -21,7 +21,7 @@ pub enum Complaint {
 /// Why the program does not start.
 #[derive(Debug, Drop)]
 pub enum StartFault {
-    /// The words are refused, or ask for help.
+    /// The words are refused, or ask for help or for the version.
     Refused(Complaint),
     /// An allocation was refused.
     OutOfMemory,

@@ -8,6 +8,7 @@ ghost use Rattle.session.specs.Traffic.{sink_traffic, source_traffic};
 ghost use Rattle.app.specs.Start.{options_of, unread_fault};
 
 use crate::arguments::{Args, DEFAULT_WORKERS};
+use crate::program::Program;
 use crate::start::design_text;
 use devices::{Sink, Source};
 use gatestep::Serial;
@@ -27,6 +28,7 @@ pub fn run_session<
     W: Sink,
 >(
     rt: &T,
+    program: Program,
     file: io::Result<Vec<u8>>,
     args: &Args,
     source: &mut R,
@@ -34,14 +36,14 @@ pub fn run_session<
 ) -> Result<(), SessionFault>
     // A file that can't be read is told, and the devices are left alone.
     ensures unread { IfErr file (λ error. (result ≡ Err (unread_fault (error_kind error))) × (source.new ≡ source.old) × (sink.new ≡ sink.old)) }
-    ensures ran { IfOk file (λ text. Ran text.items (options_of args.now)
+    ensures ran { IfOk file (λ text. Ran text.items (options_of program args.now)
         (source_traffic R.remaining R.taken R.failures source.old source.new)
         (sink_traffic W.contents W.failures sink.old sink.new) result) }
     // A session that does not open touches neither device.
     ensures unopened { IfOk file (λ text. IfErr result (λ fault. IsOpeningFault fault → (source.new ≡ source.old) × (sink.new ≡ sink.old))) }
 {
     let text = design_text(file)?;
-    run_text(rt, text.as_slice(), args, source, sink)
+    run_text(rt, program, text.as_slice(), args, source, sink)
 }
 
 // The session over the text. No worker is started for a text that is refused since it is too long: so out of memory, which
@@ -50,8 +52,15 @@ fn run_text<
     T: AllocGlobal + RandomSource + Threads + Wait + Copy + Drop + Send + 'static,
     R: Source,
     W: Sink,
->(rt: &T, text: &[u8], args: &Args, source: &mut R, sink: &mut W) -> Result<(), SessionFault>
-    ensures ran { Ran text.now (options_of args.now)
+>(
+    rt: &T,
+    program: Program,
+    text: &[u8],
+    args: &Args,
+    source: &mut R,
+    sink: &mut W,
+) -> Result<(), SessionFault>
+    ensures ran { Ran text.now (options_of program args.now)
         (source_traffic R.remaining R.taken R.failures source.old source.new)
         (sink_traffic W.contents W.failures sink.old sink.new) result }
     ensures unopened { IfErr result (λ fault. IsOpeningFault fault → (source.new ≡ source.old) × (sink.new ≡ sink.old)) }
@@ -59,6 +68,7 @@ fn run_text<
     let options = Options {
         horizon: args.horizon,
         delay: args.delay,
+        tools: program.is_tool(),
     };
     if args.workers <= DEFAULT_WORKERS || text.len() > MAX_TEXT {
         return session::run(rt, rt.alloc(), text, &options, source, sink, Serial::new());

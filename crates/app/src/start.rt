@@ -5,11 +5,13 @@ ghost use Rattle.std.specs.Vec.Iter.{into_iter_items};
 ghost use Rattle.std.specs.IoError.{error_kind};
 ghost use Rattle.app.specs.Arguments.{asked};
 ghost use Rattle.app.specs.Complaints.{StopsBy};
+ghost use Rattle.app.specs.Programs.{program_by, program_of};
 ghost use Rattle.app.specs.Start.{no_words_fault, stop_by, unread_by, unread_fault};
 
 use crate::arguments::{Args, ArgsFault, options};
 use crate::cause::complaint_of;
 use crate::complaint::{Complaint, StartFault};
+use crate::program::Program;
 use programs::{Breakdown, NoWords, WordsFault, text_of, words_after_name};
 use session::SessionFault;
 use std::alloc::Global;
@@ -27,6 +29,26 @@ pub fn asked(alloc: Global, words: io::Result<env::Args>) -> Result<Args, StartF
     match words_after_name(alloc, words) {
         Ok(words) => asked_by(alloc, words.as_slice()),
         Err(why) => Err(stop_for(why)),
+    }
+}
+
+/// The program of the command line, whose first word is the program's name. `words` is what the system gave.
+pub fn program_of(words: io::Result<env::Args>) -> Program
+    ensures { IfOk words (λ all. result ≡ program_of (map string_bytes (into_iter_items all))) }
+{
+    match words {
+        Ok(words) => first_of(words),
+        Err(_) => Program::Gatebench,
+    }
+}
+
+fn first_of(words: env::Args) -> Program
+    ensures { result ≡ program_of (map string_bytes (into_iter_items words)) }
+{
+    let mut words = words;
+    match words.next() {
+        Some(word) => Program::of(word.as_str()),
+        None => Program::Gatebench,
     }
 }
 

@@ -1,5 +1,6 @@
 pub mod Benches
 pub mod Commits
 pub mod Cursors
+pub mod Histories
 pub mod Refusals
 pub mod Work

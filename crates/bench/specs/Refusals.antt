@@ -1,5 +1,5 @@
--- Why a commit may be refused.
-use Rattle.std.specs.Prelude.{◌≡◌, ◌≢◌, ℕ, Bool, true, false, IsOk, List, Result, Ok, Err}
+-- Why an opening or a commit may be refused.
+use Rattle.std.specs.Prelude.{◌≡◌, ◌≢◌, ◌+◌, ℕ, Bool, true, false, IsOk, List, Result, Ok, Err}
 use Rattle.gatestep.specs.declared.fault.StepFault.{StepFault}
 use Rattle.gatestep.specs.declared.fault.StepFault.TheVariants as step
 use Rattle.edits.specs.declared.edit.Edit.{Edit}
@@ -16,6 +16,12 @@ abbrev pub MayRefuse : SnapshotRecord → List Edit → CommitFault → Type 0
 MayRefuse s edits (commit.Edit place fault) = commit_of s.version s.design edits ≡ Err (place, fault)
 MayRefuse s edits commit.OutOfMemory = Unit {0}
 MayRefuse s edits commit.WorkerLost = IsOk (commit_of s.version s.design edits)
+
+-- where an opening is refused so, the stepper that is left counts one loss more than before if a worker was lost, and as many as
+-- before if memory ran out
+abbrev pub LeavesBehind : {S : Type 0} → (losses_of : S → ℕ) → ℕ → StepFault → Type 0
+LeavesBehind {S} losses_of losses step.WorkerLost = (left : S) × (losses_of left ≡ losses + 1)
+LeavesBehind {S} losses_of losses step.OutOfMemory = (left : S) × (losses_of left ≡ losses)
 
 -- a commit lost a worker
 abbrev pub loses_a_worker : {A : Type 0} → Result A CommitFault → Bool

@@ -7,7 +7,7 @@ ghost use Rattle.design.specs.Keys.{netlist};
 ghost use Rattle.edits.specs.Touched.{IsTouched};
 ghost use Rattle.bench.specs.Benches.{snapshot_of};
 ghost use Rattle.bench.specs.Commits.{commit_of};
-ghost use Rattle.bench.specs.Refusals.{IsRefusal, MayRefuse, loses_a_worker};
+ghost use Rattle.bench.specs.Refusals.{IsRefusal, LeavesBehind, MayRefuse, loses_a_worker};
 ghost use Rattle.bench.specs.Work.{AskedByRefused, rework_of, work_of};
 
 use crate::fault::CommitFault;
@@ -43,12 +43,14 @@ impl<S: Stepper + Drop> Model for Bench<S> {
 }
 
 impl<S: Stepper + Drop> Bench<S> {
-    /// The design at version 0, with its run. Where it fails the design and the stepper are dropped.
+    /// The design at version 0, with its run. `OutOfMemory` where an allocation was refused, here or in a step; `WorkerLost` where
+    /// the stepper lost a worker, and nowhere else. Where it fails the design and the stepper are dropped.
     pub fn open(alloc: Global, design: Design, stepper: S) -> Result<Bench<S>, StepFault>
         requires { S.answer ≡ advance }
         ensures snapshot { IfOk result (λ bench. bench.snapshot ≡ snapshot_of 0 (netlist design)) }
         ensures asked { IfOk result (λ bench. bench.asked ≡ S.asked stepper ++ work_of (netlist design)) }
         ensures losses { IfOk result (λ bench. bench.losses ≡ S.losses stepper) }
+        ensures lost { IfErr result (LeavesBehind S.losses (S.losses stepper)) }
     {
         let mut stepper = stepper;
         let present = Snapshot::open(alloc, 0, design, &mut stepper)?;

@@ -1,10 +1,12 @@
 //! Laws of commits: each function does nothing, and its contract is the law.
 
-ghost use Rattle.std.specs.Prelude.{◌≡◌, ◌≢◌, ◌++◌, ◌-◌, ◌^◌, ℕ, List, [], ◌∷◌, Ok, Err, IfErr};
+ghost use Rattle.std.specs.Prelude.{◌≡◌, ◌≢◌, ◌+◌, ◌++◌, ◌-◌, ◌^◌, ℕ, List, [], ◌∷◌, length, Ok, Err, IfErr};
 ghost use Rattle.design.specs.Netlist.{Netlist};
 ghost use Rattle.edits.specs.declared.edit.Edit as declared;
 ghost use Rattle.edits.specs.Batches.{batch};
+ghost use Rattle.bench.specs.Benches.{SnapshotRecord};
 ghost use Rattle.bench.specs.Commits.{after, commit_of, committed};
+ghost use Rattle.bench.specs.Histories.{accepted_of, with_commit, with_commits};
 
 use edits::EditFault;
 use edits::laws::limits_of_edits;
@@ -20,6 +22,16 @@ pub fn one_commit_more()
         → after d (log ++ edits ∷ []) ≡ committed (after d log) edits }
     ensures accepted { (d new : Netlist) (log : List (List declared.Edit)) (edits : List declared.Edit) (version : ℕ)
         → commit_of version (after d log) edits ≡ Ok new → after d (log ++ edits ∷ []) ≡ new }
+{}
+
+/// After any commits, accepted and refused, the design is what the accepted ones make of the first one, and the version has grown
+/// by their number; a commit more goes on from there. So each wave and each dump is that of this design, whatever came before.
+#[tactic(auto, using(crate::proofs::HistoryLemmas::design_after, crate::proofs::HistoryLemmas::version_after, crate::proofs::HistoryLemmas::one_more))]
+pub fn any_commits()
+    ensures design { (s : SnapshotRecord) (commits : List (List declared.Edit)) → (with_commits s commits).design ≡ after s.design (accepted_of s commits) }
+    ensures version { (s : SnapshotRecord) (commits : List (List declared.Edit)) → (with_commits s commits).version ≡ s.version + length (accepted_of s commits) }
+    ensures more { (s : SnapshotRecord) (commits : List (List declared.Edit)) (edits : List declared.Edit)
+        → with_commits s (commits ++ edits ∷ []) ≡ with_commit (with_commits s commits) edits }
 {}
 
 /// At the greatest version each commit is refused at its first place as one too many.

@@ -1,5 +1,5 @@
 -- An order with gaps: its entries, and where they stand.
-use Rattle.std.proofs.Common.{◌≡◌, ◌≢◌, ◌⊎◌, ℕ, zero, suc, ◌+◌, ◌<◌, ◌≤◌, ◌==◌, List, [], ◌∷◌, ◌++◌, length, take, get_or, Option, Some, None, is_some, slice_get, sym, refl, ap, ◌∙◌, inl, inr, arith}
+use Rattle.std.proofs.Common.{◌≡◌, ◌≢◌, ◌⊎◌, ℕ, zero, suc, ◌+◌, ◌<◌, ◌==◌, List, [], ◌∷◌, ◌++◌, length, take, get_or, Option, Some, None, is_some, sym, refl, ap, ◌∙◌, inl, inr, arith}
 use Rattle.std.proofs.lemmas.Bool.{cases_eq, eq-eqb, ne_eqb}
 use Rattle.std.proofs.lemmas.List.{get_or-set_other, get_or-set_same, get_or_append_left, get_or_push}
 use Rattle.std.proofs.lemmas.List.Elements.{filter_map-append}
@@ -167,23 +167,6 @@ module _ {R : Type 0} where
   }
 
   -- No gap.
-
-  pub count_at_most : (cells : List (Option (ℕ × R))) → length (entries_in cells) ≤ length cells
-  count_at_most [] = omega arith
-  count_at_most (None ∷ cells) = let rest = count_at_most cells in omega (arith, rest)
-  count_at_most (Some e ∷ cells) = let rest = count_at_most cells in omega (arith, rest)
-
-  pub full_cell : (cells : List (Option (ℕ × R))) (i : ℕ) → length (entries_in cells) ≡ length cells → cell_at cells i ≡ slice_get (entries_in cells) i
-  full_cell [] i h = refl
-  full_cell (None ∷ cells) i h = absurd (omega (arith, count_at_most cells))
-  full_cell (Some e ∷ cells) zero h = refl
-  full_cell (Some e ∷ cells) (suc i) h = full_cell cells i (omega arith)
-
-  pub full_before : (cells : List (Option (ℕ × R))) (i : ℕ) → length (entries_in cells) ≡ length cells → i ≤ length cells → length (entries_in (take i cells)) ≡ i
-  full_before cells zero h within = refl
-  full_before [] (suc i) h within = absurd (omega arith)
-  full_before (None ∷ cells) (suc i) h within = absurd (omega (arith, count_at_most cells))
-  full_before (Some e ∷ cells) (suc i) h within = let rest = full_before cells i (omega arith) (omega arith) in omega (arith, rest)
 
   pub entries_filtered : (cells : List (Option (ℕ × R))) → entries_in (filter (λ cell. is_some cell) cells) ≡ entries_in cells
   entries_filtered [] = refl

@@ -1,6 +1,6 @@
 -- Names gathered from an order, cell by cell.
-use Rattle.std.proofs.Common.{◌≡◌, ◌≢◌, ℕ, zero, suc, ◌+◌, ◌<◌, cond, List, [], ◌∷◌, ◌++◌, length, take, get_or, Option, Some, None, option_map, is_some, true, false, AllPairs, sym, ap, subst, ◌∙◌, arith}
-use Rattle.std.proofs.lemmas.List.{append-nil, get_or-map, length-map, length_push, take_more}
+use Rattle.std.proofs.Common.{◌≡◌, ◌≢◌, ℕ, zero, suc, ◌+◌, ◌<◌, cond, List, [], ◌∷◌, ◌++◌, length, take, get_or, Option, Some, None, AllPairs, sym, ap, subst, ◌∙◌, arith}
+use Rattle.std.proofs.lemmas.List.{append-nil, get_or-map, length-map, take_more}
 use Rattle.std.proofs.lemmas.List.Elements.{filter_map-append}
 use Rattle.std.proofs.lemmas.Option.{same_Some}
 use Rattle.catalog.specs.Catalog.{names_of, same_name}
@@ -18,15 +18,6 @@ module _ {R : Type 0} where
   entries_still : (cells : List (Option (ℕ × R))) (n : ℕ) → n < length cells → cell_at cells n ≡ None → entries_in (take (n + 1) cells) ≡ entries_in (take n cells)
   entries_still cells n within gap =
       ap entries_in (take_more cells n None within ∙ ap (λ cell. take n cells ++ cell ∷ []) gap) ∙ filter_map-append (λ cell. cell) (take n cells) (None ∷ []) ∙ append-nil (entries_in (take n cells))
-
-  -- the count of the entries, one cell on
-  pub counted_more : {X : Type 0} (f : X → ℕ × R) (o : Option X) (cells : List (Option (ℕ × R))) (n : ℕ) → option_map f o ≡ cell_at cells n → is_some o ≡ true → length (entries_in (take (n + 1) cells)) ≡ length (entries_in (take n cells)) + 1
-  counted_more f None cells n at some = cc
-  counted_more f (Some x) cells n at some = ap (λ (l : List (ℕ × R)). length l) (entries_more cells n (f x) (sym at)) ∙ length_push (entries_in (take n cells)) (f x)
-
-  pub counted_still : {X : Type 0} (f : X → ℕ × R) (o : Option X) (cells : List (Option (ℕ × R))) (n : ℕ) → n < length cells → option_map f o ≡ cell_at cells n → is_some o ≡ false → length (entries_in (take (n + 1) cells)) ≡ length (entries_in (take n cells))
-  counted_still f None cells n within at none = ap (λ (l : List (ℕ × R)). length l) (entries_still cells n within (sym at))
-  counted_still f (Some x) cells n within at none = cc
 
   -- the entry of a cell is among the entries
   entry_among : (cells : List (Option (ℕ × R))) (n : ℕ) (e : ℕ × R) → cell_at cells n ≡ Some e → (j : ℕ) × (j < length (entries_in cells)) × (get_or (entries_in cells) j e ≡ e)

@@ -76,11 +76,6 @@ AllPairs-tail R x xs h = λ i j d below within. h (suc i) (suc j) d (omega arith
 pub find_read : {X : Type 0} (t : X → Bool) (xs : List X) (i : ℕ) (x : X) → position_from t 0 xs ≡ Some i → x ≡ get_or xs i x → find t xs ≡ Some x
 find_read t xs i x h read = (position_find t i xs x h).0 ∙ ap Some (sym read)
 
-pub slice_get_there : {X : Type 0} (xs : List X) (i : ℕ) → i < length xs → slice_get xs i ≡ None → ⊥
-slice_get_there [] i within h = absurd (omega arith)
-slice_get_there (x ∷ xs) zero within h = cc
-slice_get_there (x ∷ xs) (suc i) within h = slice_get_there xs i (omega arith) h
-
 pub slice_get_some : {X : Type 0} (xs : List X) (i : ℕ) → i < length xs → (x : X) × (slice_get xs i ≡ Some x)
 slice_get_some [] i within = absurd (omega arith)
 slice_get_some (x ∷ xs) zero within = (x, refl)

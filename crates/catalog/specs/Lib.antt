@@ -2,6 +2,7 @@ pub mod Blocks
 pub mod Catalog
 pub mod Columns
 pub mod Found
+pub mod Gaps
 pub mod Hashers
 pub mod Kept
 pub mod Slots

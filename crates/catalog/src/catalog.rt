@@ -11,9 +11,9 @@ use crate::key::Key;
 use crate::named::Named;
 use crate::names::Names;
 use crate::order::{Order, item_at};
-use crate::places::{close_up, index_of, key_at, place_at};
+use crate::places::{close_up, key_at};
 use crate::slots::Slots;
-use chunked::{Chunked, Shared};
+use chunked::Shared;
 use std::alloc::{AllocError, Global};
 use std::fmt;
 use std::marker::Model;
@@ -21,9 +21,9 @@ use std::marker::Model;
 /// Records, each under a key of its own and with a name that no other has, in the order in which they were added
 /// (own). Contracts see the list of the records with their keys. A copy shares all that is as large as the catalog; of
 /// what is then changed a chunk is copied first, or the names that were added last, and no record. A look-up takes one
-/// step and no memory, but a place is counted as long as removals have left gaps, which `close_up` closes. The key of a
-/// record that was removed may come to be that of another. Of the records of one name that were replaced or removed,
-/// one may stay in memory until the names are gathered anew.
+/// step and no memory. A removal leaves a gap and moves no record; while there are gaps, a place is found in a few steps.
+/// The key of a record that was removed may come to be that of another. Of the records of one name that were replaced or
+/// removed, one may stay in memory until the names are gathered anew.
 #[derive(Drop)]
 pub struct Catalog<R: Named> {
     alloc: Global,
@@ -59,7 +59,7 @@ impl<R: Named> Catalog<R> {
             hasher,
             names: Names::empty(),
             slots: Slots::new(alloc),
-            order: Chunked::new(alloc),
+            order: Order::new(alloc),
             len: 0,
         }
     }
@@ -117,7 +117,7 @@ impl<R: Named> Catalog<R> {
         ensures there { IfSome result (λ place. slice_get (records_of self.now) place ≡ record_at self.now key) }
     {
         match self.slots.get(key) {
-            Some(index) => Some(place_at(&self.order, self.len, index)),
+            Some(index) => Some(self.order.place_at(index)),
             None => None,
         }
     }
@@ -129,7 +129,7 @@ impl<R: Named> Catalog<R> {
         ensures place { place_of self.now result ≡ Some place }
         ensures there { record_at self.now result ≡ slice_get (records_of self.now) place }
     {
-        let index = index_of(&self.order, self.len, place);
+        let index = self.order.index_of(place);
         match key_at(&self.slots, &self.order, index) {
             Some(key) => key,
             None => unreachable!(),
@@ -141,7 +141,7 @@ impl<R: Named> Catalog<R> {
         requires { place < length self.now }
         ensures { slice_get (records_of self.now) place ≡ Some result.now }
     {
-        let index = index_of(&self.order, self.len, place);
+        let index = self.order.index_of(place);
         match item_at(&self.order, index) {
             Some(item) => item,
             None => unreachable!(),
@@ -202,12 +202,20 @@ impl<R: Named> Catalog<R> {
         };
         let item = Shared::new(self.alloc, item)?;
         let mut order = self.order;
-        order.set(index, Some((key, item)))?;
+        order.set(index, (key, item))?;
         Ok(Catalog { order, ..self })
     }
 
     /// Takes the record under a key away. It fails where memory runs out.
     pub fn remove(self, key: Key) -> Result<Catalog<R>, AllocError>
+        requires { IsSome (record_at self key) }
+        ensures { IfOk result (λ catalog. catalog ≡ without_key self key) }
+    {
+        self.close_up()?.without(key)
+    }
+
+    /// The records without that of a key, which leaves a gap.
+    fn without(self, key: Key) -> Result<Catalog<R>, AllocError>
         requires { IsSome (record_at self key) }
         ensures { IfOk result (λ catalog. catalog ≡ without_key self key) }
     {
@@ -217,7 +225,7 @@ impl<R: Named> Catalog<R> {
         let mut slots = self.slots;
         let mut order = self.order;
         slots.remove(key)?;
-        order.set(index, None)?;
+        order.clear(index)?;
         Ok(Catalog {
             slots,
             order,
@@ -226,11 +234,11 @@ impl<R: Named> Catalog<R> {
         })
     }
 
-    /// The same records, where a place is found in one step until the next removal. It fails where memory runs out.
+    /// The same records, without their gaps where these are many. It fails where memory runs out.
     pub fn close_up(self) -> Result<Catalog<R>, AllocError>
         ensures { IfOk result (λ catalog. catalog ≡ self) }
     {
-        if self.len == self.order.len() {
+        if self.order.is_dense() {
             return Ok(self);
         }
         let (slots, order) = close_up(self.alloc, self.slots, self.order)?;

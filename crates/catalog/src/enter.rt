@@ -34,6 +34,6 @@ pub(crate) fn enter<R: Named>(
     let key = slots.insert(order.len())?;
     let record = item.clone()?;
     names.insert(alloc, hasher, ByName { record }, key)?;
-    order.push(Some((key, item)))?;
+    order.push((key, item))?;
     Ok(key)
 }

@@ -1,10 +1,12 @@
 //! Records by name and by key, in the order in which they were added.
 #![tactic(auto)]
 
+mod ascending;
 mod blocks;
 mod by_name;
 mod catalog;
 mod enter;
+mod gaps;
 mod gather;
 mod hasher;
 mod key;

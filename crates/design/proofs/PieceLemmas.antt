@@ -27,7 +27,7 @@ all_right : {X : Type 0} (P : X → Type 0) (xs ys : List X) → All P (xs ++ ys
 all_right P [] ys h = h
 all_right P (x ∷ xs) ys h = all_right P xs ys (All-tail P x (xs ++ ys) h)
 
-rising_right : (xs ys : List (ℕ × Value)) → AreRising (xs ++ ys) → AreRising ys
+pub rising_right : (xs ys : List (ℕ × Value)) → AreRising (xs ++ ys) → AreRising ys
 rising_right [] ys h = h
 rising_right (x ∷ xs) ys h = rising_right xs ys (rising_tail x (xs ++ ys) h)
 
@@ -58,20 +58,20 @@ set_earlier (x ∷ xs) ys t v before =
 none_at : (P : ℕ × Value → Type 0) (ps : List (ℕ × Value)) (t : ℕ) → ((p : ℕ × Value) → P p → (p.0 == t) ≡ false) → All P ps → has_point ps t ≡ false
 none_at P ps t off h = list_any_none (λ p. p.0 == t) ps (All-weaker P (λ p. (p.0 == t) ≡ false) off ps h)
 
-kept_all : (p : ℕ × Value → Bool) (P : ℕ × Value → Type 0) (ps : List (ℕ × Value)) → ((q : ℕ × Value) → P q → p q ≡ true) → All P ps → filter p ps ≡ ps
+pub kept_all : (p : ℕ × Value → Bool) (P : ℕ × Value → Type 0) (ps : List (ℕ × Value)) → ((q : ℕ × Value) → P q → p q ≡ true) → All P ps → filter p ps ≡ ps
 kept_all p P [] on h = refl
 kept_all p P (q ∷ ps) on h = ap (λ b. cond b (q ∷ filter p ps) (filter p ps)) (on q (All-head P q ps h)) ∙ ap (λ l. q ∷ l) (kept_all p P ps on (All-tail P q ps h))
 
-kept_none : (p : ℕ × Value → Bool) (P : ℕ × Value → Type 0) (ps : List (ℕ × Value)) → ((q : ℕ × Value) → P q → p q ≡ false) → All P ps → filter p ps ≡ []
+pub kept_none : (p : ℕ × Value → Bool) (P : ℕ × Value → Type 0) (ps : List (ℕ × Value)) → ((q : ℕ × Value) → P q → p q ≡ false) → All P ps → filter p ps ≡ []
 kept_none p P [] off h = refl
 kept_none p P (q ∷ ps) off h = ap (λ b. cond b (q ∷ filter p ps) (filter p ps)) (off q (All-head P q ps h)) ∙ kept_none p P ps off (All-tail P q ps h)
 
-nil_right : {X : Type 0} (xs : List X) → xs ++ [] ≡ xs
+pub nil_right : {X : Type 0} (xs : List X) → xs ++ [] ≡ xs
 nil_right [] = refl
 nil_right (x ∷ xs) = ap (λ l. x ∷ l) (nil_right xs)
 
 -- the last of a list that has one does not depend on what stands before
-last_of : {X : Type 0} (o : Option X) (xs : List X) (y : X) (ys : List X) → last_or o (xs ++ y ∷ ys) ≡ last_or None (y ∷ ys)
+pub last_of : {X : Type 0} (o : Option X) (xs : List X) (y : X) (ys : List X) → last_or o (xs ++ y ∷ ys) ≡ last_or None (y ∷ ys)
 last_of o [] y ys = refl
 last_of o (x ∷ xs) y ys = last_of (Some x) xs y ys
 

@@ -70,8 +70,8 @@ impl Design {
         }
     }
 
-    /// The place of a net in the order of the nets; none where no net of the design has this key. It is found in one step
-    /// as long as no net was removed since the last `close_up`.
+    /// The place of a net in the order of the nets; none where no net of the design has this key. It is found in one step,
+    /// and by a search among the gaps that removals left.
     pub fn net_place_of(&self, net: NetKey) -> Option<usize>
         ensures place { result ≡ place_of self.now.nets net }
         ensures there { is_some result ≡ is_some (net_by_key self.now net) }
@@ -82,7 +82,7 @@ impl Design {
     }
 
     /// The place of a gate in the order of the gates; none where no gate of the design has this key. It is found in one
-    /// step as long as no gate was removed since the last `close_up`.
+    /// step, and by a search among the gaps that removals left.
     pub fn gate_place_of(&self, gate: GateKey) -> Option<usize>
         ensures place { result ≡ place_of self.now.gates gate }
         ensures there { is_some result ≡ is_some (gate_by_key self.now gate) }

@@ -17,6 +17,7 @@ mod name;
 mod name_text;
 mod net;
 mod net_change;
+mod parting;
 mod piece;
 mod pieces;
 mod point_list;

@@ -1,6 +1,6 @@
 //! Nets with their names and the stimulus of inputs.
 
-ghost use Rattle.std.specs.Prelude.{◌≡◌, ◌≤◌, true, IfOk, length};
+ghost use Rattle.std.specs.Prelude.{◌≡◌, ◌<◌, ◌≤◌, ℕ, true, IfOk, IfSome, length};
 ghost use Rattle.fourstate.specs.declared.limits.TheConstants.{MAX_TIME};
 ghost use Rattle.design.specs.Lawful.{IsNet};
 ghost use Rattle.design.specs.Netlist.{has_point, net_with_point, new_net, next_point, stimulus};
@@ -106,6 +106,14 @@ impl Net {
         ensures { result ≡ next_point self.now.points t }
     {
         self.stimulus.next_after(t)
+    }
+
+    /// The moment from which on the stimulus of another net may differ from that of this one, where that is `t` or later; none
+    /// where both are the same from `t` on.
+    pub fn parts_from(&self, other: &Net, t: u64) -> Option<u64>
+        ensures { (m : ℕ) → t ≤ m → IfSome result (λ u. m < u) → stimulus self.now.points m ≡ stimulus other.now.points m }
+    {
+        self.stimulus.parts_from(&other.stimulus, t)
     }
 
     /// The net with a change.

@@ -6,6 +6,7 @@ ghost use Rattle.std.specs.BTreeMap.{insert_entry};
 ghost use Rattle.std.specs.List.{filter};
 ghost use Rattle.design.specs.Lawful.{AreRising};
 ghost use Rattle.design.specs.Netlist.{has_point, next_point, stimulus};
+ghost use Rattle.design.specs.Pieces.{AreFilled, points_in, points_of};
 
 use crate::piece::Piece;
 use crate::pieces::{self, first_at, home_of};
@@ -89,6 +90,14 @@ impl PointList {
             Some(next) => Some(next),
             None => first_at(&self.pieces, home + 1),
         }
+    }
+
+    /// The pieces that have the points.
+    pub(crate) fn pieces(&self) -> &[Piece]
+        ensures points { points_of result.now ≡ self.now }
+        ensures filled { AreFilled points_in result.now }
+    {
+        &self.pieces
     }
 
     /// The points with the value from the moment `t` on, until the next point.

@@ -92,7 +92,7 @@ fn count_before(points: &[(u64, Value)], t: u64) -> usize
 }
 
 /// How many points are at or before the moment `t`.
-fn count_until(points: &[(u64, Value)], t: u64) -> usize
+pub fn count_until(points: &[(u64, Value)], t: u64) -> usize
     requires { AreRising points.now }
     ensures within { result ≤ length points.now }
     ensures split { IsPartitionPoint (λ p. nat_le p.0 t ≡ true) (λ p. nat_le p.0 t ≡ false) points.now result }

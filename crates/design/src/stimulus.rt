@@ -1,12 +1,15 @@
 //! The stimulus of a net, which copies share.
 
-ghost use Rattle.std.specs.Prelude.{◌≡◌, ◌==◌, [], not, IfOk, length};
+ghost use Rattle.std.specs.Prelude.{◌≡◌, ◌<◌, ◌≤◌, ◌==◌, [], ℕ, not, IfOk, IfSome, length};
 ghost use Rattle.std.specs.Ordering.{nat_cmp};
 ghost use Rattle.std.specs.BTreeMap.{insert_entry};
 ghost use Rattle.std.specs.List.{filter};
 ghost use Rattle.design.specs.Lawful.{AreRising};
 ghost use Rattle.design.specs.Netlist.{has_point, next_point, stimulus};
+ghost use Rattle.design.specs.Pieces.{AreFilled, points_in, points_of};
 
+use crate::parting::{is_same, part_after};
+use crate::piece::Piece;
 use crate::point_list::PointList;
 use fourstate::Value;
 use std::alloc::{AllocError, Global};
@@ -77,6 +80,31 @@ impl Stimulus {
         match &self.points {
             Some(points) => points.next_after(t),
             None => None,
+        }
+    }
+
+    /// The moment from which on two stimuli may differ, where that is `t` or later; none where they are the same from `t` on.
+    pub fn parts_from(&self, other: &Stimulus, t: u64) -> Option<u64>
+        requires rising { AreRising self.now }
+        requires other_rising { AreRising other.now }
+        ensures { (m : ℕ) → t ≤ m → IfSome result (λ u. m < u) → stimulus self.now m ≡ stimulus other.now m }
+    {
+        let one = (t, self.value_at(t));
+        let second = (t, other.value_at(t));
+        if !is_same(one, second) {
+            return Some(t);
+        }
+        part_after(self.pieces(), other.pieces(), t)
+    }
+
+    /// The pieces that have the points.
+    fn pieces(&self) -> &[Piece]
+        ensures points { points_of result.now ≡ self.now }
+        ensures filled { AreFilled points_in result.now }
+    {
+        match &self.points {
+            Some(points) => points.pieces(),
+            None => &[],
         }
     }
 

@@ -65,7 +65,7 @@ module _ (names : List (List ℕ)) (modules : List (ℕ × ModuleEntry)) (flat :
     next : At names modules flat after.count rest
     count : after.count ≡ min (before.count + length (flat_map (own_nets names modules) scopes)) most
 
-  scope_ok : (so_far : SoFar) (start : Start) (scope : Scope) (rest : List NetEntry) → so_far.count ≤ most → IsStart names modules flat start scope → At names modules flat so_far.count (own_nets names modules scope ++ rest)
+  pub scope_ok : (so_far : SoFar) (start : Start) (scope : Scope) (rest : List NetEntry) → so_far.count ≤ most → IsStart names modules flat start scope → At names modules flat so_far.count (own_nets names modules scope ++ rest)
       → IsScope names modules flat (placed so_far.count start) scope × At names modules flat (with_scope so_far start).count rest × ((with_scope so_far start).count ≡ min (so_far.count + length (own_nets names modules scope)) most)
   scope_ok so_far start scope rest small is at =
       let zip : AllZip (λ g net. IsGiven names modules flat g (scope.given net.0)) start.given scope.entry.nets = is.given in
@@ -100,7 +100,7 @@ module _ (names : List (List ℕ)) (modules : List (ℕ × ModuleEntry)) (flat :
             (λ j other e. let on : suc k + j ≡ k + suc j = omega arith in ap (slice_get m.nets) on ∙ part (suc j) other e),
       )
 
-  start_ok : (kept : PlacedScope) (scope : Scope) → IsScope names modules flat kept scope → (i : InstanceEntry) (m : ModuleEntry) → AreDistinct m.nets → IsStart names modules flat (inner_start names kept i m) (inner names modules scope i m)
+  pub start_ok : (kept : PlacedScope) (scope : Scope) → IsScope names modules flat kept scope → (i : InstanceEntry) (m : ModuleEntry) → AreDistinct m.nets → IsStart names modules flat (inner_start names kept i m) (inner names modules scope i m)
   start_ok kept scope is i m distinct = record {
     entry = refl;
     path = ap (λ (p : List ℕ). p ++ name_at names i.name ++ codes ".") is.path;
@@ -141,6 +141,11 @@ module _ (names : List (List ℕ)) (modules : List (ℕ × ModuleEntry)) (flat :
   abbrev BelowOk : ℕ → Type 0
   BelowOk levels = (kept : PlacedScope) (scope : Scope) (so_far : SoFar) (rest : List NetEntry) → so_far.count ≤ most → IsScope names modules flat kept scope
       → At names modules flat so_far.count (flat_nets (below levels scope) ++ rest) → Made so_far (with_below names modules levels kept so_far) (below levels scope) rest
+
+  -- at the top no port is connected
+  pub none_given : (top : ModuleEntry) (listed : List (ℕ × nets.Net)) → AllZip (λ g net. IsGiven names modules flat g ((top_scope names modules top).given net.0)) (replicate (length listed) None) listed
+  none_given top [] = tt
+  none_given top (net ∷ listed) = (tt, none_given top listed)
 
   module _ (all_distinct : All (λ m. AreDistinct m.1.nets) modules) where
     -- a scope and those below it
@@ -198,10 +203,6 @@ module _ (names : List (List ℕ)) (modules : List (ℕ × ModuleEntry)) (flat :
         (instances_ok levels (below_ok levels) kept scope is scope.entry.instances so_far rest small at)
 
     -- The scopes of the design.
-
-    none_given : (top : ModuleEntry) (listed : List (ℕ × nets.Net)) → AllZip (λ g net. IsGiven names modules flat g ((top_scope names modules top).given net.0)) (replicate (length listed) None) listed
-    none_given top [] = tt
-    none_given top (net ∷ listed) = (tt, none_given top listed)
 
     top_made : (top : ModuleEntry) → flat ≡ nets_of names modules top → Made none (kept_scopes names modules top) (scopes_of names modules top) []
     unfolding kept_scopes scopes_of

@@ -1,3 +1,4 @@
+pub mod AloneLemmas
 pub mod BelowLemmas
 pub mod CountLemmas
 pub mod ElaborationLemmas

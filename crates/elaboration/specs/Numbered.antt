@@ -138,6 +138,17 @@ none = record { list = []; count = 0 }
 abbrev pub top_start : ModuleEntry → Start
 top_start m = record { entry = m; path = []; top = true; given = replicate (length m.nets) None }
 
+-- what the ports of an instance of a module are, by the places of the module's nets
+abbrev pub given_of : PlacedScope → InstanceEntry → ModuleEntry → List (Option NodeRef)
+given_of scope i m = map (option_map (ref_at scope)) (joints_from i.connections 0 0 m.nets)
+
+-- A scope alone: its nets have places from 0 on, and of an instance nothing stands before its names.
+abbrev pub top_alone : ModuleEntry → PlacedScope
+top_alone m = placed 0 (top_start m)
+
+abbrev pub inner_alone : PlacedScope → InstanceEntry → ModuleEntry → PlacedScope
+inner_alone scope i m = placed 0 (record { entry = m; path = []; top = false; given = given_of scope i m })
+
 -- Below, `names` is the table of names.
 
 -- the scope of an instance of a module
@@ -146,7 +157,7 @@ inner_start names scope i m = record {
   entry = m;
   path = scope.path ++ name_at names i.name ++ codes ".";
   top = false;
-  given = map (option_map (ref_at scope)) (joints_from i.connections 0 0 m.nets);
+  given = given_of scope i m;
 }
 
 module _ (names : List (List ℕ)) (modules : List (ℕ × ModuleEntry)) where

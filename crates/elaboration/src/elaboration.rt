@@ -1,9 +1,10 @@
 //! The scopes of the design that the modules of a text make, or the modules' fault.
 
-ghost use Rattle.std.specs.Prelude.{◌≡◌, ◌⊎◌, ◌<◌, None, Some, All, IfErr, IfOk, length, slice_get};
+ghost use Rattle.std.specs.Prelude.{◌≡◌, ◌⊎◌, ◌-◌, ◌^◌, ◌<◌, ◌≤◌, ℕ, List, None, Some, All, IfErr, IfOk, IfSome, length, min};
 ghost use Rattle.elaboration.specs.Elaborations.{elaboration_fault, IsElaboration};
 ghost use Rattle.elaboration.specs.Tops.{top_of};
 ghost use Rattle.elaboration.specs.Numbered.{AreDistinct, kept_scopes};
+ghost use Rattle.elaboration.specs.Scopes.{nets_of};
 ghost use Rattle.vtext.specs.ReadFaults.{out_of_memory};
 ghost use Rattle.vtext.specs.Sound.{IsSoundModule};
 
@@ -20,6 +21,38 @@ use edits::EditFault;
 use std::alloc::{AllocError, Global};
 use std::marker::Model;
 use vtext::{Module, Modules, ReadFault, ReadFaultKind};
+
+/// The module that is the design.
+#[derive(Drop)]
+pub struct Top<'a> {
+    name: u32,
+    entry: &'a Module,
+}
+
+impl<'a> Model for Top<'a> {
+    ghost use Rattle.std.specs.Prelude.{ℕ};
+    ghost use Rattle.vtext.specs.Modules.{ModuleEntry};
+
+    ghost Value = { ℕ × ModuleEntry };
+
+    ghost view = { λ a. (a.name, a.entry.now) };
+}
+
+impl<'a> Top<'a> {
+    /// The module.
+    pub fn module(&self) -> &'a Module
+        ensures { result.now ≡ self.now.1 }
+    {
+        self.entry
+    }
+
+    /// Where its word `module` begins in the text, from 0.
+    pub fn start(&self) -> u32
+        ensures { result ≡ self.now.1.start }
+    {
+        self.module().start()
+    }
+}
 
 /// The design that modules make: the module at its top, and its scopes in order. An instance comes before those in it, and
 /// these before the next instance.
@@ -68,10 +101,10 @@ impl<'a> Elaboration<'a> {
     }
 }
 
-/// The place of the module that is the design, or the first fault of instances, of modules together and of levels.
-fn design_place(alloc: Global, text: &[u8], modules: &Modules) -> Result<usize, ReadFault>
-    ensures there { IfOk result (λ place. place < length modules.now.modules) }
-    ensures top { IfOk result (λ place. slice_get modules.now.modules place ≡ top_of modules.now.modules) }
+/// The module that is the design, or the fault of the modules: the first one of instances, of modules together, and of levels and
+/// numbers of instances.
+pub fn find_top<'a>(alloc: Global, text: &[u8], modules: &'a Modules) -> Result<Top<'a>, ReadFault>
+    ensures top { IfOk result (λ top. top_of modules.now.modules ≡ Some top) }
     ensures ok { IfOk result (λ _. elaboration_fault text.now modules.now.modules ≡ None) }
     ensures err { IfErr result (λ fault. (fault ≡ out_of_memory) ⊎ (elaboration_fault text.now modules.now.modules ≡ Some fault)) }
 {
@@ -79,45 +112,51 @@ fn design_place(alloc: Global, text: &[u8], modules: &Modules) -> Result<usize, 
         return Err(fault);
     }
     let place = top_place(alloc, text, modules)?;
+    let (name, entry) = at(modules, place);
     if has_many_instances(alloc, modules, place)? {
-        let (_, entry) = at(modules, place);
         return Err(fault_at(text, entry.start(), ReadFaultKind::Edit(EditFault::TooMany)));
     }
-    Ok(place)
+    Ok(Top { name, entry })
 }
 
-/// The scopes of a design with this module at its top.
+/// The scopes of a design with this module at its top; not all of them where more nets than `most` come with them.
 fn scopes_of<'a>(
     alloc: Global,
     modules: &'a Modules,
     entry: &'a Module,
+    most: u32,
 ) -> Result<Scopes<'a>, AllocError>
     requires { All (λ m. AreDistinct m.1.nets) modules.now.modules }
-    ensures { IfOk result (λ scopes. scopes ≡ kept_scopes modules.now.names modules.now.modules entry.now) }
+    ensures few { IfOk result (λ scopes. scopes.count ≤ most → scopes ≡ kept_scopes modules.now.names modules.now.modules entry.now) }
+    ensures many { IfOk result (λ scopes. most < scopes.count → most < (kept_scopes modules.now.names modules.now.modules entry.now).count) }
 {
     let start = Start::top(alloc, entry)?;
     let mut scopes = Scopes::new(alloc);
-    scopes.add_all(alloc, modules, start, MAX_DEPTH)?;
+    scopes.add_all(alloc, modules, start, MAX_DEPTH, most)?;
     Ok(scopes)
 }
 
-/// The design that the modules of a text make, or their fault: the first one of instances, of modules together, and of levels
-/// and numbers of instances.
-pub fn elaborate<'a>(
+/// The design with this module at its top; none where more nets than `most` come with its scopes: then not all are listed.
+pub fn design_within<'a>(
     alloc: Global,
-    text: &[u8],
     modules: &'a Modules,
-) -> Result<Elaboration<'a>, ReadFault>
-    requires { All (IsSoundModule modules.now.names) modules.now.modules }
-    ensures ok { IfOk result (λ design. IsElaboration text.now modules.now design) }
-    ensures err { IfErr result (λ fault. (fault ≡ out_of_memory) ⊎ (elaboration_fault text.now modules.now.modules ≡ Some fault)) }
+    top: &Top<'a>,
+    most: u32,
+) -> Result<Option<Elaboration<'a>>, AllocError>
+    requires sound { All (IsSoundModule modules.now.names) modules.now.modules }
+    requires top { top_of modules.now.modules ≡ Some top.now }
+    ensures whole { IfOk result (λ made. IfSome made (λ design. (text : List ℕ) → elaboration_fault text modules.now.modules ≡ None → IsElaboration text modules.now design)) }
+    ensures top { IfOk result (λ made. IfSome made (λ design. design.top ≡ top.now)) }
+    ensures few { IfOk result (λ made. IfSome made (λ design. design.net_count ≤ most)) }
+    ensures many { IfOk result (λ made. made ≡ None → most < min (length (nets_of modules.now.names modules.now.modules top.now.1)) (2 ^ 32 - 1)) }
 {
-    let place = design_place(alloc, text, modules)?;
-    let (name, entry) = at(modules, place);
-    let scopes = scopes_of(alloc, modules, entry)?;
-    Ok(Elaboration {
-        name,
-        entry,
+    let scopes = scopes_of(alloc, modules, top.entry, most)?;
+    if scopes.count() > most {
+        return Ok(None);
+    }
+    Ok(Some(Elaboration {
+        name: top.name,
+        entry: top.entry,
         scopes,
-    })
+    }))
 }

@@ -1,15 +1,15 @@
 //! Laws of elaboration: each contract is the law, and no function gives anything.
 
-ghost use Rattle.std.specs.Prelude.{◌≡◌, ◌≢◌, ℕ, List, All, AllPairs, IsSome, IsTrue, None, Some};
+ghost use Rattle.std.specs.Prelude.{◌≡◌, ◌≢◌, ◌^◌, ◌≤◌, ℕ, List, length, All, AllPairs, IsSome, IsTrue, None, Some};
 ghost use Rattle.design.specs.Names.{is_part};
 ghost use Rattle.design.specs.Netlist.{NetEntry};
-ghost use Rattle.vtext.specs.Modules.{ModuleEntry};
+ghost use Rattle.vtext.specs.Modules.{InstanceEntry, ModuleEntry};
 ghost use Rattle.vtext.specs.Sound.{IsSoundModule, IsSoundNet};
 ghost use Rattle.vtext.specs.declared.gate.Terminal as terminals;
 ghost use Rattle.vtext.specs.declared.net.Net as nets;
 ghost use Rattle.elaboration.specs.Elaborations.{IsNode, IsScope, elaboration_fault};
-ghost use Rattle.elaboration.specs.Numbered.{PlacedScope, ref_at};
-ghost use Rattle.elaboration.specs.Scopes.{Scope, flat_names, gates_of, nets_of, node_at, scopes_of};
+ghost use Rattle.elaboration.specs.Numbered.{AreDistinct, PlacedScope, inner_alone, ref_at, top_alone};
+ghost use Rattle.elaboration.specs.Scopes.{Scope, flat_names, gates_of, inner, nets_of, node_at, scopes_of, top_scope};
 ghost use Rattle.elaboration.specs.Tops.{top_of};
 ghost use Rattle.elaboration.specs.SoundScopes.{IsSingleGate, IsSoundScope};
 ghost use Rattle.elaboration.specs.Ports.{second_pass};
@@ -29,6 +29,15 @@ pub fn limits()
 pub fn terminals_are_nodes()
     ensures { (names : List (List ℕ)) (modules : List (ℕ × ModuleEntry)) (flat : List NetEntry) (kept : PlacedScope) (scope : Scope) → IsScope names modules flat kept scope →
         (terminal : terminals.Terminal) → IsNode flat (ref_at kept terminal) (node_at names modules scope terminal) }
+{}
+
+/// A scope alone is the one of its design, but for its path and the places of its nets: among nets as many as this places do not count.
+pub fn scopes_alone()
+    ensures top { (names : List (List ℕ)) (modules : List (ℕ × ModuleEntry)) (flat : List NetEntry) (top : ModuleEntry) → 2 ^ 32 ≤ length flat →
+        IsScope names modules flat (top_alone top) (top_scope names modules top) }
+    ensures inner { (names : List (List ℕ)) (modules : List (ℕ × ModuleEntry)) (flat : List NetEntry) → 2 ^ 32 ≤ length flat →
+        (kept : PlacedScope) (scope : Scope) (i : InstanceEntry) (m : ModuleEntry) → AreDistinct m.nets → IsScope names modules flat (record kept { path = scope.path }) scope →
+        IsScope names modules flat (record (inner_alone kept i m) { path = (inner names modules scope i m).path }) (inner names modules scope i m) }
 {}
 
 /// The nets of a design have different names, and so have its gates.

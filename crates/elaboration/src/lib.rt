@@ -1,6 +1,7 @@
 //! The scopes of the design that the modules of a text make, or the text's fault (IEEE 1364-2005, 12.1 to 12.4).
 #![tactic(auto)]
 
+mod alone;
 mod counts;
 mod elaboration;
 mod joints;
@@ -20,7 +21,9 @@ mod tops;
 mod walk;
 mod widths;
 
-pub use elaboration::{Elaboration, elaborate};
+pub use alone::{inner_alone, top_alone};
+pub use elaboration::{Elaboration, Top, design_within, find_top};
+pub use limits::MAX_DEPTH;
 pub use lines::fault_at;
 pub use node::{NetRun, NodeRef, Slot};
 pub use scope::Scope;

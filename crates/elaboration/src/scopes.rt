@@ -1,6 +1,6 @@
 //! The scopes of a design, one after another.
 
-ghost use Rattle.std.specs.Prelude.{◌≡◌, ◌<◌, [], IfOk, IfSome, OnOk, All, length, nat_eq, option_map, slice_index_or};
+ghost use Rattle.std.specs.Prelude.{◌≡◌, ◌<◌, ◌≤◌, [], IfOk, IfSome, OnOk, All, length, nat_eq, option_map, slice_index_or};
 ghost use Rattle.std.specs.Map.{lookup};
 ghost use Rattle.elaboration.specs.Numbered.{AreDistinct, PlacedScope, inner_start, with_scope, with_scopes};
 
@@ -68,17 +68,19 @@ impl<'a> Scopes<'a> {
         Ok(())
     }
 
-    /// Adds a scope and those below it, to so many levels.
+    /// Adds a scope and those below it, to so many levels; no more of them once more nets than `most` come with all.
     pub fn add_all(
         &mut self,
         alloc: Global,
         modules: &'a Modules,
         start: Start<'a>,
         levels: usize,
+        most: u32,
     ) -> Result<(), AllocError>
         requires given { length start.given ≡ length start.entry.nets }
         requires distinct { All (λ m. AreDistinct m.1.nets) modules.now.modules }
-        ensures { OnOk result (self.new ≡ with_scopes modules.now.names modules.now.modules levels self.old start.entry) }
+        ensures few { OnOk result (self.new.count ≤ most → self.new ≡ with_scopes modules.now.names modules.now.modules levels self.old start.entry) }
+        ensures many { OnOk result (most < self.new.count → most < (with_scopes modules.now.names modules.now.modules levels self.old start.entry).count) }
     {
         let place = self.list.len();
         let entry = start.entry;
@@ -87,8 +89,11 @@ impl<'a> Scopes<'a> {
             return Ok(());
         }
         for instance in entry.instances() {
+            if self.count > most {
+                return Ok(());
+            }
             if let Some(start) = self.start_of(alloc, modules, place, instance)? {
-                self.add_all(alloc, modules, start, levels - 1)?;
+                self.add_all(alloc, modules, start, levels - 1, most)?;
             }
         }
         Ok(())

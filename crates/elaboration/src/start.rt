@@ -1,7 +1,7 @@
 //! Scopes before their nets have places.
 
 ghost use Rattle.std.specs.Prelude.{◌≡◌, ◌++◌, IfOk, codes, length, map, option_map};
-ghost use Rattle.elaboration.specs.Numbered.{AreDistinct, inner_start, ref_at, top_start};
+ghost use Rattle.elaboration.specs.Numbered.{AreDistinct, given_of, inner_start, ref_at, top_start};
 ghost use Rattle.vtext.specs.Names.{name_at};
 
 use crate::joints::{joints, nothing};
@@ -55,8 +55,7 @@ impl<'a> Start<'a> {
         ensures start { IfOk result (λ start. start ≡ inner_start names.now scope.now instance.now entry.now) }
         ensures given { IfOk result (λ start. length start.given ≡ length start.entry.nets) }
     {
-        let joints = joints(alloc, entry, instance.connections())?;
-        let given = nodes(alloc, scope, joints.as_slice())?;
+        let given = given_of(alloc, scope, instance, entry)?;
         let path = inner_path(alloc, names, scope, instance)?;
         Ok(Start {
             entry,
@@ -65,6 +64,22 @@ impl<'a> Start<'a> {
             given,
         })
     }
+}
+
+/// What the connected ports of an instance of a module in a scope are, by the places of the module's nets.
+pub fn given_of(
+    alloc: Global,
+    scope: &Scope,
+    instance: &ModuleInstance,
+    entry: &Module,
+) -> Result<Vec<Option<NodeRef>>, AllocError>
+    requires { AreDistinct entry.now.nets }
+    ensures given { IfOk result (λ given. given.items ≡ given_of scope.now instance.now entry.now) }
+    ensures count { IfOk result (λ given. length given.items ≡ length entry.now.nets) }
+{
+    let joints = joints(alloc, entry, instance.connections())?;
+    let given = nodes(alloc, scope, joints.as_slice())?;
+    Ok(given)
 }
 
 /// What some terminals in a scope are.

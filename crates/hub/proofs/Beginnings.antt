@@ -5,6 +5,7 @@ use Rattle.std.proofs.Math.Seq.{take-append_seam}
 use Rattle.std.proofs.lemmas.Bool.Decides.{nat_tests}
 use Rattle.std.proofs.lemmas.List.{append-nil, take-append-drop, take-take}
 use Rattle.hubcore.specs.Lists.{EntryRecord, StartsWith}
+use Rattle.hub.specs.Desks.{AreToldWithin, GoesOn}
 use Rattle.hub.specs.Issues.{IssueRecord, last_of}
 
 pub starts_same : (log : List EntryRecord) → StartsWith log log
@@ -41,6 +42,23 @@ reaches all one other m n e f p q true is = let le : m ≤ n = grind (arith, nat
 reaches all one other m n e f p q false is =
     let lt : n < m = grind (arith, nat_tests) in
     (shorter_begins all one other p q (omega (arith, e, f, lt)), omega (arith, e, f, lt))
+
+-- of two beginnings of one list the one that is no shorter begins with the other
+pub as_reached : (one other : List EntryRecord) (b : Bool) → MatchBool b (StartsWith one other) (StartsWith other one × (length one < length other)) →
+    length other ≤ length one → StartsWith one other
+as_reached one other true begins le = begins
+as_reached one other false begins le = absurd (omega (arith, begins.1, le))
+
+-- a list is no shorter than its beginning, so what was told within that is told within it
+pub told_within : (shown front : List EntryRecord) (first second : ℕ) → StartsWith shown front → AreToldWithin front first second →
+    AreToldWithin shown first second
+told_within shown front first second begins was =
+    let n : length shown ≡ length front + length begins.0 = ap length begins.1 ∙ length-append front begins.0 in
+    record { first_is = omega (arith, n, was.first_is); second_is = omega (arith, n, was.second_is) }
+
+-- what a receipt tells now goes on from what one told that was published then
+pub goes_on : (log before was shown : List EntryRecord) → StartsWith log before → StartsWith was before → StartsWith shown was → GoesOn log before shown
+goes_on log before was shown found front grows = record { found = found; begins = starts_on shown was before grows front }
 
 pub last_of_push : (first last : IssueRecord) (issues : List IssueRecord) → last_of first (issues ++ last ∷ []) ≡ last
 last_of_push first last [] = refl

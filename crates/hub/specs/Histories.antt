@@ -3,6 +3,12 @@ use Rattle.std.specs.Prelude.{◌≡◌, ℕ, ◌==◌, true, List, [], ◌∷�
 use Rattle.logbook.specs.Pages.{Book, Cell, Named, Step, View}
 use Rattle.hubcore.specs.Lists.{EntryRecord}
 
+-- what tells one hub from another in proofs: the book of its commits, and the ledgers of what each editor was told, by their names
+pub record HubBooks : Type 0 where
+  pub history : Book
+  pub first_told : ℕ
+  pub second_told : ℕ
+
 -- the first word of the book is the number of its entries; the second one is not used
 abbrev pub IsCounted : List Cell → List EntryRecord → Type 0
 IsCounted cells log = cells ≡ (length log, true) ∷ (0, true) ∷ []

@@ -6,7 +6,7 @@ ghost use Rattle.left_right.specs.Sides.{view};
 ghost use Rattle.bench.specs.Refusals.{loses_a_worker};
 ghost use Rattle.hubcore.specs.Lists.{StartsWith};
 ghost use Rattle.hub.specs.Commits.{AskedByCommit, IsReply, count_of, logged, snapshot_after};
-ghost use Rattle.hub.specs.Desks.{answered, desk_of, editor_of};
+ghost use Rattle.hub.specs.Desks.{GoesOn, answered, desk_of, editor_of};
 ghost use Rattle.hub.specs.Issues.{issue_of};
 
 use crate::editor::Editor;
@@ -20,6 +20,7 @@ use crate::parts::Parts;
 use crate::publisher::Publisher;
 use crate::receipt::Receipt;
 use crate::rule::IssueReader;
+use crate::told::{ToldBooks, books_of};
 use crate::viewer::Viewer;
 use bench::{Bench, CommitFault, Snapshot};
 use edits::Edit;
@@ -31,8 +32,8 @@ use std::sync::{Arc, Wait};
 
 /// A bench, the log of its accepted commits, and what publishes its snapshots, on one thread. Contracts see the log, what is
 /// published of it and, of the stepper, what it was asked and how often it lost a worker. The type keeps that the bench has the
-/// snapshot of the log, that what is published is a beginning of the log, and that the book of each editor's ledger has as many
-/// commits as bear its number.
+/// snapshot of the log, that what is published is a beginning of the log, that the book of each editor's ledger has as many
+/// commits as bear its number, and that no editor was told of more than is published.
 #[derive(Drop)]
 pub struct Desk<J: HubName, L: Ledger, M: Ledger, S: Stepper + Drop, R: Wait + Drop> {
     alloc: Global,
@@ -43,6 +44,7 @@ pub struct Desk<J: HubName, L: Ledger, M: Ledger, S: Stepper + Drop, R: Wait + D
     publisher: Publisher<J, R>,
     first: Book<L>,
     second: Book<M>,
+    told: ToldBooks<J>,
 }
 
 impl<J: HubName, L: Ledger, M: Ledger, S: Stepper + Drop, R: Wait + Drop> Model
@@ -50,14 +52,15 @@ impl<J: HubName, L: Ledger, M: Ledger, S: Stepper + Drop, R: Wait + Drop> Model
     ghost use Rattle.std.specs.Prelude.{◌≡◌};
     ghost use Rattle.std.specs.Arc.{arc_value};
     ghost use Rattle.hubcore.specs.Lists.{StartsWith};
-    ghost use Rattle.hub.specs.Desks.{DeskRecord, IsKept, desk_of};
+    ghost use Rattle.hub.specs.Desks.{AreToldWithin, DeskRecord, IsKept, desk_of};
 
     ghost Value = { DeskRecord };
 
     ghost view = { λ d. desk_of d.log.items d.publisher d.bench.asked d.bench.losses };
 
     ghost invariant = { λ d. IsKept J.origin d.bench.snapshot d.log.items d.publisher d.first.total d.second.total
-        × (arc_value d.origin ≡ J.origin) × StartsWith d.log.items d.history × StartsWith d.history d.publisher };
+        × (arc_value d.origin ≡ J.origin) × StartsWith d.log.items d.history × StartsWith d.history d.publisher
+        × AreToldWithin d.publisher d.told.first.total d.told.second.total };
 }
 
 impl<J: HubName, L: Ledger, M: Ledger, S: Stepper + Drop, R: Wait + Drop> Desk<J, L, M, S, R> {
@@ -68,7 +71,7 @@ impl<J: HubName, L: Ledger, M: Ledger, S: Stepper + Drop, R: Wait + Drop> Desk<J
     ) -> Result<
         (
             Desk<J, L, M, S, R>,
-            (Editor<L, M>, Editor<L, M>),
+            (Editor<J, L, M>, Editor<J, L, M>),
             Vec<Viewer<J>>,
         ),
         HubFault,
@@ -77,7 +80,7 @@ impl<J: HubName, L: Ledger, M: Ledger, S: Stepper + Drop, R: Wait + Drop> Desk<J
         requires first { (parts.first_name ≡ L.name) × (parts.first_parts ≡ L.parts) }
         requires second { (parts.second_name ≡ M.name) × (parts.second_parts ≡ M.parts) }
         ensures desk { IfOk result (λ opened. opened.0 ≡ desk_of [] [] parts.asked parts.losses) }
-        ensures editors { IfOk result (λ opened. (opened.1.0 ≡ editor_of 0 0) × (opened.1.1 ≡ editor_of 1 0)) }
+        ensures editors { IfOk result (λ opened. (opened.1.0 ≡ editor_of 0 0 []) × (opened.1.1 ≡ editor_of 1 0 [])) }
         ensures viewers { IfOk result (λ opened. All (λ viewer. viewer ≡ []) opened.2.items × (length opened.2.items ≡ parts.viewers)) }
         ensures fault { IfErr result (λ fault. fault ≡ HubFault.OutOfMemory) }
     {
@@ -90,6 +93,8 @@ impl<J: HubName, L: Ledger, M: Ledger, S: Stepper + Drop, R: Wait + Drop> Desk<J
             readers,
             first,
             second,
+            first_told,
+            second_told,
         } = parts;
         let history = history.named::<J>();
         let publisher = Publisher::new(rt, writer, history.all().again());
@@ -98,7 +103,8 @@ impl<J: HubName, L: Ledger, M: Ledger, S: Stepper + Drop, R: Wait + Drop> Desk<J
         };
         let (first, first_share) = first.open::<L>();
         let (second, second_share) = second.open::<M>();
-        let editors = Editor::both(first_share, second_share);
+        let (told, shares) = books_of::<J>(first_told, second_told);
+        let editors = Editor::both(first_share, second_share, shares, history.all());
         let log = Vec::new(alloc);
         let desk = Desk {
             alloc,
@@ -109,40 +115,46 @@ impl<J: HubName, L: Ledger, M: Ledger, S: Stepper + Drop, R: Wait + Drop> Desk<J
             publisher,
             first,
             second,
+            told,
         };
         Ok((desk, editors, viewers))
     }
 
     /// Commits the edits for an editor, and then publishes all accepted commits that are not published yet, also where this one was
     /// refused. It waits for viewers that are just looking.
-    pub fn submit(&mut self, editor: &mut Editor<L, M>, edits: &[Edit]) -> Receipt<J>
+    pub fn submit(&mut self, editor: &mut Editor<J, L, M>, edits: &[Edit]) -> Receipt<J>
         ensures own { count_of editor.old.number self.old.log ≡ editor.old.count }
         ensures reply { IsReply (snapshot_after J.origin self.old.log) edits.now result.reply }
         ensures log { self.new.log ≡ logged self.old.log editor.old.number edits.now result.reply }
-        ensures editor { editor.new ≡ answered editor.old result.reply }
+        ensures editor { editor.new ≡ answered editor.old result.reply result.told }
         ensures number { editor.new.number ≡ editor.old.number }
         ensures told { result.told ≡ self.new.shown }
         ensures begins { StartsWith self.new.log self.new.shown }
         ensures shown { IsTrue result.shown ↔ (self.new.shown ≡ self.new.log) }
         ensures unchanged { result.shown ≡ false → self.new.shown ≡ self.old.shown }
 
+        // What its last receipt told.
+        ensures goes_on { GoesOn self.old.log editor.old.told result.told }
+
         // What the stepper was asked.
         ensures asked { AskedByCommit (snapshot_after J.origin self.old.log) edits.now result.reply self.old.asked self.new.asked }
         ensures lost { self.new.losses ≡ self.old.losses + (if loses_a_worker result.reply then 1 else 0) }
     {
+        self.recall(editor);
         let reply = self.commit(editor, edits);
         let shown = self.show();
         let note = self.publisher.note();
+        self.tell(editor);
         Receipt { reply, shown, note }
     }
 
     // Commits the edits for an editor.
     #[tactic(auto, using(crate::proofs::Asking::asked_nothing))]
-    fn commit(&mut self, editor: &mut Editor<L, M>, edits: &[Edit]) -> Result<u64, CommitFault>
+    fn commit(&mut self, editor: &mut Editor<J, L, M>, edits: &[Edit]) -> Result<u64, CommitFault>
         ensures own { count_of editor.old.number self.old.log ≡ editor.old.count }
         ensures reply { IsReply (snapshot_after J.origin self.old.log) edits.now result }
         ensures log { self.new.log ≡ logged self.old.log editor.old.number edits.now result }
-        ensures editor { editor.new ≡ answered editor.old result }
+        ensures editor { editor.new ≡ answered editor.old result editor.old.told }
         ensures number { editor.new.number ≡ editor.old.number }
         ensures shown { self.new.shown ≡ self.old.shown }
         ensures asked { AskedByCommit (snapshot_after J.origin self.old.log) edits.now result self.old.asked self.new.asked }
@@ -170,12 +182,33 @@ impl<J: HubName, L: Ledger, M: Ledger, S: Stepper + Drop, R: Wait + Drop> Desk<J
         }
     }
 
+    // What the editor's last receipt told is published.
+    fn recall(&mut self, editor: &mut Editor<J, L, M>)
+        ensures same { (self.new ≡ self.old) × (editor.new ≡ editor.old) }
+        ensures begins { StartsWith self.old.shown editor.old.told }
+        ensures log { StartsWith self.old.log editor.old.told }
+    {
+        editor.audit_told(&mut self.told);
+        self.publisher.commits().begins_with(editor.last_told());
+    }
+
+    // The editor is told what is published.
+    fn tell(&mut self, editor: &mut Editor<J, L, M>)
+        ensures same { self.new ≡ self.old }
+        ensures editor { editor.new ≡ editor_of editor.old.number editor.old.count self.old.shown }
+        ensures begins { StartsWith self.old.shown editor.old.told }
+    {
+        editor.learn(&mut self.told, self.publisher.commits());
+    }
+
     // Publishes all accepted commits that are not published yet, and says whether all are published then. They are not where memory
     // ran out.
+    #[tactic(auto, using(crate::proofs::Beginnings::starts_same))]
     fn show(&mut self) -> bool
         ensures kept { self.new ≡ desk_of self.old.log self.new.shown self.old.asked self.old.losses }
         ensures shown { IsTrue result ↔ (self.new.shown ≡ self.new.log) }
         ensures unchanged { result ≡ false → self.new.shown ≡ self.old.shown }
+        ensures grows { StartsWith self.new.shown self.old.shown }
     {
         if self.publisher.commits().is_all(&self.log) {
             return true;
@@ -207,7 +240,7 @@ impl<J: HubName, L: Ledger, M: Ledger, S: Stepper + Drop, R: Wait + Drop> Desk<J
 
     /// Publishes all accepted commits that are not published yet, and ends. It waits for viewers that are just looking; from then on
     /// a look is refused as closed.
-    pub fn close(self, editors: (Editor<L, M>, Editor<L, M>)) -> Log<J>
+    pub fn close(self, editors: (Editor<J, L, M>, Editor<J, L, M>)) -> Log<J>
         requires { (editors.0.number ≡ 0) × (editors.1.number ≡ 1) }
         ensures log { result.commits ≡ self.log }
         ensures first { count_of 0 result.commits ≡ editors.0.count }
@@ -215,9 +248,14 @@ impl<J: HubName, L: Ledger, M: Ledger, S: Stepper + Drop, R: Wait + Drop> Desk<J
         ensures all { length result.commits ≡ editors.0.count + editors.1.count }
         ensures told { StartsWith result.commits result.told }
         ensures shown { IsTrue result.shown ↔ (result.told ≡ result.commits) }
+        ensures first_told { StartsWith result.told editors.0.told }
+        ensures second_told { StartsWith result.told editors.1.told }
     {
+        let (mut first, mut second) = editors;
         let mut desk = self;
         let shown = desk.show();
+        desk.recall(&mut first);
+        desk.recall(&mut second);
         let Desk {
             alloc: _,
             bench: _bench,
@@ -227,8 +265,8 @@ impl<J: HubName, L: Ledger, M: Ledger, S: Stepper + Drop, R: Wait + Drop> Desk<J
             publisher,
             first: mut first_book,
             second: mut second_book,
+            told: _told,
         } = desk;
-        let (mut first, mut second) = editors;
         first.audit(&mut first_book, &mut second_book);
         second.audit(&mut first_book, &mut second_book);
         let told = publisher.commits().again();
@@ -247,7 +285,7 @@ fn viewers_of<J: HubName>(
     readers: Vec<IssueReader>,
     none: &Beginning<J>,
 ) -> Result<Vec<Viewer<J>>, AllocError>
-    requires readers { All (λ r. view r.place ≡ Some (issue_of J.origin J.book [])) readers.items }
+    requires readers { All (λ r. view r.place ≡ Some (issue_of J.origin J.book.history [])) readers.items }
     requires none { none.now ≡ [] }
     ensures { IfOk result (λ viewers. All (λ viewer. viewer ≡ []) viewers.items × (length viewers.items ≡ length readers.items)) }
 {

@@ -1,7 +1,7 @@
 //! The history of a hub, which is its accepted commits. It exists for proofs alone: of it only a number is in memory, how many
 //! commits there are.
 
-ghost use Rattle.std.specs.Prelude.{◌≡◌, ◌↔◌, ◌⊎◌, ◌+◌, ◌<◌, ◌^◌, ◌++◌, ◌∷◌, [], IsTrue, length, MatchBool};
+ghost use Rattle.std.specs.Prelude.{◌≡◌, ◌↔◌, ◌⊎◌, ◌+◌, ◌<◌, ◌≤◌, ◌^◌, ◌++◌, ◌∷◌, [], IsTrue, length, MatchBool};
 ghost use Rattle.std.specs.Bool.{OnTrue};
 ghost use Rattle.hubcore.specs.Lists.{StartsWith};
 ghost use Rattle.hub.specs.Histories.{count_word};
@@ -84,7 +84,7 @@ impl NewHistory {
 
     /// The same under a name.
     pub(crate) fn named<J: HubName>(self) -> History<J>
-        requires { self.reached.book ≡ J.book }
+        requires { self.reached.book ≡ J.book.history }
         ensures { result ≡ [] }
     {
         let NewHistory { count, reached } = self;
@@ -115,13 +115,13 @@ impl<J: HubName> Model for Beginning<J> {
 
     ghost view = { λ b. b.reached.log };
 
-    ghost invariant = { λ b. (b.len ≡ length b.reached.log) × (b.reached.book ≡ J.book) };
+    ghost invariant = { λ b. (b.len ≡ length b.reached.log) × (b.reached.book ≡ J.book.history) };
 }
 
 impl<J: HubName> Beginning<J> {
     /// So many commits, which the history has reached.
     pub(crate) fn of(len: u64, reached: &Reached) -> Beginning<J>
-        requires { (len ≡ length reached.now.log) × (reached.now.book ≡ J.book) }
+        requires { (len ≡ length reached.now.log) × (reached.now.book ≡ J.book.history) }
         ensures { result ≡ reached.now.log }
     {
         Beginning {
@@ -149,7 +149,7 @@ impl<J: HubName> Beginning<J> {
 
     /// Its commits, as the history has reached them.
     pub(crate) fn reached(&self) -> &Reached
-        ensures { (result.now.log ≡ self.now) × (result.now.book ≡ J.book) }
+        ensures { (result.now.log ≡ self.now) × (result.now.book ≡ J.book.history) }
     {
         &self.reached
     }
@@ -175,9 +175,18 @@ impl<J: HubName> Beginning<J> {
         other.len <= self.len
     }
 
+    /// It begins with another one that is no longer.
+    #[tactic(auto, using(crate::proofs::Beginnings::as_reached))]
+    pub(crate) fn begins_with(&self, other: &Beginning<J>)
+        requires { length other.now ≤ length self.now }
+        ensures { StartsWith self.now other.now }
+    {
+        let _reaches = self.reaches(other);
+    }
+
     // Adds a commit behind all that was reached, and says whether it did; it did not where the history has more commits.
     fn add(&mut self, count: &Count, entry: &Entry) -> bool
-        requires count { count.now ≡ count_word J.book }
+        requires count { count.now ≡ count_word J.book.history }
         requires room { length self.old + 1 < 2 ^ 64 }
         ensures { OnTrue result (self.new ≡ self.old ++ entry.now ∷ []) }
     {
@@ -214,7 +223,7 @@ impl<J: HubName> Model for History<J> {
 
     ghost view = { λ h. h.all };
 
-    ghost invariant = { λ h. h.count ≡ count_word J.book };
+    ghost invariant = { λ h. h.count ≡ count_word J.book.history };
 }
 
 impl<J: HubName> History<J> {

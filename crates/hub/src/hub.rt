@@ -33,7 +33,7 @@ impl<J: HubName, L: Ledger, M: Ledger, S: Stepper + Drop, R: Wait + Drop> Hub<J,
     ) -> Result<
         (
             Hub<J, L, M, S, R>,
-            (Editor<L, M>, Editor<L, M>),
+            (Editor<J, L, M>, Editor<J, L, M>),
             Vec<Viewer<J>>,
         ),
         HubFault,
@@ -41,7 +41,7 @@ impl<J: HubName, L: Ledger, M: Ledger, S: Stepper + Drop, R: Wait + Drop> Hub<J,
         requires names { (parts.origin ≡ J.origin) × (parts.book ≡ J.book) }
         requires first { (parts.first_name ≡ L.name) × (parts.first_parts ≡ L.parts) }
         requires second { (parts.second_name ≡ M.name) × (parts.second_parts ≡ M.parts) }
-        ensures editors { IfOk result (λ opened. (opened.1.0 ≡ editor_of 0 0) × (opened.1.1 ≡ editor_of 1 0)) }
+        ensures editors { IfOk result (λ opened. (opened.1.0 ≡ editor_of 0 0 []) × (opened.1.1 ≡ editor_of 1 0 [])) }
         ensures viewers { IfOk result (λ opened. All (λ viewer. viewer ≡ []) opened.2.items × (length opened.2.items ≡ parts.viewers)) }
         ensures fault { IfErr result (λ fault. fault ≡ HubFault.OutOfMemory) }
     {
@@ -53,10 +53,16 @@ impl<J: HubName, L: Ledger, M: Ledger, S: Stepper + Drop, R: Wait + Drop> Hub<J,
     }
 
     /// Takes the lock, commits the edits for an editor, and publishes all accepted commits that are not published yet. The log that
-    /// it finds has all of this editor's commits, and those of the other one up to then.
-    pub fn submit<W: Wait>(&self, rt: &W, editor: &mut Editor<L, M>, edits: &[Edit]) -> Receipt<J>
+    /// it finds has all of this editor's commits, and those of the other one up to then. It begins with what this editor's last
+    /// receipt told, and so does what this one tells.
+    pub fn submit<W: Wait>(
+        &self,
+        rt: &W,
+        editor: &mut Editor<J, L, M>,
+        edits: &[Edit],
+    ) -> Receipt<J>
         ensures found { FoundSomeLog J.origin editor.old edits.now result }
-        ensures editor { editor.new ≡ answered editor.old result.reply }
+        ensures editor { editor.new ≡ answered editor.old result.reply result.told }
         ensures number { editor.new.number ≡ editor.old.number }
     {
         self.desk.lock(rt).submit(editor, edits)
@@ -69,13 +75,15 @@ impl<J: HubName, L: Ledger, M: Ledger, S: Stepper + Drop, R: Wait + Drop> Hub<J,
 
     /// Publishes all accepted commits that are not published yet, and ends the hub. It waits for viewers that are just looking; from
     /// then on a look is refused as closed.
-    pub fn close(self, editors: (Editor<L, M>, Editor<L, M>)) -> Log<J>
+    pub fn close(self, editors: (Editor<J, L, M>, Editor<J, L, M>)) -> Log<J>
         requires { (editors.0.number ≡ 0) × (editors.1.number ≡ 1) }
         ensures first { count_of 0 result.commits ≡ editors.0.count }
         ensures second { count_of 1 result.commits ≡ editors.1.count }
         ensures all { length result.commits ≡ editors.0.count + editors.1.count }
         ensures told { StartsWith result.commits result.told }
         ensures shown { IsTrue result.shown ↔ (result.told ≡ result.commits) }
+        ensures first_told { StartsWith result.told editors.0.told }
+        ensures second_told { StartsWith result.told editors.1.told }
     {
         let Hub { desk } = self;
         desk.into_inner().close(editors)

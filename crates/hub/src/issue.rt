@@ -66,7 +66,7 @@ impl Issue {
 
     /// The commits.
     pub(crate) fn commits<J: HubName>(&self) -> Beginning<J>
-        requires { self.now.book ≡ J.book }
+        requires { self.now.book ≡ J.book.history }
         ensures { result ≡ self.now.log }
     {
         Beginning::of(self.len, &self.reached)

@@ -16,6 +16,7 @@ mod parts;
 mod publisher;
 mod receipt;
 mod rule;
+mod told;
 mod viewer;
 
 pub use desk::Desk;

@@ -2,15 +2,15 @@
 
 use std::marker::Brand;
 
-/// The snapshot that a hub began with, and the book of its commits. They exist for contracts alone: a program opens a hub in a
-/// function that is generic in the name, and picks them where it calls that function.
+/// The snapshot that a hub began with, the book of its commits and the ledgers of what its editors were told. They exist for
+/// contracts alone: a program opens a hub in a function that is generic in the name, and picks them where it calls that function.
 pub trait HubName {
-    ghost use Rattle.logbook.specs.Pages.{Book};
     ghost use Rattle.bench.specs.Benches.{SnapshotRecord};
+    ghost use Rattle.hub.specs.Histories.{HubBooks};
 
     ghost origin: { SnapshotRecord };
 
-    ghost book: { Book };
+    ghost book: { HubBooks };
 }
 
 impl HubName for Brand {

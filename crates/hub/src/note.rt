@@ -31,12 +31,12 @@ impl<J: HubName> Model for Note<J> {
 
     ghost view = { λ n. n.commits };
 
-    ghost invariant = { λ n. IfSome n.issue (λ issue. issue ≡ issue_of J.origin J.book n.commits) };
+    ghost invariant = { λ n. IfSome n.issue (λ issue. issue ≡ issue_of J.origin J.book.history n.commits) };
 }
 
 impl<J: HubName> Note<J> {
     pub(crate) fn new(commits: Beginning<J>, issue: Option<Issue>) -> Note<J>
-        requires { IfSome issue (λ issue. issue ≡ issue_of J.origin J.book commits) }
+        requires { IfSome issue (λ issue. issue ≡ issue_of J.origin J.book.history commits) }
         ensures { result ≡ commits }
     {
         Note { commits, issue }

@@ -31,6 +31,8 @@ pub struct Parts<S: Stepper + Drop> {
     pub(crate) readers: Vec<IssueReader>,
     pub(crate) first: Blank,
     pub(crate) second: Blank,
+    pub(crate) first_told: Blank,
+    pub(crate) second_told: Blank,
 }
 
 impl<S: Stepper + Drop> Model for Parts<S> {
@@ -46,7 +48,7 @@ impl<S: Stepper + Drop> Model for Parts<S> {
       origin = arc_value p.origin;
       asked = p.bench.asked;
       losses = p.bench.losses;
-      book = p.history.reached.book;
+      book = record { history = p.history.reached.book; first_told = p.first_told.name; second_told = p.second_told.name };
       first_name = p.first.name;
       first_parts = p.first.parts;
       second_name = p.second.name;
@@ -55,6 +57,7 @@ impl<S: Stepper + Drop> Model for Parts<S> {
     } };
 
     ghost invariant = { λ p. (p.bench.snapshot ≡ arc_value p.origin) × (0 < p.first.parts) × (0 < p.second.parts)
+        × (p.first_told.parts ≡ 1) × (p.second_told.parts ≡ 1)
         × (p.writer.desk.shown.value ≡ issue_of (arc_value p.origin) p.history.reached.book [])
         × All (λ r. known_by r.place ≡ Some (issue_of (arc_value p.origin) p.history.reached.book [])) p.readers.items };
 }
@@ -89,6 +92,8 @@ impl<S: Stepper + Drop> Parts<S> {
             readers,
             first: Blank::new(1),
             second: Blank::new(1),
+            first_told: Blank::new(1),
+            second_told: Blank::new(1),
         })
     }
 }

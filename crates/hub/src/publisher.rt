@@ -33,12 +33,12 @@ impl<J: HubName, R: Wait + Drop> Model for Publisher<J, R> {
 
     ghost view = { λ p. p.commits };
 
-    ghost invariant = { λ p. p.writer.desk.shown.value ≡ issue_of J.origin J.book p.commits };
+    ghost invariant = { λ p. p.writer.desk.shown.value ≡ issue_of J.origin J.book.history p.commits };
 }
 
 impl<J: HubName, R: Wait + Drop> Publisher<J, R> {
     pub(crate) fn new(rt: R, writer: IssueWriter, commits: Beginning<J>) -> Publisher<J, R>
-        requires { writer.desk.shown.value ≡ issue_of J.origin J.book commits }
+        requires { writer.desk.shown.value ≡ issue_of J.origin J.book.history commits }
         ensures { result ≡ commits }
     {
         Publisher {
@@ -58,10 +58,11 @@ impl<J: HubName, R: Wait + Drop> Publisher<J, R> {
     /// Publishes more commits, and says whether it did: it did not where memory ran out. It waits for who still reads what was
     /// published before the last.
     pub(crate) fn publish(&mut self, next: Issue, commits: &Beginning<J>) -> bool
-        requires next { next ≡ issue_of J.origin J.book commits.now }
+        requires next { next ≡ issue_of J.origin J.book.history commits.now }
         requires later { StartsWith commits.now self.old }
         ensures published { MatchBool result (self.new ≡ commits.now) (self.new ≡ self.old) }
         ensures within { StartsWith commits.now self.new }
+        ensures later { StartsWith self.new self.old }
     {
         if !replace_with(&mut self.writer, (&self.rt, next), publish_next::<R>) {
             return false;

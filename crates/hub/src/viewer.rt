@@ -1,6 +1,6 @@
 //! Who looks at what is published.
 
-ghost use Rattle.std.specs.Prelude.{◌≡◌, IfOk, IfSome, Ok, Err, Some};
+ghost use Rattle.std.specs.Prelude.{◌≡◌, ◌<◌, IfOk, IfSome, Ok, Err, Some, length, MatchBool};
 ghost use Rattle.std.specs.Arc.{arc_value};
 ghost use Rattle.left_right.specs.Sides.{view};
 ghost use Rattle.hubcore.specs.Lists.{StartsWith, longer};
@@ -37,12 +37,12 @@ impl<J: HubName> Model for Viewer<J> {
 
     ghost view = { λ v. v.known };
 
-    ghost invariant = { λ v. IsOf J.origin J.book (known_by v.reader.place) };
+    ghost invariant = { λ v. IsOf J.origin J.book.history (known_by v.reader.place) };
 }
 
 impl<J: HubName> Viewer<J> {
     pub(crate) fn new(reader: IssueReader, commits: Beginning<J>) -> Viewer<J>
-        requires { IsOf J.origin J.book (view reader.place) }
+        requires { IsOf J.origin J.book.history (view reader.place) }
         ensures { result ≡ commits }
     {
         Viewer {
@@ -69,6 +69,20 @@ impl<J: HubName> Viewer<J> {
         }
     }
 
+    /// Whether it saw or was told of all that another viewer of its hub was. If not, the other one's list goes on behind its own.
+    pub fn reaches(&self, other: &Viewer<J>) -> bool
+        ensures { MatchBool result (StartsWith self.now other.now) (StartsWith other.now self.now × (length self.now < length other.now)) }
+    {
+        self.commits().reaches(other.commits())
+    }
+
+    // The commits that it saw or was told of.
+    pub(crate) fn commits(&self) -> &Beginning<J>
+        ensures { result.now ≡ self.now }
+    {
+        &self.known.commits
+    }
+
     /// Is told what was published when the receipt was made. It takes no memory, no lock, and waits for nobody.
     pub fn learn(&mut self, receipt: Receipt<J>)
         ensures longer { self.new ≡ longer self.old receipt.told }
@@ -93,9 +107,9 @@ fn look_by<J: HubName>(
     IssueReader,
     Option<(Beginning<J>, Result<Arc<Snapshot>, AllocError>)>,
 )
-    requires { IsOf J.origin J.book (view reader.place) }
-    ensures of { IsOf J.origin J.book (view result.0.place) }
-    ensures found { IfSome result.1 (λ found. (view result.0.place ≡ Some (issue_of J.origin J.book found.0))
+    requires { IsOf J.origin J.book.history (view reader.place) }
+    ensures of { IsOf J.origin J.book.history (view result.0.place) }
+    ensures found { IfSome result.1 (λ found. (view result.0.place ≡ Some (issue_of J.origin J.book.history found.0))
         × IfOk found.1 (λ snapshot. arc_value snapshot ≡ snapshot_after J.origin found.0)) }
 {
     match reader.enter_as::<Sees>() {

@@ -53,7 +53,7 @@ fn end_beside<
     rt: &R,
     alloc: Global,
     hub: Hub<J, L, M, Serial, &R>,
-    editors: (Editor<L, M>, Editor<L, M>),
+    editors: (Editor<J, L, M>, Editor<J, L, M>),
     viewers: Vec<Viewer<J>>,
     sender: &Sender<Receipt<J>>,
 ) -> Vec<Viewer<J>>

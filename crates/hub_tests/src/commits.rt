@@ -52,7 +52,7 @@ pub fn commit<J: HubName, L: Ledger, M: Ledger, R: Wait + Abort>(
     rt: &R,
     alloc: Global,
     hub: &Hub<J, L, M, Serial, &R>,
-    editor: &mut Editor<L, M>,
+    editor: &mut Editor<J, L, M>,
     place: u64,
 ) -> Receipt<J>
     ensures { editor.new.number ≡ editor.old.number }
@@ -103,7 +103,7 @@ pub fn refused<J: HubName, L: Ledger, M: Ledger, R: Wait + Abort>(
     rt: &R,
     alloc: Global,
     hub: &Hub<J, L, M, Serial, &R>,
-    editor: &mut Editor<L, M>,
+    editor: &mut Editor<J, L, M>,
 )
     ensures { editor.new.number ≡ editor.old.number }
 {
@@ -123,7 +123,7 @@ fn step<J: HubName, L: Ledger, M: Ledger, R: Wait + Abort>(
     rt: &R,
     alloc: Global,
     hub: &Hub<J, L, M, Serial, &R>,
-    editor: &mut Editor<L, M>,
+    editor: &mut Editor<J, L, M>,
     place: u64,
     viewers: &Sender<Receipt<J>>,
 )
@@ -143,10 +143,10 @@ pub fn edit<J: HubName, L: Ledger, M: Ledger, R: Wait + Abort>(
     rt: &R,
     alloc: Global,
     hub: &Hub<J, L, M, Serial, &R>,
-    editor: Editor<L, M>,
+    editor: Editor<J, L, M>,
     viewers: &Sender<Receipt<J>>,
     commits: u64,
-) -> Editor<L, M>
+) -> Editor<J, L, M>
     ensures { result.number ≡ editor.number }
 {
     let mut editor = editor;

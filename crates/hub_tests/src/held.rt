@@ -91,7 +91,7 @@ fn submit<J: HubName, L: Ledger, M: Ledger, R: Wait + Abort + Copy + Drop>(
     rt: R,
     alloc: Global,
     hub: &Hub<J, L, M, Pool<Holding<R>, R>, R>,
-    editor: &mut Editor<L, M>,
+    editor: &mut Editor<J, L, M>,
 ) -> Receipt<J> {
     let edits = [stim(&rt, alloc, "a", 0, Value::Zero)];
     let receipt = hub.submit(&rt, editor, &edits);
@@ -111,7 +111,7 @@ fn commit_beside<
     rt: &R,
     alloc: Global,
     hub: &Hub<J, L, M, Pool<Holding<R>, R>, R>,
-    editor: Editor<L, M>,
+    editor: Editor<J, L, M>,
     viewers: Vec<Viewer<J>>,
     hold: &Hold,
 ) -> Vec<Viewer<J>> {

@@ -16,6 +16,8 @@ mod looks;
 #[cfg(test)]
 mod lost;
 #[cfg(test)]
+mod receipts;
+#[cfg(test)]
 mod rows;
 #[cfg(test)]
 mod threads;

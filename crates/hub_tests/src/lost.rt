@@ -46,7 +46,7 @@ fn submit<J: HubName, L: Ledger, M: Ledger, S: Stepper + Drop, R: Wait + Abort +
     rt: &R,
     alloc: Global,
     hub: &Hub<J, L, M, S, R>,
-    editor: &mut Editor<L, M>,
+    editor: &mut Editor<J, L, M>,
     wanted: Result<u64, CommitFault>,
     count: u64,
 ) {
@@ -64,7 +64,7 @@ fn lose_the_worker<J: HubName, L: Ledger, M: Ledger, S: Stepper + Drop, R: Wait 
     rt: &R,
     alloc: Global,
     hub: &Hub<J, L, M, S, R>,
-    editor: &mut Editor<L, M>,
+    editor: &mut Editor<J, L, M>,
     flag: &AtomicBool,
 ) {
     let lost = Err(CommitFault::WorkerLost);

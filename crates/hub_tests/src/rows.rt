@@ -20,7 +20,7 @@ fn submit<J: HubName, L: Ledger, M: Ledger, R: Wait + Abort>(
     rt: &R,
     alloc: Global,
     hub: &Hub<J, L, M, Serial, &R>,
-    editor: &mut Editor<L, M>,
+    editor: &mut Editor<J, L, M>,
 ) -> Receipt<J>
     ensures { editor.new.number ≡ editor.old.number }
 {
@@ -81,7 +81,7 @@ fn commit_beside<J: HubName, L: Ledger, M: Ledger, R: Wait + Abort>(
     rt: &R,
     alloc: Global,
     hub: &Hub<J, L, M, Serial, &R>,
-    editor: &mut Editor<L, M>,
+    editor: &mut Editor<J, L, M>,
     first: &mut Viewer<J>,
     second: &mut Viewer<J>,
 ) -> Arc<Snapshot>

@@ -23,12 +23,12 @@ use std::thread::{Promise, Threads};
 #[derive(Clone, Copy)]
 struct Numbered(u32);
 
-impl<L: Ledger, M: Ledger> Promise<Editor<L, M>> for Numbered {
+impl<J: HubName, L: Ledger, M: Ledger> Promise<Editor<J, L, M>> for Numbered {
     ghost kept_by = { λ p editor. editor.number ≡ p.0 };
 }
 
 /// Both editors and what the viewers saw, once their threads have ended.
-type Ended<J, L, M> = ((Editor<L, M>, Editor<L, M>), Vec<Watched<J>>);
+type Ended<J, L, M> = ((Editor<J, L, M>, Editor<J, L, M>), Vec<Watched<J>>);
 
 // An editor in each of two threads, and each viewer in one of its own.
 fn run<
@@ -40,7 +40,7 @@ fn run<
     rt: &R,
     alloc: Global,
     hub: &Hub<J, L, M, Serial, &R>,
-    editors: (Editor<L, M>, Editor<L, M>),
+    editors: (Editor<J, L, M>, Editor<J, L, M>),
     viewers: Vec<Viewer<J>>,
     channel: (&Sender<Receipt<J>>, &Receiver<Receipt<J>>),
     plan: Plan,

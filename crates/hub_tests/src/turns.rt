@@ -19,7 +19,7 @@ use std::sync::ledger::Ledger;
 fn submit<J: HubName, L: Ledger, M: Ledger, R: Wait + Abort>(
     rt: &R,
     hub: &Hub<J, L, M, Serial, &R>,
-    editor: &mut Editor<L, M>,
+    editor: &mut Editor<J, L, M>,
     edit: Edit,
     wanted: Result<u64, CommitFault>,
     count: u64,
@@ -41,8 +41,8 @@ fn take_turns<J: HubName, L: Ledger, M: Ledger, R: Wait + Abort>(
     rt: &R,
     alloc: Global,
     hub: &Hub<J, L, M, Serial, &R>,
-    one: &mut Editor<L, M>,
-    other: &mut Editor<L, M>,
+    one: &mut Editor<J, L, M>,
+    other: &mut Editor<J, L, M>,
 )
     ensures one { one.new.number ≡ one.old.number }
     ensures other { other.new.number ≡ other.old.number }

@@ -37,11 +37,14 @@ impl<
     P: Probe + Send + Sync + Drop + 'static,
     R: Threads + Wait + Copy + Drop + Send + 'static,
 > Adaptive<P, R> {
+    ghost use Rattle.parstep.specs.Workers.{workers_behind};
+
     /// Starts so many workers, whose pieces pass the probe. A thread that can't be started is answered as an allocation
     /// that is refused; the workers that were started by then end.
     pub fn open(rt: R, alloc: Global, workers: u32, probe: P) -> Result<Adaptive<P, R>, StepFault>
         requires some { 0 < workers }
         requires few { workers ≤ MAX_WORKERS }
+        ensures workers { IfOk result (λ stepper. workers_behind stepper ≡ workers) }
         ensures asked { IfOk result (λ stepper. ⟦<Adaptive<P, R> as Stepper>⟧.asked stepper ≡ []) }
         ensures losses { IfOk result (λ stepper. ⟦<Adaptive<P, R> as Stepper>⟧.losses stepper ≡ 0) }
         ensures fault { IfErr result (λ fault. fault ≡ StepFault.OutOfMemory) }
@@ -57,6 +60,8 @@ impl<
 }
 
 impl<P: Probe, R: Wait + Drop> Stepper for Adaptive<P, R> {
+    ghost use Rattle.parstep.specs.Workers.{workers_behind};
+
     ghost answer = { advance };
 
     ghost asked = { λ s. s.history.asked };
@@ -75,6 +80,7 @@ impl<P: Probe, R: Wait + Drop> Stepper for Adaptive<P, R> {
         ensures recorded { ⟦<Adaptive<P, R> as Stepper>⟧.asked self.new ≡ ⟦<Adaptive<P, R> as Stepper>⟧.asked self.old ++ at_moment t tasks.now }
         ensures lost { ⟦<Adaptive<P, R> as Stepper>⟧.losses self.new ≡ ⟦<Adaptive<P, R> as Stepper>⟧.losses self.old + (if is_lost result then 1 else 0) }
         ensures stays_lost { 0 < ⟦<Adaptive<P, R> as Stepper>⟧.losses self.old → result ≡ Err StepFault.WorkerLost }
+        ensures workers { workers_behind self.new ≡ workers_behind self.old }
     {
         let result = if self.is_lost {
             Err(StepFault::WorkerLost)

@@ -40,11 +40,14 @@ impl<
     P: Probe + Send + Sync + Drop + 'static,
     R: Threads + Wait + Copy + Drop + Send + 'static,
 > Pool<P, R> {
+    ghost use Rattle.parstep.specs.Workers.{workers_of};
+
     /// Starts so many workers, whose pieces pass the probe. A thread that can't be started is answered as an allocation
     /// that is refused; the workers that were started by then end.
     pub fn open(rt: R, alloc: Global, workers: u32, probe: P) -> Result<Pool<P, R>, StepFault>
         requires some { 0 < workers }
         requires few { workers ≤ MAX_WORKERS }
+        ensures workers { IfOk result (λ pool. workers_of pool ≡ workers) }
         ensures asked { IfOk result (λ pool. ⟦<Pool<P, R> as Stepper>⟧.asked pool ≡ []) }
         ensures losses { IfOk result (λ pool. ⟦<Pool<P, R> as Stepper>⟧.losses pool ≡ 0) }
         ensures fault { IfErr result (λ fault. fault ≡ StepFault.OutOfMemory) }
@@ -62,6 +65,8 @@ impl<
 }
 
 impl<P: Probe, R: Wait + Drop> Stepper for Pool<P, R> {
+    ghost use Rattle.parstep.specs.Workers.{workers_of};
+
     ghost answer = { advance };
 
     ghost asked = { λ s. s.history.asked };
@@ -80,6 +85,7 @@ impl<P: Probe, R: Wait + Drop> Stepper for Pool<P, R> {
         ensures recorded { ⟦<Pool<P, R> as Stepper>⟧.asked self.new ≡ ⟦<Pool<P, R> as Stepper>⟧.asked self.old ++ at_moment t tasks.now }
         ensures lost { ⟦<Pool<P, R> as Stepper>⟧.losses self.new ≡ ⟦<Pool<P, R> as Stepper>⟧.losses self.old + (if is_lost result then 1 else 0) }
         ensures stays_lost { 0 < ⟦<Pool<P, R> as Stepper>⟧.losses self.old → result ≡ Err StepFault.WorkerLost }
+        ensures workers { workers_of self.new ≡ workers_of self.old }
     {
         let result = if self.is_lost {
             Err(StepFault::WorkerLost)

@@ -4,14 +4,16 @@ ghost use Rattle.std.specs.Prelude.{◌≡◌, ◌<◌, ◌≤◌, ◌+◌, leng
 ghost use Rattle.fourstate.specs.declared.limits.TheConstants.{MAX_TIME};
 ghost use Rattle.gatestep.specs.Step.{advance};
 ghost use Rattle.gatestep.specs.Tasks.{IsReady, PendingFrom};
+ghost use Rattle.parstep.specs.Sends.{send_fault};
 
 use crate::compare::same_tasks;
 use crate::message::{Answered, Errand, errand_of};
 use crossbeam_channel::{Receiver, SendError, Sender};
 use gatestep::{Driver, StepFault, Task};
-use std::alloc::Global;
+use std::alloc::{AllocError, Global};
 use std::mem;
 use std::sync::Wait;
+use std::thread::JoinHandle;
 
 /// The caller's ends of a worker's two channels, and the lists that came back with its last answers.
 #[derive(Drop)]
@@ -25,8 +27,14 @@ pub struct Seat {
 }
 
 impl Seat {
-    /// The seat of a worker that was sent nothing.
-    pub fn new(alloc: Global, errands: Sender<Errand>, answers: Receiver<Answered>) -> Seat {
+    /// The seat of a worker that was started and sent nothing. The handle of its thread is dropped.
+    pub fn new(
+        alloc: Global,
+        errands: Sender<Errand>,
+        answers: Receiver<Answered>,
+        worker: JoinHandle<()>,
+    ) -> Seat {
+        drop(worker);
         Seat {
             errands,
             answers,
@@ -54,19 +62,31 @@ impl Seat {
             let left_over = self.take(rt)?;
             self.keep(left_over);
         }
-        let copies = mem::replace(&mut self.tasks, Vec::new(alloc));
-        let room = mem::replace(&mut self.room, Vec::new(alloc));
-        let Ok(errand) = errand_of(number, t, tasks, copies, room) else {
-            return Err(StepFault::OutOfMemory);
-        };
+        let errand = self.errand(alloc, number, tasks, t)?;
         match self.errands.send(rt, errand) {
             Ok(()) => {
                 self.is_busy = true;
                 Ok(())
             }
-            Err(SendError::OutOfMemory(_)) => Err(StepFault::OutOfMemory),
-            Err(SendError::Disconnected(_)) => Err(StepFault::WorkerLost),
+            Err(error) => Err(fault_of(error)),
         }
+    }
+
+    // The piece as a message, in the lists that came back last.
+    fn errand(
+        &mut self,
+        alloc: Global,
+        number: u32,
+        tasks: &[Task],
+        t: u64,
+    ) -> Result<Errand, AllocError>
+        requires some { 0 < length tasks.now }
+        requires ready { All (IsReady t) tasks.now }
+        requires within { t ≤ MAX_TIME }
+    {
+        let copies = mem::replace(&mut self.tasks, Vec::new(alloc));
+        let room = mem::replace(&mut self.room, Vec::new(alloc));
+        errand_of(number, t, tasks, copies, room)
     }
 
     /// Waits for the answers to these tasks at this moment. Answers to others are dropped.
@@ -111,5 +131,15 @@ impl Seat {
             }
             Err(_) => Err(StepFault::WorkerLost),
         }
+    }
+}
+
+// Why a message could not be sent: the worker is lost where its channel is closed.
+fn fault_of(error: SendError<Errand>) -> StepFault
+    ensures { result ≡ send_fault error }
+{
+    match error {
+        SendError::OutOfMemory(_) => StepFault::OutOfMemory,
+        SendError::Disconnected(_) => StepFault::WorkerLost,
     }
 }

@@ -42,8 +42,8 @@ fn start<P: Probe + Send + Sync + Drop + 'static, R: Threads + Wait + Copy + Sen
     let Ok((back, answers)) = bounded(alloc, 1) else {
         return Err(AllocError);
     };
-    if thread::spawn(&rt, move || work(&rt, &*probe, &theirs, &back)).is_err() {
-        return Err(AllocError);
+    match thread::spawn(&rt, move || work(&rt, &*probe, &theirs, &back)) {
+        Ok(worker) => Ok(Seat::new(alloc, errands, answers, worker)),
+        Err(_) => Err(AllocError),
     }
-    Ok(Seat::new(alloc, errands, answers))
 }

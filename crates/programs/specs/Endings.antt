@@ -7,6 +7,7 @@ use Rattle.vtext.specs.ReadFaults.{kind_code, kind_name}
 use Rattle.vtext.specs.declared.fault.ReadFault.{ReadFault}
 use Rattle.programs.specs.declared.fault_lines.Breakdown.{Breakdown}
 use Rattle.programs.specs.declared.fault_lines.Breakdown.TheVariants.{OutOfMemory, Read, Write}
+use Rattle.programs.specs.declared.version.TheConstants.{VERSION}
 
 abbrev pub breakdown_line : Breakdown → List ℕ
 breakdown_line OutOfMemory = codes "out of memory\n"
@@ -18,6 +19,10 @@ abbrev pub design_line : ReadFault → List ℕ
 design_line fault =
     codes "line " ++ decimal fault.line ++ codes ": " ++ decimal (kind_code fault.kind) ++ codes " " ++ kind_name fault.kind ++ codes "\n"
 
+-- `NAME VERSION`
+abbrev pub version_line : List ℕ → List ℕ
+version_line name = name ++ codes " " ++ VERSION.now ++ codes "\n"
+
 -- What went out stands behind what the device held. It is the text, or the device failed once and it is a beginning of the text.
 pub record Says (before after : Option (List ℕ)) (failures failures' : ℕ) (text : List ℕ) : Type 0 where
   pub gone : List ℕ
@@ -26,3 +31,16 @@ pub record Says (before after : Option (List ℕ)) (failures failures' : ℕ) (t
   pub stopped : Bool
   pub failed : failures' ≡ failures_after failures stopped
   pub whole : stopped ≡ false → gone ≡ text
+
+-- The same where it is known whether the device failed.
+pub record Prints (before after : Option (List ℕ)) (failures failures' : ℕ) (text : List ℕ) (stopped : Bool) : Type 0 where
+  pub gone : List ℕ
+  pub out : Appends before after gone
+  pub beginning : StartsWith text gone
+  pub failed : failures' ≡ failures_after failures stopped
+  pub whole : stopped ≡ false → gone ≡ text
+
+abbrev pub says : (before after : Option (List ℕ)) (failures failures' : ℕ) (text : List ℕ) (stopped : Bool) → Prints before after failures failures' text stopped
+    → Says before after failures failures' text
+says before after failures failures' text stopped p =
+    record { gone = p.gone; out = p.out; beginning = p.beginning; stopped = stopped; failed = p.failed; whole = p.whole }

@@ -1,10 +1,11 @@
 -- The lines that say what is wrong with the words (own, in the manner of `clap`).
 use Rattle.std.specs.Prelude.{ℕ, ◌++◌, List, [], codes, decimal, string_bytes}
 use Rattle.programs.specs.declared.words_fault.WordsFault.{WordsFault}
-use Rattle.programs.specs.declared.words_fault.WordsFault.TheVariants.{Help, NotText, Form}
+use Rattle.programs.specs.declared.words_fault.WordsFault.TheVariants.{Help, Version, NotText, Form}
 
 abbrev pub words_lines : WordsFault → List ℕ
 words_lines Help = []
+words_lines Version = []
 words_lines NotText = codes "error: invalid UTF-8 was detected in one or more arguments\n\n"
 words_lines (Form k lines) = string_bytes lines ++ codes "\n\n"
 

@@ -1,10 +1,10 @@
 //! The words after a program's name, parted by `clap`.
 
 ghost use Rattle.std.specs.Prelude.{◌≡◌, ℕ, List, IfErr, IfOk, false, true, map};
-ghost use Rattle.clap.specs.Words.{HasKind, app_of, fault_of, first_value, found_of, is_simple, is_simple_and_free, new_app, rule_of};
-ghost use Rattle.clap.specs.Simple.{on_top};
-ghost use Rattle.programs.specs.CommandLine.{is_taken, nameless, option_rule, positional_rule, value_of};
+ghost use Rattle.clap.specs.Words.{HasKind, app_of, fault_of, first_value, found_of, is_simple, is_simple_and_free, rule_of};
+ghost use Rattle.programs.specs.CommandLine.{is_taken, of_program, option_rule, positional_rule, value_of};
 
+use crate::version::VERSION;
 use clap::{Arg, ArgMatches, Command, Error};
 use std::alloc::Global;
 use std::convert::AsStr;
@@ -25,11 +25,13 @@ pub fn option_of<'a>(alloc: Global, name: &'a str, value: &'a str) -> Arg<'a>
     Arg::new(alloc, name).long(name).value_name(value)
 }
 
-/// The form of a command line without words yet. The words come without the program's name.
+/// The form of a command line without words yet. The words come without the program's name, and may ask for the version.
 pub fn program<'a>(alloc: Global, name: &'a str) -> Command<'a>
-    ensures { app_of result ≡ on_top nameless (new_app name.entry.now) }
+    ensures { app_of result ≡ of_program name.entry.now }
 {
-    Command::new(alloc, name).no_binary_name(true)
+    Command::new(alloc, name)
+        .no_binary_name(true)
+        .version(VERSION)
 }
 
 /// The entries of the words, or the first fault that `clap` finds in them.

@@ -2,8 +2,9 @@
 
 ghost use Rattle.std.specs.Prelude.{◌≡◌};
 ghost use Rattle.devices.specs.Outgoing.{Adds};
-ghost use Rattle.programs.specs.Endings.{breakdown_line, design_line};
+ghost use Rattle.programs.specs.Endings.{Says, breakdown_line, design_line};
 
+use crate::status::BROKEN_OFF;
 use devices::{Sink, Writer};
 use vtext::ReadFault;
 
@@ -27,6 +28,18 @@ pub fn say_breakdown<W: Sink>(writer: &mut Writer<'_, W>, breakdown: Breakdown)
         Breakdown::Read => writer.text(b"read failed\n"),
         Breakdown::Write => writer.text(b"write failed\n"),
     }
+}
+
+/// Says on `errors` why the program broke off, and answers the status. A write that fails is passed over (own).
+pub fn break_off<E: Sink>(breakdown: Breakdown, errors: &mut E) -> u8
+    ensures text { Says (E.contents errors.old) (E.contents errors.new) (E.failures errors.old) (E.failures errors.new) (breakdown_line breakdown) }
+    ensures status { result ≡ 3 }
+{
+    let mut writer = Writer::new(errors);
+    say_breakdown(&mut writer, breakdown);
+    let _ = writer.flush();
+    let _errors = writer.finish();
+    BROKEN_OFF
 }
 
 /// Says why a design text is refused, and where.

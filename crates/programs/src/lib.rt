@@ -4,17 +4,21 @@
 mod command_line;
 mod fault_lines;
 mod file;
+mod not_started;
 mod numbers;
 mod refusal;
 mod status;
+mod version;
 mod words;
 mod words_fault;
 
 pub use command_line::{option_of, parse, positional, program};
-pub use fault_lines::{Breakdown, say_breakdown, say_design};
+pub use fault_lines::{Breakdown, break_off, say_breakdown, say_design};
 pub use file::{all_bytes_of, first_bytes_of, text_of};
+pub use not_started::{StopCause, stop};
 pub use numbers::number_of;
 pub use refusal::{say_missing, say_range, say_value, say_words_fault};
 pub use status::{BROKEN_OFF, ENDED, REFUSED, WORDS_REFUSED};
+pub use version::{VERSION, tell_version};
 pub use words::{NoWords, words_after_name};
 pub use words_fault::{WordsFault, fault_of_form};

@@ -7,12 +7,13 @@ ghost use Rattle.programs.specs.Refusals.{missing_lines, range_line, value_line,
 use crate::words_fault::WordsFault;
 use devices::{Sink, Writer};
 
-/// Says what is wrong with words that do not have the form of the command line. It says nothing where they ask for help.
+/// Says what is wrong with words that do not have the form of the command line. It says nothing where they ask for help
+/// or for the version.
 pub fn say_words_fault<W: Sink>(writer: &mut Writer<'_, W>, fault: &WordsFault)
     ensures { Adds writer.old writer.new (words_lines fault.now) }
 {
     match fault {
-        WordsFault::Help => {}
+        WordsFault::Help | WordsFault::Version => {}
         WordsFault::NotText => writer.text(
             b"error: invalid UTF-8 was detected in one or more arguments\n\n",
         ),

@@ -14,6 +14,8 @@ use std::alloc::{AllocError, Global};
 pub enum WordsFault {
     /// Nothing is wrong: they ask for help.
     Help,
+    /// Nothing is wrong: they ask for the version.
+    Version,
     /// One of them is no text.
     NotText,
     /// They are not of the form. The lines are `clap`'s: they name the word at fault and what was wanted.
@@ -27,6 +29,7 @@ pub fn fault_of_form(alloc: Global, error: &Error) -> Result<WordsFault, AllocEr
     match error.kind() {
         ErrorKind::OutOfMemory => Err(AllocError),
         ErrorKind::DisplayHelp => Ok(WordsFault::Help),
+        ErrorKind::DisplayVersion => Ok(WordsFault::Version),
         kind => {
             let text = format!(in alloc; "{error}")?;
             let lines = String::from_str(alloc, before_usage(text.as_str()))?;

@@ -5,7 +5,7 @@ use Rattle.clap.specs.Words.{IsAmong, Kinds, Text, fault_of}
 use Rattle.clap.specs.declared.error.ErrorKind.{ErrorKind}
 use Rattle.clap.specs.declared.error.ErrorKind.TheVariants as kind
 use Rattle.programs.specs.CommandLine as line
-use Rattle.programs.specs.declared.words_fault.WordsFault.TheVariants.{Help, NotText, Form}
+use Rattle.programs.specs.declared.words_fault.WordsFault.TheVariants.{Help, Version, NotText, Form}
 use Rattle.racer.specs.Arguments.{Arguments, arguments_by, asked}
 use Rattle.racer.specs.CommandLine.{command_line, is_taken, value_of}
 use Rattle.racer.specs.Complaints.{IsRefusedAmong, StopsBy, StopsValues}
@@ -59,6 +59,7 @@ not_taken words k among = some_kind (fault_of command_line words) k among
 pub refused_stops : (words : List Text) (fault : StartFault) → IsRefusedAmong (fault_of command_line words) fault → StopsBy words fault
 refused_stops words OutOfMemory why = tt
 refused_stops words (Refused (Words Help)) why = (asked_not words (not_taken words kind.DisplayHelp why), why)
+refused_stops words (Refused (Words Version)) why = (asked_not words (not_taken words kind.DisplayVersion why), why)
 refused_stops words (Refused (Words (Form k lines))) why = (asked_not words (not_taken words k why.0), why)
 refused_stops words (Refused (Words NotText)) why = absurd why
 refused_stops words (Refused (Missing place)) why = absurd why

@@ -1,8 +1,9 @@
 pub mod ArgumentLemmas
 pub mod CommandLineLemmas
-pub mod EndingLemmas
 pub mod HandleLemmas
 pub mod LineLemmas
 pub mod LookLemmas
 pub mod RaceLemmas
+pub mod SubmitLemmas
+pub mod TallyLemmas
 pub mod TurnLemmas

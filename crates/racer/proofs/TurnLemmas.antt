@@ -33,3 +33,11 @@ second_next xs first second x hands other = go (sides xs)
     go : (length (in_turn xs).0 ≡ length (in_turn xs).1) ⊎ (length (in_turn xs).0 ≡ length (in_turn xs).1 + 1) → (first, second ++ x ∷ []) ≡ in_turn (xs ++ x ∷ [])
     go (inl even) = absurd (other (ap (λ (h : List (List Edit) × List (List Edit)). length h.0) hands ∙ (even ∙ sym (ap (λ (h : List (List Edit) × List (List Edit)). length h.1) hands))))
     go (inr odd) = sym ((next xs x).1 odd ∙ ap (λ (h : List (List Edit) × List (List Edit)). (h.0, h.1 ++ x ∷ [])) (sym hands))
+
+-- none is left out
+dealt : (xs : List (List Edit)) → length (in_turn xs).0 + length (in_turn xs).1 ≡ length xs
+dealt [] = refl
+dealt (x ∷ xs) = let rest = dealt xs in omega arith
+
+pub all_dealt : (xs first second : List (List Edit)) → (first, second) ≡ in_turn xs → length first + length second ≡ length xs
+all_dealt xs first second hands = ap (λ (h : List (List Edit) × List (List Edit)). length h.0 + length h.1) hands ∙ dealt xs

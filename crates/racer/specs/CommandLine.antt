@@ -1,7 +1,7 @@
--- The form of the command line, as `clap` sees it: DESIGN SCRIPT VIEWERS LOOKS. The words come without the program's name.
+-- The form of the command line, as `clap` sees it: DESIGN SCRIPT VIEWERS LOOKS, or a call for help or for the version. The words come
+-- without the program's name.
 use Rattle.std.specs.Prelude.{Bool, List, Option, codes}
-use Rattle.clap.specs.Words.{App, Rule, Text, new_app, with_rule}
-use Rattle.clap.specs.Simple.{on_top}
+use Rattle.clap.specs.Words.{App, Rule, Text, with_rule}
 use Rattle.programs.specs.CommandLine as line
 
 abbrev pub design_rule : Rule
@@ -18,7 +18,7 @@ looks_rule = line.positional_rule (codes "looks")
 
 unfoldable pub command_line : App
 command_line =
-    with_rule (with_rule (with_rule (with_rule (on_top line.nameless (new_app (codes "gaterace"))) design_rule) script_rule) viewers_rule) looks_rule
+    with_rule (with_rule (with_rule (with_rule (line.of_program (codes "gaterace")) design_rule) script_rule) viewers_rule) looks_rule
 
 -- `clap` takes the words
 abbrev pub is_taken : List Text → Bool

@@ -1,8 +1,5 @@
 -- How the program ends: what it prints, the text on standard error, and the status (own).
-use Rattle.std.specs.Prelude.{◌≡◌, ℕ, ◌==◌, ◌++◌, Bool, true, false, List, [], Option, codes, decimal, if◌then◌else◌}
-use Rattle.std.specs.Io.{StartsWith}
-use Rattle.std.specs.Io.KnownBytes.{Appends}
-use Rattle.devices.specs.Traffic.{failures_after}
+use Rattle.std.specs.Prelude.{ℕ, ◌==◌, ◌++◌, Bool, true, false, List, [], codes, decimal, if◌then◌else◌}
 use Rattle.programs.specs.Endings.{breakdown_line, design_line}
 use Rattle.programs.specs.declared.fault_lines.Breakdown.TheVariants.{OutOfMemory, Write}
 use Rattle.racer.specs.declared.race.RaceEnd.{RaceEnd}
@@ -18,18 +15,18 @@ script_line line = codes "script line " ++ decimal line ++ codes "\n"
 
 -- what is printed
 abbrev pub output_text : RaceEnd → List ℕ
-output_text (Looks looks wrong) = looks_line looks wrong
+output_text (Looks tally) = looks_line tally.looks tally.wrong
 output_text _ = []
 
 -- what is said of it on standard error
 abbrev pub fault_text : RaceEnd → List ℕ
-fault_text (Looks looks wrong) = []
+fault_text (Looks tally) = []
 fault_text (Script line) = script_line line
 fault_text (Design fault) = design_line fault
 fault_text Memory = breakdown_line OutOfMemory
 
 abbrev pub end_status : RaceEnd → ℕ
-end_status (Looks looks wrong) = if wrong == 0 then 0 else 1
+end_status (Looks tally) = if tally.wrong == 0 then 0 else 1
 end_status (Script line) = 1
 end_status (Design fault) = 1
 end_status Memory = 3
@@ -42,11 +39,3 @@ last_words false end = fault_text end
 abbrev pub status_by : Bool → RaceEnd → ℕ
 status_by true end = 3
 status_by false end = end_status end
-
--- What went out stands behind what the device held: the text, or a beginning of it where the device failed.
-pub record Prints (before after : Option (List ℕ)) (failures failures' : ℕ) (text : List ℕ) (stopped : Bool) : Type 0 where
-  pub gone : List ℕ
-  pub out : Appends before after gone
-  pub beginning : StartsWith text gone
-  pub failed : failures' ≡ failures_after failures stopped
-  pub whole : stopped ≡ false → gone ≡ text

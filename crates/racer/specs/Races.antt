@@ -1,21 +1,23 @@
 -- How a race ends.
-use Rattle.std.specs.Prelude.{◌≡◌, ◌<◌, ◌≤◌, ◌*◌, ℕ, List, Option, None, Ok, Err, length, option_map, slice_get}
-use Rattle.gatestep.specs.Step.{Evaluation, State, advance}
-use Rattle.design.specs.Netlist.{Netlist}
-use Rattle.scratch.specs.Run.{wave_of}
+use Rattle.std.specs.Prelude.{◌≡◌, ◌≤◌, ◌*◌, ℕ, List, Option, None, Ok, Err, length}
+use Rattle.design.specs.Netlist.{Netlist, with_horizon}
 use Rattle.edits.specs.declared.fault.EditFault.TheVariants as edit
 use Rattle.vread.specs.Reads.{IsReadFault, Spells}
 use Rattle.vtext.specs.declared.fault.ReadFault.{ReadFault}
 use Rattle.vtext.specs.declared.fault.ReadFaultKind.{ReadFaultKind}
 use Rattle.vtext.specs.declared.fault.ReadFaultKind.TheVariants as read
 use Rattle.racer.specs.Scripts.{ScriptRecord, script_of}
+use Rattle.racer.specs.Tallies.{Counts}
 use Rattle.racer.specs.declared.race.RaceEnd.{RaceEnd}
 use Rattle.racer.specs.declared.race.RaceEnd.TheVariants.{Looks, Script, Design, Memory}
 
--- each net of the design has the same wave by this answer as by the rule of gates
-abbrev pub SameWaves : Netlist → (Evaluation → ℕ → State) → Type 0
-SameWaves d answer =
-    (place : ℕ) → place < length d.nets → option_map (wave_of advance d) (slice_get d.nets place) ≡ option_map (wave_of answer d) (slice_get d.nets place)
+-- the last moment of the runs of a race
+abbrev pub horizon : ℕ
+horizon = 1000
+
+-- the text spells this design, but for its horizon, which is that of a race
+abbrev pub IsStart : List ℕ → Netlist → Type 0
+IsStart text design = (d : Netlist) × Spells None text d × (design ≡ with_horizon d horizon)
 
 -- the text spells a design
 abbrev pub SpellsSome : List ℕ → Type 0
@@ -37,10 +39,12 @@ abbrev pub IsFaultEnd : (design script : List ℕ) → RaceEnd → Type 0
 IsFaultEnd design script (Script line) = SpellsSome design × (script_of script ≡ Err line)
 IsFaultEnd design script end = IsDesignEnd design end
 
--- How a race may end: with all looks, of a design and a script without a fault; with the first bad line of the script, of a design
--- without a fault; with the fault of the design; or for want of memory, of which nothing is said.
+-- How a race may end: with all looks, of a design and a script without a fault, when so many viewers have ended and each commit of
+-- the script was submitted; with the first bad line of the script, of a design without a fault; with the fault of the design; or
+-- for want of memory, of which nothing is said.
 abbrev pub IsEnd : (design script : List ℕ) (viewers looks : ℕ) → RaceEnd → Type 0
-IsEnd design script viewers looks (Looks all wrong) =
-    SpellsSome design × ((whole : ScriptRecord) × (script_of script ≡ Ok whole))
-    × (1 ≤ viewers) × (viewers ≤ 64) × (all ≡ viewers * looks) × (wrong ≤ all)
+IsEnd design script viewers looks (Looks tally) =
+    SpellsSome design
+    × ((whole : ScriptRecord) × (script_of script ≡ Ok whole) × Counts viewers (viewers * looks) (length whole.commits) tally)
+    × (1 ≤ viewers) × (viewers ≤ 64) × (tally.wrong ≤ tally.looks)
 IsEnd design script viewers looks end = IsFaultEnd design script end

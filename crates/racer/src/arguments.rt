@@ -51,7 +51,7 @@ fn looks_of(text: &str) -> Option<u32>
 }
 
 /// Reads the words after the program's name: DESIGN SCRIPT VIEWERS LOOKS, where VIEWERS and LOOKS are digits alone, VIEWERS
-/// is 1 to `MAX_VIEWERS` and LOOKS is 1 to `MAX_LOOKS`. Words that ask for help are refused too (own).
+/// is 1 to `MAX_VIEWERS` and LOOKS is 1 to `MAX_LOOKS`. Words that ask for help or for the version ask for nothing (own).
 pub fn arguments<S: AsStr>(alloc: Global, words: &[S]) -> Result<Args, StartFault>
     ensures ok { IfOk result (λ args. asked (map S.text words.now)
         ≡ Some (record { design = string_bytes args.design; script = string_bytes args.script; viewers = args.viewers; looks = args.looks })) }

@@ -15,7 +15,7 @@ pub enum Place {
 /// What is wrong with the words, and which of them is at fault.
 #[derive(Debug, Drop)]
 pub enum Complaint {
-    /// They do not have the form of the command line, or ask for help.
+    /// They do not have the form of the command line, or ask for help or for the version.
     Words(WordsFault),
     /// This word is missing, and so are those behind it.
     Missing(Place),
@@ -28,7 +28,7 @@ pub enum Complaint {
 /// Why the program does not start.
 #[derive(Debug, Drop)]
 pub enum StartFault {
-    /// The words are refused, or ask for help.
+    /// The words are refused, or ask for help or for the version.
     Refused(Complaint),
     /// An allocation was refused.
     OutOfMemory,

@@ -2,12 +2,12 @@
 
 ghost use Rattle.std.specs.Prelude.{◌≡◌};
 ghost use Rattle.devices.specs.Outgoing.{Adds};
-ghost use Rattle.programs.specs.Endings.{Says, breakdown_line};
-ghost use Rattle.racer.specs.Endings.{Prints, end_status, fault_text, last_words, looks_line, output_text, script_line, status_by};
+ghost use Rattle.programs.specs.Endings.{Prints, Says};
+ghost use Rattle.racer.specs.Endings.{end_status, fault_text, last_words, looks_line, output_text, script_line, status_by};
 
 use crate::race::RaceEnd;
 use devices::{Sink, Writer};
-use programs::{BROKEN_OFF, Breakdown, ENDED, REFUSED, say_breakdown, say_design};
+use programs::{BROKEN_OFF, Breakdown, ENDED, REFUSED, break_off, say_breakdown, say_design};
 
 /// Prints how a race ended, its looks on `output` and all else on `errors`, and answers the status. Where the output fails,
 /// that is the end; a write to `errors` that fails is passed over (own).
@@ -39,8 +39,8 @@ fn print<W: Sink>(end: &RaceEnd, output: &mut W) -> bool
 fn say_looks<W: Sink>(writer: &mut Writer<'_, W>, end: &RaceEnd)
     ensures { Adds writer.old writer.new (output_text end.now) }
 {
-    if let RaceEnd::Looks { looks, wrong } = end {
-        say_count(writer, *looks, *wrong);
+    if let RaceEnd::Looks(tally) = end {
+        say_count(writer, tally.looks(), tally.wrong());
     }
 }
 
@@ -70,7 +70,7 @@ fn say_fault<E: Sink>(writer: &mut Writer<'_, E>, end: &RaceEnd)
     ensures { Adds writer.old writer.new (fault_text end.now) }
 {
     match end {
-        RaceEnd::Looks { .. } => {}
+        RaceEnd::Looks(_) => {}
         RaceEnd::Script(line) => say_line(writer, *line),
         RaceEnd::Design(fault) => say_design(writer, *fault),
         RaceEnd::Memory => say_breakdown(writer, Breakdown::OutOfMemory),
@@ -89,20 +89,8 @@ fn status_of(end: &RaceEnd) -> u8
     ensures { result ≡ end_status end.now }
 {
     match end {
-        RaceEnd::Looks { wrong: 0, .. } => ENDED,
-        RaceEnd::Looks { .. } | RaceEnd::Script(_) | RaceEnd::Design(_) => REFUSED,
+        RaceEnd::Looks(tally) if tally.wrong() == 0 => ENDED,
+        RaceEnd::Looks(_) | RaceEnd::Script(_) | RaceEnd::Design(_) => REFUSED,
         RaceEnd::Memory => BROKEN_OFF,
     }
-}
-
-/// Says on `errors` why the program broke off, and answers the status. A write that fails is passed over (own).
-pub fn break_off<E: Sink>(breakdown: Breakdown, errors: &mut E) -> u8
-    ensures text { Says (E.contents errors.old) (E.contents errors.new) (E.failures errors.old) (E.failures errors.new) (breakdown_line breakdown) }
-    ensures status { result ≡ 3 }
-{
-    let mut writer = Writer::new(errors);
-    say_breakdown(&mut writer, breakdown);
-    let _ = writer.flush();
-    let _errors = writer.finish();
-    BROKEN_OFF
 }

@@ -13,6 +13,7 @@ from scratch. It prints `looks N wrong W`: of N looks W were wrong.
   SCRIPT         the file of the edits, in the lines of a session of gatebench
   VIEWERS        how many viewers there are: 1 to 64
   LOOKS          how often each of them looks: 1 to 1000000
+  --version      prints the version, and does nothing else
 
 docs/GUIDE.md has an example, the lines, the faults and the statuses.
 ";

@@ -6,22 +6,26 @@ mod command_line;
 mod commit;
 mod complaint;
 mod ending;
+mod hand;
 mod help;
 mod lines;
 mod look;
 mod race;
 mod refusal;
 mod script;
+mod settled;
 mod start;
+mod submit;
 mod take_turns;
+mod tally;
 mod threads;
 
 use arguments::Args;
 use complaint::StartFault;
 use devices::Device;
-use ending::{break_off, ending};
+use ending::ending;
 use lexing::MAX_TEXT;
-use programs::{Breakdown, all_bytes_of, first_bytes_of, text_of};
+use programs::{Breakdown, all_bytes_of, break_off, first_bytes_of, stop, text_of};
 use std::alloc::Global;
 use std::env;
 use std::fs::File;
@@ -29,24 +33,19 @@ use std::process::ExitCode;
 use std::rt::Files;
 
 fn main(rt: HostRuntime) -> ExitCode {
+    let mut output = Device::new(rt.stdout());
     let mut errors = Device::new(rt.stderr());
     let status = match start::asked(rt.alloc(), env::args(&rt)) {
         Ok(args) => match texts(&rt, rt.alloc(), &args) {
             Ok((design, script)) => {
-                let end = race::race(
-                    &rt,
-                    rt.alloc(),
-                    design.as_slice(),
-                    script.as_slice(),
-                    args.viewers,
-                    args.looks,
-                );
-                let mut output = Device::new(rt.stdout());
+                let end = race::race(&rt, rt.alloc(), &args, design.as_slice(), script.as_slice());
                 ending(&end, &mut output, &mut errors)
             }
             Err(breakdown) => break_off(breakdown, &mut errors),
         },
-        Err(StartFault::Refused(complaint)) => refusal::refuse(&complaint, &mut errors),
+        Err(StartFault::Refused(complaint)) => {
+            stop("gaterace", &complaint, &mut output, &mut errors)
+        }
         Err(StartFault::OutOfMemory) => break_off(Breakdown::OutOfMemory, &mut errors),
     };
     ExitCode::from(status)

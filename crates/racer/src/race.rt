@@ -1,12 +1,17 @@
 //! A race of two editors, who commit a script's edits to one design, and of viewers who look at it.
 
-ghost use Rattle.std.specs.Prelude.{◌≡◌, ◌≤◌, ◌*◌, Ok, IfErr, IfOk};
-ghost use Rattle.racer.specs.Races.{IsDesignEnd, IsEnd, IsFaultEnd, SpellsSome, end_by};
+ghost use Rattle.std.specs.Prelude.{◌≡◌, ◌≤◌, ◌*◌, Ok, IfErr, IfOk, vec_len};
+ghost use Rattle.design.specs.Keys.{netlist};
+ghost use Rattle.bench.specs.Benches.{snapshot_of};
+ghost use Rattle.racer.specs.Races.{IsDesignEnd, IsEnd, IsFaultEnd, IsStart, end_by};
 ghost use Rattle.racer.specs.Scripts.{ScriptRecord, script_of};
+ghost use Rattle.racer.specs.Tallies.{Counts};
 
+use crate::arguments::Args;
 use crate::commit::Commit;
 use crate::script::{Script, ScriptFault};
 use crate::take_turns::take_turns;
+use crate::tally::Tally;
 use crate::threads;
 use bench::Bench;
 use design::{Design, NameHasher};
@@ -21,14 +26,15 @@ use vread::read;
 use vtext::{ReadFault, ReadFaultKind};
 
 /// The last moment of the runs of a race, in time units.
-pub const HORIZON: u64 = 1000;
+const HORIZON: u64 = 1000;
 
 /// How a race ends.
-#[derive(Clone, Copy, Debug, PartialEq, Eq)]
+#[derive(Debug, Drop)]
 pub enum RaceEnd {
-    /// All viewers looked as often as they had to. Of so many looks so many are wrong: a look is wrong where its waves
-    /// differ from those of a run of its design from scratch, or where either is refused.
-    Looks { looks: u64, wrong: u64 },
+    /// All viewers looked as often as they had to, and all commits were submitted. A look is wrong where its waves differ from
+    /// those of a run of its design from scratch, or where either is refused. One more look of a viewer is wrong, as long as one
+    /// is right, where it saw what was not published, or where the editors were not told of the whole log.
+    Looks(Tally),
     /// The line of this number, the first one being 1, is the first line of the script that can't be read or can't stand
     /// where it stands.
     Script(u64),
@@ -38,26 +44,22 @@ pub enum RaceEnd {
     Memory,
 }
 
-/// Runs a race: two editors take turns at the commits of the script, each in a thread of its own, and each of `viewers`
-/// viewers looks `looks` times in a thread of its own, while the design that the text spells changes. Runs go up to
+/// Runs a race: two editors take turns at the commits of the script, each in a thread of its own, and each of the viewers that the
+/// words ask for looks as often as they say in a thread of its own, while the design that the text spells changes. Runs go up to
 /// `HORIZON`, and gates have no delay of their own accord. The script is read before any thread starts. Commits that are
 /// refused are passed over.
 pub fn race<R: RandomSource + Threads + Wait + Sync>(
     rt: &R,
     alloc: Global,
+    args: &Args,
     design: &[u8],
     script: &[u8],
-    viewers: u32,
-    looks: u32,
 ) -> RaceEnd
-    ensures { IsEnd design.now script.now viewers looks result }
+    ensures { IsEnd design.now script.now args.now.viewers args.now.looks result }
 {
     match read_both(rt, alloc, design, script) {
-        Ok((design, commits)) => match run(rt, alloc, design, commits, viewers, looks) {
-            Ok(wrong) => RaceEnd::Looks {
-                looks: u64::from(viewers) * u64::from(looks),
-                wrong,
-            },
+        Ok((design, commits)) => match run(rt, alloc, design, commits, args.viewers, args.looks) {
+            Ok(tally) => RaceEnd::Looks(tally),
             Err(_) => RaceEnd::Memory,
         },
         Err(end) => end,
@@ -71,7 +73,8 @@ fn read_both<R: RandomSource>(
     design: &[u8],
     script: &[u8],
 ) -> Result<(Design, Vec<Commit>), RaceEnd>
-    ensures both { IfOk result (λ _. SpellsSome design.now × ((whole : ScriptRecord) × (script_of script.now ≡ Ok whole))) }
+    ensures design { IfOk result (λ both. IsStart design.now (netlist both.0)) }
+    ensures script { IfOk result (λ both. (whole : ScriptRecord) × (script_of script.now ≡ Ok whole) × (whole.commits ≡ both.1.items)) }
     ensures fault { IfErr result (λ end. IsFaultEnd design.now script.now end) }
 {
     let design = spelled(rt, alloc, design)?;
@@ -84,7 +87,7 @@ fn read_both<R: RandomSource>(
 
 // The design that a text spells, up to the horizon.
 fn spelled<R: RandomSource>(rt: &R, alloc: Global, text: &[u8]) -> Result<Design, RaceEnd>
-    ensures design { IfOk result (λ _. SpellsSome text.now) }
+    ensures design { IfOk result (λ design. IsStart text.now (netlist design)) }
     ensures fault { IfErr result (IsDesignEnd text.now) }
 {
     match read(alloc, NameHasher::new(rt), text, None) {
@@ -102,7 +105,7 @@ fn design_end(fault: ReadFault) -> RaceEnd
     }
 }
 
-// How many looks are wrong.
+// What is counted in a race of this design, in which these commits are submitted.
 fn run<R: Threads + Wait + Sync>(
     rt: &R,
     alloc: Global,
@@ -110,19 +113,31 @@ fn run<R: Threads + Wait + Sync>(
     commits: Vec<Commit>,
     viewers: u32,
     looks: u32,
-) -> Result<u64, AllocError>
-    ensures { IfOk result (λ wrong. (1 ≤ viewers) × (viewers ≤ 64) × (wrong ≤ viewers * looks)) }
+) -> Result<Tally, AllocError>
+    ensures counted { IfOk result (Counts viewers (viewers * looks) (vec_len commits)) }
+    ensures viewers { IfOk result (λ _. (1 ≤ viewers) × (viewers ≤ 64)) }
+    ensures wrong { IfOk result (λ tally. tally.wrong ≤ tally.looks) }
 {
     let hands = take_turns(alloc, commits)?;
-    match opened(alloc, design) {
-        Some(bench) => match Parts::new(rt, alloc, bench, viewers) {
-            Ok(parts) => threads::run(rt, alloc, parts, hands, looks),
-            Err(_) => Err(AllocError),
-        },
-        None => Err(AllocError),
-    }
+    let parts = parts_of(rt, alloc, design, viewers)?;
+    threads::run(rt, alloc, parts, hands, looks)
 }
 
-fn opened(alloc: Global, design: Design) -> Option<Bench<Serial>> {
-    Bench::open(alloc, design, Serial::new()).ok()
+// What the hub is made of that the design begins.
+fn parts_of<R: Wait>(
+    rt: &R,
+    alloc: Global,
+    design: Design,
+    viewers: u32,
+) -> Result<Parts<Serial>, AllocError>
+    ensures origin { IfOk result (λ parts. parts.origin ≡ snapshot_of 0 (netlist design)) }
+    ensures viewers { IfOk result (λ parts. (parts.viewers ≡ viewers) × (1 ≤ viewers) × (viewers ≤ 64)) }
+{
+    let Ok(bench) = Bench::open(alloc, design, Serial::new()) else {
+        return Err(AllocError);
+    };
+    match Parts::new(rt, alloc, bench, viewers) {
+        Ok(parts) => Ok(parts),
+        Err(_) => Err(AllocError),
+    }
 }

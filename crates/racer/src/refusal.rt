@@ -10,7 +10,28 @@ use crate::complaint::{Complaint, Place};
 use crate::help::HELP;
 use devices::{Sink, Writer};
 use hub::MAX_VIEWERS;
-use programs::{WORDS_REFUSED, say_missing, say_range, say_value, say_words_fault};
+use programs::{
+    StopCause, WORDS_REFUSED, WordsFault, say_missing, say_range, say_value, say_words_fault,
+};
+
+impl StopCause for Complaint {
+    ghost use Rattle.racer.specs.Refusals.{form_fault, refusal_text};
+
+    ghost form_fault = { form_fault };
+
+    ghost refusal = { refusal_text };
+
+    fn words_fault(&self) -> Option<&WordsFault> {
+        match self {
+            Complaint::Words(fault) => Some(fault),
+            _ => None,
+        }
+    }
+
+    fn refuse<E: Sink>(&self, errors: &mut E) -> u8 {
+        refuse(self, errors)
+    }
+}
 
 /// Writes to `sink` what is wrong with the words, and then how to use the program, and answers the status. A write that
 /// fails is passed over (own).

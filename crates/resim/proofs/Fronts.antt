@@ -124,7 +124,6 @@ module _ (answer : Evaluation → ℕ → State) (old new : Netlist) (front : Fr
       trace_ends = is.trace_ends;
       own_traces = is.own_traces;
       other_traces = is.other_traces;
-      blank = is.blank;
       awaits = new_noted (live_in front) (held_in front) (noted front.events) (noted front.inputs) (noted front.nets) is.awaits;
     }
 
@@ -207,6 +206,5 @@ module _ (answer : Evaluation → ℕ → State) (old new : Netlist) (front : Fr
       trace_ends = is.trace_ends;
       own_traces = is.own_traces;
       other_traces = is.other_traces;
-      blank = is.blank;
       awaits = old_noted (live_in front) (held_in front) (noted front.events) (noted front.inputs) (noted front.nets) is.awaits;
     }

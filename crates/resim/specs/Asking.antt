@@ -1,10 +1,29 @@
 -- What is asked of the stirred gates of a moment beside an old run, and how the answers come together.
-use Rattle.std.specs.Prelude.{ℕ, Bool, not, if◌then◌else◌, List, [], ◌∷◌, Option, Some, None}
+use Rattle.std.specs.Prelude.{◌≡◌, ◌<◌, ◌≤◌, ℕ, suc, Bool, not, if◌then◌else◌, All, List, [], ◌∷◌, Option, Some, None, length, map}
 use Rattle.gatestep.specs.Step.{State, Evaluation, initial}
+use Rattle.gatestep.specs.Tasks.{PendingFrom}
 use Rattle.design.specs.Netlist.{Netlist}
+use Rattle.scratch.specs.Kept.{IsWiring}
+use Rattle.scratch.specs.Run.{state_before, value}
 use Rattle.scratch.specs.Work.{task_at}
 use Rattle.rundiff.specs.Dirty.{is_dirty}
+use Rattle.rundiff.specs.OldLines.{AreOldLines, traces_done, waves_done}
 use Rattle.rundiff.specs.Places.{gate_at}
+use Rattle.rundiff.specs.declared.old_lines.OldLines.{OldLines}
+use Rattle.resim.specs.declared.asking.Present.{Present}
+
+-- at the present moment the lines of the old run are known, the nets of the new design have these values, and its gates had these
+-- states before it
+pub record IsPresent (answer : Evaluation → ℕ → State) (old new : Netlist) (kept : OldLines) (present : Present) : Type 0 where
+  pub lines : AreOldLines answer old new kept
+  pub waves : waves_done kept ≡ suc present.t
+  pub traces : traces_done kept ≡ present.t
+  pub within : present.t ≤ old.horizon
+  pub wired : IsWiring new present.wiring.now
+  pub values : present.values.now ≡ map (λ n. value answer new n present.t) new.nets
+  pub states : present.states.now ≡ map (state_before answer new present.t) new.gates
+  pub ready : All (PendingFrom present.t) present.states.now
+  pub there : All (λ place. place < length new.gates) present.gates.now
 
 -- the task of the gate at a place, where it is dirty at t
 abbrev pub dirty_task : (Evaluation → ℕ → State) → (old new : Netlist) → ℕ → ℕ → List Evaluation

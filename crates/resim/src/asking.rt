@@ -6,249 +6,226 @@ ghost use Rattle.std.specs.Vec.{vec_capacity, vec_len};
 ghost use Rattle.fourstate.specs.declared.limits.TheConstants.{MAX_TIME};
 ghost use Rattle.gatestep.specs.Faults.{is_lost};
 ghost use Rattle.gatestep.specs.Record.{at_moment};
-ghost use Rattle.gatestep.specs.Tasks.{IsReady, PendingFrom};
+ghost use Rattle.gatestep.specs.Tasks.{IsReady};
 ghost use Rattle.design.specs.Keys.{netlist};
-ghost use Rattle.scratch.specs.Kept.{IsWiring};
 ghost use Rattle.scratch.specs.Places.{passing};
-ghost use Rattle.scratch.specs.Run.{state_after, state_before, value};
+ghost use Rattle.scratch.specs.Run.{IsRun, state_before};
 ghost use Rattle.scratch.specs.Work.{HasGrownOrNot, is_stirred, stirred_at};
 ghost use Rattle.rundiff.specs.Dirty.{rework_at};
 ghost use Rattle.rundiff.specs.OldLines.{AreOldLines, known_at, traces_done, waves_done};
 ghost use Rattle.rundiff.specs.Places.{gate_at};
-ghost use Rattle.resim.specs.Asking.{dirty_task, is_clean, woven};
+ghost use Rattle.resim.specs.Asking.{IsPresent, dirty_task, is_clean, woven};
 
 use crate::level::step_some;
-use design::Design;
 use fourstate::Value;
 use gatestep::{Driver, StepFault, Stepper, Task};
-use rundiff::OldLines;
+use rundiff::{Former, OldLines};
 use scratch::{Wiring, task_at};
 use std::alloc::{AllocError, Global};
 
-/// Whether the gate at a place is not dirty at the moment `t`.
+/// The present moment of a new run.
+#[derive(Clone, Copy)]
+pub struct Present<'a> {
+    /// The cells of the gates.
+    pub wiring: &'a Wiring,
+    /// The value of each net at the moment.
+    pub values: &'a [Value],
+    /// The state of each gate before it.
+    pub states: &'a [Driver],
+    /// The places of the gates that are stirred.
+    pub gates: &'a [usize],
+    /// The moment, in time units.
+    pub t: u64,
+}
+
+/// What a run has beside an old one: the old lines, and the lists of one moment, which live through the run.
+#[derive(Drop)]
+pub struct Beside<'a> {
+    /// The lines of the old run.
+    pub lines: OldLines<'a>,
+    tasks: Vec<Task>,
+    clean: Vec<bool>,
+    fresh: Vec<Driver>,
+}
+
+impl<'a> Beside<'a> {
+    /// The lines of the old run, of which no moment is done, and empty lists.
+    pub fn find<S: Stepper>(alloc: Global, former: &Former<'a>) -> Result<Beside<'a>, AllocError>
+        requires run { IsRun S.answer former.now.old.now former.now.run.now }
+        ensures lines { IfOk result (λ beside. AreOldLines S.answer (netlist former.now.old.now) (netlist former.now.new.now) beside.lines) }
+        ensures waves { IfOk result (λ beside. waves_done beside.lines ≡ 0) }
+        ensures traces { IfOk result (λ beside. traces_done beside.lines ≡ 0) }
+    {
+        Ok(Beside {
+            lines: OldLines::find::<S>(alloc, former)?,
+            tasks: Vec::new(alloc),
+            clean: Vec::new(alloc),
+            fresh: Vec::new(alloc),
+        })
+    }
+}
+
+/// Whether the gate at a place is not dirty.
 #[inline(always)]
 fn is_clean_at<S: Stepper>(
     lines: &OldLines,
-    old: &Design,
-    new: &Design,
-    wiring: &Wiring,
-    values: &[Value],
-    states: &[Driver],
+    former: &Former,
+    present: &Present,
     place: usize,
-    t: u64,
 ) -> bool
-    requires lines { AreOldLines S.answer (netlist old.now) (netlist new.now) lines.now }
-    requires waves { waves_done lines.now ≡ suc t }
-    requires traces { traces_done lines.now ≡ t }
-    requires wired { IsWiring (netlist new.now) wiring.now }
-    requires values { values.now ≡ map (λ n. value S.answer (netlist new.now) n t) (netlist new.now).nets }
-    requires states { states.now ≡ map (state_before S.answer (netlist new.now) t) (netlist new.now).gates }
-    requires within { t ≤ (netlist old.now).horizon }
-    requires there { place < length (netlist new.now).gates }
-    ensures { result ≡ is_clean S.answer (netlist old.now) (netlist new.now) t place }
+    requires present { IsPresent S.answer (netlist former.now.old.now) (netlist former.now.new.now) lines.now present.now }
+    requires there { place < length (netlist former.now.new.now).gates }
+    ensures { result ≡ is_clean S.answer (netlist former.now.old.now) (netlist former.now.new.now) present.now.t place }
 {
-    let cell = &wiring.cells[place];
-    let state = states[place];
-    lines.is_clean::<S>(old, new, cell, place, state, values, t)
+    let cell = &present.wiring.cells[place];
+    let state = present.states[place];
+    lines.is_clean::<S>(former, cell, place, state, present.values, present.t)
 }
 
-/// Adds the task of the gate at a place where the gate is dirty at the moment `t`, and says whether it is not.
+/// Adds the task of the gate at a place where the gate is dirty, and says whether it is not.
 fn weigh<S: Stepper>(
     lines: &OldLines,
-    old: &Design,
-    new: &Design,
-    wiring: &Wiring,
-    values: &[Value],
-    states: &[Driver],
+    former: &Former,
+    present: &Present,
     place: usize,
-    t: u64,
     tasks: &mut Vec<Task>,
 ) -> Result<bool, AllocError>
-    requires lines { AreOldLines S.answer (netlist old.now) (netlist new.now) lines.now }
-    requires waves { waves_done lines.now ≡ suc t }
-    requires traces { traces_done lines.now ≡ t }
-    requires wired { IsWiring (netlist new.now) wiring.now }
-    requires values { values.now ≡ map (λ n. value S.answer (netlist new.now) n t) (netlist new.now).nets }
-    requires states { states.now ≡ map (state_before S.answer (netlist new.now) t) (netlist new.now).gates }
-    requires within { t ≤ (netlist old.now).horizon }
-    requires ready { All (PendingFrom t) states.now }
-    requires there { place < length (netlist new.now).gates }
-    ensures clean { IfOk result (λ clean. clean ≡ is_clean S.answer (netlist old.now) (netlist new.now) t place) }
-    ensures tasks { OnOk result (tasks.new.items ≡ tasks.old.items ++ dirty_task S.answer (netlist old.now) (netlist new.now) t place) }
-    ensures ready { OnOk result (All (IsReady t) tasks.old.items → All (IsReady t) tasks.new.items) }
+    requires present { IsPresent S.answer (netlist former.now.old.now) (netlist former.now.new.now) lines.now present.now }
+    requires there { place < length (netlist former.now.new.now).gates }
+    ensures clean { IfOk result (λ clean. clean ≡ is_clean S.answer (netlist former.now.old.now) (netlist former.now.new.now) present.now.t place) }
+    ensures tasks { OnOk result (tasks.new.items ≡ tasks.old.items ++ dirty_task S.answer (netlist former.now.old.now) (netlist former.now.new.now) present.now.t place) }
+    ensures ready { OnOk result (All (IsReady present.now.t) tasks.old.items → All (IsReady present.now.t) tasks.new.items) }
 {
-    let clean = is_clean_at::<S>(lines, old, new, wiring, values, states, place, t);
+    let clean = is_clean_at::<S>(lines, former, present, place);
     if !clean {
-        tasks.push(task_at::<S>(new, wiring, values, states, place, t))?;
+        tasks.push(task_at::<S>(
+            former.new,
+            present.wiring,
+            present.values,
+            present.states,
+            place,
+            present.t,
+        ))?;
     }
     Ok(clean)
 }
 
-/// Finds the tasks of the dirty gates among those at some places, and which of these gates are clean.
+/// Finds the tasks of the dirty gates among those that are stirred, and which of these are clean.
 fn weigh_all<S: Stepper>(
     lines: &OldLines,
-    old: &Design,
-    new: &Design,
-    wiring: &Wiring,
-    values: &[Value],
-    states: &[Driver],
-    gates: &[usize],
-    t: u64,
+    former: &Former,
+    present: &Present,
     tasks: &mut Vec<Task>,
     clean: &mut Vec<bool>,
 ) -> Result<(), AllocError>
-    requires lines { AreOldLines S.answer (netlist old.now) (netlist new.now) lines.now }
-    requires waves { waves_done lines.now ≡ suc t }
-    requires traces { traces_done lines.now ≡ t }
-    requires wired { IsWiring (netlist new.now) wiring.now }
-    requires values { values.now ≡ map (λ n. value S.answer (netlist new.now) n t) (netlist new.now).nets }
-    requires states { states.now ≡ map (state_before S.answer (netlist new.now) t) (netlist new.now).gates }
-    requires within { t ≤ (netlist old.now).horizon }
-    requires ready { All (PendingFrom t) states.now }
-    requires there { All (λ place. place < length (netlist new.now).gates) gates.now }
-    ensures clean { OnOk result (clean.new.items ≡ map (is_clean S.answer (netlist old.now) (netlist new.now) t) gates.now) }
-    ensures tasks { OnOk result (tasks.new.items ≡ flat_map (dirty_task S.answer (netlist old.now) (netlist new.now) t) gates.now) }
-    ensures ready { OnOk result (All (IsReady t) tasks.new.items) }
+    requires present { IsPresent S.answer (netlist former.now.old.now) (netlist former.now.new.now) lines.now present.now }
+    ensures clean { OnOk result (clean.new.items ≡ map (is_clean S.answer (netlist former.now.old.now) (netlist former.now.new.now) present.now.t) present.now.gates.now) }
+    ensures tasks { OnOk result (tasks.new.items ≡ flat_map (dirty_task S.answer (netlist former.now.old.now) (netlist former.now.new.now) present.now.t) present.now.gates.now) }
+    ensures ready { OnOk result (All (IsReady present.now.t) tasks.new.items) }
 {
     tasks.clear();
     clean.clear();
-    for i in 0..gates.len() {
-        let place = gates[i];
-        let is_clean = weigh::<S>(lines, old, new, wiring, values, states, place, t, tasks)?;
+    for i in 0..present.gates.len() {
+        let place = present.gates[i];
+        let is_clean = weigh::<S>(lines, former, present, place, tasks)?;
         clean.push(is_clean)?;
     }
     Ok(())
 }
 
-/// Evaluates the gate at a place where the gate is dirty at the moment `t`, and says whether it is not. There is room for the
-/// answer.
+/// Evaluates the gate at a place where the gate is dirty, and says whether it is not. There is room for the answer.
 #[inline(always)]
 fn ask_one<S: Stepper>(
     lines: &OldLines,
-    old: &Design,
-    new: &Design,
-    wiring: &Wiring,
-    values: &[Value],
-    states: &[Driver],
+    former: &Former,
+    present: &Present,
     place: usize,
     stepper: &mut S,
-    t: u64,
     fresh: &mut Vec<Driver>,
 ) -> bool
     requires none_lost { S.losses stepper.old ≡ 0 }
-    requires lines { AreOldLines S.answer (netlist old.now) (netlist new.now) lines.now }
-    requires waves { waves_done lines.now ≡ suc t }
-    requires traces { traces_done lines.now ≡ t }
-    requires wired { IsWiring (netlist new.now) wiring.now }
-    requires values { values.now ≡ map (λ n. value S.answer (netlist new.now) n t) (netlist new.now).nets }
-    requires states { states.now ≡ map (state_before S.answer (netlist new.now) t) (netlist new.now).gates }
-    requires within { t ≤ (netlist old.now).horizon }
-    requires ready { All (PendingFrom t) states.now }
-    requires there { place < length (netlist new.now).gates }
-    requires early { t ≤ MAX_TIME }
+    requires present { IsPresent S.answer (netlist former.now.old.now) (netlist former.now.new.now) lines.now present.now }
+    requires there { place < length (netlist former.now.new.now).gates }
+    requires early { present.now.t ≤ MAX_TIME }
     requires room { vec_len fresh.old < vec_capacity fresh.old }
-    ensures clean { result ≡ is_clean S.answer (netlist old.now) (netlist new.now) t place }
-    ensures fresh { fresh.new.items ≡ fresh.old.items ++ map (λ task. S.answer task t) (dirty_task S.answer (netlist old.now) (netlist new.now) t place) }
+    ensures clean { result ≡ is_clean S.answer (netlist former.now.old.now) (netlist former.now.new.now) present.now.t place }
+    ensures fresh { fresh.new.items ≡ fresh.old.items ++ map (λ task. S.answer task present.now.t) (dirty_task S.answer (netlist former.now.old.now) (netlist former.now.new.now) present.now.t place) }
     ensures len { vec_len fresh.new ≤ vec_len fresh.old + 1 }
     ensures capacity { vec_capacity fresh.new ≡ vec_capacity fresh.old }
-    ensures asked { S.asked stepper.new ≡ S.asked stepper.old ++ at_moment t (dirty_task S.answer (netlist old.now) (netlist new.now) t place) }
+    ensures asked { S.asked stepper.new ≡ S.asked stepper.old ++ at_moment present.now.t (dirty_task S.answer (netlist former.now.old.now) (netlist former.now.new.now) present.now.t place) }
     ensures lost { S.losses stepper.new ≡ S.losses stepper.old }
 {
-    if is_clean_at::<S>(lines, old, new, wiring, values, states, place, t) {
+    if is_clean_at::<S>(lines, former, present, place) {
         return true;
     }
-    let task = task_at::<S>(new, wiring, values, states, place, t);
-    fresh.push_reserved(stepper.evaluate(&task, t));
+    let task = task_at::<S>(
+        former.new,
+        present.wiring,
+        present.values,
+        present.states,
+        place,
+        present.t,
+    );
+    fresh.push_reserved(stepper.evaluate(&task, present.t));
     false
 }
 
-/// Evaluates the dirty gates among those at some places, one after another, and finds which of these gates are clean. It fails
-/// only where nothing was asked.
+/// Evaluates the dirty gates among those that are stirred, one after another, and finds which of these are clean. It fails only
+/// where nothing was asked.
 fn ask_each<S: Stepper>(
     lines: &OldLines,
-    old: &Design,
-    new: &Design,
-    wiring: &Wiring,
-    values: &[Value],
-    states: &[Driver],
-    gates: &[usize],
+    former: &Former,
+    present: &Present,
     stepper: &mut S,
-    t: u64,
     clean: &mut Vec<bool>,
     fresh: &mut Vec<Driver>,
 ) -> Result<(), AllocError>
     requires none_lost { S.losses stepper.old ≡ 0 }
-    requires lines { AreOldLines S.answer (netlist old.now) (netlist new.now) lines.now }
-    requires waves { waves_done lines.now ≡ suc t }
-    requires traces { traces_done lines.now ≡ t }
-    requires wired { IsWiring (netlist new.now) wiring.now }
-    requires values { values.now ≡ map (λ n. value S.answer (netlist new.now) n t) (netlist new.now).nets }
-    requires states { states.now ≡ map (state_before S.answer (netlist new.now) t) (netlist new.now).gates }
-    requires within { t ≤ (netlist old.now).horizon }
-    requires ready { All (PendingFrom t) states.now }
-    requires there { All (λ place. place < length (netlist new.now).gates) gates.now }
-    requires early { t ≤ MAX_TIME }
-    ensures clean { OnOk result (clean.new.items ≡ map (is_clean S.answer (netlist old.now) (netlist new.now) t) gates.now) }
-    ensures fresh { OnOk result (fresh.new.items ≡ map (λ task. S.answer task t) (flat_map (dirty_task S.answer (netlist old.now) (netlist new.now) t) gates.now)) }
-    ensures asked { OnOk result (S.asked stepper.new ≡ S.asked stepper.old ++ at_moment t (flat_map (dirty_task S.answer (netlist old.now) (netlist new.now) t) gates.now)) }
+    requires present { IsPresent S.answer (netlist former.now.old.now) (netlist former.now.new.now) lines.now present.now }
+    requires early { present.now.t ≤ MAX_TIME }
+    ensures clean { OnOk result (clean.new.items ≡ map (is_clean S.answer (netlist former.now.old.now) (netlist former.now.new.now) present.now.t) present.now.gates.now) }
+    ensures fresh { OnOk result (fresh.new.items ≡ map (λ task. S.answer task present.now.t) (flat_map (dirty_task S.answer (netlist former.now.old.now) (netlist former.now.new.now) present.now.t) present.now.gates.now)) }
+    ensures asked { OnOk result (S.asked stepper.new ≡ S.asked stepper.old ++ at_moment present.now.t (flat_map (dirty_task S.answer (netlist former.now.old.now) (netlist former.now.new.now) present.now.t) present.now.gates.now)) }
     ensures err { OnErr result (S.asked stepper.new ≡ S.asked stepper.old) }
     ensures lost { S.losses stepper.new ≡ S.losses stepper.old }
 {
+    let present = *present;
     clean.clear();
-    clean.reserve(gates.len())?;
+    clean.reserve(present.gates.len())?;
     fresh.clear();
-    fresh.reserve(gates.len())?;
-    for i in 0..gates.len() {
-        let place = gates[i];
-        let is_clean = ask_one(
-            lines, old, new, wiring, values, states, place, stepper, t, fresh,
-        );
+    fresh.reserve(present.gates.len())?;
+    for i in 0..present.gates.len() {
+        let place = present.gates[i];
+        let is_clean = ask_one(lines, former, &present, place, stepper, fresh);
         clean.push_reserved(is_clean);
     }
     Ok(())
 }
 
-/// Asks the dirty gates among those at some places, and finds which of these gates are clean.
+/// Asks the dirty gates among those that are stirred, and finds which of these are clean.
 fn ask_some<S: Stepper>(
     lines: &OldLines,
-    old: &Design,
-    new: &Design,
-    wiring: &Wiring,
-    values: &[Value],
-    states: &[Driver],
-    gates: &[usize],
+    former: &Former,
+    present: &Present,
     stepper: &mut S,
-    t: u64,
     tasks: &mut Vec<Task>,
     clean: &mut Vec<bool>,
     fresh: &mut Vec<Driver>,
 ) -> Result<(), StepFault>
-    requires lines { AreOldLines S.answer (netlist old.now) (netlist new.now) lines.now }
-    requires waves { waves_done lines.now ≡ suc t }
-    requires traces { traces_done lines.now ≡ t }
-    requires wired { IsWiring (netlist new.now) wiring.now }
-    requires values { values.now ≡ map (λ n. value S.answer (netlist new.now) n t) (netlist new.now).nets }
-    requires states { states.now ≡ map (state_before S.answer (netlist new.now) t) (netlist new.now).gates }
-    requires within { t ≤ (netlist old.now).horizon }
-    requires ready { All (PendingFrom t) states.now }
-    requires there { All (λ place. place < length (netlist new.now).gates) gates.now }
-    requires early { t ≤ MAX_TIME }
-    ensures clean { OnOk result (clean.new.items ≡ map (is_clean S.answer (netlist old.now) (netlist new.now) t) gates.now) }
-    ensures fresh { OnOk result (fresh.new.items ≡ map (λ task. S.answer task t) (flat_map (dirty_task S.answer (netlist old.now) (netlist new.now) t) gates.now)) }
-    ensures asked { OnOk result (S.asked stepper.new ≡ S.asked stepper.old ++ at_moment t (flat_map (dirty_task S.answer (netlist old.now) (netlist new.now) t) gates.now)) }
-    ensures part { OnErr result (HasGrownOrNot (S.asked stepper.old) (S.asked stepper.new) (at_moment t (flat_map (dirty_task S.answer (netlist old.now) (netlist new.now) t) gates.now))) }
+    requires present { IsPresent S.answer (netlist former.now.old.now) (netlist former.now.new.now) lines.now present.now }
+    requires early { present.now.t ≤ MAX_TIME }
+    ensures clean { OnOk result (clean.new.items ≡ map (is_clean S.answer (netlist former.now.old.now) (netlist former.now.new.now) present.now.t) present.now.gates.now) }
+    ensures fresh { OnOk result (fresh.new.items ≡ map (λ task. S.answer task present.now.t) (flat_map (dirty_task S.answer (netlist former.now.old.now) (netlist former.now.new.now) present.now.t) present.now.gates.now)) }
+    ensures asked { OnOk result (S.asked stepper.new ≡ S.asked stepper.old ++ at_moment present.now.t (flat_map (dirty_task S.answer (netlist former.now.old.now) (netlist former.now.new.now) present.now.t) present.now.gates.now)) }
+    ensures part { OnErr result (HasGrownOrNot (S.asked stepper.old) (S.asked stepper.new) (at_moment present.now.t (flat_map (dirty_task S.answer (netlist former.now.old.now) (netlist former.now.new.now) present.now.t) present.now.gates.now))) }
     ensures lost { S.losses stepper.new ≡ S.losses stepper.old + (if is_lost result then 1 else 0) }
 {
-    if !stepper.deals(gates.len()) {
-        ask_each(
-            lines, old, new, wiring, values, states, gates, stepper, t, clean, fresh,
-        )?;
+    if !stepper.deals(present.gates.len()) {
+        ask_each(lines, former, present, stepper, clean, fresh)?;
         return Ok(());
     }
-    weigh_all::<S>(
-        lines, old, new, wiring, values, states, gates, t, tasks, clean,
-    )?;
-    step_some(stepper, tasks.as_slice(), t, fresh)?;
+    weigh_all::<S>(lines, former, present, tasks, clean)?;
+    step_some(stepper, tasks.as_slice(), present.t, fresh)?;
     Ok(())
 }
 
@@ -256,25 +233,24 @@ fn ask_some<S: Stepper>(
 /// the answers that were asked, in order.
 fn weave<S: Stepper>(
     lines: &OldLines,
-    old: &Design,
-    new: &Design,
+    former: &Former,
     gates: &[usize],
     clean: &[bool],
     fresh: &[Driver],
     t: u64,
     out: &mut Vec<Driver>,
 ) -> Result<(), AllocError>
-    requires lines { AreOldLines S.answer (netlist old.now) (netlist new.now) lines.now }
+    requires lines { AreOldLines S.answer (netlist former.now.old.now) (netlist former.now.new.now) lines.now }
     requires traces { traces_done lines.now ≡ suc t }
-    requires there { All (λ place. place < length (netlist new.now).gates) gates.now }
-    requires clean { clean.now ≡ map (is_clean S.answer (netlist old.now) (netlist new.now) t) gates.now }
-    ensures { OnOk result (out.new.items ≡ woven (map (λ place. known_at S.answer (netlist old.now) (netlist new.now) t (gate_at (netlist new.now) place)) gates.now) fresh.now) }
+    requires there { All (λ place. place < length (netlist former.now.new.now).gates) gates.now }
+    requires clean { clean.now ≡ map (is_clean S.answer (netlist former.now.old.now) (netlist former.now.new.now) t) gates.now }
+    ensures { OnOk result (out.new.items ≡ woven (map (λ place. known_at S.answer (netlist former.now.old.now) (netlist former.now.new.now) t (gate_at (netlist former.now.new.now) place)) gates.now) fresh.now) }
 {
     out.clear();
     let mut next = 0;
     for i in 0..gates.len() {
         if clean[i] {
-            out.push(lines.state_after::<S>(old, new, gates[i], t))?;
+            out.push(lines.state_after::<S>(former, gates[i], t))?;
         } else {
             out.push(fresh.get(next).copied().unwrap_or(Driver::start()))?;
             next += 1;
@@ -283,54 +259,44 @@ fn weave<S: Stepper>(
     Ok(())
 }
 
-/// The answers of the gates that are stirred at the moment `t`, which are at these places: only the dirty ones are asked. The
-/// lines of the old run go past the moment. It fails where memory runs out or a worker is lost, and then they are to be dropped.
+/// The answers of the gates that are stirred at the present moment: only the dirty ones are asked. The lines of the old run go
+/// past the moment. It fails where memory runs out or a worker is lost, and then they are to be dropped.
 pub fn ask_dirty<S: Stepper>(
     alloc: Global,
-    lines: &mut OldLines,
-    old: &Design,
-    new: &Design,
-    wiring: &Wiring,
-    values: &[Value],
-    states: &[Driver],
-    gates: &[usize],
+    beside: &mut Beside,
+    former: &Former,
+    present: &Present,
     stepper: &mut S,
-    t: u64,
-    tasks: &mut Vec<Task>,
-    clean: &mut Vec<bool>,
-    fresh: &mut Vec<Driver>,
     answers: &mut Vec<Driver>,
 ) -> Result<(), StepFault>
-    requires lines { AreOldLines S.answer (netlist old.now) (netlist new.now) lines.old }
-    requires waves { waves_done lines.old ≡ suc t }
-    requires traces { traces_done lines.old ≡ t }
-    requires wired { IsWiring (netlist new.now) wiring.now }
-    requires values { values.now ≡ map (λ n. value S.answer (netlist new.now) n t) (netlist new.now).nets }
-    requires states { states.now ≡ map (state_before S.answer (netlist new.now) t) (netlist new.now).gates }
-    requires within { t ≤ (netlist old.now).horizon }
-    requires ready { All (PendingFrom t) states.now }
-    requires gates { gates.now ≡ passing (λ g. is_stirred S.answer (netlist new.now) g t) 0 (netlist new.now).gates }
-    ensures lines { OnOk result (AreOldLines S.answer (netlist old.now) (netlist new.now) lines.new) }
-    ensures waves { OnOk result (waves_done lines.new ≡ suc t) }
-    ensures traces { OnOk result (traces_done lines.new ≡ suc t) }
-    ensures answers { OnOk result (answers.new.items ≡ map (state_before S.answer (netlist new.now) (t + 1)) (stirred_at S.answer (netlist new.now) t)) }
-    ensures asked { OnOk result (S.asked stepper.new ≡ S.asked stepper.old ++ rework_at S.answer (netlist old.now) (netlist new.now) t) }
-    ensures part { OnErr result (HasGrownOrNot (S.asked stepper.old) (S.asked stepper.new) (rework_at S.answer (netlist old.now) (netlist new.now) t)) }
+    requires present { IsPresent S.answer (netlist former.now.old.now) (netlist former.now.new.now) beside.old.lines present.now }
+    requires gates { present.now.gates.now ≡ passing (λ g. is_stirred S.answer (netlist former.now.new.now) g present.now.t) 0 (netlist former.now.new.now).gates }
+    ensures lines { OnOk result (AreOldLines S.answer (netlist former.now.old.now) (netlist former.now.new.now) beside.new.lines) }
+    ensures waves { OnOk result (waves_done beside.new.lines ≡ suc present.now.t) }
+    ensures traces { OnOk result (traces_done beside.new.lines ≡ suc present.now.t) }
+    ensures answers { OnOk result (answers.new.items ≡ map (state_before S.answer (netlist former.now.new.now) (present.now.t + 1)) (stirred_at S.answer (netlist former.now.new.now) present.now.t)) }
+    ensures asked { OnOk result (S.asked stepper.new ≡ S.asked stepper.old ++ rework_at S.answer (netlist former.now.old.now) (netlist former.now.new.now) present.now.t) }
+    ensures part { OnErr result (HasGrownOrNot (S.asked stepper.old) (S.asked stepper.new) (rework_at S.answer (netlist former.now.old.now) (netlist former.now.new.now) present.now.t)) }
     ensures lost { S.losses stepper.new ≡ S.losses stepper.old + (if is_lost result then 1 else 0) }
 {
-    old.lawful();
+    former.old.lawful();
     ask_some(
-        lines, old, new, wiring, values, states, gates, stepper, t, tasks, clean, fresh,
+        &beside.lines,
+        former,
+        present,
+        stepper,
+        &mut beside.tasks,
+        &mut beside.clean,
+        &mut beside.fresh,
     )?;
-    lines.pass(alloc, t)?;
+    beside.lines.pass(alloc, present.t)?;
     weave::<S>(
-        lines,
-        old,
-        new,
-        gates,
-        clean.as_slice(),
-        fresh.as_slice(),
-        t,
+        &beside.lines,
+        former,
+        present.gates,
+        beside.clean.as_slice(),
+        beside.fresh.as_slice(),
+        present.t,
         answers,
     )?;
     Ok(())

@@ -1,6 +1,6 @@
 //! The run of a design from the run of a former one with the same horizon.
 
-ghost use Rattle.std.specs.Prelude.{◌≡◌, ◌<◌, ◌≤◌, ◌+◌, ◌++◌, suc, map, All, IfOk, OnErr, OnOk, if◌then◌else◌};
+ghost use Rattle.std.specs.Prelude.{◌≡◌, ◌<◌, ◌≤◌, ◌+◌, ◌++◌, [], suc, map, All, IfOk, OnErr, OnOk, if◌then◌else◌};
 ghost use Rattle.fourstate.specs.declared.limits.TheConstants.{MAX_TIME};
 ghost use Rattle.gatestep.specs.Faults.{is_lost};
 ghost use Rattle.gatestep.specs.Record.{at_moment};
@@ -21,8 +21,8 @@ use crate::widening::widen;
 use design::Design;
 use edits::Touched;
 use gatestep::{Driver, StepFault, Stepper, Task};
-use rundiff::Front;
-use std::alloc::Global;
+use rundiff::{Blanks, Former, Front};
+use std::alloc::{AllocError, Global};
 use waveform::Run;
 
 /// The run of the new design, which has the horizon of the old one. Where what edits touched is not known or too much, it goes
@@ -66,12 +66,32 @@ pub fn follow<S: Stepper>(
     ensures reruns { Reruns S.answer old.now new.now (S.asked stepper.old) (S.asked stepper.new)
         (S.losses stepper.old) (S.losses stepper.new) result }
 {
-    let mut front = Front::open(alloc, old, new, touched)?;
-    let next = follow_until(&mut front, alloc, old, run, new, limit, stepper)?;
+    let blanks = Blanks::new(alloc)?;
+    let former = Former {
+        old,
+        run,
+        new,
+        blanks: &blanks,
+    };
+    let mut front = open::<S>(alloc, &former, touched)?;
+    let next = follow_until(&mut front, alloc, &former, limit, stepper)?;
     if next > new.horizon() {
-        return Ok(front.finish::<S>(alloc, old, run, new, touched)?);
+        return Ok(front.finish::<S>(alloc, &former, touched)?);
     }
-    widen(alloc, front, old, run, new, touched, next - 1, stepper)
+    widen(alloc, front, &former, touched, next - 1, stepper)
+}
+
+/// The front at the first moment at which something may differ. It fails where memory runs out.
+fn open<S: Stepper>(alloc: Global, former: &Former, touched: &Touched) -> Result<Front, AllocError>
+    requires { IsTouched former.now.old.now former.now.new.now touched.now.nets.items touched.now.gates.items }
+    ensures front { IfOk result (λ front. IsFront S.answer (netlist former.now.old.now) (netlist former.now.new.now) front front.done) }
+    ensures until { IfOk result (λ front. front.done ≤ suc (netlist former.now.old.now).horizon) }
+    ensures idle { IfOk result (λ front. rework_below S.answer (netlist former.now.old.now) (netlist former.now.new.now) front.done ≡ []) }
+{
+    former.old.lawful();
+    let mut front = Front::open(alloc, former, touched)?;
+    front.leap::<S>(alloc, former, former.old.horizon() + 1)?;
+    Ok(front)
 }
 
 /// Goes from one moment at which something may differ to the next, up to the horizon or until the limit is reached, and gives the
@@ -79,63 +99,65 @@ pub fn follow<S: Stepper>(
 fn follow_until<S: Stepper>(
     front: &mut Front,
     alloc: Global,
-    old: &Design,
-    run: &Run,
-    new: &Design,
+    former: &Former,
     limit: Limit,
     stepper: &mut S,
 ) -> Result<u64, StepFault>
-    requires run { IsRun S.answer old.now run.now }
-    requires horizon { (netlist new.now).horizon ≡ (netlist old.now).horizon }
-    requires front { IsFront S.answer (netlist old.now) (netlist new.now) front.old 0 }
-    requires done { front.old.done ≡ 0 }
-    ensures front { IfOk result (IsFront S.answer (netlist old.now) (netlist new.now) front.new) }
+    requires run { IsRun S.answer former.now.old.now former.now.run.now }
+    requires horizon { (netlist former.now.new.now).horizon ≡ (netlist former.now.old.now).horizon }
+    requires front { IsFront S.answer (netlist former.now.old.now) (netlist former.now.new.now) front.old front.old.done }
+    requires until { front.old.done ≤ suc (netlist former.now.old.now).horizon }
+    requires idle { rework_below S.answer (netlist former.now.old.now) (netlist former.now.new.now) front.old.done ≡ [] }
+    ensures front { IfOk result (IsFront S.answer (netlist former.now.old.now) (netlist former.now.new.now) front.new) }
     ensures begun { IfOk result (λ next. 0 < next) }
-    ensures within { IfOk result (λ next. next ≤ suc (netlist new.now).horizon) }
-    ensures asked { IfOk result (λ next. S.asked stepper.new ≡ S.asked stepper.old ++ rework_below S.answer (netlist old.now) (netlist new.now) next) }
-    ensures part { OnErr result (HasGrownInPart S.answer (netlist old.now) (netlist new.now) (S.asked stepper.old) (S.asked stepper.new)) }
+    ensures within { IfOk result (λ next. next ≤ suc (netlist former.now.new.now).horizon) }
+    ensures asked { IfOk result (λ next. S.asked stepper.new ≡ S.asked stepper.old ++ rework_below S.answer (netlist former.now.old.now) (netlist former.now.new.now) next) }
+    ensures part { OnErr result (HasGrownInPart S.answer (netlist former.now.old.now) (netlist former.now.new.now) (S.asked stepper.old) (S.asked stepper.new)) }
     ensures lost { CountsLoss (S.losses stepper.old) (S.losses stepper.new) result }
 {
-    new.lawful();
-    let end = new.horizon() + 1;
+    former.new.lawful();
+    let end = former.new.horizon() + 1;
     let mut answers = Vec::new(alloc);
     let mut spending = Spending::new(limit);
-    let mut next = 0;
+    let first = front.next_moment::<S>(former, end);
+    let mut next = first;
     while next < end {
-        pass(front, alloc, old, run, new, stepper, next, &mut answers)?;
-        next = front.next_moment::<S>(old, new, end);
-        if spending.add(front, run, new, next) {
+        let t = next;
+        pass(front, alloc, former, stepper, t, &mut answers)?;
+        next = front.next_moment::<S>(former, end);
+        if spending.add(front, former.run, former.new, next.saturating_sub(t)) {
             return Ok(next);
         }
     }
     Ok(next)
 }
 
-/// Goes through the moment `t`, before which all is done; a step is made only where a gate is evaluated. After a fault the
-/// front is to be dropped.
+/// Goes through the moment `t`, before which all is done, and past those behind it at which nothing differs; a step is made only
+/// where a gate is evaluated. After a fault the front is to be dropped.
 fn pass<S: Stepper>(
     front: &mut Front,
     alloc: Global,
-    old: &Design,
-    run: &Run,
-    new: &Design,
+    former: &Former,
     stepper: &mut S,
     t: u64,
     answers: &mut Vec<Driver>,
 ) -> Result<(), StepFault>
-    requires run { IsRun S.answer old.now run.now }
-    requires front { IsFront S.answer (netlist old.now) (netlist new.now) front.old t }
-    requires within { t ≤ (netlist old.now).horizon }
-    ensures front { OnOk result (IsFront S.answer (netlist old.now) (netlist new.now) front.new (suc t)) }
-    ensures done { OnOk result (front.new.done ≡ t + 1) }
-    ensures asked { OnOk result (S.asked stepper.new ≡ S.asked stepper.old ++ rework_at S.answer (netlist old.now) (netlist new.now) t) }
-    ensures part { OnErr result (HasGrownOrNot (S.asked stepper.old) (S.asked stepper.new) (rework_at S.answer (netlist old.now) (netlist new.now) t)) }
+    requires run { IsRun S.answer former.now.old.now former.now.run.now }
+    requires front { IsFront S.answer (netlist former.now.old.now) (netlist former.now.new.now) front.old t }
+    requires within { t ≤ (netlist former.now.old.now).horizon }
+    ensures front { OnOk result (IsFront S.answer (netlist former.now.old.now) (netlist former.now.new.now) front.new front.new.done) }
+    ensures later { OnOk result (t < front.new.done) }
+    ensures until { OnOk result (front.new.done ≤ suc (netlist former.now.old.now).horizon) }
+    ensures idle { OnOk result (rework_below S.answer (netlist former.now.old.now) (netlist former.now.new.now) front.new.done ≡ rework_below S.answer (netlist former.now.old.now) (netlist former.now.new.now) (suc t)) }
+    ensures asked { OnOk result (S.asked stepper.new ≡ S.asked stepper.old ++ rework_at S.answer (netlist former.now.old.now) (netlist former.now.new.now) t) }
+    ensures part { OnErr result (HasGrownOrNot (S.asked stepper.old) (S.asked stepper.new) (rework_at S.answer (netlist former.now.old.now) (netlist former.now.new.now) t)) }
     ensures lost { CountsLoss (S.losses stepper.old) (S.losses stepper.new) result }
 {
-    old.lawful();
-    front.due::<S>(alloc, old, run, new, t)?;
+    former.old.lawful();
+    front.due::<S>(alloc, former, t)?;
     step_some(stepper, front.tasks(), t, answers)?;
-    front.settle::<S>(alloc, old, run, new, t, answers.as_slice())?;
+    front.settle::<S>(alloc, former, t, answers.as_slice())?;
+    front.leap::<S>(alloc, former, former.old.horizon() + 1)?;
     Ok(())
 }
 

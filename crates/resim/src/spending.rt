@@ -5,8 +5,8 @@ use design::Design;
 use rundiff::Front;
 use waveform::Run;
 
-/// To look at a net or a gate beside the old run takes about as long as a run from scratch takes for so many of the states that
-/// it keeps of gates (own).
+/// To look at a net or a gate beside the old run, or at one driver more of a net, takes about as long as a run from scratch takes
+/// for so many of the states that it keeps of gates (own).
 pub const LOOK_COST: u64 = 3;
 
 /// A run goes on through the whole design once looks took one of so many parts of a run from scratch too much (own).
@@ -46,22 +46,25 @@ impl Spending {
         }
     }
 
-    /// Adds what the front has looked at in a moment, which is done, and says whether the run is to go on through the whole design
-    /// from the moment `next` on.
-    pub fn add(&mut self, front: &Front, run: &Run, new: &Design, next: u64) -> bool {
-        let nets = front.net_places.len() as u64;
+    /// Adds what the front has looked at in a moment, the first of so many at which nothing else is looked at, and says whether the
+    /// run is to go on through the whole design behind them.
+    pub fn add(&mut self, front: &Front, run: &Run, new: &Design, moments: u64) -> bool {
+        let nets = match self.limit {
+            Limit::Cost => net_looks(new, front.net_places.as_slice()),
+            Limit::Looks(_) => front.net_places.len() as u64,
+        };
         let gates = front.gates.len() as u64;
         let looks = nets.saturating_add(gates);
         self.looks = self.looks.saturating_add(looks);
         match self.limit {
-            Limit::Cost => self.is_dear(run, new, looks, next.saturating_sub(front.done)),
+            Limit::Cost => self.is_dear(run, new, looks, moments),
             Limit::Looks(most) => self.looks >= most,
         }
     }
 
-    /// Whether looks cost too much, with so many more and so many moments behind them, at which nothing is to be looked at. Each
-    /// gate has an entry at least, so these are not counted before that may be so.
-    fn is_dear(&mut self, run: &Run, new: &Design, looks: u64, idle: u64) -> bool {
+    /// Whether looks cost too much, with so many more in so many moments. Each gate has an entry at least, so these are not counted
+    /// before that may be so.
+    fn is_dear(&mut self, run: &Run, new: &Design, looks: u64, moments: u64) -> bool {
         let all = new.horizon();
         let spent = looks.saturating_mul(LOOK_COST).saturating_mul(all);
         self.excess = self.excess.saturating_add(spent);
@@ -70,7 +73,7 @@ impl Spending {
             return false;
         }
         let whole = self.whole(run, new);
-        let spared = whole.saturating_mul(idle.saturating_add(1));
+        let spared = whole.saturating_mul(moments);
         self.excess = self.excess.saturating_sub(spared);
         self.excess.saturating_mul(RUN_SHARE) >= whole.saturating_mul(all)
     }
@@ -85,4 +88,22 @@ impl Spending {
         self.whole = Some(whole);
         whole
     }
+}
+
+/// The looks that some nets take: one for each, and one more for each driver but the first, since the states of all are read.
+fn net_looks(new: &Design, places: &[usize]) -> u64 {
+    let mut looks = 0u64;
+    for place in places {
+        looks = looks.saturating_add(net_look(new, *place));
+    }
+    looks
+}
+
+/// The looks that the net at a place takes.
+fn net_look(new: &Design, place: usize) -> u64 {
+    if place >= new.net_count() {
+        return 1;
+    }
+    let drivers = new.drivers(new.net_key_at(place));
+    (drivers.len() as u64).max(1)
 }

@@ -8,7 +8,7 @@ use waveform::Run;
 /// To look at a gate beside the old run takes about as long as to evaluate so many as from scratch (own).
 const LOOK: usize = 8;
 
-/// A list that touches fewer nets than this is no stimulus of a whole design: it goes with what differs (own).
+/// A list with fewer edits of nets than this is no stimulus of a whole design: it goes with what differs (own).
 const STIMULUS: usize = 32;
 
 /// Whether edits touched so much that to go through all gates is less work than to look for what differs: a good part of the
@@ -20,72 +20,84 @@ pub fn is_wide(
     new: &Design,
     touched: &Touched,
 ) -> Result<bool, AllocError> {
-    let nets = touched.nets.as_slice();
-    if are_inputs_many(alloc, new, nets)? && differ_early(old, new, nets) {
-        return Ok(true);
+    if touched.nets.len() >= STIMULUS {
+        let inputs = inputs_among(alloc, new, touched.nets.as_slice())?;
+        let inputs = inputs.as_slice();
+        if are_points_many(new, inputs, touched.nets.len()) && differ_early(old, new, inputs) {
+            return Ok(true);
+        }
     }
     Ok(are_many(new, touched) && are_busy(run, new, touched))
 }
 
-/// Whether the inputs among these nets are a good part of all. Most gates drive a net of their own, so there are about as many
-/// inputs as there are more nets than gates.
-fn are_inputs_many(alloc: Global, new: &Design, nets: &[NetKey]) -> Result<bool, AllocError> {
-    if nets.len() < STIMULUS {
-        return Ok(false);
-    }
+/// The places of the inputs among these nets, each once.
+fn inputs_among(alloc: Global, new: &Design, nets: &[NetKey]) -> Result<Vec<usize>, AllocError> {
     let mut inputs = Vec::with_capacity(alloc, nets.len())?;
     for net in nets {
-        if is_input(new, *net) {
-            inputs.push(net.number())?;
+        if let Some(place) = input_place(new, *net) {
+            inputs.push(place)?;
         }
     }
     inputs.sort_unstable();
     inputs.dedup();
+    Ok(inputs)
+}
+
+/// The place of the input of this key, if the design has one.
+fn input_place(new: &Design, net: NetKey) -> Option<usize> {
+    let place = new.net_place_of(net)?;
+    if new.net_of(net).is_input() {
+        return Some(place);
+    }
+    None
+}
+
+/// Whether these inputs are a good part of all, and so many edits a good part of their points. Most gates drive a net of their own,
+/// so there are about as many inputs as there are more nets than gates.
+fn are_points_many(new: &Design, inputs: &[usize], edits: usize) -> bool {
     let all = new.net_count().saturating_sub(new.gate_count());
-    Ok(!inputs.is_empty() && inputs.len().saturating_mul(LOOK) >= all)
+    let mut points = 0usize;
+    for place in inputs {
+        points = points.saturating_add(point_count(new, *place));
+    }
+    !inputs.is_empty()
+        && inputs.len().saturating_mul(LOOK) >= all
+        && edits.saturating_mul(LOOK) >= points
 }
 
-/// Whether the design has an input of this key.
-fn is_input(new: &Design, net: NetKey) -> bool {
-    new.net_place_of(net).is_some() && new.net_of(net).is_input()
+/// How many points the net at a place has; 0 where there is none.
+fn point_count(new: &Design, place: usize) -> usize {
+    if place < new.net_count() {
+        return new.net_at(place).point_count();
+    }
+    0
 }
 
-/// Whether the stimulus of one of these nets differs in the first half of the run. A run through all gates begins at moment 0,
+/// Whether the stimulus of one of these inputs differs in the first half of the run. A run through all gates begins at moment 0,
 /// however late the difference.
-fn differ_early(old: &Design, new: &Design, nets: &[NetKey]) -> bool {
+fn differ_early(old: &Design, new: &Design, inputs: &[usize]) -> bool {
     let middle = new.horizon() / 2;
-    for net in nets {
-        if differs_until(old, new, *net, middle) {
+    for place in inputs {
+        if differs_until(old, new, *place, middle) {
             return true;
         }
     }
     false
 }
 
-/// Whether the net of this key, which both designs have, is given another value by its stimulus up to the moment `end`.
-fn differs_until(old: &Design, new: &Design, net: NetKey, end: u64) -> bool {
-    if old.net_place_of(net).is_none() || new.net_place_of(net).is_none() {
+/// Whether the stimulus of the net at a place, which both designs have, differs up to the moment `end`.
+fn differs_until(old: &Design, new: &Design, place: usize, end: u64) -> bool {
+    if place >= new.net_count() {
         return false;
     }
-    let former = old.net_of(net);
-    let present = new.net_of(net);
-    let points = former.point_count().saturating_add(present.point_count());
-    let mut t = 0;
-    for _ in 0..points.saturating_add(1) {
-        if former.stimulus_at(t) != present.stimulus_at(t) {
-            return true;
-        }
-        t = next_of(former.next_point(t), present.next_point(t));
-        if t > end {
-            return false;
-        }
+    let key = new.net_key_at(place);
+    if old.net_place_of(key).is_none() {
+        return false;
     }
-    false
-}
-
-/// The earlier of two moments, of which each may be missing; the last one of all where both are.
-fn next_of(first: Option<u64>, second: Option<u64>) -> u64 {
-    first.unwrap_or(u64::MAX).min(second.unwrap_or(u64::MAX))
+    match old.net_of(key).parts_from(new.net_at(place), 0) {
+        Some(moment) => moment <= end,
+        None => false,
+    }
 }
 
 /// Whether the touched gates and those that read what they drive are a good part of all.

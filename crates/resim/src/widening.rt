@@ -9,94 +9,90 @@ ghost use Rattle.rundiff.specs.Dirty.{rework_below};
 ghost use Rattle.rundiff.specs.Fronts.{IsFront};
 ghost use Rattle.resim.specs.Reruns.{Reruns};
 
+use crate::asking::Beside;
 use crate::cut::shorten;
 use crate::other_horizon::with_horizon;
-use crate::sweep::{Room, sweep_on};
+use crate::sweep::sweep_on;
 use design::Design;
 use edits::Touched;
-use fourstate::Value;
-use gatestep::{Driver, StepFault, Stepper};
-use rundiff::{Front, OldLines};
+use gatestep::{StepFault, Stepper};
+use rundiff::{Former, Front};
 use scratch::{resume_later, wire};
 use std::alloc::{AllocError, Global};
-use waveform::{Run, Timeline};
+use waveform::Run;
 
 /// The run of the new design, from a front at which all moments up to `last` are done, in time units.
 pub fn widen<S: Stepper>(
     alloc: Global,
     front: Front,
-    old: &Design,
-    run: &Run,
-    new: &Design,
+    former: &Former,
     touched: &Touched,
     last: u64,
     stepper: &mut S,
 ) -> Result<Run, StepFault>
-    requires run { IsRun S.answer old.now run.now }
-    requires touched { IsTouched old.now new.now touched.now.nets.items touched.now.gates.items }
-    requires horizon { (netlist new.now).horizon ≡ (netlist old.now).horizon }
-    requires front { IsFront S.answer (netlist old.now) (netlist new.now) front (suc last) }
-    requires within { last < (netlist new.now).horizon }
+    requires run { IsRun S.answer former.now.old.now former.now.run.now }
+    requires touched { IsTouched former.now.old.now former.now.new.now touched.now.nets.items touched.now.gates.items }
+    requires horizon { (netlist former.now.new.now).horizon ≡ (netlist former.now.old.now).horizon }
+    requires front { IsFront S.answer (netlist former.now.old.now) (netlist former.now.new.now) front (suc last) }
+    requires within { last < (netlist former.now.new.now).horizon }
     ensures reruns { (was : List (Evaluation × ℕ)) →
-        S.asked stepper.old ≡ was ++ rework_below S.answer (netlist old.now) (netlist new.now) (suc last) →
-        Reruns S.answer old.now new.now was (S.asked stepper.new) (S.losses stepper.old) (S.losses stepper.new) result }
+        S.asked stepper.old ≡ was ++ rework_below S.answer (netlist former.now.old.now) (netlist former.now.new.now) (suc last) →
+        Reruns S.answer former.now.old.now former.now.new.now was (S.asked stepper.new) (S.losses stepper.old) (S.losses stepper.new) result }
 {
-    new.lawful();
-    let level = with_horizon(new, last)?;
-    let made = run_until::<S>(alloc, front, old, run, &level, touched, last)?;
-    sweep_after(alloc, old, run, new, &level, &made, stepper)
+    former.new.lawful();
+    let level = with_horizon(former.new, last)?;
+    let made = run_until::<S>(alloc, front, former, &level, touched, last)?;
+    sweep_after(alloc, former, &level, &made, stepper)
 }
 
 /// The run of the new design up to the moment `last`, at which its horizon is, from a front at which all moments up to it are done.
 fn run_until<S: Stepper>(
     alloc: Global,
     front: Front,
-    old: &Design,
-    run: &Run,
+    former: &Former,
     level: &Design,
     touched: &Touched,
     last: u64,
 ) -> Result<Run, AllocError>
-    requires run { IsRun S.answer old.now run.now }
-    requires touched { IsTouched old.now level.now touched.now.nets.items touched.now.gates.items }
-    requires front { IsFront S.answer (netlist old.now) (netlist level.now) front (suc last) }
+    requires run { IsRun S.answer former.now.old.now former.now.run.now }
+    requires touched { IsTouched former.now.old.now level.now touched.now.nets.items touched.now.gates.items }
+    requires front { IsFront S.answer (netlist former.now.old.now) (netlist level.now) front (suc last) }
     requires horizon { (netlist level.now).horizon ≡ last }
-    requires within { last < (netlist old.now).horizon }
+    requires within { last < (netlist former.now.old.now).horizon }
     ensures { IfOk result (IsRun S.answer level.now) }
 {
-    old.lawful();
-    let short = shorten(alloc, old, run, last)?;
-    let former = with_horizon(old, last)?;
-    front.finish::<S>(alloc, &former, &short, level, touched)
+    former.old.lawful();
+    let run = shorten(alloc, former.old, former.run, last)?;
+    let old = with_horizon(former.old, last)?;
+    let short = Former {
+        old: &old,
+        run: &run,
+        new: level,
+        blanks: former.blanks,
+    };
+    front.finish::<S>(alloc, &short, touched)
 }
 
 /// The run of the new design, of which the run up to an earlier horizon was made: `level` is the new design with that horizon.
 fn sweep_after<S: Stepper>(
     alloc: Global,
-    old: &Design,
-    run: &Run,
-    new: &Design,
+    former: &Former,
     level: &Design,
     made: &Run,
     stepper: &mut S,
 ) -> Result<Run, StepFault>
-    requires run { IsRun S.answer old.now run.now }
-    requires horizon { (netlist new.now).horizon ≤ (netlist old.now).horizon }
-    requires level { level.now ≡ record new.now { horizon = level.now.horizon } }
-    requires earlier { (netlist level.now).horizon < (netlist new.now).horizon }
+    requires run { IsRun S.answer former.now.old.now former.now.run.now }
+    requires horizon { (netlist former.now.new.now).horizon ≤ (netlist former.now.old.now).horizon }
+    requires level { level.now ≡ record former.now.new.now { horizon = level.now.horizon } }
+    requires earlier { (netlist level.now).horizon < (netlist former.now.new.now).horizon }
     requires made { IsRun S.answer level.now made.now }
     ensures reruns { (was : List (Evaluation × ℕ)) →
-        S.asked stepper.old ≡ was ++ rework_below S.answer (netlist old.now) (netlist new.now) (suc (netlist level.now).horizon) →
-        Reruns S.answer old.now new.now was (S.asked stepper.new) (S.losses stepper.old) (S.losses stepper.new) result }
+        S.asked stepper.old ≡ was ++ rework_below S.answer (netlist former.now.old.now) (netlist former.now.new.now) (suc (netlist level.now).horizon) →
+        Reruns S.answer former.now.old.now former.now.new.now was (S.asked stepper.new) (S.losses stepper.old) (S.losses stepper.new) result }
 {
-    let blank_wave = Timeline::open(alloc, Value::Unknown)?;
-    let blank_trace = Timeline::open(alloc, Driver::start())?;
-    let mut lines = OldLines::find::<S>(alloc, old, run, new, &blank_wave, &blank_trace)?;
-    let wiring = wire(alloc, new)?;
-    let mut room = Room::new(alloc);
-    let engine = resume_later::<S>(alloc, level, made, new, &wiring)?;
+    let mut beside = Beside::find::<S>(alloc, former)?;
+    let wiring = wire(alloc, former.new)?;
+    let engine = resume_later::<S>(alloc, level, made, former.new, &wiring)?;
     let start = level.horizon() + 1;
-    sweep_on(
-        alloc, &mut lines, old, new, &wiring, engine, start, stepper, &mut room,
-    )
+    sweep_on(alloc, &mut beside, former, &wiring, engine, start, stepper)
 }

@@ -166,7 +166,6 @@ module _ (answer : Evaluation → ℕ → State) (old new : Netlist)
         trace_ends = λ p patch at. let h = right.trace_ends p patch at in omega arith;
         own_traces = λ p on. ⊎_elim (λ never. absurd (omega arith)) (λ own. inr own) (right.own_traces p on);
         other_traces = right.other_traces;
-        blank = right.blank;
         awaits = awaits_on;
       }
 

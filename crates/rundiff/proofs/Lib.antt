@@ -17,6 +17,7 @@ pub mod FirstLive
 pub mod Items
 pub mod Jumping
 pub mod Known
+pub mod Leaps
 pub mod Leaving
 pub mod Lists
 pub mod LookedAt
@@ -39,6 +40,7 @@ pub mod Rows
 pub mod Sets
 pub mod Settling
 pub mod Skipping
+pub mod Standing
 pub mod Steps
 pub mod Still
 pub mod Tasks

@@ -1,5 +1,5 @@
 -- Sets of places, and lists in their order.
-use Rattle.std.proofs.Common.{◌≡◌, ℕ, zero, suc, ◌+◌, ◌<◌, ◌∙◌, ap, sym, refl, subst, List, [], ◌∷◌, Bool, true, false, cond, map, take, Some, arith, add-one, ⊎_elim, nat_cmp}
+use Rattle.std.proofs.Common.{◌≡◌, ℕ, zero, suc, ◌+◌, ◌<◌, ◌∙◌, ap, sym, refl, subst, List, [], ◌∷◌, Bool, true, false, cond, length, map, take, Some, arith, add-one, ⊎_elim, nat_cmp}
 use Rattle.std.specs.Prelude.{slice_get, ◌||◌, ◌==◌}
 use Rattle.std.specs.BTreeSet.{BTreeSet, contains}
 use Rattle.std.specs.Cmp.{nat_cmp_is}
@@ -44,6 +44,14 @@ set_places s places same sorted =
       all = λ p. among_keys s.keys p;
     } in
     subst (λ (l : List ℕ). ArePlaces l (contains nat_cmp s)) (sym same) those
+
+no_keys : (keys : List ℕ) → length keys ≡ 0 → keys ≡ []
+no_keys [] none = refl
+no_keys (k ∷ keys) none = absurd (omega arith)
+
+-- no place is in a set that has no key
+pub none_in : (s : BTreeSet ℕ) → length s.keys ≡ 0 → (p : ℕ) → contains nat_cmp s p ≡ false
+none_in s none p = sym (among_keys s.keys p) ∙ ap (λ (keys : List ℕ). is_among keys p) (no_keys s.keys none)
 
 pub or_assoc : (a b c : Bool) → ((a || b) || c) ≡ (a || (b || c))
 or_assoc true b c = refl

@@ -73,7 +73,7 @@ points_kept (p ∷ ps) t h =
     ∙ ap (λ (qs : List (ℕ × Value)). cond (nat_le p.0 t) (p ∷ qs) qs) rest
 
 -- without a point at a moment a stimulus stays
-same_stimulus : (points : List (ℕ × Value)) (t : ℕ) → has_point points (suc t) ≡ false → stimulus points (suc t) ≡ stimulus points t
+pub same_stimulus : (points : List (ℕ × Value)) (t : ℕ) → has_point points (suc t) ≡ false → stimulus points (suc t) ≡ stimulus points t
 same_stimulus points t h = ap (λ (ps : List (ℕ × Value)). option_map_or (λ point. point.1) (last_or None ps) Unknown) (points_kept points t h)
 
 pub none_kept : {X : Type 0} (p : X → Bool) (xs : List X) → All (λ x. p x ≡ false) xs → filter p xs ≡ []

@@ -124,11 +124,6 @@ pub record AreLive (answer : Evaluation → ℕ → State) (old new : Netlist) (
 abbrev pub AreLiveIn : (Evaluation → ℕ → State) → (old new : Netlist) → Front → ℕ → Type 0
 AreLiveIn answer old new front n = AreLive answer old new (live_in front) (held_in front) (fixed_in front) front.waves n
 
--- what is blank
-pub record AreBlank (of_net : List (ℕ × Value)) (of_gate : List (ℕ × State)) : Type 0 where
-  pub wave : of_net ≡ (0, Unknown) ∷ []
-  pub trace : of_gate ≡ (0, initial) ∷ []
-
 -- the front is right, where the moments below n are done
 pub record IsFront (answer : Evaluation → ℕ → State) (old new : Netlist) (front : Front) (n : ℕ) : Type 0 where
   pub live : AreLiveIn answer old new front n
@@ -136,7 +131,6 @@ pub record IsFront (answer : Evaluation → ℕ → State) (old new : Netlist) (
   pub trace_ends : EndBy front.traces n
   pub own_traces : (p : ℕ) → held_in front p ≡ true → (n ≡ 0) ⊎ IsOwn (kept_at front.traces p)
   pub other_traces : (p : ℕ) → held_in front p ≡ false → IsFree (kept_at front.traces p)
-  pub blank : AreBlank front.blank_wave front.blank_trace
   pub awaits : IsNoted answer old new (live_in front) (held_in front) (held_in front) n (noted front.events) (noted front.inputs) (noted front.nets) n
 
 -- the held gates that are not looked at
@@ -150,7 +144,6 @@ pub record AreNetsDone (answer : Evaluation → ℕ → State) (old new : Netlis
   pub traces : AreTraces answer old new front.traces t
   pub trace_ends : EndBy front.traces t
   pub other_traces : (p : ℕ) → held_in front p ≡ false → IsFree (kept_at front.traces p)
-  pub blank : AreBlank front.blank_wave front.blank_trace
   pub chosen : ArePlaces front.gates.items (is_among front.gates.items)
   pub chosen_held : (p : ℕ) → is_among front.gates.items p ≡ true → held_in front p ≡ true
   pub quiet : (p : ℕ) → p < length new.gates → passed_in front p ≡ true → is_stirred answer new (gate_at new p) t ≡ false
@@ -170,7 +163,6 @@ pub record IsWaiting (answer : Evaluation → ℕ → State) (old new : Netlist)
   pub trace_ends : (p : ℕ) → ForSome (kept_at front.traces p) (λ patch. (end_of patch.line ≤ suc t) × (is_working answer old new t p ≡ true → end_of patch.line ≤ t))
   pub own_traces : (p : ℕ) → held_in front p ≡ true → is_working answer old new t p ≡ false → IsOwn (kept_at front.traces p)
   pub other_traces : (p : ℕ) → held_in front p ≡ false → IsFree (kept_at front.traces p)
-  pub blank : AreBlank front.blank_wave front.blank_trace
   pub places : ArePlaces front.outcomes.working.items (λ p. held_in front p && is_working answer old new t p)
   pub tasks : working_at answer old new t ≡ map (gate_at new) front.outcomes.working.items
   pub same : All (IsClean answer old new t) front.outcomes.clean.items

@@ -1,6 +1,7 @@
 pub mod Dirty
 pub mod Finishing
 pub mod Fronts
+pub mod Inputs
 pub mod Kept
 pub mod Noting
 pub mod OldLines

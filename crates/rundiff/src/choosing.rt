@@ -5,7 +5,7 @@ ghost use Rattle.std.specs.BTreeSet.{contains};
 ghost use Rattle.std.specs.Ordering.{nat_cmp};
 ghost use Rattle.event_queue.specs.Noted.{IsTaken, noted};
 ghost use Rattle.design.specs.Keys.{netlist};
-ghost use Rattle.rundiff.specs.Fronts.{AreDrivers, ArePlaces};
+ghost use Rattle.rundiff.specs.Fronts.{ArePlaces};
 ghost use Rattle.rundiff.specs.Places.{gate_at, is_among, is_live};
 ghost use Rattle.scratch.specs.Places.{has};
 
@@ -60,34 +60,27 @@ pub fn add_outputs(new: &Design, gates: &[usize], nets: &mut Vec<usize>) -> Resu
     Ok(())
 }
 
-/// Takes the held gates that are noted for the moment `t`, and finds the live nets to be looked at: those that are noted for
-/// it, and the outputs of these gates.
+/// Takes the nets that are noted for the moment `t`, and leaves, of these and of the outputs of some gates, the live ones, in
+/// order, each once.
 pub fn choose_nets(
-    events: &mut EventQueue,
     queue: &mut EventQueue,
     live: &PlaceSet,
-    held: &PlaceSet,
     new: &Design,
     t: u64,
-    gates: &mut Vec<usize>,
+    gates: &[usize],
     nets: &mut Vec<usize>,
 ) -> Result<(), AllocError>
-    requires drivers { AreDrivers (netlist new.now) (contains nat_cmp live.now) (contains nat_cmp held.now) }
-    ensures events { OnOk result (IsTaken t events.old events.new) }
+    requires there { (q : ℕ) → is_among gates.now q ≡ true → q < length (netlist new.now).gates }
+    requires live { (q : ℕ) → is_among gates.now q ≡ true → is_live (netlist new.now) (contains nat_cmp live.now) (gate_at (netlist new.now) q).output ≡ true }
     ensures queue { OnOk result (IsTaken t queue.old queue.new) }
-    ensures gates { OnOk result ((q : ℕ) → contains nat_cmp held.now q ≡ true → has q (noted events.old t) ≡ true → is_among gates.new.items q ≡ true) }
     ensures rising { OnOk result (AllPairs (λ p q. p < q) nets.new.items) }
     ensures live { OnOk result ((p : ℕ) → is_among nets.new.items p ≡ true → contains nat_cmp live.now p ≡ true) }
     ensures noted { OnOk result ((p : ℕ) → contains nat_cmp live.now p ≡ true → has p (noted queue.old t) ≡ true → is_among nets.new.items p ≡ true) }
-    ensures driven { OnOk result ((q : ℕ) → contains nat_cmp held.now q ≡ true → has q (noted events.old t) ≡ true
-        → is_live (netlist new.now) (is_among nets.new.items) (gate_at (netlist new.now) q).output ≡ true) }
+    ensures driven { OnOk result ((q : ℕ) → is_among gates.now q ≡ true → is_live (netlist new.now) (is_among nets.new.items) (gate_at (netlist new.now) q).output ≡ true) }
 {
-    gates.clear();
-    events.take(t, gates)?;
-    keep_in_order(gates, held);
     nets.clear();
     queue.take(t, nets)?;
-    add_outputs(new, gates.as_slice(), nets)?;
+    add_outputs(new, gates, nets)?;
     keep_in_order(nets, live);
     Ok(())
 }

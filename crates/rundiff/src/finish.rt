@@ -1,10 +1,9 @@
 //! The new run, once all moments up to the horizon are done.
 
-ghost use Rattle.std.specs.Prelude.{◌≡◌, ◌<◌, ℕ, List, All, None, true, false, suc, [], ◌∷◌, IfOk, OnOk, length};
+ghost use Rattle.std.specs.Prelude.{◌≡◌, ◌<◌, ℕ, List, All, None, true, false, suc, IfOk, OnOk, length};
 ghost use Rattle.std.specs.BTreeSet.{contains};
 ghost use Rattle.std.specs.Ordering.{nat_cmp};
 ghost use Rattle.catalog.specs.Catalog.{keys_of};
-ghost use Rattle.gatestep.specs.Step.{initial};
 ghost use Rattle.design.specs.Keys.{netlist};
 ghost use Rattle.edits.specs.Touched.{IsTouched};
 ghost use Rattle.scratch.specs.Run.{IsRun};
@@ -15,6 +14,7 @@ ghost use Rattle.rundiff.specs.Places.{gate_at, is_among, is_live};
 
 use crate::choosing::add_outputs;
 use crate::finishing::{clear_touched, put_traces, put_waves};
+use crate::former::Former;
 use crate::front::Front;
 use crate::holding::hold;
 use crate::opening::touched_places;
@@ -26,7 +26,7 @@ use edits::Touched;
 use fourstate::Value;
 use gatestep::{Driver, Stepper};
 use std::alloc::{AllocError, Global};
-use waveform::{Patch, Run, Trace, Wave, laws};
+use waveform::{Patch, Run, laws};
 
 impl Front {
     /// The run of the new design, once all moments up to the horizon, which is that of the old one, are done. What is not
@@ -34,71 +34,49 @@ impl Front {
     pub fn finish<S: Stepper>(
         self,
         alloc: Global,
-        old: &Design,
-        run: &Run,
-        new: &Design,
+        former: &Former,
         touched: &Touched,
     ) -> Result<Run, AllocError>
-        requires run { IsRun S.answer old.now run.now }
-        requires touched { IsTouched old.now new.now touched.now.nets.items touched.now.gates.items }
-        requires horizon { (netlist new.now).horizon ≡ (netlist old.now).horizon }
-        requires front { IsFront S.answer (netlist old.now) (netlist new.now) self (suc (netlist new.now).horizon) }
-        ensures { IfOk result (λ made. IsRun S.answer new.now made) }
+        requires run { IsRun S.answer former.now.old.now former.now.run.now }
+        requires touched { IsTouched former.now.old.now former.now.new.now touched.now.nets.items touched.now.gates.items }
+        requires horizon { (netlist former.now.new.now).horizon ≡ (netlist former.now.old.now).horizon }
+        requires front { IsFront S.answer (netlist former.now.old.now) (netlist former.now.new.now) self (suc (netlist former.now.new.now).horizon) }
+        ensures { IfOk result (λ made. IsRun S.answer former.now.new.now made) }
     {
         let mut front = self;
-        front.give_run::<S>(alloc, old, run, new, touched)
+        front.give_run::<S>(alloc, former, touched)
     }
 
     /// The run of the new design; what is touched becomes live, and the patches go into the run.
     fn give_run<S: Stepper>(
         &mut self,
         alloc: Global,
-        old: &Design,
-        run: &Run,
-        new: &Design,
+        former: &Former,
         touched: &Touched,
     ) -> Result<Run, AllocError>
-        requires run { IsRun S.answer old.now run.now }
-        requires touched { IsTouched old.now new.now touched.now.nets.items touched.now.gates.items }
-        requires horizon { (netlist new.now).horizon ≡ (netlist old.now).horizon }
-        requires front { IsFront S.answer (netlist old.now) (netlist new.now) self.old (suc (netlist new.now).horizon) }
-        ensures { IfOk result (λ made. IsRun S.answer new.now made) }
+        requires run { IsRun S.answer former.now.old.now former.now.run.now }
+        requires touched { IsTouched former.now.old.now former.now.new.now touched.now.nets.items touched.now.gates.items }
+        requires horizon { (netlist former.now.new.now).horizon ≡ (netlist former.now.old.now).horizon }
+        requires front { IsFront S.answer (netlist former.now.old.now) (netlist former.now.new.now) self.old (suc (netlist former.now.new.now).horizon) }
+        ensures { IfOk result (λ made. IsRun S.answer former.now.new.now made) }
     {
-        old.lawful();
-        new.lawful();
-        new.places_are_keys();
+        former.old.lawful();
+        former.new.lawful();
+        former.new.places_are_keys();
         laws::same_changes::<Value>();
         laws::same_changes::<Driver>();
         hold_all(
             &mut self.live,
             &mut self.held,
             alloc,
-            new,
+            former.new,
             touched,
             &self.waves,
             &self.traces,
         )?;
-        let mut made = cleared_copy(run, touched)?;
-        put_live::<S>(
-            alloc,
-            &mut made,
-            &mut self.waves,
-            &self.blank_wave,
-            old,
-            run,
-            new,
-            &self.live,
-        )?;
-        put_held::<S>(
-            alloc,
-            &mut made,
-            &mut self.traces,
-            &self.blank_trace,
-            old,
-            run,
-            new,
-            &self.held,
-        )?;
+        let mut made = cleared_copy(former.run, touched)?;
+        put_live::<S>(alloc, &mut made, &mut self.waves, former, &self.live)?;
+        put_held::<S>(alloc, &mut made, &mut self.traces, former, &self.held)?;
         Ok(made)
     }
 }
@@ -146,25 +124,21 @@ fn put_live<S: Stepper>(
     alloc: Global,
     made: &mut Run,
     waves: &mut PlaceMap<Patch<Value>>,
-    blank: &Wave,
-    old: &Design,
-    run: &Run,
-    new: &Design,
+    former: &Former,
     live: &PlaceSet,
 ) -> Result<(), AllocError>
-    requires blank { blank.now ≡ (0, Value.Unknown) ∷ [] }
-    requires there { (p : ℕ) → contains nat_cmp live.now p ≡ true → p < length (netlist new.now).nets }
-    requires horizon { (netlist new.now).horizon ≡ (netlist old.now).horizon }
-    requires run { IsRun S.answer old.now run.now }
-    requires waves { AreWaves S.answer (netlist old.now) (netlist new.now) waves.old (suc (netlist new.now).horizon) }
-    requires ends { EndBy waves.old (suc (netlist new.now).horizon) }
+    requires there { (p : ℕ) → contains nat_cmp live.now p ≡ true → p < length (netlist former.now.new.now).nets }
+    requires horizon { (netlist former.now.new.now).horizon ≡ (netlist former.now.old.now).horizon }
+    requires run { IsRun S.answer former.now.old.now former.now.run.now }
+    requires waves { AreWaves S.answer (netlist former.now.old.now) (netlist former.now.new.now) waves.old (suc (netlist former.now.new.now).horizon) }
+    requires ends { EndBy waves.old (suc (netlist former.now.new.now).horizon) }
     ensures waves { OnOk result ((places : List ℕ) × ArePlaces places (contains nat_cmp live.now)
-        × ArePut (new_wave S.answer new.now) (keys_of new.now.nets) places made.old.waves made.new.waves) }
+        × ArePut (new_wave S.answer former.now.new.now) (keys_of former.now.new.now.nets) places made.old.waves made.new.waves) }
     ensures traces { made.new.traces ≡ made.old.traces }
     ensures horizon { made.new.horizon ≡ made.old.horizon }
 {
     let places = places_of(alloc, live)?;
-    put_waves::<S>(alloc, made, waves, blank, old, run, new, places.as_slice())
+    put_waves::<S>(alloc, made, waves, former, places.as_slice())
 }
 
 /// Puts the traces of the held gates. Where an allocation was refused, which are put is not known.
@@ -172,23 +146,19 @@ fn put_held<S: Stepper>(
     alloc: Global,
     made: &mut Run,
     traces: &mut PlaceMap<Patch<Driver>>,
-    blank: &Trace,
-    old: &Design,
-    run: &Run,
-    new: &Design,
+    former: &Former,
     held: &PlaceSet,
 ) -> Result<(), AllocError>
-    requires blank { blank.now ≡ (0, initial) ∷ [] }
-    requires there { (p : ℕ) → contains nat_cmp held.now p ≡ true → p < length (netlist new.now).gates }
-    requires horizon { (netlist new.now).horizon ≡ (netlist old.now).horizon }
-    requires run { IsRun S.answer old.now run.now }
-    requires traces { AreTraces S.answer (netlist old.now) (netlist new.now) traces.old (suc (netlist new.now).horizon) }
-    requires ends { EndBy traces.old (suc (netlist new.now).horizon) }
+    requires there { (p : ℕ) → contains nat_cmp held.now p ≡ true → p < length (netlist former.now.new.now).gates }
+    requires horizon { (netlist former.now.new.now).horizon ≡ (netlist former.now.old.now).horizon }
+    requires run { IsRun S.answer former.now.old.now former.now.run.now }
+    requires traces { AreTraces S.answer (netlist former.now.old.now) (netlist former.now.new.now) traces.old (suc (netlist former.now.new.now).horizon) }
+    requires ends { EndBy traces.old (suc (netlist former.now.new.now).horizon) }
     ensures traces { OnOk result ((places : List ℕ) × ArePlaces places (contains nat_cmp held.now)
-        × ArePut (new_trace S.answer new.now) (keys_of new.now.gates) places made.old.traces made.new.traces) }
+        × ArePut (new_trace S.answer former.now.new.now) (keys_of former.now.new.now.gates) places made.old.traces made.new.traces) }
     ensures waves { made.new.waves ≡ made.old.waves }
     ensures horizon { made.new.horizon ≡ made.old.horizon }
 {
     let places = places_of(alloc, held)?;
-    put_traces::<S>(alloc, made, traces, blank, old, run, new, places.as_slice())
+    put_traces::<S>(alloc, made, traces, former, places.as_slice())
 }

@@ -3,7 +3,6 @@
 ghost use Rattle.std.specs.Prelude.{◌≡◌, ◌<◌, ◌≤◌, ℕ, suc, true, false, nat_eq, [], ◌∷◌, AllPairs, IfOk, OnOk, length};
 ghost use Rattle.std.specs.Option.{ForSome};
 ghost use Rattle.rundiff.specs.PlaceMaps.{kept_at};
-ghost use Rattle.gatestep.specs.Step.{initial};
 ghost use Rattle.design.specs.Keys.{netlist};
 ghost use Rattle.catalog.specs.Catalog.{keys_of};
 ghost use Rattle.waveform.specs.Patches.{Keeps};
@@ -14,14 +13,14 @@ ghost use Rattle.rundiff.specs.Finishing.{ArePut, AreCleared, new_trace, new_wav
 ghost use Rattle.rundiff.specs.Fronts.{AreTraces, AreWaves, EndBy, IsTrace, IsWave};
 ghost use Rattle.rundiff.specs.Places.{is_among};
 
+use crate::former::Former;
 use crate::old::{old_trace, old_wave};
 use crate::place_map::PlaceMap;
-use design::Design;
 use edits::Touched;
 use fourstate::Value;
 use gatestep::{Driver, Stepper};
 use std::alloc::{AllocError, Global};
-use waveform::{Patch, Run, Sample, Timeline, Trace, Wave, laws};
+use waveform::{Patch, Run, Sample, Timeline, laws};
 
 /// Takes away what a run has under keys that edits touched. Where an allocation was refused, which are gone is not known.
 pub fn clear_touched(run: &mut Run, touched: &Touched) -> Result<(), AllocError>
@@ -43,25 +42,21 @@ pub fn put_waves<S: Stepper>(
     alloc: Global,
     made: &mut Run,
     waves: &mut PlaceMap<Patch<Value>>,
-    blank: &Wave,
-    old: &Design,
-    run: &Run,
-    new: &Design,
+    former: &Former,
     live: &[usize],
 ) -> Result<(), AllocError>
-    requires blank { blank.now ≡ (0, Value.Unknown) ∷ [] }
-    requires there { (p : ℕ) → is_among live.now p ≡ true → p < length (netlist new.now).nets }
+    requires there { (p : ℕ) → is_among live.now p ≡ true → p < length (netlist former.now.new.now).nets }
     requires rising { AllPairs (λ p q. p < q) live.now }
-    requires horizon { (netlist new.now).horizon ≡ (netlist old.now).horizon }
-    requires run { IsRun S.answer old.now run.now }
-    requires waves { AreWaves S.answer (netlist old.now) (netlist new.now) waves.old (suc (netlist new.now).horizon) }
-    requires ends { EndBy waves.old (suc (netlist new.now).horizon) }
-    ensures waves { OnOk result (ArePut (new_wave S.answer new.now) (keys_of new.now.nets) live.now made.old.waves made.new.waves) }
+    requires horizon { (netlist former.now.new.now).horizon ≡ (netlist former.now.old.now).horizon }
+    requires run { IsRun S.answer former.now.old.now former.now.run.now }
+    requires waves { AreWaves S.answer (netlist former.now.old.now) (netlist former.now.new.now) waves.old (suc (netlist former.now.new.now).horizon) }
+    requires ends { EndBy waves.old (suc (netlist former.now.new.now).horizon) }
+    ensures waves { OnOk result (ArePut (new_wave S.answer former.now.new.now) (keys_of former.now.new.now.nets) live.now made.old.waves made.new.waves) }
     ensures traces { made.new.traces ≡ made.old.traces }
     ensures horizon { made.new.horizon ≡ made.old.horizon }
 {
     for place in live {
-        put_wave::<S>(alloc, made, waves, blank, old, run, new, *place)?;
+        put_wave::<S>(alloc, made, waves, former, *place)?;
     }
     Ok(())
 }
@@ -71,27 +66,23 @@ fn put_wave<S: Stepper>(
     alloc: Global,
     made: &mut Run,
     waves: &mut PlaceMap<Patch<Value>>,
-    blank: &Wave,
-    old: &Design,
-    run: &Run,
-    new: &Design,
+    former: &Former,
     place: usize,
 ) -> Result<(), AllocError>
-    requires blank { blank.now ≡ (0, Value.Unknown) ∷ [] }
-    requires there { place < length (netlist new.now).nets }
-    requires horizon { (netlist new.now).horizon ≡ (netlist old.now).horizon }
-    requires run { IsRun S.answer old.now run.now }
-    requires wave { IsWave S.answer (netlist old.now) (netlist new.now) waves.old place (suc (netlist new.now).horizon) }
-    requires end { ForSome (kept_at waves.old place) (λ patch. end_of patch.line ≤ suc (netlist new.now).horizon) }
-    ensures waves { OnOk result (ArePut (new_wave S.answer new.now) (keys_of new.now.nets) (place ∷ []) made.old.waves made.new.waves) }
+    requires there { place < length (netlist former.now.new.now).nets }
+    requires horizon { (netlist former.now.new.now).horizon ≡ (netlist former.now.old.now).horizon }
+    requires run { IsRun S.answer former.now.old.now former.now.run.now }
+    requires wave { IsWave S.answer (netlist former.now.old.now) (netlist former.now.new.now) waves.old place (suc (netlist former.now.new.now).horizon) }
+    requires end { ForSome (kept_at waves.old place) (λ patch. end_of patch.line ≤ suc (netlist former.now.new.now).horizon) }
+    ensures waves { OnOk result (ArePut (new_wave S.answer former.now.new.now) (keys_of former.now.new.now.nets) (place ∷ []) made.old.waves made.new.waves) }
     ensures others { (q : ℕ) → nat_eq place q ≡ false → kept_at waves.new q ≡ kept_at waves.old q }
     ensures traces { made.new.traces ≡ made.old.traces }
     ensures horizon { made.new.horizon ≡ made.old.horizon }
 {
-    new.lawful();
-    let key = new.net_key_at(place);
-    let former = old_wave(old, run, key, new.net_at(place).name().as_str(), blank);
-    let wave = whole(waves.take(place), alloc, former, new.horizon() + 1)?;
+    former.new.lawful();
+    let key = former.new.net_key_at(place);
+    let was = old_wave(former, key, former.new.net_at(place).name().as_str());
+    let wave = whole(waves.take(place), alloc, was, former.new.horizon() + 1)?;
     made.put_wave(key.number(), wave)
 }
 
@@ -100,25 +91,21 @@ pub fn put_traces<S: Stepper>(
     alloc: Global,
     made: &mut Run,
     traces: &mut PlaceMap<Patch<Driver>>,
-    blank: &Trace,
-    old: &Design,
-    run: &Run,
-    new: &Design,
+    former: &Former,
     held: &[usize],
 ) -> Result<(), AllocError>
-    requires blank { blank.now ≡ (0, initial) ∷ [] }
-    requires there { (p : ℕ) → is_among held.now p ≡ true → p < length (netlist new.now).gates }
+    requires there { (p : ℕ) → is_among held.now p ≡ true → p < length (netlist former.now.new.now).gates }
     requires rising { AllPairs (λ p q. p < q) held.now }
-    requires horizon { (netlist new.now).horizon ≡ (netlist old.now).horizon }
-    requires run { IsRun S.answer old.now run.now }
-    requires traces { AreTraces S.answer (netlist old.now) (netlist new.now) traces.old (suc (netlist new.now).horizon) }
-    requires ends { EndBy traces.old (suc (netlist new.now).horizon) }
-    ensures traces { OnOk result (ArePut (new_trace S.answer new.now) (keys_of new.now.gates) held.now made.old.traces made.new.traces) }
+    requires horizon { (netlist former.now.new.now).horizon ≡ (netlist former.now.old.now).horizon }
+    requires run { IsRun S.answer former.now.old.now former.now.run.now }
+    requires traces { AreTraces S.answer (netlist former.now.old.now) (netlist former.now.new.now) traces.old (suc (netlist former.now.new.now).horizon) }
+    requires ends { EndBy traces.old (suc (netlist former.now.new.now).horizon) }
+    ensures traces { OnOk result (ArePut (new_trace S.answer former.now.new.now) (keys_of former.now.new.now.gates) held.now made.old.traces made.new.traces) }
     ensures waves { made.new.waves ≡ made.old.waves }
     ensures horizon { made.new.horizon ≡ made.old.horizon }
 {
     for place in held {
-        put_trace::<S>(alloc, made, traces, blank, old, run, new, *place)?;
+        put_trace::<S>(alloc, made, traces, former, *place)?;
     }
     Ok(())
 }
@@ -128,28 +115,24 @@ fn put_trace<S: Stepper>(
     alloc: Global,
     made: &mut Run,
     traces: &mut PlaceMap<Patch<Driver>>,
-    blank: &Trace,
-    old: &Design,
-    run: &Run,
-    new: &Design,
+    former: &Former,
     place: usize,
 ) -> Result<(), AllocError>
-    requires blank { blank.now ≡ (0, initial) ∷ [] }
-    requires there { place < length (netlist new.now).gates }
-    requires horizon { (netlist new.now).horizon ≡ (netlist old.now).horizon }
-    requires run { IsRun S.answer old.now run.now }
-    requires trace { IsTrace S.answer (netlist old.now) (netlist new.now) traces.old place (suc (netlist new.now).horizon) }
-    requires end { ForSome (kept_at traces.old place) (λ patch. end_of patch.line ≤ suc (netlist new.now).horizon) }
-    ensures traces { OnOk result (ArePut (new_trace S.answer new.now) (keys_of new.now.gates) (place ∷ []) made.old.traces made.new.traces) }
+    requires there { place < length (netlist former.now.new.now).gates }
+    requires horizon { (netlist former.now.new.now).horizon ≡ (netlist former.now.old.now).horizon }
+    requires run { IsRun S.answer former.now.old.now former.now.run.now }
+    requires trace { IsTrace S.answer (netlist former.now.old.now) (netlist former.now.new.now) traces.old place (suc (netlist former.now.new.now).horizon) }
+    requires end { ForSome (kept_at traces.old place) (λ patch. end_of patch.line ≤ suc (netlist former.now.new.now).horizon) }
+    ensures traces { OnOk result (ArePut (new_trace S.answer former.now.new.now) (keys_of former.now.new.now.gates) (place ∷ []) made.old.traces made.new.traces) }
     ensures others { (q : ℕ) → nat_eq place q ≡ false → kept_at traces.new q ≡ kept_at traces.old q }
     ensures waves { made.new.waves ≡ made.old.waves }
     ensures horizon { made.new.horizon ≡ made.old.horizon }
 {
-    old.lawful();
-    new.lawful();
-    let key = new.gate_key_at(place);
-    let former = old_trace(old, run, key, new.gate_at(place).name().as_str(), blank);
-    let trace = whole(traces.take(place), alloc, former, new.horizon() + 1)?;
+    former.old.lawful();
+    former.new.lawful();
+    let key = former.new.gate_key_at(place);
+    let was = old_trace(former, key, former.new.gate_at(place).name().as_str());
+    let trace = whole(traces.take(place), alloc, was, former.new.horizon() + 1)?;
     made.put_trace(key.number(), trace)
 }
 

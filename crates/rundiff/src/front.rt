@@ -8,16 +8,16 @@ ghost use Rattle.rundiff.specs.Dirty.{working_at};
 ghost use Rattle.rundiff.specs.Fronts.{IsClean, IsFront, IsWaiting, tasks_in};
 ghost use Rattle.scratch.specs.Work.{task_at};
 
+use crate::former::Former;
 use crate::gate_notes::note_events;
 use crate::gates::{Outcomes, put_states};
 use crate::place_map::PlaceMap;
 use crate::place_set::PlaceSet;
-use design::Design;
 use event_queue::EventQueue;
 use fourstate::Value;
 use gatestep::{Driver, Stepper, Task};
 use std::alloc::{AllocError, Global};
-use waveform::{Patch, Run, Trace, Wave};
+use waveform::Patch;
 
 /// What a new run keeps of its own beside an old one. Nets and gates are known by their places in the order of the new
 /// design.
@@ -48,10 +48,6 @@ pub struct Front {
     pub found: Vec<usize>,
     /// Between `due` and `settle`, what comes of the gates that are looked at.
     pub outcomes: Outcomes,
-    /// The wave of a net that the old design has not.
-    pub blank_wave: Wave,
-    /// The trace of a gate that the old design has not.
-    pub blank_trace: Trace,
     /// How many moments are done.
     pub done: u64,
 }
@@ -62,20 +58,18 @@ impl Front {
     pub fn due<S: Stepper>(
         &mut self,
         alloc: Global,
-        old: &Design,
-        run: &Run,
-        new: &Design,
+        former: &Former,
         t: u64,
     ) -> Result<(), AllocError>
-        requires run { IsRun S.answer old.now run.now }
-        requires front { IsFront S.answer (netlist old.now) (netlist new.now) self.old t }
-        requires within { t ≤ (netlist old.now).horizon }
-        ensures tasks { OnOk result (tasks_in self.new ≡ map (λ g. task_at S.answer (netlist new.now) g t) (working_at S.answer (netlist old.now) (netlist new.now) t)) }
+        requires run { IsRun S.answer former.now.old.now former.now.run.now }
+        requires front { IsFront S.answer (netlist former.now.old.now) (netlist former.now.new.now) self.old t }
+        requires within { t ≤ (netlist former.now.old.now).horizon }
+        ensures tasks { OnOk result (tasks_in self.new ≡ map (λ g. task_at S.answer (netlist former.now.new.now) g t) (working_at S.answer (netlist former.now.old.now) (netlist former.now.new.now) t)) }
         ensures ready { OnOk result (All (IsReady t) (tasks_in self.new)) }
-        ensures front { OnOk result (IsWaiting S.answer (netlist old.now) (netlist new.now) self.new t) }
+        ensures front { OnOk result (IsWaiting S.answer (netlist former.now.old.now) (netlist former.now.new.now) self.new t) }
     {
-        self.look_at_nets::<S>(alloc, old, run, new, t)?;
-        self.look_at_gates::<S>(alloc, old, run, new, t)
+        self.look_at_nets::<S>(alloc, former, t)?;
+        self.look_at_gates::<S>(alloc, former, t)
     }
 
     /// The tasks that `due` found, in the order of their gates.
@@ -90,50 +84,43 @@ impl Front {
     pub fn settle<S: Stepper>(
         &mut self,
         alloc: Global,
-        old: &Design,
-        run: &Run,
-        new: &Design,
+        former: &Former,
         t: u64,
         answers: &[Driver],
     ) -> Result<(), AllocError>
-        requires run { IsRun S.answer old.now run.now }
-        requires front { IsWaiting S.answer (netlist old.now) (netlist new.now) self.old t }
-        requires within { t ≤ (netlist old.now).horizon }
-        requires answers { answers.now ≡ map (λ g. state_after S.answer (netlist new.now) g t) (working_at S.answer (netlist old.now) (netlist new.now) t) }
-        ensures front { OnOk result (IsFront S.answer (netlist old.now) (netlist new.now) self.new (suc t)) }
+        requires run { IsRun S.answer former.now.old.now former.now.run.now }
+        requires front { IsWaiting S.answer (netlist former.now.old.now) (netlist former.now.new.now) self.old t }
+        requires within { t ≤ (netlist former.now.old.now).horizon }
+        requires answers { answers.now ≡ map (λ g. state_after S.answer (netlist former.now.new.now) g t) (working_at S.answer (netlist former.now.old.now) (netlist former.now.new.now) t) }
+        ensures front { OnOk result (IsFront S.answer (netlist former.now.old.now) (netlist former.now.new.now) self.new (suc t)) }
         ensures done { OnOk result (self.new.done ≡ t + 1) }
     {
-        self.take_answers::<S>(alloc, old, run, new, t, answers)?;
-        self.let_go::<S>(alloc, old, run, new, t)
+        self.take_answers::<S>(alloc, former, t, answers)?;
+        self.let_go::<S>(alloc, former, t)
     }
 
     /// Takes the answers to the tasks of the moment `t`.
     fn take_answers<S: Stepper>(
         &mut self,
         alloc: Global,
-        old: &Design,
-        run: &Run,
-        new: &Design,
+        former: &Former,
         t: u64,
         answers: &[Driver],
     ) -> Result<(), AllocError>
-        requires run { IsRun S.answer old.now run.now }
-        requires front { IsWaiting S.answer (netlist old.now) (netlist new.now) self.old t }
-        requires within { t ≤ (netlist old.now).horizon }
-        requires answers { answers.now ≡ map (λ g. state_after S.answer (netlist new.now) g t) (working_at S.answer (netlist old.now) (netlist new.now) t) }
-        ensures front { OnOk result (IsFront S.answer (netlist old.now) (netlist new.now) self.new (suc t)) }
-        ensures clean { OnOk result (All (IsClean S.answer (netlist old.now) (netlist new.now) t) self.new.outcomes.clean.items) }
+        requires run { IsRun S.answer former.now.old.now former.now.run.now }
+        requires front { IsWaiting S.answer (netlist former.now.old.now) (netlist former.now.new.now) self.old t }
+        requires within { t ≤ (netlist former.now.old.now).horizon }
+        requires answers { answers.now ≡ map (λ g. state_after S.answer (netlist former.now.new.now) g t) (working_at S.answer (netlist former.now.old.now) (netlist former.now.new.now) t) }
+        ensures front { OnOk result (IsFront S.answer (netlist former.now.old.now) (netlist former.now.new.now) self.new (suc t)) }
+        ensures clean { OnOk result (All (IsClean S.answer (netlist former.now.old.now) (netlist former.now.new.now) t) self.new.outcomes.clean.items) }
         ensures done { OnOk result (self.new.done ≡ t + 1) }
     {
-        old.lawful();
-        new.lawful();
+        former.old.lawful();
+        former.new.lawful();
         put_states::<S>(
             alloc,
             &mut self.traces,
-            &self.blank_trace,
-            old,
-            run,
-            new,
+            former,
             self.outcomes.working.as_slice(),
             answers,
             t,

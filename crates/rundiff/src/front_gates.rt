@@ -8,13 +8,13 @@ ghost use Rattle.rundiff.specs.Dirty.{working_at};
 ghost use Rattle.rundiff.specs.Fronts.{AreNetsDone, IsWaiting, tasks_in};
 ghost use Rattle.scratch.specs.Work.{task_at};
 
+use crate::former::Former;
 use crate::front::Front;
 use crate::gate_notes::{note_all_inputs, note_events};
 use crate::gates::{look_at, put_states};
-use design::Design;
 use gatestep::{Driver, Stepper};
 use std::alloc::{AllocError, Global};
-use waveform::{Run, laws};
+use waveform::laws;
 
 impl Front {
     /// What comes of the held gates at the moment `t`: of those that are chosen each is evaluated or rests, and the others
@@ -22,29 +22,23 @@ impl Front {
     pub(crate) fn look_at_gates<S: Stepper>(
         &mut self,
         alloc: Global,
-        old: &Design,
-        run: &Run,
-        new: &Design,
+        former: &Former,
         t: u64,
     ) -> Result<(), AllocError>
-        requires run { IsRun S.answer old.now run.now }
-        requires front { AreNetsDone S.answer (netlist old.now) (netlist new.now) self.old t }
-        requires within { t ≤ (netlist old.now).horizon }
-        ensures tasks { OnOk result (tasks_in self.new ≡ map (λ g. task_at S.answer (netlist new.now) g t) (working_at S.answer (netlist old.now) (netlist new.now) t)) }
+        requires run { IsRun S.answer former.now.old.now former.now.run.now }
+        requires front { AreNetsDone S.answer (netlist former.now.old.now) (netlist former.now.new.now) self.old t }
+        requires within { t ≤ (netlist former.now.old.now).horizon }
+        ensures tasks { OnOk result (tasks_in self.new ≡ map (λ g. task_at S.answer (netlist former.now.new.now) g t) (working_at S.answer (netlist former.now.old.now) (netlist former.now.new.now) t)) }
         ensures ready { OnOk result (All (IsReady t) (tasks_in self.new)) }
-        ensures front { OnOk result (IsWaiting S.answer (netlist old.now) (netlist new.now) self.new t) }
+        ensures front { OnOk result (IsWaiting S.answer (netlist former.now.old.now) (netlist former.now.new.now) self.new t) }
     {
-        old.lawful();
-        new.lawful();
+        former.old.lawful();
+        former.new.lawful();
         laws::no_change_by_drift::<Driver>();
         look_at::<S>(
             &self.waves,
             &self.traces,
-            &self.blank_wave,
-            &self.blank_trace,
-            old,
-            run,
-            new,
+            former,
             &self.fixed,
             self.gates.as_slice(),
             t,
@@ -53,10 +47,7 @@ impl Front {
         put_states::<S>(
             alloc,
             &mut self.traces,
-            &self.blank_trace,
-            old,
-            run,
-            new,
+            former,
             self.outcomes.resting.as_slice(),
             self.outcomes.states.as_slice(),
             t,
@@ -72,10 +63,7 @@ impl Front {
             alloc,
             &mut self.inputs,
             &self.live,
-            &self.blank_wave,
-            old,
-            run,
-            new,
+            former,
             self.gates.as_slice(),
             t,
         )?;

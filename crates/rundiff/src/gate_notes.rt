@@ -1,6 +1,6 @@
 //! What some gates wait for.
 
-ghost use Rattle.std.specs.Prelude.{◌≡◌, ◌<◌, ◌≤◌, ℕ, suc, true, [], ◌∷◌, All, OnOk, length, map};
+ghost use Rattle.std.specs.Prelude.{◌≡◌, ◌<◌, ◌≤◌, ℕ, suc, true, All, OnOk, length, map};
 ghost use Rattle.std.specs.BTreeSet.{contains};
 ghost use Rattle.std.specs.Ordering.{nat_cmp};
 ghost use Rattle.event_queue.specs.Noted.{noted};
@@ -12,14 +12,12 @@ ghost use Rattle.rundiff.specs.Places.{is_among};
 ghost use Rattle.scratch.specs.Places.{IsNotedWithin, Keeps, has};
 ghost use Rattle.scratch.specs.Run.{IsRun};
 
+use crate::former::Former;
 use crate::noting::{note_event, note_inputs};
 use crate::place_set::PlaceSet;
-use design::Design;
 use event_queue::EventQueue;
-use fourstate::Value;
 use gatestep::{Driver, Stepper};
 use std::alloc::{AllocError, Global};
-use waveform::{Run, Wave};
 
 /// Notes for the gates at these places the events that are pending in their states after the moment `t`.
 pub fn note_events(
@@ -47,23 +45,19 @@ pub fn note_all_inputs<S: Stepper>(
     alloc: Global,
     queue: &mut EventQueue,
     live: &PlaceSet,
-    blank: &Wave,
-    old: &Design,
-    run: &Run,
-    new: &Design,
+    former: &Former,
     places: &[usize],
     t: u64,
 ) -> Result<(), AllocError>
-    requires blank { blank.now ≡ (0, Value.Unknown) ∷ [] }
-    requires there { (p : ℕ) → is_among places.now p ≡ true → p < length (netlist new.now).gates }
-    requires run { IsRun S.answer old.now run.now }
-    ensures next { OnOk result ((p u : ℕ) → is_among places.now p ≡ true → t < u → input_moves S.answer (netlist old.now) (netlist new.now) (contains nat_cmp live.now) p u ≡ true
+    requires there { (p : ℕ) → is_among places.now p ≡ true → p < length (netlist former.now.new.now).gates }
+    requires run { IsRun S.answer former.now.old.now former.now.run.now }
+    ensures next { OnOk result ((p u : ℕ) → is_among places.now p ≡ true → t < u → input_moves S.answer (netlist former.now.old.now) (netlist former.now.new.now) (contains nat_cmp live.now) p u ≡ true
         → IsNotedWithin (noted queue.new) p (suc t) u) }
     ensures kept { OnOk result (Keeps (noted queue.old) (noted queue.new)) }
     ensures early { OnOk result ((u : ℕ) → u ≤ t → noted queue.new u ≡ noted queue.old u) }
 {
     for place in places {
-        note_inputs::<S>(alloc, queue, live, blank, old, run, new, *place, t)?;
+        note_inputs::<S>(alloc, queue, live, former, *place, t)?;
     }
     Ok(())
 }

@@ -5,7 +5,7 @@ ghost use Rattle.std.specs.BTreeSet.{contains};
 ghost use Rattle.std.specs.Option.{ForSome};
 ghost use Rattle.std.specs.Ordering.{nat_cmp};
 ghost use Rattle.rundiff.specs.PlaceMaps.{kept_at};
-ghost use Rattle.gatestep.specs.Step.{Evaluation, State, initial};
+ghost use Rattle.gatestep.specs.Step.{Evaluation, State};
 ghost use Rattle.gatestep.specs.Tasks.{IsReady};
 ghost use Rattle.design.specs.Keys.{netlist};
 ghost use Rattle.design.specs.Netlist.{Netlist};
@@ -17,16 +17,15 @@ ghost use Rattle.rundiff.specs.Kept.{IsClosed};
 ghost use Rattle.rundiff.specs.Places.{gate_at, is_among, is_live};
 ghost use Rattle.scratch.specs.Work.{task_at};
 
-use crate::former::former_trace;
+use crate::former::{Former, former_trace};
 use crate::looking::{Outcome, look};
 use crate::patches::put;
 use crate::place_map::PlaceMap;
 use crate::place_set::PlaceSet;
-use design::Design;
 use fourstate::Value;
 use gatestep::{Driver, Stepper, Task};
 use std::alloc::{AllocError, Global};
-use waveform::{Patch, Run, Trace, Wave};
+use waveform::Patch;
 
 /// What comes of each of some gates.
 #[derive(Drop)]
@@ -71,40 +70,23 @@ impl Outcomes {
 pub fn look_at<S: Stepper>(
     waves: &PlaceMap<Patch<Value>>,
     traces: &PlaceMap<Patch<Driver>>,
-    blank_wave: &Wave,
-    blank_trace: &Trace,
-    old: &Design,
-    run: &Run,
-    new: &Design,
+    former: &Former,
     fixed: &PlaceSet,
     held: &[usize],
     t: u64,
     out: &mut Outcomes,
 ) -> Result<(), AllocError>
-    requires blank_wave { blank_wave.now ≡ (0, Value.Unknown) ∷ [] }
-    requires blank_trace { blank_trace.now ≡ (0, initial) ∷ [] }
-    requires there { (p : ℕ) → is_among held.now p ≡ true → p < length (netlist new.now).gates }
-    requires within { t ≤ (netlist old.now).horizon }
-    requires run { IsRun S.answer old.now run.now }
-    requires base { IsClosed (netlist old.now) (netlist new.now) (is_live (netlist new.now) (contains nat_cmp fixed.now)) }
-    requires waves { AreWaves S.answer (netlist old.now) (netlist new.now) waves.now (suc t) }
-    requires traces { AreTraces S.answer (netlist old.now) (netlist new.now) traces.now t }
-    ensures { OnOk result (AreOutcomes S.answer (netlist old.now) (netlist new.now) t held.now out.new) }
+    requires there { (p : ℕ) → is_among held.now p ≡ true → p < length (netlist former.now.new.now).gates }
+    requires within { t ≤ (netlist former.now.old.now).horizon }
+    requires run { IsRun S.answer former.now.old.now former.now.run.now }
+    requires base { IsClosed (netlist former.now.old.now) (netlist former.now.new.now) (is_live (netlist former.now.new.now) (contains nat_cmp fixed.now)) }
+    requires waves { AreWaves S.answer (netlist former.now.old.now) (netlist former.now.new.now) waves.now (suc t) }
+    requires traces { AreTraces S.answer (netlist former.now.old.now) (netlist former.now.new.now) traces.now t }
+    ensures { OnOk result (AreOutcomes S.answer (netlist former.now.old.now) (netlist former.now.new.now) t held.now out.new) }
 {
     out.clear();
     for place in held {
-        let outcome = look::<S>(
-            waves,
-            traces,
-            blank_wave,
-            blank_trace,
-            old,
-            run,
-            new,
-            fixed,
-            *place,
-            t,
-        );
+        let outcome = look::<S>(waves, traces, former, fixed, *place, t);
         add(out, *place, outcome)?;
     }
     Ok(())
@@ -155,30 +137,26 @@ fn add_resting(out: &mut Outcomes, place: usize, state: Driver) -> Result<(), Al
 pub fn put_states<S: Stepper>(
     alloc: Global,
     traces: &mut PlaceMap<Patch<Driver>>,
-    blank: &Trace,
-    old: &Design,
-    run: &Run,
-    new: &Design,
+    former: &Former,
     places: &[usize],
     states: &[Driver],
     t: u64,
 ) -> Result<(), AllocError>
-    requires blank { blank.now ≡ (0, initial) ∷ [] }
-    requires there { (p : ℕ) → is_among places.now p ≡ true → p < length (netlist new.now).gates }
+    requires there { (p : ℕ) → is_among places.now p ≡ true → p < length (netlist former.now.new.now).gates }
     requires rising { AllPairs (λ p q. p < q) places.now }
-    requires within { t ≤ (netlist old.now).horizon }
-    requires run { IsRun S.answer old.now run.now }
-    requires traces { (p : ℕ) → is_among places.now p ≡ true → IsTrace S.answer (netlist old.now) (netlist new.now) traces.old p t }
+    requires within { t ≤ (netlist former.now.old.now).horizon }
+    requires run { IsRun S.answer former.now.old.now former.now.run.now }
+    requires traces { (p : ℕ) → is_among places.now p ≡ true → IsTrace S.answer (netlist former.now.old.now) (netlist former.now.new.now) traces.old p t }
     requires ends { (p : ℕ) → is_among places.now p ≡ true → ForSome (kept_at traces.old p) (λ patch. end_of patch.line ≤ t) }
-    requires states { states.now ≡ map (λ p. state_after S.answer (netlist new.now) (gate_at (netlist new.now) p) t) places.now }
+    requires states { states.now ≡ map (λ p. state_after S.answer (netlist former.now.new.now) (gate_at (netlist former.now.new.now) p) t) places.now }
     requires can { All (CanStore t) states.now }
-    ensures put { OnOk result ((p : ℕ) → is_among places.now p ≡ true → IsTrace S.answer (netlist old.now) (netlist new.now) traces.new p (suc t)) }
+    ensures put { OnOk result ((p : ℕ) → is_among places.now p ≡ true → IsTrace S.answer (netlist former.now.old.now) (netlist former.now.new.now) traces.new p (suc t)) }
     ensures own { OnOk result ((p : ℕ) → is_among places.now p ≡ true → IsOwn (kept_at traces.new p)) }
     ensures ends { OnOk result ((p : ℕ) → is_among places.now p ≡ true → ForSome (kept_at traces.new p) (λ patch. end_of patch.line ≤ suc t)) }
     ensures others { OnOk result ((p : ℕ) → is_among places.now p ≡ false → kept_at traces.new p ≡ kept_at traces.old p) }
 {
     for i in 0..places.len() {
-        put_state::<S>(alloc, traces, blank, old, run, new, places[i], states[i], t)?;
+        put_state::<S>(alloc, traces, former, places[i], states[i], t)?;
     }
     Ok(())
 }
@@ -187,29 +165,25 @@ pub fn put_states<S: Stepper>(
 fn put_state<S: Stepper>(
     alloc: Global,
     traces: &mut PlaceMap<Patch<Driver>>,
-    blank: &Trace,
-    old: &Design,
-    run: &Run,
-    new: &Design,
+    former: &Former,
     place: usize,
     state: Driver,
     t: u64,
 ) -> Result<(), AllocError>
-    requires blank { blank.now ≡ (0, initial) ∷ [] }
-    requires there { place < length (netlist new.now).gates }
-    requires within { t ≤ (netlist old.now).horizon }
-    requires run { IsRun S.answer old.now run.now }
-    requires trace { IsTrace S.answer (netlist old.now) (netlist new.now) traces.old place t }
+    requires there { place < length (netlist former.now.new.now).gates }
+    requires within { t ≤ (netlist former.now.old.now).horizon }
+    requires run { IsRun S.answer former.now.old.now former.now.run.now }
+    requires trace { IsTrace S.answer (netlist former.now.old.now) (netlist former.now.new.now) traces.old place t }
     requires end { ForSome (kept_at traces.old place) (λ patch. end_of patch.line ≤ t) }
-    requires state { state ≡ state_after S.answer (netlist new.now) (gate_at (netlist new.now) place) t }
+    requires state { state ≡ state_after S.answer (netlist former.now.new.now) (gate_at (netlist former.now.new.now) place) t }
     requires can { CanStore t state }
-    ensures put { OnOk result (IsTrace S.answer (netlist old.now) (netlist new.now) traces.new place (suc t)) }
+    ensures put { OnOk result (IsTrace S.answer (netlist former.now.old.now) (netlist former.now.new.now) traces.new place (suc t)) }
     ensures own { OnOk result (IsOwn (kept_at traces.new place)) }
     ensures end { OnOk result (ForSome (kept_at traces.new place) (λ patch. end_of patch.line ≤ suc t)) }
     ensures others { OnOk result ((q : ℕ) → nat_eq place q ≡ false → kept_at traces.new q ≡ kept_at traces.old q) }
 {
-    old.lawful();
-    new.lawful();
-    let former = former_trace(traces, blank, old, run, new, place);
-    put(traces, alloc, place, former, t, state)
+    former.old.lawful();
+    former.new.lawful();
+    let was = former_trace(traces, former, place);
+    put(traces, alloc, place, was, t, state)
 }

@@ -1,6 +1,6 @@
 //! Nets and gates that go along with the old run again leave what is live.
 
-ghost use Rattle.std.specs.Prelude.{◌≡◌, ◌<◌, ◌≤◌, ℕ, suc, true, false, [], ◌∷◌, All, IfSome, OnOk, length};
+ghost use Rattle.std.specs.Prelude.{◌≡◌, ◌<◌, ◌≤◌, ℕ, suc, true, false, All, IfSome, OnOk, length};
 ghost use Rattle.event_queue.specs.Noted.{noted};
 ghost use Rattle.design.specs.Connections.{to_net};
 ghost use Rattle.design.specs.Keys.{netlist};
@@ -13,15 +13,14 @@ ghost use Rattle.rundiff.specs.Fronts.{IsClean, IsFront};
 ghost use Rattle.rundiff.specs.Noting.{old_moves};
 ghost use Rattle.rundiff.specs.Places.{gate_at, net_at};
 
+use crate::former::Former;
 use crate::front::Front;
 use crate::noting::{next_old_change, note};
 use crate::patches::leave;
 use design::Design;
 use event_queue::EventQueue;
-use fourstate::Value;
 use gatestep::Stepper;
 use std::alloc::{AllocError, Global};
-use waveform::{Run, Wave};
 
 impl Front {
     /// Lets the gates go that were not dirty at the moment `t`, the last that is done, each with the net that it alone
@@ -29,21 +28,19 @@ impl Front {
     pub(crate) fn let_go<S: Stepper>(
         &mut self,
         alloc: Global,
-        old: &Design,
-        run: &Run,
-        new: &Design,
+        former: &Former,
         t: u64,
     ) -> Result<(), AllocError>
-        requires run { IsRun S.answer old.now run.now }
-        requires front { IsFront S.answer (netlist old.now) (netlist new.now) self.old (suc t) }
-        requires within { t ≤ (netlist old.now).horizon }
-        requires clean { All (IsClean S.answer (netlist old.now) (netlist new.now) t) self.old.outcomes.clean.items }
-        ensures front { OnOk result (IsFront S.answer (netlist old.now) (netlist new.now) self.new (suc t)) }
+        requires run { IsRun S.answer former.now.old.now former.now.run.now }
+        requires front { IsFront S.answer (netlist former.now.old.now) (netlist former.now.new.now) self.old (suc t) }
+        requires within { t ≤ (netlist former.now.old.now).horizon }
+        requires clean { All (IsClean S.answer (netlist former.now.old.now) (netlist former.now.new.now) t) self.old.outcomes.clean.items }
+        ensures front { OnOk result (IsFront S.answer (netlist former.now.old.now) (netlist former.now.new.now) self.new (suc t)) }
         ensures done { OnOk result (self.new.done ≡ self.old.done) }
     {
         for i in 0..self.outcomes.clean.len() {
             let gate = self.outcomes.clean[i];
-            self.let_go_gate::<S>(alloc, old, run, new, gate, t)?;
+            self.let_go_gate::<S>(alloc, former, gate, t)?;
         }
         Ok(())
     }
@@ -52,21 +49,19 @@ impl Front {
     fn let_go_gate<S: Stepper>(
         &mut self,
         alloc: Global,
-        old: &Design,
-        run: &Run,
-        new: &Design,
+        former: &Former,
         gate: usize,
         t: u64,
     ) -> Result<(), AllocError>
-        requires run { IsRun S.answer old.now run.now }
-        requires front { IsFront S.answer (netlist old.now) (netlist new.now) self.old (suc t) }
-        requires within { t ≤ (netlist old.now).horizon }
-        requires gate { IsClean S.answer (netlist old.now) (netlist new.now) t gate }
-        ensures front { OnOk result (IsFront S.answer (netlist old.now) (netlist new.now) self.new (suc t)) }
+        requires run { IsRun S.answer former.now.old.now former.now.run.now }
+        requires front { IsFront S.answer (netlist former.now.old.now) (netlist former.now.new.now) self.old (suc t) }
+        requires within { t ≤ (netlist former.now.old.now).horizon }
+        requires gate { IsClean S.answer (netlist former.now.old.now) (netlist former.now.new.now) t gate }
+        ensures front { OnOk result (IsFront S.answer (netlist former.now.old.now) (netlist former.now.new.now) self.new (suc t)) }
         ensures outcomes { OnOk result (self.new.outcomes ≡ self.old.outcomes) }
         ensures done { OnOk result (self.new.done ≡ self.old.done) }
     {
-        let Some(net) = lone_output(new, gate) else {
+        let Some(net) = lone_output(former.new, gate) else {
             return Ok(());
         };
         if self.fixed.contains(net) {
@@ -75,18 +70,9 @@ impl Front {
         if !self.live.contains(net) {
             return Ok(());
         }
-        old.lawful();
-        new.lawful();
-        note_readers::<S>(
-            alloc,
-            &mut self.inputs,
-            &self.blank_wave,
-            old,
-            run,
-            new,
-            net,
-            t,
-        )?;
+        former.old.lawful();
+        former.new.lawful();
+        note_readers::<S>(alloc, &mut self.inputs, former, net, t)?;
         leave(&mut self.waves, net, t + 1)?;
         leave(&mut self.traces, gate, t + 1)?;
         self.live.remove(net);
@@ -117,29 +103,25 @@ fn lone_output(new: &Design, gate: usize) -> Option<usize>
 fn note_readers<S: Stepper>(
     alloc: Global,
     queue: &mut EventQueue,
-    blank: &Wave,
-    old: &Design,
-    run: &Run,
-    new: &Design,
+    former: &Former,
     net: usize,
     t: u64,
 ) -> Result<(), AllocError>
-    requires blank { blank.now ≡ (0, Value.Unknown) ∷ [] }
-    requires there { net < length (netlist new.now).nets }
-    requires run { IsRun S.answer old.now run.now }
-    ensures next { OnOk result ((q u : ℕ) → q < length (netlist new.now).gates → reads (gate_at (netlist new.now) q) (net_at (netlist new.now) net).name ≡ true → t < u
-        → old_moves S.answer (netlist old.now) (netlist new.now) (to_net (net_at (netlist new.now) net).name) u ≡ true → IsNotedWithin (noted queue.new) q (suc t) u) }
+    requires there { net < length (netlist former.now.new.now).nets }
+    requires run { IsRun S.answer former.now.old.now former.now.run.now }
+    ensures next { OnOk result ((q u : ℕ) → q < length (netlist former.now.new.now).gates → reads (gate_at (netlist former.now.new.now) q) (net_at (netlist former.now.new.now) net).name ≡ true → t < u
+        → old_moves S.answer (netlist former.now.old.now) (netlist former.now.new.now) (to_net (net_at (netlist former.now.new.now) net).name) u ≡ true → IsNotedWithin (noted queue.new) q (suc t) u) }
     ensures kept { OnOk result (Keeps (noted queue.old) (noted queue.new)) }
     ensures early { OnOk result ((u : ℕ) → u ≤ t → noted queue.new u ≡ noted queue.old u) }
 {
-    new.lawful();
-    new.places_are_keys();
-    let key = new.net_key_at(net);
-    let name = new.net_at(net).name().as_str();
-    let change = next_old_change::<S>(blank, old, run, key, name, t);
-    let readers = new.fanout(key);
+    former.new.lawful();
+    former.new.places_are_keys();
+    let key = former.new.net_key_at(net);
+    let name = former.new.net_at(net).name().as_str();
+    let change = next_old_change::<S>(former, key, name, t);
+    let readers = former.new.fanout(key);
     for reader in readers {
-        let Some(gate) = new.gate_place_of(*reader) else {
+        let Some(gate) = former.new.gate_place_of(*reader) else {
             unreachable!();
         };
         note(alloc, queue, gate, change, t)?;

@@ -1,6 +1,7 @@
 //! What differs between two runs, and when.
 #![tactic(auto)]
 
+mod blanks;
 mod choosing;
 mod finish;
 mod finishing;
@@ -11,6 +12,7 @@ mod front_nets;
 mod gate_notes;
 mod gates;
 mod holding;
+mod leaping;
 mod letting;
 mod looking;
 mod nets;
@@ -27,5 +29,7 @@ mod reading;
 mod same;
 mod spreading;
 
+pub use blanks::Blanks;
+pub use former::Former;
 pub use front::Front;
 pub use old_lines::OldLines;

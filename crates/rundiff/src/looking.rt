@@ -1,9 +1,8 @@
 //! What comes of one gate at one moment: whether it is dirty, whether it is stirred, and its task or its state.
 
-ghost use Rattle.std.specs.Prelude.{◌≡◌, ◌<◌, ◌≤◌, ℕ, suc, false, [], ◌∷◌, Some, map, length};
+ghost use Rattle.std.specs.Prelude.{◌≡◌, ◌<◌, ◌≤◌, ℕ, suc, false, Some, map, length};
 ghost use Rattle.std.specs.BTreeSet.{contains};
 ghost use Rattle.std.specs.Ordering.{nat_cmp};
-ghost use Rattle.gatestep.specs.Step.{initial};
 ghost use Rattle.gatestep.specs.Tasks.{PendingFrom};
 ghost use Rattle.design.specs.Keys.{IsConnected, entry_in, netlist};
 ghost use Rattle.design.specs.Netlist.{GateEntry, gate_named};
@@ -15,6 +14,7 @@ ghost use Rattle.rundiff.specs.Kept.{IsClosed};
 ghost use Rattle.rundiff.specs.Places.{gate_at, is_live};
 ghost use Rattle.scratch.specs.Work.{is_due, is_stirred, task_at};
 
+use crate::former::Former;
 use crate::old::old_trace;
 use crate::place_map::PlaceMap;
 use crate::place_set::PlaceSet;
@@ -23,7 +23,7 @@ use crate::same::is_new_gate;
 use design::{Design, Gate, GateKey};
 use fourstate::{Inputs, Value};
 use gatestep::{Driver, Stepper, Task};
-use waveform::{Patch, Run, Sample, Trace, Wave, laws};
+use waveform::{Patch, Sample, laws};
 
 /// What comes of a gate at a moment.
 #[derive(Drop)]
@@ -37,53 +37,33 @@ pub enum Outcome {
 }
 
 /// The state after the moment `t` of the gate of this name in the old run; it most likely has this key.
-fn old_state<S: Stepper>(
-    blank: &Trace,
-    old: &Design,
-    run: &Run,
-    gate: GateKey,
-    name: &str,
-    t: u64,
-) -> Driver
-    requires blank { blank.now ≡ (0, initial) ∷ [] }
-    requires within { t ≤ (netlist old.now).horizon }
-    requires run { IsRun S.answer old.now run.now }
-    ensures state { (g : GateEntry) → gate_named (netlist old.now) name.now ≡ Some g → result ≡ state_after S.answer (netlist old.now) g t }
+fn old_state<S: Stepper>(former: &Former, gate: GateKey, name: &str, t: u64) -> Driver
+    requires within { t ≤ (netlist former.now.old.now).horizon }
+    requires run { IsRun S.answer former.now.old.now former.now.run.now }
+    ensures state { (g : GateEntry) → gate_named (netlist former.now.old.now) name.now ≡ Some g → result ≡ state_after S.answer (netlist former.now.old.now) g t }
     ensures can { CanStore t result }
 {
-    old.lawful();
+    former.old.lawful();
     laws::value_of_changes::<Driver>();
-    old_trace(old, run, gate, name, blank).at(t)
+    old_trace(former, gate, name).at(t)
 }
 
 /// The state before the moment `t` of the gate of this name in the old run; it most likely has this key.
-fn old_state_before<S: Stepper>(
-    blank: &Trace,
-    old: &Design,
-    run: &Run,
-    gate: GateKey,
-    name: &str,
-    t: u64,
-) -> Driver
-    requires blank { blank.now ≡ (0, initial) ∷ [] }
-    requires within { t ≤ (netlist old.now).horizon }
-    requires run { IsRun S.answer old.now run.now }
-    ensures { (g : GateEntry) → gate_named (netlist old.now) name.now ≡ Some g → result ≡ state_before S.answer (netlist old.now) t g }
+fn old_state_before<S: Stepper>(former: &Former, gate: GateKey, name: &str, t: u64) -> Driver
+    requires within { t ≤ (netlist former.now.old.now).horizon }
+    requires run { IsRun S.answer former.now.old.now former.now.run.now }
+    ensures { (g : GateEntry) → gate_named (netlist former.now.old.now) name.now ≡ Some g → result ≡ state_before S.answer (netlist former.now.old.now) t g }
 {
     if t == 0 {
         return Driver::start();
     }
-    old_state::<S>(blank, old, run, gate, name, t - 1)
+    old_state::<S>(former, gate, name, t - 1)
 }
 
 /// Whether a gate of the new design, which has this key, is dirty at the moment `t`; its state before it and its inputs at
 /// it are given, and whether edits may have touched it.
 fn is_dirty<S: Stepper>(
-    blank_wave: &Wave,
-    blank_trace: &Trace,
-    old: &Design,
-    run: &Run,
-    new: &Design,
+    former: &Former,
     key: GateKey,
     gate: &Gate,
     touched: bool,
@@ -91,26 +71,24 @@ fn is_dirty<S: Stepper>(
     inputs: Inputs,
     t: u64,
 ) -> bool
-    requires blank_wave { blank_wave.now ≡ (0, Value.Unknown) ∷ [] }
-    requires blank_trace { blank_trace.now ≡ (0, initial) ∷ [] }
-    requires connected { IsConnected new.now.nets gate.now }
-    requires within { t ≤ (netlist old.now).horizon }
-    requires known { touched ≡ false → is_new (netlist old.now) (entry_in new.now.nets gate.now) ≡ false }
-    requires run { IsRun S.answer old.now run.now }
-    requires state { state ≡ (task_at S.answer (netlist new.now) (entry_in new.now.nets gate.now) t).state }
-    requires inputs { inputs ≡ (task_at S.answer (netlist new.now) (entry_in new.now.nets gate.now) t).inputs }
-    ensures { result ≡ is_dirty S.answer (netlist old.now) (netlist new.now) (entry_in new.now.nets gate.now) t }
+    requires connected { IsConnected former.now.new.now.nets gate.now }
+    requires within { t ≤ (netlist former.now.old.now).horizon }
+    requires known { touched ≡ false → is_new (netlist former.now.old.now) (entry_in former.now.new.now.nets gate.now) ≡ false }
+    requires run { IsRun S.answer former.now.old.now former.now.run.now }
+    requires state { state ≡ (task_at S.answer (netlist former.now.new.now) (entry_in former.now.new.now.nets gate.now) t).state }
+    requires inputs { inputs ≡ (task_at S.answer (netlist former.now.new.now) (entry_in former.now.new.now.nets gate.now) t).inputs }
+    ensures { result ≡ is_dirty S.answer (netlist former.now.old.now) (netlist former.now.new.now) (entry_in former.now.new.now.nets gate.now) t }
 {
-    old.lawful();
-    let former = old_state_before::<S>(blank_trace, old, run, key, gate.name().as_str(), t);
-    if !former.is_same(state) {
+    former.old.lawful();
+    let was = old_state_before::<S>(former, key, gate.name().as_str(), t);
+    if !was.is_same(state) {
         return true;
     }
-    let former_inputs = old_inputs_at::<S>(blank_wave, old, run, new, gate, t);
+    let former_inputs = old_inputs_at::<S>(former, gate, t);
     if !former_inputs.is_same(inputs) {
         return true;
     }
-    touched && is_new_gate(old, new, key, gate)
+    touched && is_new_gate(former.old, former.new, key, gate)
 }
 
 /// Whether edits touched the net that a gate drives, or a gate that drives it.
@@ -127,23 +105,19 @@ fn is_touched(fixed: &PlaceSet, new: &Design, gate: &Gate) -> bool
 /// Whether a gate is stirred at the moment `t`; its state before it and its inputs at it are given.
 fn is_stirred<S: Stepper>(
     waves: &PlaceMap<Patch<Value>>,
-    blank: &Wave,
-    old: &Design,
-    run: &Run,
-    new: &Design,
+    former: &Former,
     gate: &Gate,
     state: Driver,
     inputs: Inputs,
     t: u64,
 ) -> bool
-    requires blank { blank.now ≡ (0, Value.Unknown) ∷ [] }
-    requires connected { IsConnected new.now.nets gate.now }
-    requires within { t ≤ (netlist old.now).horizon }
-    requires run { IsRun S.answer old.now run.now }
-    requires waves { AreWaves S.answer (netlist old.now) (netlist new.now) waves.now (suc t) }
-    requires state { state ≡ (task_at S.answer (netlist new.now) (entry_in new.now.nets gate.now) t).state }
-    requires inputs { inputs ≡ (task_at S.answer (netlist new.now) (entry_in new.now.nets gate.now) t).inputs }
-    ensures { result ≡ is_stirred S.answer (netlist new.now) (entry_in new.now.nets gate.now) t }
+    requires connected { IsConnected former.now.new.now.nets gate.now }
+    requires within { t ≤ (netlist former.now.old.now).horizon }
+    requires run { IsRun S.answer former.now.old.now former.now.run.now }
+    requires waves { AreWaves S.answer (netlist former.now.old.now) (netlist former.now.new.now) waves.now (suc t) }
+    requires state { state ≡ (task_at S.answer (netlist former.now.new.now) (entry_in former.now.new.now.nets gate.now) t).state }
+    requires inputs { inputs ≡ (task_at S.answer (netlist former.now.new.now) (entry_in former.now.new.now.nets gate.now) t).inputs }
+    ensures { result ≡ is_stirred S.answer (netlist former.now.new.now) (entry_in former.now.new.now.nets gate.now) t }
 {
     if t == 0 {
         return true;
@@ -151,7 +125,7 @@ fn is_stirred<S: Stepper>(
     if is_due(state, t) {
         return true;
     }
-    let before = inputs_at::<S>(waves, blank, old, run, new, gate, t - 1, t);
+    let before = inputs_at::<S>(waves, former, gate, t - 1, t);
     !inputs.is_same(before)
 }
 
@@ -169,48 +143,30 @@ fn is_due(state: Driver, t: u64) -> bool
 pub fn look<S: Stepper>(
     waves: &PlaceMap<Patch<Value>>,
     traces: &PlaceMap<Patch<Driver>>,
-    blank_wave: &Wave,
-    blank_trace: &Trace,
-    old: &Design,
-    run: &Run,
-    new: &Design,
+    former: &Former,
     fixed: &PlaceSet,
     place: usize,
     t: u64,
 ) -> Outcome
-    requires blank_wave { blank_wave.now ≡ (0, Value.Unknown) ∷ [] }
-    requires blank_trace { blank_trace.now ≡ (0, initial) ∷ [] }
-    requires there { place < length (netlist new.now).gates }
-    requires within { t ≤ (netlist old.now).horizon }
-    requires run { IsRun S.answer old.now run.now }
-    requires base { IsClosed (netlist old.now) (netlist new.now) (is_live (netlist new.now) (contains nat_cmp fixed.now)) }
-    requires waves { AreWaves S.answer (netlist old.now) (netlist new.now) waves.now (suc t) }
-    requires traces { AreTraces S.answer (netlist old.now) (netlist new.now) traces.now t }
-    ensures { IsOutcome S.answer (netlist old.now) (netlist new.now) t place result }
+    requires there { place < length (netlist former.now.new.now).gates }
+    requires within { t ≤ (netlist former.now.old.now).horizon }
+    requires run { IsRun S.answer former.now.old.now former.now.run.now }
+    requires base { IsClosed (netlist former.now.old.now) (netlist former.now.new.now) (is_live (netlist former.now.new.now) (contains nat_cmp fixed.now)) }
+    requires waves { AreWaves S.answer (netlist former.now.old.now) (netlist former.now.new.now) waves.now (suc t) }
+    requires traces { AreTraces S.answer (netlist former.now.old.now) (netlist former.now.new.now) traces.now t }
+    ensures { IsOutcome S.answer (netlist former.now.old.now) (netlist former.now.new.now) t place result }
 {
-    old.lawful();
-    new.lawful();
-    let key = new.gate_key_at(place);
-    let gate = new.gate_at(place);
-    let state = gate_state::<S>(traces, blank_trace, old, run, new, place, t);
-    let inputs = inputs_at::<S>(waves, blank_wave, old, run, new, gate, t, t);
-    let touched = is_touched(fixed, new, gate);
-    if !is_dirty::<S>(
-        blank_wave,
-        blank_trace,
-        old,
-        run,
-        new,
-        key,
-        gate,
-        touched,
-        state,
-        inputs,
-        t,
-    ) {
-        return Outcome::Clean(old_state::<S>(blank_trace, old, run, key, gate.name().as_str(), t));
+    former.old.lawful();
+    former.new.lawful();
+    let key = former.new.gate_key_at(place);
+    let gate = former.new.gate_at(place);
+    let state = gate_state::<S>(traces, former, place, t);
+    let inputs = inputs_at::<S>(waves, former, gate, t, t);
+    let touched = is_touched(fixed, former.new, gate);
+    if !is_dirty::<S>(former, key, gate, touched, state, inputs, t) {
+        return Outcome::Clean(old_state::<S>(former, key, gate.name().as_str(), t));
     }
-    if !is_stirred::<S>(waves, blank_wave, old, run, new, gate, state, inputs, t) {
+    if !is_stirred::<S>(waves, former, gate, state, inputs, t) {
         return Outcome::Resting(state);
     }
     Outcome::Working(Task::new(gate.kind(), gate.delays(), state, inputs))

@@ -6,8 +6,8 @@ ghost use Rattle.design.specs.Keys.{netlist};
 ghost use Rattle.rundiff.specs.Dirty.{rework_below};
 ghost use Rattle.rundiff.specs.Fronts.{IsFront};
 
+use crate::former::Former;
 use crate::front::Front;
-use design::Design;
 use event_queue::EventQueue;
 use fourstate::Value;
 use gatestep::{Driver, Stepper};
@@ -16,20 +16,20 @@ use waveform::laws;
 impl Front {
     /// The first moment before `end`, from the moments on that are done, at which something may happen to what is live; `end`
     /// where there is none. At the moments before it nothing is evaluated.
-    pub fn next_moment<S: Stepper>(&self, old: &Design, new: &Design, end: u64) -> u64
-        requires front { IsFront S.answer (netlist old.now) (netlist new.now) self.now self.now.done }
+    pub fn next_moment<S: Stepper>(&self, former: &Former, end: u64) -> u64
+        requires front { IsFront S.answer (netlist former.now.old.now) (netlist former.now.new.now) self.now self.now.done }
         requires order { self.now.done ≤ end }
-        requires within { end ≤ suc (netlist old.now).horizon }
+        requires within { end ≤ suc (netlist former.now.old.now).horizon }
         ensures from { self.now.done ≤ result }
         ensures until { result ≤ end }
-        ensures front { IsFront S.answer (netlist old.now) (netlist new.now) self.now result }
-        ensures idle { rework_below S.answer (netlist old.now) (netlist new.now) result ≡ rework_below S.answer (netlist old.now) (netlist new.now) self.now.done }
+        ensures front { IsFront S.answer (netlist former.now.old.now) (netlist former.now.new.now) self.now result }
+        ensures idle { rework_below S.answer (netlist former.now.old.now) (netlist former.now.new.now) result ≡ rework_below S.answer (netlist former.now.old.now) (netlist former.now.new.now) self.now.done }
     {
         if self.done == 0 {
             return 0;
         }
-        old.lawful();
-        new.lawful();
+        former.old.lawful();
+        former.new.lawful();
         laws::no_change::<Value>();
         laws::no_change::<Driver>();
         let net = first_before(&self.nets, end);

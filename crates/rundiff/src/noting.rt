@@ -1,6 +1,6 @@
 //! What live nets and held gates wait for.
 
-ghost use Rattle.std.specs.Prelude.{◌≡◌, ◌<◌, ◌≤◌, ◌&&◌, ℕ, suc, not, true, [], ◌∷◌, OnOk, IfSome, length};
+ghost use Rattle.std.specs.Prelude.{◌≡◌, ◌<◌, ◌≤◌, ◌&&◌, ℕ, suc, not, true, OnOk, IfSome, length};
 ghost use Rattle.std.specs.Option.{IsSomeAnd};
 ghost use Rattle.std.specs.BTreeSet.{contains};
 ghost use Rattle.std.specs.Ordering.{nat_cmp};
@@ -13,38 +13,35 @@ ghost use Rattle.rundiff.specs.Noting.{input_moves, is_at_live, net_moves, old_m
 ghost use Rattle.scratch.specs.Places.{IsNotedWithin, Keeps, has};
 ghost use Rattle.scratch.specs.Run.{IsRun};
 
+use crate::former::Former;
 use crate::old::old_wave;
 use crate::place_set::PlaceSet;
-use design::{Design, NetKey, Terminal};
+use design::{NetKey, Terminal};
 use event_queue::EventQueue;
 use fourstate::Value;
 use gatestep::{Driver, Stepper};
 use std::alloc::{AllocError, Global};
-use waveform::{Run, Wave, laws};
+use waveform::laws;
 
 /// Notes for the net at a place the next moment after `t` at which it has a stimulus point, or changes in the old run.
 pub fn note_net<S: Stepper>(
     alloc: Global,
     queue: &mut EventQueue,
-    blank: &Wave,
-    old: &Design,
-    run: &Run,
-    new: &Design,
+    former: &Former,
     place: usize,
     t: u64,
 ) -> Result<(), AllocError>
-    requires blank { blank.now ≡ (0, Value.Unknown) ∷ [] }
-    requires there { place < length (netlist new.now).nets }
-    requires run { IsRun S.answer old.now run.now }
-    ensures next { OnOk result ((u : ℕ) → t < u → net_moves S.answer (netlist old.now) (netlist new.now) place u ≡ true → IsNotedWithin (noted queue.new) place (suc t) u) }
+    requires there { place < length (netlist former.now.new.now).nets }
+    requires run { IsRun S.answer former.now.old.now former.now.run.now }
+    ensures next { OnOk result ((u : ℕ) → t < u → net_moves S.answer (netlist former.now.old.now) (netlist former.now.new.now) place u ≡ true → IsNotedWithin (noted queue.new) place (suc t) u) }
     ensures kept { OnOk result (Keeps (noted queue.old) (noted queue.new)) }
     ensures early { OnOk result ((u : ℕ) → u ≤ t → noted queue.new u ≡ noted queue.old u) }
 {
-    let net = new.net_at(place);
+    let net = former.new.net_at(place);
     net.lawful();
     let point = net.next_point(t);
-    let key = new.net_key_at(place);
-    let change = next_old_change::<S>(blank, old, run, key, net.name().as_str(), t);
+    let key = former.new.net_key_at(place);
+    let change = next_old_change::<S>(former, key, net.name().as_str(), t);
     note(alloc, queue, place, earlier(point, change), t)
 }
 
@@ -53,25 +50,21 @@ pub fn note_inputs<S: Stepper>(
     alloc: Global,
     queue: &mut EventQueue,
     live: &PlaceSet,
-    blank: &Wave,
-    old: &Design,
-    run: &Run,
-    new: &Design,
+    former: &Former,
     place: usize,
     t: u64,
 ) -> Result<(), AllocError>
-    requires blank { blank.now ≡ (0, Value.Unknown) ∷ [] }
-    requires there { place < length (netlist new.now).gates }
-    requires run { IsRun S.answer old.now run.now }
-    ensures next { OnOk result ((u : ℕ) → t < u → input_moves S.answer (netlist old.now) (netlist new.now) (contains nat_cmp live.now) place u ≡ true
+    requires there { place < length (netlist former.now.new.now).gates }
+    requires run { IsRun S.answer former.now.old.now former.now.run.now }
+    ensures next { OnOk result ((u : ℕ) → t < u → input_moves S.answer (netlist former.now.old.now) (netlist former.now.new.now) (contains nat_cmp live.now) place u ≡ true
         → IsNotedWithin (noted queue.new) place (suc t) u) }
     ensures kept { OnOk result (Keeps (noted queue.old) (noted queue.new)) }
     ensures early { OnOk result ((u : ℕ) → u ≤ t → noted queue.new u ≡ noted queue.old u) }
 {
-    let gate = new.gate_at(place);
+    let gate = former.new.gate_at(place);
     let mut next = None;
     for terminal in gate.inputs() {
-        let change = next_input_change::<S>(live, blank, old, run, new, *terminal, t);
+        let change = next_input_change::<S>(live, former, *terminal, t);
         next = earlier(next, change);
     }
     note(alloc, queue, place, next, t)
@@ -131,21 +124,13 @@ fn earlier(first: Option<u64>, second: Option<u64>) -> Option<u64>
 }
 
 /// The next moment after `t` at which the net of this name changes in the old run; it most likely has this key.
-pub fn next_old_change<S: Stepper>(
-    blank: &Wave,
-    old: &Design,
-    run: &Run,
-    net: NetKey,
-    name: &str,
-    t: u64,
-) -> Option<u64>
-    requires blank { blank.now ≡ (0, Value.Unknown) ∷ [] }
-    requires run { IsRun S.answer old.now run.now }
+pub fn next_old_change<S: Stepper>(former: &Former, net: NetKey, name: &str, t: u64) -> Option<u64>
+    requires run { IsRun S.answer former.now.old.now former.now.run.now }
     ensures after { IfSome result (λ m. t < m) }
-    ensures first { (d : Netlist) (u : ℕ) → t < u → old_moves S.answer (netlist old.now) d (to_net name.now) u ≡ true → IsSomeAnd result (λ m. m ≤ u) }
+    ensures first { (d : Netlist) (u : ℕ) → t < u → old_moves S.answer (netlist former.now.old.now) d (to_net name.now) u ≡ true → IsSomeAnd result (λ m. m ≤ u) }
 {
     laws::drift_between::<Value>();
-    match old_wave(old, run, net, name, blank).next_after(t) {
+    match old_wave(former, net, name).next_after(t) {
         Some((change, _)) => Some(change),
         None => None,
     }
@@ -155,26 +140,22 @@ pub fn next_old_change<S: Stepper>(
 /// readers are looked at when it changes.
 fn next_input_change<S: Stepper>(
     live: &PlaceSet,
-    blank: &Wave,
-    old: &Design,
-    run: &Run,
-    new: &Design,
+    former: &Former,
     terminal: Terminal,
     t: u64,
 ) -> Option<u64>
-    requires blank { blank.now ≡ (0, Value.Unknown) ∷ [] }
-    requires there { IsThere new.now.nets terminal }
-    requires run { IsRun S.answer old.now run.now }
+    requires there { IsThere former.now.new.now.nets terminal }
+    requires run { IsRun S.answer former.now.old.now former.now.run.now }
     ensures after { IfSome result (λ m. t < m) }
-    ensures first { (u : ℕ) → t < u → (not (is_at_live (netlist new.now) (contains nat_cmp live.now) (connection_in new.now.nets terminal))
-        && old_moves S.answer (netlist old.now) (netlist new.now) (connection_in new.now.nets terminal) u) ≡ true → IsSomeAnd result (λ m. m ≤ u) }
+    ensures first { (u : ℕ) → t < u → (not (is_at_live (netlist former.now.new.now) (contains nat_cmp live.now) (connection_in former.now.new.now.nets terminal))
+        && old_moves S.answer (netlist former.now.old.now) (netlist former.now.new.now) (connection_in former.now.new.now.nets terminal) u) ≡ true → IsSomeAnd result (λ m. m ≤ u) }
 {
-    new.places_are_keys();
+    former.new.places_are_keys();
     let Terminal::Net(net) = terminal else {
         return None;
     };
-    match new.net_place_of(net) {
+    match former.new.net_place_of(net) {
         Some(place) if live.contains(place) => None,
-        _ => next_old_change::<S>(blank, old, run, net, new.name_of(net).as_str(), t),
+        _ => next_old_change::<S>(former, net, former.new.name_of(net).as_str(), t),
     }
 }

@@ -1,9 +1,9 @@
 //! Look-ups in the old run, by name. Most nets and gates have the same key in both designs, so that is tried first, and no
 //! name is hashed.
 
-ghost use Rattle.std.specs.Prelude.{◌≡◌, ℕ, [], ◌∷◌, suc, None, IfNone, IfSome, IsSome};
+ghost use Rattle.std.specs.Prelude.{◌≡◌, ℕ, suc, None, IfNone, IfSome, IsSome};
 ghost use Rattle.std.specs.Option.{option_map};
-ghost use Rattle.gatestep.specs.Step.{Evaluation, State, initial};
+ghost use Rattle.gatestep.specs.Step.{Evaluation, State};
 ghost use Rattle.design.specs.Connections.{to_net};
 ghost use Rattle.design.specs.Keys.{entry_in, gate_by_key, net_by_key, netlist};
 ghost use Rattle.design.specs.Netlist.{gate_named, net_named};
@@ -12,13 +12,15 @@ ghost use Rattle.scratch.specs.Run.{IsRun};
 ghost use Rattle.rundiff.specs.Fronts.{named_state};
 ghost use Rattle.rundiff.specs.Kept.{read_at};
 
+use crate::former::Former;
 use design::{Design, GateKey, NetKey};
 use fourstate::Value;
 use gatestep::Driver;
-use waveform::{Run, Trace, Wave, laws};
+use waveform::{Trace, Wave, laws};
 
 /// The key of the net of this name in the old design; it is quick where that is `guess`.
-fn old_net(old: &Design, guess: NetKey, name: &str) -> Option<NetKey>
+pub fn old_net(old: &Design, guess: NetKey, name: &str) -> Option<NetKey>
+    ensures there { IfSome result (λ key. IsSome (net_by_key old.now key)) }
     ensures net { IfSome result (λ key. net_by_key old.now key ≡ net_named (netlist old.now) name.now) }
     ensures absent { IfNone result (net_named (netlist old.now) name.now ≡ None) }
 {
@@ -42,48 +44,33 @@ pub fn old_gate(old: &Design, guess: GateKey, name: &str) -> Option<GateKey>
     old.gate(name)
 }
 
-/// The wave of the net of this name in the run of the old design, and `blank`, which is x, where no net has the name. It is
+/// The wave of the net of this name in the run of the old design, and the blank one, where no net has the name. It is
 /// quick where the net has the key `net`.
-pub fn old_wave<'a>(
-    old: &Design,
-    run: &'a Run,
-    net: NetKey,
-    name: &str,
-    blank: &'a Wave,
-) -> &'a Wave
-    requires { blank.now ≡ (0, Value.Unknown) ∷ [] }
-    ensures { (answer : Evaluation → ℕ → State) → IsRun answer old.now run.now →
-        result.now ≡ wave_changes_below (read_at answer (netlist old.now) (to_net name.now)) (suc (netlist old.now).horizon) }
+pub fn old_wave<'a>(former: &Former<'a>, net: NetKey, name: &str) -> &'a Wave
+    ensures { (answer : Evaluation → ℕ → State) → IsRun answer former.now.old.now former.now.run.now →
+        result.now ≡ wave_changes_below (read_at answer (netlist former.now.old.now) (to_net name.now)) (suc (netlist former.now.old.now).horizon) }
 {
     laws::no_change::<Value>();
-    let Some(key) = old_net(old, net, name) else {
-        return blank;
+    let Some(key) = old_net(former.old, net, name) else {
+        return &former.blanks.wave;
     };
-    match run.wave(key.number()) {
+    match former.run.wave(key.number()) {
         Some(wave) => wave,
-        None => blank,
+        None => &former.blanks.wave,
     }
 }
 
-/// The trace of the gate of this name in the run of the old design, and `blank`, which is x with nothing pending, where no
-/// gate has the name. It is quick where the gate has the key `gate`.
-pub fn old_trace<'a>(
-    old: &Design,
-    run: &'a Run,
-    gate: GateKey,
-    name: &str,
-    blank: &'a Trace,
-) -> &'a Trace
-    requires { blank.now ≡ (0, initial) ∷ [] }
-    ensures { (answer : Evaluation → ℕ → State) → IsRun answer old.now run.now →
-        result.now ≡ trace_below (named_state answer (netlist old.now) name.now) (suc (netlist old.now).horizon) }
+/// The trace of the gate of this name in the run of the old design, and the blank one, where no gate has the name. It is quick where the gate has the key `gate`.
+pub fn old_trace<'a>(former: &Former<'a>, gate: GateKey, name: &str) -> &'a Trace
+    ensures { (answer : Evaluation → ℕ → State) → IsRun answer former.now.old.now former.now.run.now →
+        result.now ≡ trace_below (named_state answer (netlist former.now.old.now) name.now) (suc (netlist former.now.old.now).horizon) }
 {
     laws::no_change::<Driver>();
-    let Some(key) = old_gate(old, gate, name) else {
-        return blank;
+    let Some(key) = old_gate(former.old, gate, name) else {
+        return &former.blanks.trace;
     };
-    match run.trace(key.number()) {
+    match former.run.trace(key.number()) {
         Some(trace) => trace,
-        None => blank,
+        None => &former.blanks.trace,
     }
 }

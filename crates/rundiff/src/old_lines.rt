@@ -2,9 +2,9 @@
 //! The lines are read together as time goes on: at a moment `t` the values of the nets at it, and first the states of the
 //! gates before it, then those after it.
 
-ghost use Rattle.std.specs.Prelude.{◌≡◌, ◌<◌, ◌≤◌, ℕ, suc, false, not, [], ◌∷◌, All, IfOk, IfSome, OnOk, length, map, slice_get};
+ghost use Rattle.std.specs.Prelude.{◌≡◌, ◌<◌, ◌≤◌, ℕ, suc, false, not, All, IfOk, IfSome, OnOk, length, map, slice_get};
 ghost use Rattle.fourstate.specs.declared.limits.TheConstants.{MAX_TIME};
-ghost use Rattle.gatestep.specs.Step.{Evaluation, State, initial};
+ghost use Rattle.gatestep.specs.Step.{Evaluation, State};
 ghost use Rattle.design.specs.Connections.{to_net};
 ghost use Rattle.design.specs.Keys.{netlist};
 ghost use Rattle.design.specs.Netlist.{Netlist};
@@ -18,14 +18,14 @@ ghost use Rattle.rundiff.specs.Kept.{read_at};
 ghost use Rattle.rundiff.specs.OldLines.{AreOldLines, HasWave, HoldsEach, former_state, former_value, traces_done, waves_done};
 ghost use Rattle.rundiff.specs.Places.{gate_at, net_at};
 
+use crate::former::Former;
 use crate::old::{old_trace, old_wave};
 use crate::same::is_new_gate;
-use design::Design;
 use fourstate::Value;
 use gatestep::{Driver, Stepper};
 use scratch::{Cell, Input, read_input};
 use std::alloc::{AllocError, Global};
-use waveform::{Lines, Replay, Run, Sample, Trace, Wave, laws};
+use waveform::{Lines, Replay, Sample, laws};
 
 /// One entry of so many is spare in the room that is made for a new line beside an old one (own).
 const SPARE: usize = 8;
@@ -43,24 +43,15 @@ pub struct OldLines<'a> {
 
 impl<'a> OldLines<'a> {
     /// The lines of the old run, and the blank ones where the old design has nothing of a name. No moment is done.
-    pub fn find<S: Stepper>(
-        alloc: Global,
-        old: &Design,
-        run: &'a Run,
-        new: &Design,
-        blank_wave: &'a Wave,
-        blank_trace: &'a Trace,
-    ) -> Result<OldLines<'a>, AllocError>
-        requires run { IsRun S.answer old.now run.now }
-        requires blank_wave { blank_wave.now ≡ (0, Value.Unknown) ∷ [] }
-        requires blank_trace { blank_trace.now ≡ (0, initial) ∷ [] }
-        ensures lines { IfOk result (AreOldLines S.answer (netlist old.now) (netlist new.now)) }
+    pub fn find<S: Stepper>(alloc: Global, former: &Former<'a>) -> Result<OldLines<'a>, AllocError>
+        requires run { IsRun S.answer former.now.old.now former.now.run.now }
+        ensures lines { IfOk result (AreOldLines S.answer (netlist former.now.old.now) (netlist former.now.new.now)) }
         ensures waves { IfOk result (λ lines. waves_done lines ≡ 0) }
         ensures traces { IfOk result (λ lines. traces_done lines ≡ 0) }
     {
-        let waves = old_waves::<S>(alloc, old, run, new, blank_wave)?;
-        let traces = old_traces::<S>(alloc, old, run, new, blank_trace)?;
-        let others = other_gates(alloc, old, new)?;
+        let waves = old_waves::<S>(alloc, former)?;
+        let traces = old_traces::<S>(alloc, former)?;
+        let others = other_gates(alloc, former)?;
         Ok(OldLines {
             waves,
             traces,
@@ -160,25 +151,24 @@ impl<'a> OldLines<'a> {
     #[inline(always)]
     pub fn is_clean<S: Stepper>(
         &self,
-        old: &Design,
-        new: &Design,
+        former: &Former,
         cell: &Cell,
         place: usize,
         state: Driver,
         values: &[Value],
         t: u64,
     ) -> bool
-        requires lines { AreOldLines S.answer (netlist old.now) (netlist new.now) self.now }
+        requires lines { AreOldLines S.answer (netlist former.now.old.now) (netlist former.now.new.now) self.now }
         requires waves { waves_done self.now ≡ suc t }
         requires traces { traces_done self.now ≡ t }
-        requires there { place < length (netlist new.now).gates }
-        requires within { t ≤ (netlist old.now).horizon }
-        requires cell { cell.now ≡ cell_of (netlist new.now) (gate_at (netlist new.now) place) }
-        requires task { evaluation_from values.now cell.now state ≡ task_at S.answer (netlist new.now) (gate_at (netlist new.now) place) t }
-        ensures { result ≡ not (is_dirty S.answer (netlist old.now) (netlist new.now) (gate_at (netlist new.now) place) t) }
+        requires there { place < length (netlist former.now.new.now).gates }
+        requires within { t ≤ (netlist former.now.old.now).horizon }
+        requires cell { cell.now ≡ cell_of (netlist former.now.new.now) (gate_at (netlist former.now.new.now) place) }
+        requires task { evaluation_from values.now cell.now state ≡ task_at S.answer (netlist former.now.new.now) (gate_at (netlist former.now.new.now) place) t }
+        ensures { result ≡ not (is_dirty S.answer (netlist former.now.old.now) (netlist former.now.new.now) (gate_at (netlist former.now.new.now) place) t) }
     {
-        old.lawful();
-        new.lawful();
+        former.old.lawful();
+        former.new.lawful();
         laws::value_of_changes::<Value>();
         laws::value_of_changes::<Driver>();
         if self.others[place] {
@@ -192,21 +182,15 @@ impl<'a> OldLines<'a> {
 
     /// The state after the moment `t` of the gate at a place, which is not dirty then.
     #[inline(always)]
-    pub fn state_after<S: Stepper>(
-        &self,
-        old: &Design,
-        new: &Design,
-        place: usize,
-        t: u64,
-    ) -> Driver
-        requires lines { AreOldLines S.answer (netlist old.now) (netlist new.now) self.now }
+    pub fn state_after<S: Stepper>(&self, former: &Former, place: usize, t: u64) -> Driver
+        requires lines { AreOldLines S.answer (netlist former.now.old.now) (netlist former.now.new.now) self.now }
         requires traces { traces_done self.now ≡ suc t }
-        requires there { place < length (netlist new.now).gates }
-        requires clean { is_dirty S.answer (netlist old.now) (netlist new.now) (gate_at (netlist new.now) place) t ≡ false }
-        ensures { result ≡ state_after S.answer (netlist new.now) (gate_at (netlist new.now) place) t }
+        requires there { place < length (netlist former.now.new.now).gates }
+        requires clean { is_dirty S.answer (netlist former.now.old.now) (netlist former.now.new.now) (gate_at (netlist former.now.new.now) place) t ≡ false }
+        ensures { result ≡ state_after S.answer (netlist former.now.new.now) (gate_at (netlist former.now.new.now) place) t }
     {
-        old.lawful();
-        let _design = new;
+        former.old.lawful();
+        let _design = former.new;
         laws::value_of_changes::<Driver>();
         self.traces.at(place, t)
     }
@@ -228,23 +212,19 @@ fn make_room_beside<V: Sample>(olds: &Replay<V>, lines: &mut Lines<V>) -> Result
 /// Of each net of the new design, the wave of the net of its name.
 fn old_waves<'a, S: Stepper>(
     alloc: Global,
-    old: &Design,
-    run: &'a Run,
-    new: &Design,
-    blank: &'a Wave,
+    former: &Former<'a>,
 ) -> Result<Replay<'a, Value>, AllocError>
-    requires run { IsRun S.answer old.now run.now }
-    requires blank { blank.now ≡ (0, Value.Unknown) ∷ [] }
-    ensures count { IfOk result (λ waves. length waves.lines ≡ length (netlist new.now).nets) }
+    requires run { IsRun S.answer former.now.old.now former.now.run.now }
+    ensures count { IfOk result (λ waves. length waves.lines ≡ length (netlist former.now.new.now).nets) }
     ensures each { IfOk result (λ waves. HoldsEach waves.lines (λ place wave.
-        wave ≡ wave_changes_below (read_at S.answer (netlist old.now) (to_net (net_at (netlist new.now) place).name)) (suc (netlist old.now).horizon))) }
+        wave ≡ wave_changes_below (read_at S.answer (netlist former.now.old.now) (to_net (net_at (netlist former.now.new.now) place).name)) (suc (netlist former.now.old.now).horizon))) }
     ensures done { IfOk result (λ waves. waves.done ≡ 0) }
 {
     let mut waves = Replay::new(alloc)?;
-    for place in 0..new.net_count() {
-        let key = new.net_key_at(place);
-        let name = new.net_at(place).name().as_str();
-        waves.push(alloc, old_wave(old, run, key, name, blank))?;
+    for place in 0..former.new.net_count() {
+        let key = former.new.net_key_at(place);
+        let name = former.new.net_at(place).name().as_str();
+        waves.push(alloc, old_wave(former, key, name))?;
     }
     Ok(waves)
 }
@@ -252,36 +232,32 @@ fn old_waves<'a, S: Stepper>(
 /// Of each gate of the new design, the trace of the gate of its name.
 fn old_traces<'a, S: Stepper>(
     alloc: Global,
-    old: &Design,
-    run: &'a Run,
-    new: &Design,
-    blank: &'a Trace,
+    former: &Former<'a>,
 ) -> Result<Replay<'a, Driver>, AllocError>
-    requires run { IsRun S.answer old.now run.now }
-    requires blank { blank.now ≡ (0, initial) ∷ [] }
-    ensures count { IfOk result (λ traces. length traces.lines ≡ length (netlist new.now).gates) }
+    requires run { IsRun S.answer former.now.old.now former.now.run.now }
+    ensures count { IfOk result (λ traces. length traces.lines ≡ length (netlist former.now.new.now).gates) }
     ensures each { IfOk result (λ traces. HoldsEach traces.lines (λ place trace.
-        trace ≡ trace_below (named_state S.answer (netlist old.now) (gate_at (netlist new.now) place).name) (suc (netlist old.now).horizon))) }
+        trace ≡ trace_below (named_state S.answer (netlist former.now.old.now) (gate_at (netlist former.now.new.now) place).name) (suc (netlist former.now.old.now).horizon))) }
     ensures done { IfOk result (λ traces. traces.done ≡ 0) }
 {
     let mut traces = Replay::new(alloc)?;
-    for place in 0..new.gate_count() {
-        let key = new.gate_key_at(place);
-        let name = new.gate_at(place).name().as_str();
-        traces.push(alloc, old_trace(old, run, key, name, blank))?;
+    for place in 0..former.new.gate_count() {
+        let key = former.new.gate_key_at(place);
+        let name = former.new.gate_at(place).name().as_str();
+        traces.push(alloc, old_trace(former, key, name))?;
     }
     Ok(traces)
 }
 
 /// Of each gate of the new design, whether the old design has no such gate.
-fn other_gates(alloc: Global, old: &Design, new: &Design) -> Result<Vec<bool>, AllocError>
-    ensures count { IfOk result (λ others. length others.items ≡ length (netlist new.now).gates) }
-    ensures each { IfOk result (λ others. HoldsEach others.items (λ place other. other ≡ is_new (netlist old.now) (gate_at (netlist new.now) place))) }
+fn other_gates(alloc: Global, former: &Former) -> Result<Vec<bool>, AllocError>
+    ensures count { IfOk result (λ others. length others.items ≡ length (netlist former.now.new.now).gates) }
+    ensures each { IfOk result (λ others. HoldsEach others.items (λ place other. other ≡ is_new (netlist former.now.old.now) (gate_at (netlist former.now.new.now) place))) }
 {
-    let mut others = Vec::with_capacity(alloc, new.gate_count())?;
-    for place in 0..new.gate_count() {
-        let key = new.gate_key_at(place);
-        others.push(is_new_gate(old, new, key, new.gate_at(place)))?;
+    let mut others = Vec::with_capacity(alloc, former.new.gate_count())?;
+    for place in 0..former.new.gate_count() {
+        let key = former.new.gate_key_at(place);
+        others.push(is_new_gate(former.old, former.new, key, former.new.gate_at(place)))?;
     }
     Ok(others)
 }

@@ -1,6 +1,6 @@
 //! A front before moment 0: what edits touched is live.
 
-ghost use Rattle.std.specs.Prelude.{◌≡◌, ◌<◌, ℕ, All, IfOk, OnOk, Some, length, true};
+ghost use Rattle.std.specs.Prelude.{◌≡◌, ◌<◌, ℕ, [], All, IfOk, OnOk, Some, length, true};
 ghost use Rattle.std.specs.BTreeSet.{contains};
 ghost use Rattle.std.specs.Ordering.{nat_cmp};
 ghost use Rattle.catalog.specs.Catalog.{place_of};
@@ -12,6 +12,7 @@ ghost use Rattle.rundiff.specs.Fronts.{AreTouched, IsFront};
 ghost use Rattle.rundiff.specs.Places.{is_among};
 ghost use Rattle.scratch.specs.Places.{has};
 
+use crate::former::Former;
 use crate::front::Front;
 use crate::gates::Outcomes;
 use crate::holding::hold;
@@ -21,38 +22,28 @@ use crate::places::places_of;
 use design::{Design, GateKey, NetKey};
 use edits::Touched;
 use event_queue::EventQueue;
-use fourstate::Value;
-use gatestep::Driver;
 use std::alloc::{AllocError, Global};
-use waveform::Timeline;
 
 impl Front {
     /// The front before moment 0, where the new design is the old one with edits that touched this. It fails where memory
     /// runs out.
-    pub fn open(
-        alloc: Global,
-        old: &Design,
-        new: &Design,
-        touched: &Touched,
-    ) -> Result<Front, AllocError>
-        requires { IsTouched old.now new.now touched.now.nets.items touched.now.gates.items }
-        ensures front { IfOk result (λ front. (answer : Evaluation → ℕ → State) → IsFront answer (netlist old.now) (netlist new.now) front 0) }
+    pub fn open(alloc: Global, former: &Former, touched: &Touched) -> Result<Front, AllocError>
+        requires { IsTouched former.now.old.now former.now.new.now touched.now.nets.items touched.now.gates.items }
+        ensures front { IfOk result (λ front. (answer : Evaluation → ℕ → State) → IsFront answer (netlist former.now.old.now) (netlist former.now.new.now) front 0) }
         ensures done { IfOk result (λ front. front.done ≡ 0) }
     {
-        old.lawful();
-        new.lawful();
-        old.names_are_keys();
-        new.names_are_keys();
-        new.places_are_keys();
-        let found = touched_places(alloc, new, touched)?;
-        let blank_wave = Timeline::open(alloc, Value::Unknown)?;
-        let blank_trace = Timeline::open(alloc, Driver::start())?;
+        former.old.lawful();
+        former.new.lawful();
+        former.old.names_are_keys();
+        former.new.names_are_keys();
+        former.new.places_are_keys();
+        let found = touched_places(alloc, former.new, touched)?;
         let mut live = PlaceSet::new(alloc);
         let mut held = PlaceSet::new(alloc);
-        hold(&mut live, &mut held, new, found.as_slice())?;
+        hold(&mut live, &mut held, former.new, found.as_slice())?;
         let fixed = set_of(alloc, found.as_slice())?;
-        let inputs = note_all(alloc, &held)?;
-        let nets = note_all(alloc, &live)?;
+        let inputs = note_all(alloc, &held, 0)?;
+        let nets = note_all(alloc, &live, 0)?;
         let waves = PlaceMap::new(alloc);
         let traces = PlaceMap::new(alloc);
         let events = EventQueue::new(alloc);
@@ -69,8 +60,6 @@ impl Front {
             net_places: Vec::new(alloc),
             found,
             outcomes: Outcomes::new(alloc),
-            blank_wave,
-            blank_trace,
             done: 0,
         })
     }
@@ -87,14 +76,15 @@ fn set_of(alloc: Global, places: &[usize]) -> Result<PlaceSet, AllocError>
     Ok(set)
 }
 
-/// The places of a set, each noted for moment 0.
-fn note_all(alloc: Global, places: &PlaceSet) -> Result<EventQueue, AllocError>
-    ensures { IfOk result (λ queue. (p : ℕ) → contains nat_cmp places.now p ≡ true → has p (noted queue 0) ≡ true) }
+/// The places of a set, each noted for the moment `t`, and nothing else.
+pub fn note_all(alloc: Global, places: &PlaceSet, t: u64) -> Result<EventQueue, AllocError>
+    ensures noted { IfOk result (λ queue. (p : ℕ) → contains nat_cmp places.now p ≡ true → has p (noted queue t) ≡ true) }
+    ensures early { IfOk result (λ queue. (u : ℕ) → u < t → noted queue u ≡ []) }
 {
     let listed = places_of(alloc, places)?;
     let mut queue = EventQueue::new(alloc);
     for place in &listed {
-        queue.add(alloc, 0, *place)?;
+        queue.add(alloc, t, *place)?;
     }
     Ok(queue)
 }

@@ -154,9 +154,21 @@ fn reach_page(pages: &mut Vec<Vec<usize>>, page: usize) -> Result<(), AllocError
     ensures there { OnOk result (page < length pages.new.items) }
     ensures same { (q : ℕ) → page_at pages.new.items q ≡ page_at pages.old.items q }
 {
+    make_room(pages, page)?;
     while pages.len() <= page {
         let alloc = *pages.allocator();
         pages.push(Vec::new(alloc))?;
+    }
+    Ok(())
+}
+
+/// Makes room for all pages up to this one at once.
+fn make_room(pages: &mut Vec<Vec<usize>>, page: usize) -> Result<(), AllocError>
+    ensures { pages.new.items ≡ pages.old.items }
+{
+    if pages.len() <= page {
+        let missing = page - pages.len();
+        pages.reserve(missing.saturating_add(1))?;
     }
     Ok(())
 }

@@ -1,7 +1,7 @@
 //! Sets of places.
 
-ghost use Rattle.std.specs.Prelude.{◌≡◌, ◌==◌, ◌||◌, ℕ, true, false, Bool, OnOk};
-ghost use Rattle.std.specs.BTreeSet.{Updates, contains};
+ghost use Rattle.std.specs.Prelude.{◌≡◌, ◌<◌, ◌==◌, ◌||◌, ℕ, true, false, Bool, OnOk};
+ghost use Rattle.std.specs.BTreeSet.{Updates, btree_set_len, contains};
 ghost use Rattle.std.specs.Ordering.{nat_cmp};
 
 use crate::place_map::{number_of, reach, set_number};
@@ -40,6 +40,21 @@ impl PlaceSet {
             marks: Vec::new(alloc),
             places: BTreeSet::new(alloc),
         }
+    }
+
+    /// How many places there are.
+    pub fn len(&self) -> usize
+        ensures { result ≡ btree_set_len self.now }
+    {
+        self.places.len()
+    }
+
+    /// Whether there is no place.
+    pub fn is_empty(&self) -> bool
+        ensures none { result ≡ true → (p : ℕ) → contains nat_cmp self.now p ≡ false }
+        ensures some { result ≡ false → 0 < btree_set_len self.now }
+    {
+        self.places.is_empty()
     }
 
     /// Whether a place is in the set.

@@ -1,6 +1,6 @@
 //! What follows from the values of the nets that are looked at: which gates are to be looked at, and which nets become live.
 
-ghost use Rattle.std.specs.Prelude.{◌≡◌, ◌<◌, ◌≤◌, ◌-◌, ◌||◌, ℕ, suc, true, false, [], ◌∷◌, not, All, OnOk, length};
+ghost use Rattle.std.specs.Prelude.{◌≡◌, ◌<◌, ◌≤◌, ◌-◌, ◌||◌, ℕ, suc, true, false, not, All, OnOk, length};
 ghost use Rattle.std.specs.List.{filter};
 ghost use Rattle.std.specs.BTreeSet.{contains};
 ghost use Rattle.std.specs.Ordering.{nat_cmp};
@@ -13,7 +13,7 @@ ghost use Rattle.rundiff.specs.Places.{gate_at, is_among, is_live, net_at};
 ghost use Rattle.rundiff.specs.Steady.{IsSteady};
 
 use crate::choosing::put_in_order;
-use crate::former::former_wave;
+use crate::former::{Former, former_wave};
 use crate::holding::hold;
 use crate::patches::value_at;
 use crate::place_map::PlaceMap;
@@ -22,29 +22,25 @@ use design::Design;
 use fourstate::Value;
 use gatestep::Stepper;
 use std::alloc::AllocError;
-use waveform::{Patch, Run, Sample, Wave, laws};
+use waveform::{Patch, Sample};
 
 /// Adds the gates that read those of these nets that have another value at the moment `t` than at the moment before.
 pub fn add_changed<S: Stepper>(
     waves: &PlaceMap<Patch<Value>>,
-    blank: &Wave,
-    old: &Design,
-    run: &Run,
-    new: &Design,
+    former: &Former,
     nets: &[usize],
     t: u64,
     gates: &mut Vec<usize>,
 ) -> Result<(), AllocError>
-    requires blank { blank.now ≡ (0, Value.Unknown) ∷ [] }
-    requires there { (p : ℕ) → is_among nets.now p ≡ true → p < length (netlist new.now).nets }
-    requires within { t ≤ (netlist old.now).horizon }
-    requires run { IsRun S.answer old.now run.now }
-    requires waves { (p : ℕ) → is_among nets.now p ≡ true → IsWave S.answer (netlist old.now) (netlist new.now) waves.now p (suc t) }
+    requires there { (p : ℕ) → is_among nets.now p ≡ true → p < length (netlist former.now.new.now).nets }
+    requires within { t ≤ (netlist former.now.old.now).horizon }
+    requires run { IsRun S.answer former.now.old.now former.now.run.now }
+    requires waves { (p : ℕ) → is_among nets.now p ≡ true → IsWave S.answer (netlist former.now.old.now) (netlist former.now.new.now) waves.now p (suc t) }
     ensures more { OnOk result ((q : ℕ) → is_among gates.old.items q ≡ true → is_among gates.new.items q ≡ true) }
-    ensures steady { OnOk result ((p : ℕ) → is_among nets.now p ≡ true → IsSteady S.answer (netlist new.now) (is_among gates.new.items) t p) }
+    ensures steady { OnOk result ((p : ℕ) → is_among nets.now p ≡ true → IsSteady S.answer (netlist former.now.new.now) (is_among gates.new.items) t p) }
 {
     for place in nets {
-        add_if_changed::<S>(waves, blank, old, run, new, *place, t, gates)?;
+        add_if_changed::<S>(waves, former, *place, t, gates)?;
     }
     Ok(())
 }
@@ -52,24 +48,20 @@ pub fn add_changed<S: Stepper>(
 /// Adds the gates that read a net, where it has another value at the moment `t` than at the moment before.
 fn add_if_changed<S: Stepper>(
     waves: &PlaceMap<Patch<Value>>,
-    blank: &Wave,
-    old: &Design,
-    run: &Run,
-    new: &Design,
+    former: &Former,
     place: usize,
     t: u64,
     gates: &mut Vec<usize>,
 ) -> Result<(), AllocError>
-    requires blank { blank.now ≡ (0, Value.Unknown) ∷ [] }
-    requires there { place < length (netlist new.now).nets }
-    requires within { t ≤ (netlist old.now).horizon }
-    requires run { IsRun S.answer old.now run.now }
-    requires wave { IsWave S.answer (netlist old.now) (netlist new.now) waves.now place (suc t) }
+    requires there { place < length (netlist former.now.new.now).nets }
+    requires within { t ≤ (netlist former.now.old.now).horizon }
+    requires run { IsRun S.answer former.now.old.now former.now.run.now }
+    requires wave { IsWave S.answer (netlist former.now.old.now) (netlist former.now.new.now) waves.now place (suc t) }
     ensures more { OnOk result ((q : ℕ) → is_among gates.old.items q ≡ true → is_among gates.new.items q ≡ true) }
-    ensures steady { OnOk result (IsSteady S.answer (netlist new.now) (is_among gates.new.items) t place) }
+    ensures steady { OnOk result (IsSteady S.answer (netlist former.now.new.now) (is_among gates.new.items) t place) }
 {
-    if changes::<S>(waves, blank, old, run, new, place, t) {
-        return add_readers(new, place, gates);
+    if changes::<S>(waves, former, place, t) {
+        return add_readers(former.new, place, gates);
     }
     Ok(())
 }
@@ -77,26 +69,22 @@ fn add_if_changed<S: Stepper>(
 /// Whether a net has another value at the moment `t` than at the moment before.
 fn changes<S: Stepper>(
     waves: &PlaceMap<Patch<Value>>,
-    blank: &Wave,
-    old: &Design,
-    run: &Run,
-    new: &Design,
+    former: &Former,
     place: usize,
     t: u64,
 ) -> bool
-    requires blank { blank.now ≡ (0, Value.Unknown) ∷ [] }
-    requires there { place < length (netlist new.now).nets }
-    requires within { t ≤ (netlist old.now).horizon }
-    requires run { IsRun S.answer old.now run.now }
-    requires wave { IsWave S.answer (netlist old.now) (netlist new.now) waves.now place (suc t) }
-    ensures { result ≡ false → value S.answer (netlist new.now) (net_at (netlist new.now) place) t ≡ value S.answer (netlist new.now) (net_at (netlist new.now) place) (t - 1) }
+    requires there { place < length (netlist former.now.new.now).nets }
+    requires within { t ≤ (netlist former.now.old.now).horizon }
+    requires run { IsRun S.answer former.now.old.now former.now.run.now }
+    requires wave { IsWave S.answer (netlist former.now.old.now) (netlist former.now.new.now) waves.now place (suc t) }
+    ensures { result ≡ false → value S.answer (netlist former.now.new.now) (net_at (netlist former.now.new.now) place) t ≡ value S.answer (netlist former.now.new.now) (net_at (netlist former.now.new.now) place) (t - 1) }
 {
     if t == 0 {
         return false;
     }
-    let former = former_wave(waves, blank, old, run, new, place);
-    let before = value_at(waves, place, former, t - 1);
-    !value_at(waves, place, former, t).is_same(before)
+    let was = former_wave(waves, former, place);
+    let before = value_at(waves, place, was, t - 1);
+    !value_at(waves, place, was, t).is_same(before)
 }
 
 /// Adds the gates that read a net.

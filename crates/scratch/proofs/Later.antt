@@ -24,6 +24,7 @@ module _ (answer : Evaluation → ℕ → State) (e : Engine) (n : ℕ) where
         points = s.points;
         no_early_event = s.no_early_event;
         no_early_point = s.no_early_point;
+        counts = record { nets = s.counts.nets; counted = s.counts.counted };
       }
 
   -- nor does it in a design that differs in its horizon alone
@@ -34,7 +35,7 @@ module _ (answer : Evaluation → ℕ → State) (e : Engine) (n : ℕ) where
 -- nor do the connections
 wired_with : (w : Wiring) (d : Netlist) (h : ℕ) → IsWiring d w → IsWiring (with_horizon d h) w
 wired_with w d h is =
-    record { cells = is.cells; drivers = is.drivers; outputs = is.outputs; readers = is.readers; kinds = is.kinds; lone_drivers = is.lone_drivers }
+    record { cells = is.cells; drivers = is.drivers; outputs = is.outputs; driven = is.driven; readers = is.readers; kinds = is.kinds; lone_drivers = is.lone_drivers }
 
 pub wired_in : (w : Wiring) (former design : Keyed) → former ≡ record design { horizon = former.horizon } → IsWiring (netlist design) w → IsWiring (netlist former) w
 unfolding netlist

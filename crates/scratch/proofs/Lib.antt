@@ -3,6 +3,7 @@ pub mod Asked
 pub mod Between
 pub mod Complete
 pub mod Copies
+pub mod Counting
 pub mod GateSteps
 pub mod Keyed
 pub mod Later

@@ -74,6 +74,25 @@ module _ (d : Netlist) (apart : AllPairs (λ n m. n.name ≢ m.name) d.nets) whe
       out_by outputs k m (slice_get d.nets m) (slice_get d.gates k) (slice_get outputs k) refl refl
       (sym (slice_get-map (λ out. Some out) outputs k) ∙ ap (λ l. slice_get l k) are ∙ slice_get-map (λ g. position_from (λ n. same_name n.name g.output) 0 d.nets) d.gates k) h
 
+  driven_by : (k m : ℕ) (q : Option GateEntry) (w : Option ℕ) → option_map (λ out. Some out) w ≡ option_map (λ g. position_from (λ n. same_name n.name g.output) 0 d.nets) q →
+      has m (option_map_or (λ m. m ∷ []) w []) ≡ true → option_map_or (λ n. option_map_or (λ g. same_name g.output n.name) q false) (slice_get d.nets m) false ≡ true
+  driven_by k m q None are h = absurd (cc)
+  driven_by k m None (Some out) are h = absurd (cc)
+  driven_by k m (Some g) (Some out) are h =
+      let is : position_from (λ n. same_name n.name g.output) 0 d.nets ≡ Some out = cc in
+      let f = position_at (λ (x : NetEntry). same_name x.name g.output) 0 out d.nets is in
+      let e : m ≡ out = nat_same m out (sym (or_false (nat_eq m out)) ∙ h) in let sum = f.2 in
+      let place : f.0 ≡ m = omega arith in
+      let net : slice_get d.nets m ≡ Some f.1 = ap (slice_get d.nets) (sym place) ∙ f.3 in
+      let named : f.1.name ≡ g.output = same_text f.1.name g.output (sym f.4) in
+      ap (λ o. option_map_or (λ n. same_name g.output n.name) o false) net ∙ ap (same_name g.output) named ∙ same_self_name g.output
+
+  -- and the gate drives the net whose place is listed
+  pub driven_are : (outputs : List ℕ) → map (λ out. Some out) outputs ≡ map (λ g. position_from (λ n. same_name n.name g.output) 0 d.nets) d.gates → (k m : ℕ) → has m (output_at outputs k) ≡ true → drives_at d k m ≡ true
+  driven_are outputs are k m h =
+      driven_by k m (slice_get d.gates k) (slice_get outputs k)
+      (sym (slice_get-map (λ out. Some out) outputs k) ∙ ap (λ l. slice_get l k) are ∙ slice_get-map (λ g. position_from (λ n. same_name n.name g.output) 0 d.nets) d.gates k) h
+
   there : (m : ℕ) (n : NetEntry) (name : List ℕ) → slice_get d.nets m ≡ Some n → same_name name n.name ≡ true → is_at m (input_of d (to_net name)) ≡ true
   there m n name net h = ap (λ o. is_at m (option_map_or At o (Fixed Unknown))) (found m n name net h) ∙ nat_itself m
 

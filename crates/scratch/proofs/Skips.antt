@@ -134,6 +134,7 @@ module _ (answer : Evaluation → ℕ → State) (d : Netlist)
                     (there.0, later_on (noted e.points) k there.0 no_point there.3 after (search arith), there.2, there.3);
                 no_early_event = λ t below. early_on (noted e.events) no_event s.no_early_event t (search arith);
                 no_early_point = λ t below. early_on (noted e.points) no_point s.no_early_point t (search arith);
+                counts = s.counts;
               };
           idle = quiet_idle answer d current v quiet;
           quiet = λ w from low. let same : suc v ≡ w = omega arith in ap (stirred_at answer d) (sym same) ∙ none_kept (λ g. is_stirred answer d g (suc v)) d.gates calm;

@@ -64,6 +64,7 @@ pub record IsWiring (d : Netlist) (w : Wiring) : Type 0 where
   pub cells : w.cells.items ≡ map (cell_of d) d.gates
   pub drivers : map (λ places. places.items) w.drivers.items ≡ map (λ n. driver_places d.gates n.name) d.nets
   pub outputs : (k m : ℕ) → drives_at d k m ≡ true → has m (output_at w.outputs.items k) ≡ true
+  pub driven : (k m : ℕ) → has m (output_at w.outputs.items k) ≡ true → drives_at d k m ≡ true
   pub readers : (k m : ℕ) → has k (places_at w.readers.items m) ≡ reads_at d k m
   pub kinds : w.kinds.items ≡ map driven_kind d.nets
   pub lone_drivers : w.lone_drivers.items ≡ map (lone_driver d) d.nets

@@ -10,4 +10,6 @@ pub mod Recorded
 pub mod Recordings
 pub mod Run
 pub mod Stands
+pub mod Tallies
+pub mod Tally
 pub mod Work

@@ -5,9 +5,11 @@ use Rattle.gatestep.specs.Step.{State, Evaluation}
 use Rattle.gatestep.specs.Tasks.{PendingFrom}
 use Rattle.design.specs.Netlist.{Netlist}
 use Rattle.waveform.specs.Changes.{trace_below}
+use Rattle.scratch.specs.Kept.{currents_of}
 use Rattle.scratch.specs.Places.{Announces, Covers, has, passing, pends_at, point_at}
 use Rattle.scratch.specs.Recorded.{recorded_below}
 use Rattle.scratch.specs.Run.{state_after, state_before, value}
+use Rattle.scratch.specs.Tallies.{Counts}
 use Rattle.scratch.specs.Work.{is_stirred}
 use Rattle.scratch.specs.declared.engine.Engine.{Engine}
 use Rattle.scratch.specs.declared.opening.Opening.{Opening}
@@ -23,6 +25,7 @@ pub record Stands (answer : Evaluation → ℕ → State) (d : Netlist) (e : Eng
   pub points : Announces (point_at d.nets) (noted e.points) n
   pub no_early_event : (t : ℕ) → t < n → noted e.events t ≡ []
   pub no_early_point : (t : ℕ) → t < n → noted e.points t ≡ []
+  pub counts : Counts d e.tallies (map (λ s. s.current) e.states.items)
 
 -- the moments below t are done, t not 0, and so are the nets at t; the gates that are stirred at t are known
 pub record IsStirred (answer : Evaluation → ℕ → State) (d : Netlist) (e : Engine) (t : ℕ) : Type 0 where
@@ -37,6 +40,7 @@ pub record IsStirred (answer : Evaluation → ℕ → State) (d : Netlist) (e : 
   pub points : Announces (point_at d.nets) (noted e.points) (t + 1)
   pub no_early_event : (u : ℕ) → u < t + 1 → noted e.events u ≡ []
   pub no_early_point : (u : ℕ) → u < t + 1 → noted e.points u ≡ []
+  pub counts : Counts d e.tallies (currents_of e.states.items t)
 
 -- the nets at 0 are done, and no gate, all of which are stirred
 pub record IsOpening (answer : Evaluation → ℕ → State) (d : Netlist) (o : Opening) : Type 0 where
@@ -44,3 +48,4 @@ pub record IsOpening (answer : Evaluation → ℕ → State) (d : Netlist) (o : 
   pub ready : All (PendingFrom 0) o.states.items
   pub values : o.values.items ≡ map (λ x. value answer d x 0) d.nets
   pub gates : o.gates.items ≡ passing (λ g. is_stirred answer d g 0) 0 d.gates
+  pub counts : Counts d o.tallies (map (λ s. s.current) o.states.items)

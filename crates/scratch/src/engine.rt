@@ -17,6 +17,7 @@ use crate::recording::Recording;
 use crate::resolving::resolve_nets;
 use crate::settling::settle;
 use crate::stirring::{add_readers, find_due, find_nets};
+use crate::tallies::Tallies;
 use crate::wiring::Wiring;
 use bit_set::BitSet;
 use design::Design;
@@ -48,7 +49,8 @@ pub struct Engine {
     stirred: BitSet,
     nets: Vec<usize>,
     changed: Vec<usize>,
-    driven: Vec<Value>,
+    /// The tallies of the nets with many drivers.
+    pub(crate) tallies: Tallies,
     /// Room for tasks.
     pub tasks: Vec<Task>,
     /// The answers of the stirred gates.
@@ -92,6 +94,7 @@ impl Engine {
         recording: Recording,
         events: EventQueue,
         points: EventQueue,
+        tallies: Tallies,
     ) -> Engine
         ensures states { result.states ≡ states }
         ensures values { result.values ≡ values }
@@ -99,6 +102,7 @@ impl Engine {
         ensures traces { result.traces ≡ recording.traces.items }
         ensures events { result.events ≡ events }
         ensures points { result.points ≡ points }
+        ensures tallies { result.tallies ≡ tallies }
     {
         let Recording { waves, traces } = recording;
         Engine {
@@ -113,7 +117,7 @@ impl Engine {
             stirred: BitSet::new(alloc),
             nets: Vec::new(alloc),
             changed: Vec::new(alloc),
-            driven: Vec::new(alloc),
+            tallies,
             tasks: Vec::new(alloc),
             answers: Vec::new(alloc),
         }
@@ -194,6 +198,13 @@ impl Engine {
             &mut self.listed,
             &mut self.gates,
         )?;
+        self.tallies.follow(
+            design,
+            wiring,
+            self.states.as_slice(),
+            self.gates.as_slice(),
+            t,
+        );
         find_nets(
             alloc,
             design,
@@ -209,7 +220,7 @@ impl Engine {
             self.states.as_slice(),
             self.nets.as_slice(),
             t,
-            &mut self.driven,
+            &mut self.tallies,
             &mut self.values,
             &mut self.waves,
             &mut self.changed,

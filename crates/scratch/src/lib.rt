@@ -17,6 +17,8 @@ mod resuming;
 mod run;
 mod settling;
 mod stirring;
+mod tallies;
+mod tally;
 mod waves;
 mod wiring;
 

@@ -146,7 +146,7 @@ fn find_currents(states: &[Driver], t: u64, out: &mut Vec<Value>) -> Result<(), 
 
 /// The value at a place, x where there is none.
 #[inline(always)]
-fn value_at(values: &[Value], place: usize) -> Value
+pub fn value_at(values: &[Value], place: usize) -> Value
     ensures { result ≡ unwrap_or (slice_get values.now place) Value.Unknown }
 {
     values.get(place).copied().unwrap_or(Value::Unknown)

@@ -12,6 +12,7 @@ use crate::engine::Engine;
 use crate::moment::Moment;
 use crate::noting::{list_events, list_points};
 use crate::recording::Recording;
+use crate::tallies::Tallies;
 use crate::wiring::Wiring;
 use design::Design;
 use fourstate::Value;
@@ -31,6 +32,8 @@ pub struct Opening {
     pub tasks: Vec<Task>,
     /// The answers of the gates.
     pub answers: Vec<Driver>,
+    /// The tallies of the nets with many drivers.
+    pub(crate) tallies: Tallies,
 }
 
 impl Opening {
@@ -47,12 +50,14 @@ impl Opening {
         moment.resolve::<S>(design, wiring, 0)?;
         let (states, values) = moment.parts();
         let gates = all_gates(alloc, design)?;
+        let tallies = Tallies::count(alloc, design, wiring, states.as_slice())?;
         Ok(Opening {
             states,
             values,
             gates,
             tasks: Vec::new(alloc),
             answers: Vec::new(alloc),
+            tallies,
         })
     }
 
@@ -68,7 +73,15 @@ impl Opening {
         let recording = Recording::open(alloc, values.as_slice(), states.as_slice())?;
         let events = list_events(alloc, states.as_slice())?;
         let points = list_points(alloc, design, 0)?;
-        Ok(Engine::new(alloc, states, values, recording, events, points))
+        Ok(Engine::new(
+            alloc,
+            states,
+            values,
+            recording,
+            events,
+            points,
+            self.tallies,
+        ))
     }
 }
 

@@ -1,6 +1,6 @@
 //! The values of nets at a moment, from the states of the gates.
 
-ghost use Rattle.std.specs.Prelude.{◌≡◌, ◌<◌, ◌≤◌, ◌+◌, ◌-◌, ℕ, false, not, map, length, slice_get, unwrap_or, OnOk, IfOk, IfSome};
+ghost use Rattle.std.specs.Prelude.{◌≡◌, ◌<◌, ◌≤◌, ◌+◌, ◌-◌, ℕ, Some, false, not, map, length, slice_get, unwrap_or, OnOk, IfOk, IfSome};
 ghost use Rattle.fourstate.specs.declared.limits.TheConstants.{MAX_TIME};
 ghost use Rattle.fourstate.specs.Nets.{net_of};
 ghost use Rattle.fourstate.specs.Values.{same_value};
@@ -10,7 +10,11 @@ ghost use Rattle.scratch.specs.Kept.{IsWiring, currents_of, net_from, values_at}
 ghost use Rattle.scratch.specs.Places.{changes_at, has};
 ghost use Rattle.scratch.specs.Recorded.{recorded_below};
 ghost use Rattle.scratch.specs.Run.{state_before, value};
+ghost use Rattle.scratch.specs.Tallies.{Counts};
+ghost use Rattle.scratch.specs.Tally.{tally_of};
+ghost use Rattle.scratch.specs.declared.tally.Tally.{Tally};
 
+use crate::tallies::Tallies;
 use crate::wiring::Wiring;
 use design::Design;
 use fourstate::{NetKind, Value, resolve};
@@ -20,7 +24,7 @@ use waveform::{Lines, laws};
 
 /// The current value at a place once due events have become current, x where there is none.
 #[inline(always)]
-fn current_at(states: &[Driver], place: usize, t: u64) -> Value
+pub fn current_at(states: &[Driver], place: usize, t: u64) -> Value
     ensures { result ≡ unwrap_or (slice_get (currents_of states.now t) place) Value.Unknown }
 {
     match states.get(place) {
@@ -45,19 +49,27 @@ fn gather_currents(
     Ok(())
 }
 
-/// What a net of this kind has at the moment `t` from the states of its drivers at some places.
+/// What the net of this kind at a place has at the moment `t` from the states of its drivers at some places: from its tally, if it
+/// has one.
 #[inline(never)]
 fn resolve_drivers(
     kind: NetKind,
+    place: usize,
     places: &[u32],
     states: &[Driver],
     t: u64,
-    driven: &mut Vec<Value>,
+    tallies: &mut Tallies,
 ) -> Result<Value, AllocError>
-    ensures { IfOk result (λ v. v ≡ net_of kind (values_at (currents_of states.now t) places.now)) }
+    requires { (tally : Tally) → slice_get tallies.old.nets.items place ≡ Some (Some tally) → tally ≡ tally_of (values_at (currents_of states.now t) places.now) }
+    ensures value { IfOk result (λ v. v ≡ net_of kind (values_at (currents_of states.now t) places.now)) }
+    ensures nets { tallies.new.nets ≡ tallies.old.nets }
+    ensures counted { tallies.new.counted ≡ tallies.old.counted }
 {
-    gather_currents(states, places, t, driven)?;
-    Ok(resolve(kind, driven.as_slice()))
+    if let Some(tally) = tallies.of_net(place) {
+        return Ok(tally.resolve(kind));
+    }
+    gather_currents(states, places, t, &mut tallies.room)?;
+    Ok(resolve(kind, tallies.room.as_slice()))
 }
 
 /// The value of the net at a place at the moment `t` from the states of the gates. A lone driver gives it what it drives.
@@ -68,12 +80,14 @@ fn resolved(
     place: usize,
     states: &[Driver],
     t: u64,
-    driven: &mut Vec<Value>,
+    tallies: &mut Tallies,
 ) -> Result<Value, AllocError>
     requires wired { IsWiring (netlist design.now) wiring.now }
     requires there { place < length (netlist design.now).nets }
-    ensures { IfOk result (λ v. IfSome (slice_get (netlist design.now).nets place)
+    requires counts { Counts (netlist design.now) tallies.old (currents_of states.now t) }
+    ensures value { IfOk result (λ v. IfSome (slice_get (netlist design.now).nets place)
         (λ n. v ≡ net_from (currents_of states.now t) t n (driver_places (netlist design.now).gates n.name))) }
+    ensures counts { OnOk result (Counts (netlist design.now) tallies.new (currents_of states.now t)) }
 {
     if let Some(driver) = wiring.lone_drivers[place] {
         return Ok(current_at(states, driver as usize, t));
@@ -82,7 +96,7 @@ fn resolved(
         None => Ok(design.net_at(place).stimulus_at(t)),
         Some(kind) => {
             let places = wiring.drivers[place].as_slice();
-            let value = resolve_drivers(kind, places, states, t, driven)?;
+            let value = resolve_drivers(kind, place, places, states, t, tallies)?;
             Ok(value)
         }
     }
@@ -104,7 +118,7 @@ pub fn resolve_nets<S: Stepper>(
     states: &[Driver],
     nets: &[usize],
     t: u64,
-    driven: &mut Vec<Value>,
+    tallies: &mut Tallies,
     values: &mut Vec<Value>,
     waves: &mut Lines<Value>,
     changed: &mut Vec<usize>,
@@ -113,9 +127,11 @@ pub fn resolve_nets<S: Stepper>(
     requires begun { 0 < t }
     requires within { t ≤ MAX_TIME }
     requires states { states.now ≡ map (state_before S.answer (netlist design.now) t) (netlist design.now).gates }
+    requires counts { Counts (netlist design.now) tallies.old (currents_of states.now t) }
     requires values { values.old.items ≡ map (λ n. value S.answer (netlist design.now) n (t - 1)) (netlist design.now).nets }
     requires waves { waves.old ≡ map (λ n. recorded_below S.answer (netlist design.now) n t) (netlist design.now).nets }
     requires others { (k : ℕ) → has k nets.now ≡ false → changes_at S.answer (netlist design.now) k t ≡ false }
+    ensures counts { OnOk result (Counts (netlist design.now) tallies.new (currents_of states.now t)) }
     ensures values { OnOk result (values.new.items ≡ map (λ n. value S.answer (netlist design.now) n t) (netlist design.now).nets) }
     ensures waves { OnOk result (waves.new ≡ map (λ n. recorded_below S.answer (netlist design.now) n (t + 1)) (netlist design.now).nets) }
     ensures changed { OnOk result ((k : ℕ) → has k changed.new.items ≡ changes_at S.answer (netlist design.now) k t) }
@@ -127,7 +143,7 @@ pub fn resolve_nets<S: Stepper>(
     changed.clear();
     for place in nets {
         if *place < values.len() {
-            let value = resolved(design, wiring, *place, states, t, driven)?;
+            let value = resolved(design, wiring, *place, states, t, tallies)?;
             let former = values[*place];
             if is_other(value, former) {
                 values[*place] = value;

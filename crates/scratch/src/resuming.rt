@@ -12,6 +12,7 @@ ghost use Rattle.waveform.specs.Timelines.{value_by};
 use crate::engine::Engine;
 use crate::noting::{list_events, list_points};
 use crate::recording::Recording;
+use crate::tallies::Tallies;
 use crate::waves::wave_at;
 use crate::wiring::Wiring;
 use design::Design;
@@ -43,7 +44,8 @@ pub fn resume<S: Stepper>(
     let states = last_states(alloc, recording.traces.as_slice(), horizon)?;
     let events = list_events(alloc, states.as_slice())?;
     let points = list_points(alloc, design, horizon)?;
-    Ok(Engine::new(alloc, states, values, recording, events, points))
+    let tallies = Tallies::count(alloc, design, wiring, states.as_slice())?;
+    Ok(Engine::new(alloc, states, values, recording, events, points, tallies))
 }
 
 /// The value of each net at the horizon.

@@ -242,7 +242,8 @@ fn drivers_of(alloc: Global, design: &Design, net: NetKey) -> Result<Places, All
 
 /// The place of the net that each gate drives.
 fn all_outputs(alloc: Global, design: &Design) -> Result<Vec<u32>, AllocError>
-    ensures { IfOk result (λ all. (k m : ℕ) → drives_at (netlist design.now) k m ≡ true → has m (output_at all.items k) ≡ true) }
+    ensures outputs { IfOk result (λ all. (k m : ℕ) → drives_at (netlist design.now) k m ≡ true → has m (output_at all.items k) ≡ true) }
+    ensures driven { IfOk result (λ all. (k m : ℕ) → has m (output_at all.items k) ≡ true → drives_at (netlist design.now) k m ≡ true) }
 {
     design.lawful();
     design.places_are_keys();

@@ -7,4 +7,5 @@ pub mod LineLemmas
 pub mod PinLemmas
 pub mod TalkLemmas
 pub mod TranscriptLemmas
+pub mod ToolLemmas
 pub mod WordLemmas

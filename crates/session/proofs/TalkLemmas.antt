@@ -15,6 +15,8 @@ use Rattle.session.specs.State.{SessionState, Answers, Reaches, Replies, Transcr
 use Rattle.session.specs.Talk.{Answered, Going, HasQuit, SameSink, SameSource}
 use Rattle.devices.specs.Incoming.{Incoming}
 use Rattle.devices.specs.Outgoing.{Outgoing, Adds}
+use Rattle.session.specs.ToolCommands.{command_by, read_further}
+use Rattle.session.proofs.ToolLemmas.{long_as_ever}
 use Rattle.session.proofs.LineLemmas.{cut_byte, cut_feed, take_front, whole_behind}
 use Rattle.session.proofs.TranscriptLemmas.{joins, joins_none, transcript_last, transcript_quit}
 
@@ -39,12 +41,24 @@ chosen n line C false e =
 command_of_kept : (line : List ℕ) → command_of (take ROOM line) ≡ command_of line
 command_of_kept line = chosen LINE_LIMIT line (λ l. command_within (without_return l)) (nat_lt LINE_LIMIT (length line)) refl
 
+by_length : (tools : Bool) (line : List ℕ) (long : Bool) → nat_lt LINE_LIMIT (length line) ≡ long → command_by tools (take ROOM line) ≡ command_by tools line
+by_length tools line true e =
+    let long : command_of line ≡ command.TooLong = rw e refl in
+    ap (read_further tools (take ROOM line)) (command_of_kept line ∙ long) ∙ long_as_ever tools (take ROOM line)
+    ∙ sym (ap (read_further tools line) long ∙ long_as_ever tools line)
+by_length tools line false e =
+    let all : take ROOM line ≡ line = take_all ROOM line (omega (arith, ltb-false LINE_LIMIT (length line) e)) in
+    ap (command_by tools) all
+
+command_by_kept : (tools : Bool) (line : List ℕ) → command_by tools (take ROOM line) ≡ command_by tools line
+command_by_kept tools line = by_length tools line (nat_lt LINE_LIMIT (length line)) refl
+
 -- what is kept of a line shows what it is
 answers_kept : (s s' : SessionState) (line kept reply : List ℕ) → kept ≡ take ROOM line → Answers s kept reply s' → Answers s line reply s'
 unfolding Answers
 answers_kept s s' line kept reply e answers =
     let P : Command → Type 0 = λ c. Replies s c reply s' in
-    subst P (ap command_of e ∙ command_of_kept line) answers
+    subst P (ap (command_by s.tools) e ∙ command_by_kept s.tools line) answers
 
 ends_kept : (line kept : List ℕ) → kept ≡ take ROOM line → ends kept ≡ ends line
 unfolding ends

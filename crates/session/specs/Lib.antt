@@ -4,6 +4,8 @@ pub mod Verbs
 pub mod Pins
 pub mod EditLines
 pub mod Commands
+pub mod ToolVerbs
+pub mod ToolCommands
 pub mod LineReadings
 pub mod Replies
 pub mod Questions
@@ -12,6 +14,7 @@ pub mod Held
 pub mod Standing
 pub mod Steps
 pub mod Refused
+pub mod ToolAnswers
 pub mod State
 pub mod Traffic
 pub mod Transcripts

@@ -17,7 +17,7 @@ pub record Opens (text : List ℕ) (options : Options) (first : SessionState) : 
   pub spelled : Netlist
   pub spells : Spells options.delay text spelled
   pub within : options.horizon ≤ MAX_TIME
-  pub state : first ≡ opened_with (with_horizon spelled options.horizon)
+  pub state : first ≡ opened_with options.tools (with_horizon spelled options.horizon)
 
 -- a session opens in a state of which this holds
 abbrev pub FromOpening : List ℕ → Options → (SessionState → Type 0) → Type 0

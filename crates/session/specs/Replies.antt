@@ -1,8 +1,9 @@
 -- What a session writes (own).
 use Rattle.std.specs.Prelude.{ℕ, List, [], ◌∷◌, ◌++◌, Option, None, Some, codes, decimal}
-use Rattle.std.specs.List.{flat_map}
 use Rattle.fourstate.specs.declared.value.Value.{Value}
 use Rattle.fourstate.specs.Values.{symbol_of}
+use Rattle.listing.specs.Lines.{change_line}
+use Rattle.listing.specs.Listings.{change_lines}
 use Rattle.session.specs.declared.replies.refusal.Refusal.{Refusal}
 use Rattle.session.specs.declared.replies.refusal.Refusal.TheVariants.{Edit, WorkerLost, BadCommand, LongLine, UnknownHold, NoBatch, InBatch}
 use Rattle.edits.specs.EditFaults.{fault_code, fault_name}
@@ -33,12 +34,8 @@ ok_line version = codes "ok " ++ decimal version ++ codes "\n"
 abbrev pub refusal_line : Refusal → List ℕ
 refusal_line refusal = codes "no " ++ decimal (refusal_code refusal) ++ codes " " ++ refusal_name refusal ++ codes "\n"
 
--- a change of a wave: its moment and the value
-abbrev pub change_line : ℕ × Value → List ℕ
-change_line change = decimal change.0 ++ codes " " ++ (symbol_of change.1 ∷ []) ++ codes "\n"
-
 abbrev pub wave_lines : List (ℕ × Value) → List ℕ
-wave_lines changes = flat_map change_line changes
+wave_lines changes = change_lines changes
 
 abbrev pub value_line : Value → List ℕ
 value_line v = (symbol_of v ∷ []) ++ codes "\n"

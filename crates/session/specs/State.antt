@@ -18,6 +18,8 @@ use Rattle.session.specs.Questions.{changes_asked, query_lines}
 use Rattle.session.specs.Refused.{Comes}
 use Rattle.session.specs.Replies.{ok_line, refusal_line}
 pub use Rattle.session.specs.Standing.{SessionState}
+use Rattle.session.specs.ToolAnswers.{listing_reply}
+use Rattle.session.specs.ToolCommands.{command_by}
 
 -- Replies to questions, which are asked of a snapshot and end with its version.
 
@@ -32,6 +34,7 @@ net_reply asked snapshot = query_reply snapshot.version asked.query (changes_ask
 abbrev pub question_reply : Question → SnapshotRecord → List ℕ
 question_reply (question.Net asked) snapshot = net_reply asked snapshot
 question_reply question.Vcd snapshot = vcd_of snapshot.design ++ ok_line snapshot.version
+question_reply (question.Listing asked) snapshot = listing_reply asked snapshot
 
 -- the same of the snapshot that is held under a name, if one is
 abbrev pub held_reply : Question → Option SnapshotRecord → List ℕ
@@ -68,13 +71,14 @@ Replies old c reply new = Concludes old c reply new
 
 -- the same for a line
 unfoldable pub Answers : SessionState → List ℕ → List ℕ → SessionState → Type 0
-Answers old line reply new = Replies old (command_of line) reply new
+Answers old line reply new = Replies old (command_by old.tools line) reply new
 
 -- the command ends the session
 abbrev pub is_quit : Command → Bool
 is_quit command.Quit = true
 is_quit _ = false
 
+-- so does the line; the questions of tools end none
 unfoldable pub ends : List ℕ → Bool
 ends line = is_quit (command_of line)
 

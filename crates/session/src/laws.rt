@@ -1,13 +1,24 @@
 //! What holds of a session's definitions. These calls do nothing at run time.
 
-ghost use Rattle.std.specs.Prelude.{◌≡◌};
+ghost use Rattle.std.specs.Prelude.{◌≡◌, ◌≢◌, ℕ, Bool, List, false};
+ghost use Rattle.session.specs.declared.commands.command.Command.TheVariants.{Unreadable};
 ghost use Rattle.session.specs.declared.commands.command.TheConstants.{LINE_LIMIT};
 ghost use Rattle.session.specs.declared.held.TheConstants.{MAX_HELD};
 ghost use Rattle.session.specs.declared.talk.exchange.TheConstants.{PIECE};
+ghost use Rattle.session.specs.Commands.{command_of};
+ghost use Rattle.session.specs.ToolCommands.{command_by};
 
 /// How long a line may be, how many bytes are read at once at most, and how many snapshots are held at once at most.
 pub fn limits()
     ensures line { LINE_LIMIT ≡ 4096 }
     ensures piece { PIECE ≡ 4096 }
     ensures held { MAX_HELD ≡ 64 }
+{}
+
+/// The questions of tools are lines that are no commands without them: without them each line is read as ever, and with them
+/// each that is readable as ever.
+#[tactic(auto, using(crate::proofs::ToolLemmas::read_as_ever))]
+pub fn tool_questions()
+    ensures without { (line : List ℕ) → command_by false line ≡ command_of line }
+    ensures beside { (tools : Bool) (line : List ℕ) → command_of line ≢ Unreadable → command_by tools line ≡ command_of line }
 {}

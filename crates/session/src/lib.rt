@@ -13,6 +13,7 @@ mod reading;
 mod replies;
 mod said;
 mod talk;
+mod tool_asking;
 mod words;
 
 pub use fault::SessionFault;

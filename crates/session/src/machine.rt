@@ -13,7 +13,7 @@ ghost use Rattle.session.specs.Talk.{Answered, CarriedOut};
 
 use crate::asking::reply;
 use crate::batch::Batch;
-use crate::commands::{Command, EditLine, Question, read};
+use crate::commands::{Command, EditLine, Question, read_by};
 use crate::held::Held;
 use crate::replies::{Refusal, no, ok};
 use crate::words::WordRef;
@@ -30,6 +30,7 @@ use std::slice;
 #[derive(Drop)]
 pub struct Machine<S: Stepper + Drop> {
     alloc: Global,
+    tools: bool,
     bench: Bench<S>,
     batch: Option<Batch>,
     held: Held,
@@ -40,18 +41,24 @@ impl<S: Stepper + Drop> Model for Machine<S> {
 
     ghost Value = { SessionState };
 
-    ghost view = { λ m. record { present = m.bench.snapshot; batch = m.batch; held = m.held } };
+    ghost view = { λ m. record { tools = m.tools; present = m.bench.snapshot; batch = m.batch; held = m.held } };
 }
 
 impl<S: Stepper + Drop> Machine<S> {
-    /// The design at version 0, with its run.
-    pub fn open(alloc: Global, design: Design, stepper: S) -> Result<Machine<S>, StepFault>
+    /// The design at version 0, with its run, and whether the questions of tools are known.
+    pub fn open(
+        alloc: Global,
+        tools: bool,
+        design: Design,
+        stepper: S,
+    ) -> Result<Machine<S>, StepFault>
         requires { S.answer ≡ advance }
-        ensures { IfOk result (λ machine. machine ≡ opened_with (netlist design)) }
+        ensures { IfOk result (λ machine. machine ≡ opened_with tools (netlist design)) }
     {
         let bench = Bench::open(alloc, design, stepper)?;
         Ok(Machine {
             alloc,
+            tools,
             bench,
             batch: None,
             held: Held::new(alloc),
@@ -59,12 +66,12 @@ impl<S: Stepper + Drop> Machine<S> {
     }
 
     /// Answers a line, which comes without its line feed, and tells whether it ends the session.
-    #[tactic(auto, unfolding(crate::specs::State::Answers, crate::specs::State::ends))]
+    #[tactic(auto, using(crate::proofs::ToolLemmas::quits_as_ever), unfolding(crate::specs::State::Answers, crate::specs::State::ends))]
     pub fn answer<W: Sink>(&mut self, bytes: &[u8], writer: &mut Writer<'_, W>) -> bool
         ensures answered { Answered self.old self.new bytes.now writer.old writer.new }
         ensures ends { result ≡ ends bytes.now }
     {
-        self.carry_out(read(bytes), writer)
+        self.carry_out(read_by(self.tools, bytes), writer)
     }
 
     // Carries out a command, and tells whether it ends the session.

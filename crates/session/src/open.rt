@@ -33,6 +33,8 @@ pub struct Options {
     /// The delay of gates that the design text writes without one, in time units, 1 to `MAX_DELAY`. Without it such a gate
     /// is a fault of the text.
     pub delay: Option<u32>,
+    /// Whether the questions of tools are known beside the commands.
+    pub tools: bool,
 }
 
 /// Opens the design that a text spells, answers the lines of the source in order, and writes the replies to the sink,
@@ -82,7 +84,7 @@ fn open<S: Stepper + Drop>(
     ensures refused { IfErr result (λ fault. IsOpeningFault fault × Refuses text.now options.now fault) }
 {
     let design = opened(alloc, names, text, options)?;
-    match start(alloc, design, stepper) {
+    match start(alloc, options.tools, design, stepper) {
         Ok(session) => Ok(session),
         Err(StepFault::OutOfMemory) => Err(SessionFault::OutOfMemory),
         Err(StepFault::WorkerLost) => Err(SessionFault::WorkerLost),
@@ -96,7 +98,7 @@ fn opened(
     text: &[u8],
     options: &Options,
 ) -> Result<Design, SessionFault>
-    ensures state { IfOk result (λ design. Opens text.now options.now (opened_with (netlist design))) }
+    ensures state { IfOk result (λ design. Opens text.now options.now (opened_with options.now.tools (netlist design))) }
     ensures refused { IfErr result (λ fault. IsOpeningFault fault × Refuses text.now options.now fault) }
 {
     let design = spelled(alloc, names, text, options.delay)?;
@@ -141,13 +143,14 @@ fn up_to(design: Design, horizon: u64) -> Result<Design, SessionFault>
 
 fn start<S: Stepper + Drop>(
     alloc: Global,
+    tools: bool,
     design: Design,
     stepper: S,
 ) -> Result<Session<S>, StepFault>
     requires { S.answer ≡ advance }
-    ensures { IfOk result (λ session. (session.line ≡ []) × (session.machine ≡ opened_with (netlist design))) }
+    ensures { IfOk result (λ session. (session.line ≡ []) × (session.machine ≡ opened_with tools (netlist design))) }
 {
     let line = LineBuffer::new(alloc)?;
-    let machine = Machine::open(alloc, design, stepper)?;
+    let machine = Machine::open(alloc, tools, design, stepper)?;
     Ok(Session { line, machine })
 }

@@ -89,6 +89,7 @@ fn ended<'a>(
     let options = Options {
         horizon: 0,
         delay: None,
+        tools: false,
     };
     let result = run(rt, alloc, design, &options, &mut source, &mut sink, stepper);
     (result, source.inner, sink.inner)

@@ -32,6 +32,7 @@ fn up_to(horizon: u64) -> Options {
     Options {
         horizon,
         delay: None,
+        tools: false,
     }
 }
 

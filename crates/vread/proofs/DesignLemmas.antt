@@ -43,8 +43,11 @@ found_all P p [] x all e = absurd (cc)
 found_all P p (y ∷ ys) x all e = found_first P (p y) y x (find p ys) (All-head P y ys all) (found_all P p ys x (All-tail P y ys all)) e
 
 -- the module at the top is one of those of the text
+pub top_is_sound : (list : ModuleList) (top : ℕ × ModuleEntry) → top_of list.modules ≡ Some top → All (IsSoundModule list.names) list.modules → IsSoundModule list.names top
+top_is_sound list top is sound = found_all (IsSoundModule list.names) (is_top list.modules) list.modules top sound is
+
 pub top_sound : (text : List ℕ) (list : ModuleList) (design : Elaborated) → IsElaboration text list design → All (IsSoundModule list.names) list.modules → IsSoundModule list.names design.top
-top_sound text list design is sound = found_all (IsSoundModule list.names) (is_top list.modules) list.modules design.top sound is.top
+top_sound text list design is = top_is_sound list design.top is.top
 
 -- what comes first of two is not there where neither is
 first_none : {X : Type 0} (a b : Option X) → option_or a b ≡ None → a ≡ None

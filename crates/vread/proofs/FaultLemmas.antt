@@ -15,7 +15,7 @@ use Rattle.vtext.specs.declared.fault.ReadFaultKind.{ReadFaultKind}
 use Rattle.vtext.specs.declared.fault.ReadFaultKind.TheVariants.{PortKind, Edit}
 use Rattle.vtext.specs.declared.gate.Terminal.{Terminal}
 use Rattle.vtext.specs.Modules.{ModuleEntry, ModuleList}
-use Rattle.elaboration.specs.Elaborations.{Elaborated, IsElaboration, IsNode, IsScope}
+use Rattle.elaboration.specs.Elaborations.{Elaborated, IsElaboration, IsNode, IsScope, elaboration_fault}
 use Rattle.elaboration.specs.Numbered.{PlacedScope, ref_at}
 use Rattle.elaboration.specs.Ports.{fault_at}
 use Rattle.elaboration.specs.Scopes.{Scope, gates_of, nets_of, node_at, own_gate, own_gates, scopes_of}
@@ -44,7 +44,7 @@ pub record AllFail (a b c d e : Bool) : Type 0 where
   pub fifth : e ≡ false
 
 -- the first of five tests that holds says the fault
-abbrev chain : (a b c d e : Bool) → Option ReadFaultKind
+abbrev pub chain : (a b c d e : Bool) → Option ReadFaultKind
 chain a b c d e = cond a (Some PortKind) (cond b (Some (Edit BadName)) (cond c (Some (Edit TooMany)) (cond d (Some (Edit TooMany)) (cond e (Some (Edit DrivenInput)) None))))
 
 all_fail : (a b c d e : Bool) → chain a b c d e ≡ None → AllFail a b c d e
@@ -85,6 +85,9 @@ length_gates names modules flat (k ∷ kepts) (s ∷ scopes) count small zip =
 over : (limit greatest c n : ℕ) → limit < greatest → c ≡ min n greatest → nat_lt limit c ≡ nat_lt limit n
 over limit greatest c n low e = grind (arith, nat_tests)
 
+within : (limit greatest c n : ℕ) → limit < greatest → c ≤ limit → c ≡ min n greatest → false ≡ nat_lt limit n
+within limit greatest c n low few e = grind (arith, nat_tests)
+
 -- A design that modules make.
 module _ (text : List ℕ) (list : ModuleList) (design : Elaborated) (is : IsElaboration text list design) where
   abbrev names : List (List ℕ)
@@ -105,29 +108,30 @@ module _ (text : List ℕ) (list : ModuleList) (design : Elaborated) (is : IsEla
   abbrev Kept : PlacedScope → Scope → Type 0
   Kept = IsScope names modules flat
 
-  -- the same fault; `refs` says what terminals are
-  pub fault_same : ((kept : PlacedScope) (scope : Scope) → Kept kept scope → (terminal : Terminal) → IsNode flat (ref_at kept terminal) (node_at names modules scope terminal)) → All (IsSoundScope names) scopes
+  -- the same fault, where there are not too many nets; `refs` says what terminals are
+  pub fault_same : design.net_count ≤ MAX_NETS → ((kept : PlacedScope) (scope : Scope) → Kept kept scope → (terminal : Terminal) → IsNode flat (ref_at kept terminal) (node_at names modules scope terminal)) → All (IsSoundScope names) scopes
       → kept_fault names design ≡ late.scopes_fault names modules top
-  fault_same refs sound =
+  fault_same few refs sound =
       let ports : list_any kept_parts.is_port_wrong design.scopes ≡ list_any (late.is_port_wrong names modules) scopes =
       any_zip Kept kept_parts.is_port_wrong (late.is_port_wrong names modules) (port_wrong_same names modules flat refs) design.scopes scopes is.scopes in
       let long : list_any (kept_parts.is_long_named names) design.scopes ≡ list_any (late.is_long_named names modules) scopes =
       any_zip (λ kept scope. Kept kept scope × IsSoundScope names scope) (kept_parts.is_long_named names) (late.is_long_named names modules)
       (λ kept scope both. long_named_same names modules flat refs kept scope both.0 both.1) design.scopes scopes (zip_both Kept (IsSoundScope names) design.scopes scopes is.scopes sound) in
-      let many_nets : nat_lt MAX_NETS design.net_count ≡ nat_lt MAX_NETS (length flat) = over MAX_NETS (2 ^ 32 - 1) design.net_count (length flat) (omega arith) is.net_count in
+      let not_many : false ≡ nat_lt MAX_NETS (length flat) = within MAX_NETS (2 ^ 32 - 1) design.net_count (length flat) (omega arith) few is.net_count in
       let counted : gate_count design.scopes ≡ min (length (gates_of names modules top)) most =
       length_gates names modules flat design.scopes scopes 0 (omega arith) is.scopes ∙ (let on : 0 + length (gates_of names modules top) ≡ length (gates_of names modules top) = omega arith in ap (λ n. min n most) on) in
       let many_gates : nat_lt MAX_GATES (gate_count design.scopes) ≡ nat_lt MAX_GATES (length (gates_of names modules top)) = over MAX_GATES most (gate_count design.scopes) (length (gates_of names modules top)) (omega arith) counted in
       let driven : list_any kept_parts.is_input_driven design.scopes ≡ list_any (late.is_input_driven names modules) scopes =
       any_zip Kept kept_parts.is_input_driven (late.is_input_driven names modules) (input_driven_same names modules flat refs) design.scopes scopes is.scopes in
-      ap (λ a. chain a (list_any (kept_parts.is_long_named names) design.scopes) (nat_lt MAX_NETS design.net_count) (nat_lt MAX_GATES (gate_count design.scopes)) (list_any kept_parts.is_input_driven design.scopes)) ports
-      ∙ ap (λ b. chain (list_any (late.is_port_wrong names modules) scopes) b (nat_lt MAX_NETS design.net_count) (nat_lt MAX_GATES (gate_count design.scopes)) (list_any kept_parts.is_input_driven design.scopes)) long
-      ∙ ap (λ c. chain (list_any (late.is_port_wrong names modules) scopes) (list_any (late.is_long_named names modules) scopes) c (nat_lt MAX_GATES (gate_count design.scopes)) (list_any kept_parts.is_input_driven design.scopes)) many_nets
+      ap (λ a. chain a (list_any (kept_parts.is_long_named names) design.scopes) false (nat_lt MAX_GATES (gate_count design.scopes)) (list_any kept_parts.is_input_driven design.scopes)) ports
+      ∙ ap (λ b. chain (list_any (late.is_port_wrong names modules) scopes) b false (nat_lt MAX_GATES (gate_count design.scopes)) (list_any kept_parts.is_input_driven design.scopes)) long
+      ∙ ap (λ c. chain (list_any (late.is_port_wrong names modules) scopes) (list_any (late.is_long_named names modules) scopes) c (nat_lt MAX_GATES (gate_count design.scopes)) (list_any kept_parts.is_input_driven design.scopes)) not_many
       ∙ ap (λ d. chain (list_any (late.is_port_wrong names modules) scopes) (list_any (late.is_long_named names modules) scopes) (nat_lt MAX_NETS (length flat)) d (list_any kept_parts.is_input_driven design.scopes)) many_gates
       ∙ ap (λ e. chain (list_any (late.is_port_wrong names modules) scopes) (list_any (late.is_long_named names modules) scopes) (nat_lt MAX_NETS (length flat)) (nat_lt MAX_GATES (length (gates_of names modules top))) e) driven
 
-  -- the fault of the modules is that of the scopes
-  pub late_is : late.late_fault text list ≡ option_map (fault_at text top.start) (late.scopes_fault names modules top)
-  late_is =
-      ap (λ (e : Option ReadFault). option_or e (option_map_or (late.design_fault text list) (top_of modules) None)) is.faultless
-      ∙ ap (λ (t : Option (ℕ × ModuleEntry)). option_map_or (late.design_fault text list) t None) is.top
+-- the fault of modules that have no other is that of the scopes
+pub late_is : (text : List ℕ) (list : ModuleList) (top : ℕ × ModuleEntry) → elaboration_fault text list.modules ≡ None → top_of list.modules ≡ Some top
+    → late.late_fault text list ≡ option_map (fault_at text top.1.start) (late.scopes_fault list.names list.modules top.1)
+late_is text list entry faultless is =
+    ap (λ (e : Option ReadFault). option_or e (option_map_or (late.design_fault text list) (top_of list.modules) None)) faultless
+    ∙ ap (λ (t : Option (ℕ × ModuleEntry)). option_map_or (late.design_fault text list) t None) is

@@ -21,7 +21,7 @@ use Rattle.vread.proofs.LengthLemmas.{longest_long}
 use Rattle.vread.proofs.NodeLemmas.{connection_same, input_same, output_same, tied_same}
 use Rattle.vread.proofs.ZipLemmas.{any_misjoined_same, any_of_scope}
 
-any_same : {X : Type 0} (p q : X → Bool) → ((x : X) → p x ≡ q x) → (xs : List X) → list_any p xs ≡ list_any q xs
+pub any_same : {X : Type 0} (p q : X → Bool) → ((x : X) → p x ≡ q x) → (xs : List X) → list_any p xs ≡ list_any q xs
 any_same p q same [] = refl
 any_same p q same (x ∷ xs) = ap (λ (b : Bool). b || list_any p xs) (same x) ∙ ap (λ (b : Bool). q x || b) (any_same p q same xs)
 
@@ -50,21 +50,27 @@ module _ (names : List (List ℕ)) (modules : List (ℕ × ModuleEntry)) (flat :
       any_gates kept scope is (parts.drives_input kept) (late.drives_input names modules scope)
       (λ gate. input_same flat (ref_at kept gate.output) (node_at names modules scope gate.output) (refs kept scope is gate.output))
 
+  -- a path is as long as that of a scope, as far as names over their limit go
+  abbrev pub IsAsLong : ℕ → Scope → Type 0
+  IsAsLong path scope = (n : ℕ) → parts.is_long path n ≡ parts.is_long (length scope.path) n
+
   -- a net's longest name is too long exactly where one of its names is
-  long_net_same : (kept : PlacedScope) (scope : Scope) → kept.path ≡ scope.path → (slot : Slot) (net : ℕ × nets.Net) → IsSlot names modules flat scope slot net → IsSoundNet names net
-      → parts.is_long_net names kept.path slot net ≡ late.is_long_net names modules scope net
-  long_net_same kept scope path slot net is sound =
-      ap (λ (b : Bool). b && parts.is_long kept.path (parts.longest names net)) is.own
-      ∙ ap (λ (p : List ℕ). is_own names modules scope net && parts.is_long p (parts.longest names net)) path
-      ∙ ap (λ (b : Bool). is_own names modules scope net && b) (longest_long names scope.path net sound.bounds)
+  long_net_same : (path : ℕ) (scope : Scope) → IsAsLong path scope → (slot : Slot) (net : ℕ × nets.Net) → IsSlot names modules flat scope slot net → IsSoundNet names net
+      → parts.is_long_net names path slot net ≡ late.is_long_net names modules scope net
+  long_net_same path scope as_long slot net is sound =
+      ap (λ (b : Bool). b && parts.is_long path (parts.longest names net)) is.own
+      ∙ ap (λ (b : Bool). is_own names modules scope net && b) (as_long (parts.longest names net) ∙ longest_long names scope.path net sound.bounds)
+
+  pub long_after_same : (path : ℕ) (kept : PlacedScope) (scope : Scope) → IsAsLong path scope → IsScope names modules flat kept scope → IsSoundScope names scope
+      → parts.is_long_after names path kept ≡ late.is_long_named names modules scope
+  long_after_same path kept scope as_long is sound =
+      ap (λ (b : Bool). b || list_any (parts.is_long_gate names path) kept.entry.gates)
+      (any_of_scope names modules flat kept scope is (IsSoundNet names) sound.sound.nets (parts.is_long_net names path) (late.is_long_net names modules scope) (long_net_same path scope as_long))
+      ∙ ap (λ (b : Bool). list_any (late.is_long_net names modules scope) scope.entry.nets || b)
+      (any_gates kept scope is (parts.is_long_gate names path) (late.is_long_gate names modules scope) (λ gate. as_long (length (gate_bytes names gate))))
 
   pub long_named_same : (kept : PlacedScope) (scope : Scope) → IsScope names modules flat kept scope → IsSoundScope names scope → parts.is_long_named names kept ≡ late.is_long_named names modules scope
-  long_named_same kept scope is sound =
-      ap (λ (b : Bool). b || list_any (parts.is_long_gate names kept.path) kept.entry.gates)
-      (any_of_scope names modules flat kept scope is (IsSoundNet names) sound.sound.nets (parts.is_long_net names kept.path) (late.is_long_net names modules scope) (long_net_same kept scope is.path))
-      ∙ ap (λ (b : Bool). list_any (late.is_long_net names modules scope) scope.entry.nets || b)
-      (any_gates kept scope is (parts.is_long_gate names kept.path) (late.is_long_gate names modules scope)
-      (λ gate. ap (λ (p : List ℕ). parts.is_long p (length (gate_bytes names gate))) is.path))
+  long_named_same kept scope is sound = long_after_same (length kept.path) kept scope (λ n. ap (λ (p : List ℕ). parts.is_long (length p) n) is.path) is sound
 
   -- Gates, where there are not too many nets.
   module _ (few : length flat < 2 ^ 32) where

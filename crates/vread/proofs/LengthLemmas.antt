@@ -104,7 +104,7 @@ bits_long path base range left right = step (p (f top)) refl
 
 -- one of a net's names is over its limit if the longest is
 pub longest_long : (names : List (List ℕ)) (path : List ℕ) (net : ℕ × nets.Net) → MatchOption net.1.range (Unit {0}) (λ range. (range.left ≤ MAX_INDEX) × (range.right ≤ MAX_INDEX))
-    → parts.is_long path (parts.longest names net) ≡ list_any (λ (name : List ℕ). nat_lt MAX_NAME (length path + length name)) (flat_names names net)
+    → parts.is_long (length path) (parts.longest names net) ≡ list_any (λ (name : List ℕ). nat_lt MAX_NAME (length path + length name)) (flat_names names net)
 longest_long names path net bounded = step net.1.range bounded
   where
     base : List ℕ

@@ -13,4 +13,5 @@ pub mod NewNetLemmas
 pub mod NodeLemmas
 pub mod OwnNames
 pub mod PairLemmas
+pub mod SearchLemmas
 pub mod ZipLemmas

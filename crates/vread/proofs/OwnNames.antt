@@ -43,7 +43,7 @@ Named net = IsTrue (is_name net.name)
 -- `whole` is a law of parts.
 module _ (whole : (part : List ℕ) → IsTrue (is_part part) → parts part ≡ part ∷ []) where
   -- a part after a path is a name, if the whole is short enough
-  pub path_name : (path : List ℕ) (instances : List (List ℕ)) (name : List ℕ) → IsPath path instances → IsTrue (is_part name) → kept_parts.is_long path (length name) ≡ false → IsTrue (is_name (path ++ name))
+  pub path_name : (path : List ℕ) (instances : List (List ℕ)) (name : List ℕ) → IsPath path instances → IsTrue (is_part name) → kept_parts.is_long (length path) (length name) ≡ false → IsTrue (is_name (path ++ name))
   path_name path instances name is part fits =
       both_true (nat_le (length (path ++ name)) MAX_NAME) (list_all is_part (parts (path ++ name)))
       (short (length (path ++ name)) (omega (arith, not_long (length path + length name) fits, length-append path name)))

@@ -69,9 +69,9 @@ drives_input scope gate = is_input_ref (driven scope gate)
 abbrev pub is_input_driven : PlacedScope → Bool
 is_input_driven scope = list_any (drives_input scope) scope.entry.gates
 
--- a name of so many bytes after this path is over its limit
-abbrev pub is_long : List ℕ → ℕ → Bool
-is_long path bytes = nat_lt MAX_NAME (length path + bytes)
+-- a name of so many bytes after a path of so many is over its limit
+abbrev pub is_long : ℕ → ℕ → Bool
+is_long path bytes = nat_lt MAX_NAME (path + bytes)
 
 -- how many bytes the longest index of a range has, with its brackets
 abbrev pub bracketed_length : Range → ℕ
@@ -86,21 +86,24 @@ module _ (names : List (List ℕ)) where
   abbrev pub longest : ℕ × nets.Net → ℕ
   longest net = length (name_at names net.0) + option_map_or bracketed_length net.1.range 0
 
-  abbrev pub is_long_net : List ℕ → Slot → ℕ × nets.Net → Bool
+  abbrev pub is_long_net : ℕ → Slot → ℕ × nets.Net → Bool
   is_long_net path slot net = is_own_slot slot && is_long path (longest net)
 
-  abbrev pub is_long_gate : List ℕ → GateEntry → Bool
+  abbrev pub is_long_gate : ℕ → GateEntry → Bool
   is_long_gate path gate = is_long path (length (gate_bytes names gate))
 
-  abbrev pub is_long_named : PlacedScope → Bool
-  is_long_named scope = any_slot (is_long_net scope.path) scope.slots scope.entry.nets || list_any (is_long_gate scope.path) scope.entry.gates
+  -- a name in a scope is over its limit, after a path of so many bytes
+  abbrev pub is_long_after : ℕ → PlacedScope → Bool
+  is_long_after path scope = any_slot (is_long_net path) scope.slots scope.entry.nets || list_any (is_long_gate path) scope.entry.gates
 
-  -- why the scopes are no design, if they are none
+  abbrev pub is_long_named : PlacedScope → Bool
+  is_long_named scope = is_long_after (length scope.path) scope
+
+  -- why the scopes of a design of not too many nets are no design, if they are none
   abbrev pub kept_fault : Elaborated → Option ReadFaultKind
   kept_fault design =
       if list_any is_port_wrong design.scopes then Some PortKind
       else if list_any is_long_named design.scopes then Some (Edit BadName)
-      else if nat_lt MAX_NETS design.net_count then Some (Edit TooMany)
       else if nat_lt MAX_GATES (gate_count design.scopes) then Some (Edit TooMany)
       else if list_any is_input_driven design.scopes then Some (Edit DrivenInput)
       else None

@@ -6,12 +6,12 @@ ghost use Rattle.vread.specs.Parts.{drives_constant, drives_input, gate_count, i
 
 use crate::joints::{is_input, is_misjoined, is_tied};
 use crate::lengths::is_long_named;
-use design::{MAX_GATES, MAX_NETS};
+use design::MAX_GATES;
 use edits::EditFault;
 use elaboration::{Elaboration, Scope};
 use vtext::{Gate, Names, ReadFaultKind};
 
-/// Why a design's scopes are no design; none where they are one.
+/// Why the scopes of a design of not too many nets are no design; none where they are one.
 pub fn scopes_fault(names: &Names, design: &Elaboration) -> Option<ReadFaultKind>
     ensures { result ≡ kept_fault names.now design.now }
 {
@@ -21,9 +21,6 @@ pub fn scopes_fault(names: &Names, design: &Elaboration) -> Option<ReadFaultKind
     }
     if are_long_named(names, scopes) {
         return Some(ReadFaultKind::Edit(EditFault::BadName));
-    }
-    if design.net_count() > MAX_NETS {
-        return Some(ReadFaultKind::Edit(EditFault::TooMany));
     }
     if gate_count(scopes) > MAX_GATES {
         return Some(ReadFaultKind::Edit(EditFault::TooMany));
@@ -67,7 +64,7 @@ fn gate_count(scopes: &[Scope]) -> usize
 }
 
 /// Whether a port is joined to a net of another rule, or a gate drives a port that is tied to a constant.
-fn is_port_wrong(scope: &Scope) -> bool
+pub fn is_port_wrong(scope: &Scope) -> bool
     ensures { result ≡ is_port_wrong scope.now }
 {
     is_misjoined(scope) || drive_constants(scope)

@@ -7,7 +7,7 @@ ghost use Rattle.std.specs.Option.{option_map_or};
 ghost use Rattle.elaboration.specs.Numbered.{is_own_slot};
 ghost use Rattle.vtext.specs.Names.{name_at};
 ghost use Rattle.vtext.specs.GateNames.{gate_bytes, instance_bytes, numbered};
-ghost use Rattle.vread.specs.Parts.{any_slot, bracketed_length, is_long, is_long_gate, is_long_named, is_long_net, longest};
+ghost use Rattle.vread.specs.Parts.{any_slot, bracketed_length, is_long, is_long_after, is_long_gate, is_long_named, is_long_net, longest};
 
 use design::MAX_NAME;
 use elaboration::{Scope, Slot};
@@ -17,11 +17,18 @@ use vtext::{Gate, InstanceName, Names, Net, Range};
 pub fn is_long_named(names: &Names, scope: &Scope) -> bool
     ensures { result ≡ is_long_named names.now scope.now }
 {
-    are_long_nets(names, scope) || are_long_gates(names, scope)
+    is_long_after(names, scope, scope.path().len())
 }
 
-fn are_long_nets(names: &Names, scope: &Scope) -> bool
-    ensures { result ≡ any_slot (is_long_net names.now scope.now.path) scope.now.slots scope.now.entry.nets }
+/// Whether one has, where names in the scope stand after a path of so many bytes.
+pub fn is_long_after(names: &Names, scope: &Scope, path: usize) -> bool
+    ensures { result ≡ is_long_after names.now path scope.now }
+{
+    are_long_nets(names, scope, path) || are_long_gates(names, scope, path)
+}
+
+fn are_long_nets(names: &Names, scope: &Scope, path: usize) -> bool
+    ensures { result ≡ any_slot (is_long_net names.now path) scope.now.slots scope.now.entry.nets }
 {
     let slots = scope.slots();
     let entry = scope.module();
@@ -29,17 +36,17 @@ fn are_long_nets(names: &Names, scope: &Scope) -> bool
         let Some((name, net)) = entry.net_at(place) else {
             return false;
         };
-        if is_long_net(names, scope, slots[place], name, net) {
+        if is_long_net(names, path, slots[place], name, net) {
             return true;
         }
     }
     false
 }
 
-fn is_long_net(names: &Names, scope: &Scope, slot: Slot, name: u32, net: Net) -> bool
-    ensures { result ≡ (is_own_slot slot && is_long scope.now.path (longest names.now (name, net))) }
+fn is_long_net(names: &Names, path: usize, slot: Slot, name: u32, net: Net) -> bool
+    ensures { result ≡ (is_own_slot slot && is_long path (longest names.now (name, net))) }
 {
-    slot.is_own() && is_long(scope, longest(names, name, net.range))
+    slot.is_own() && is_long(path, longest(names, name, net.range))
 }
 
 /// How many bytes the longest name of a net, or of the bits of a vector, has.
@@ -61,27 +68,27 @@ fn bracketed_length(range: Range) -> usize
     2 + digit_count(range.left.max(range.right) as u64)
 }
 
-fn are_long_gates(names: &Names, scope: &Scope) -> bool
-    ensures { result ≡ list_any (is_long_gate names.now scope.now.path) scope.now.entry.gates }
+fn are_long_gates(names: &Names, scope: &Scope, path: usize) -> bool
+    ensures { result ≡ list_any (is_long_gate names.now path) scope.now.entry.gates }
 {
     scope
         .module()
         .gates()
         .iter()
-        .any(|gate| is_long_gate(names, scope, gate))
+        .any(|gate| is_long_gate(names, path, gate))
 }
 
-fn is_long_gate(names: &Names, scope: &Scope, gate: &Gate) -> bool
-    ensures { result ≡ is_long_gate names.now scope.now.path gate.now }
+fn is_long_gate(names: &Names, path: usize, gate: &Gate) -> bool
+    ensures { result ≡ is_long_gate names.now path gate.now }
 {
-    is_long(scope, gate_name_length(names, gate))
+    is_long(path, gate_name_length(names, gate))
 }
 
-/// Whether a name of so many bytes, after the path of a scope, is over its limit.
-fn is_long(scope: &Scope, bytes: usize) -> bool
-    ensures { result ≡ nat_lt MAX_NAME (length scope.now.path + bytes) }
+/// Whether a name of so many bytes, after a path of so many, is over its limit.
+fn is_long(path: usize, bytes: usize) -> bool
+    ensures { result ≡ nat_lt MAX_NAME (path + bytes) }
 {
-    scope.path().len().saturating_add(bytes) > MAX_NAME
+    path.saturating_add(bytes) > MAX_NAME
 }
 
 /// How many bytes the name of a gate has.

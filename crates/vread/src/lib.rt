@@ -12,6 +12,7 @@ mod net_keys;
 mod nets;
 mod new_nets;
 mod reading;
+mod search;
 
 pub use reading::read;
 pub use vtext::{ReadFault, ReadFaultKind};

@@ -101,3 +101,8 @@ pub fn bit_names_are_bits()
 pub fn modules_are_sound()
     ensures { (default : Option ℕ) (text : List ℕ) (list : ModuleList) → Says default text list → All (IsSoundModule list.names) list.modules }
 {}
+
+/// The greatest index of a bit of a vector has this number.
+pub fn greatest_index()
+    ensures { MAX_INDEX ≡ 65535 }
+{}

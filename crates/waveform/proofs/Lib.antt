@@ -7,6 +7,7 @@ pub mod Functions
 pub mod Gaps
 pub mod Joins
 pub mod Lists
+pub mod Marking
 pub mod Noting
 pub mod PagedLines
 pub mod PagedMoments

@@ -24,3 +24,10 @@ digit_kept zero low = refl
 digit_kept (suc zero) low = refl
 digit_kept (suc (suc zero)) low = refl
 digit_kept (suc (suc (suc k))) low = let none : k ≡ 0 = omega arith in ap (λ n. suc (suc (suc n))) (sym none)
+
+-- the number of a value is below 4
+pub digit_low : (value : Value) → digit_of value < 4
+digit_low Zero = omega arith
+digit_low One = omega arith
+digit_low Unknown = omega arith
+digit_low HighZ = omega arith

@@ -4,6 +4,7 @@ pub mod Digits
 pub mod Entries
 pub mod Joins
 pub mod Links
+pub mod Marks
 pub mod Notes
 pub mod Paging
 pub mod Patches

@@ -8,6 +8,7 @@ mod entries;
 mod entry;
 pub mod laws;
 mod lines;
+mod marks;
 mod patch;
 mod replay;
 mod run;

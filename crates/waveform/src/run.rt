@@ -83,6 +83,8 @@ impl Run {
         ensures traces { self.new.traces ≡ self.old.traces }
         ensures horizon { self.new.horizon ≡ self.old.horizon }
     {
+        let mut wave = wave;
+        wave.mark()?;
         self.waves.put(key, wave)
     }
 

@@ -20,6 +20,9 @@ pub trait Sample: Copy {
     /// The value before any entry.
     ghost start: { Self };
 
+    /// Which of four groups a value belongs to.
+    ghost digit: { Self → ℕ };
+
     /// A value can be stored at a moment.
     ghost can_store: { ℕ → Self → Type 0 };
 
@@ -43,6 +46,13 @@ pub trait Sample: Copy {
     /// The two values are the same.
     fn is_same(self, other: Self) -> bool
         ensures { result ≡ same self other };
+
+    /// Which of four groups the value belongs to.
+    fn digit(self) -> u64
+        ensures { result ≡ digit self };
+
+    /// There are four groups.
+    ghost digit_within: { (a : Self) → digit a < 4 };
 
     /// Values that are the same are equal.
     ghost same_is_equal: { (a b : Self) → same a b ≡ true → a ≡ b };

@@ -9,9 +9,11 @@ mod look;
 mod splice;
 
 use crate::entries::{FIRST_ROOM, SPARE_ROOM, append, count_until, last_entry, push_value};
+use crate::marks::{LEAST, Marks};
 use crate::sample::Sample;
 use std::alloc::{AllocError, Global};
 use std::marker::Model;
+use std::mem;
 
 /// A function of time, kept as the entries at which it changes other than by itself (own). Contracts see the list of its
 /// entries, each a moment, in time units, and a value. The first one lies at 0, and each stores another value than the
@@ -19,17 +21,21 @@ use std::marker::Model;
 #[derive(Drop)]
 pub struct Timeline<V: Sample> {
     entries: Vec<V::Entry>,
+    // Of the entries of a long wave that a run keeps; of others there are none, or of the first ones alone.
+    marks: Marks,
 }
 
 impl<V: Sample> Model for Timeline<V> {
     ghost use Rattle.std.specs.Prelude.{ℕ, List, map, All};
+    ghost use Rattle.waveform.specs.Marks.{AreMarks};
     ghost use Rattle.waveform.specs.Timelines.{IsTimeline};
 
     ghost Value = { List (ℕ × V) };
 
     ghost view = { λ a. map V.stored a.entries.items };
 
-    ghost invariant = { λ a. IsTimeline V.same V.drift (map V.stored a.entries.items) × All (λ e. V.can_store e.0 e.1) (map V.stored a.entries.items) };
+    ghost invariant = { λ a. IsTimeline V.same V.drift (map V.stored a.entries.items) × All (λ e. V.can_store e.0 e.1) (map V.stored a.entries.items)
+        × AreMarks V.digit a.marks (map V.stored a.entries.items) };
 }
 
 impl<V: Sample> Timeline<V> {
@@ -40,7 +46,10 @@ impl<V: Sample> Timeline<V> {
     {
         let mut entries = Vec::with_capacity(alloc, FIRST_ROOM)?;
         entries.push(value.entry(0))?;
-        Ok(Timeline { entries })
+        Ok(Timeline {
+            entries,
+            marks: Marks::none(),
+        })
     }
 
     /// Gives the function this value from `t` on, in time units, a moment after all entries. Nothing is stored where it has
@@ -93,6 +102,7 @@ impl<V: Sample> Timeline<V> {
     {
         let count = count_until::<V>(self.entries.as_slice(), t);
         self.entries.truncate(count);
+        self.marks = Marks::none();
     }
 
     /// The last entry: its moment, in time units, and its value. Each call tells what every timeline keeps.
@@ -103,6 +113,19 @@ impl<V: Sample> Timeline<V> {
         ensures stored { All (λ entry. V.can_store entry.0 entry.1) self.now }
     {
         last_entry::<V>(self.entries.as_slice())
+    }
+
+    /// Marks what values the entries have, for searches, where they are many; blocks that have their marks keep them. It fails
+    /// where memory runs out, and then nothing has changed.
+    pub(crate) fn mark(&mut self) -> Result<(), AllocError>
+        ensures { self.new ≡ self.old }
+    {
+        if self.entries.len() >= LEAST {
+            let alloc = *self.entries.allocator();
+            let marks = mem::replace(&mut self.marks, Marks::none());
+            self.marks = marks.extended::<V>(alloc, self.entries.as_slice())?;
+        }
+        Ok(())
     }
 
     /// The entries as they are stored, in order of time.

@@ -2,6 +2,7 @@
 
 ghost use Rattle.std.specs.Prelude.{◌≡◌};
 ghost use Rattle.gatestep.specs.Step.{due, initial};
+ghost use Rattle.waveform.specs.Digits.{digit_low, digit_of};
 ghost use Rattle.waveform.specs.Entries.{same_state, CanStore};
 ghost use Rattle.waveform.specs.SampleLaws.{is_same_state, same_state_self, due_twice, settled_at, stored_later};
 
@@ -27,6 +28,8 @@ impl Sample for Driver {
     ghost drift = { due };
 
     ghost start = { initial };
+
+    ghost digit = { λ state. digit_of state.current };
 
     ghost can_store = { CanStore };
 
@@ -54,6 +57,13 @@ impl Sample for Driver {
     fn is_same(self, other: Driver) -> bool {
         self.is_same(other)
     }
+
+    #[inline(always)]
+    fn digit(self) -> u64 {
+        self.current() as u64
+    }
+
+    ghost digit_within = { λ state. digit_low state.current };
 
     ghost same_is_equal = { is_same_state };
 

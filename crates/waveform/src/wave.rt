@@ -4,6 +4,7 @@ ghost use Rattle.std.specs.Prelude.{◌≡◌, ◌<◌, refl};
 ghost use Rattle.fourstate.specs.ValueLaws.{is_same, same_self};
 ghost use Rattle.fourstate.specs.Values.{same_value};
 ghost use Rattle.fourstate.specs.declared.value.Value.TheVariants.{Unknown};
+ghost use Rattle.waveform.specs.Digits.{digit_low, digit_of};
 ghost use Rattle.waveform.specs.Entries.{standing};
 ghost use Rattle.waveform.specs.declared.times.TheConstants.{TIME_END};
 
@@ -26,6 +27,8 @@ impl Sample for Value {
     ghost drift = { standing };
 
     ghost start = { Unknown };
+
+    ghost digit = { digit_of };
 
     ghost can_store = { λ t _. t < TIME_END };
 
@@ -53,6 +56,13 @@ impl Sample for Value {
     fn is_same(self, other: Value) -> bool {
         self == other
     }
+
+    #[inline(always)]
+    fn digit(self) -> u64 {
+        self as u64
+    }
+
+    ghost digit_within = { digit_low };
 
     ghost same_is_equal = { is_same };
 

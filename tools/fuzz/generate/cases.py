@@ -36,9 +36,15 @@ def lively(rng, delay, words):
     return found or Case(b"module m(input a, output y); not #2 (y, a); endmodule\n", words)
 
 
-def session_case(seed, number):
+def session_case(seed, number, tool=False):
     """A session over a design."""
-    rng = random.Random(f"{seed} session {number}")
+    rng = random.Random(f"{seed} {'tool' if tool else 'session'} {number}")
     delay, horizon = rng.choice([None, None, 3]), rng.choice(HORIZONS)
     case = lively(rng, delay, options(rng, horizon, delay))
-    return case._replace(commands=sessions.session(rng, case.design(), horizon, rng.choice([8, 16, 32, 64])))
+    commands = sessions.session(rng, case.design(), horizon, rng.choice([8, 16, 32, 64]), tool)
+    return case._replace(commands=commands, tool=tool)
+
+
+def tool_case(seed, number):
+    """A session of gatetool."""
+    return session_case(seed, number, tool=True)

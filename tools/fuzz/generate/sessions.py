@@ -1,5 +1,5 @@
 """Sessions over a design: edits of every kind, batches, held snapshots and questions, and lines that are none."""
-from reading.session import QUESTIONS, Session
+from reading.session import EDITS, Session
 
 from .layout import BYTES
 from .words import Words
@@ -40,8 +40,8 @@ def guard(design):
 class Lines:
     """Makes lines for a session, which is told of each."""
 
-    def __init__(self, rng, design, horizon):
-        self.rng, self.session = rng, Session(design, horizon, guard)
+    def __init__(self, rng, design, horizon, tools):
+        self.rng, self.session = rng, Session(design, horizon, guard, tools)
         self.words = Words(rng, self.session, max(3, min(horizon, 60)))
         verbs = "net", "input", "dropnet", "kind", "gate", "drop", "delay", "type", "wire", "stim", "unstim", "horizon"
         self.verbs = {verb: getattr(self, verb) for verb in verbs}
@@ -101,9 +101,13 @@ class Lines:
         return [verb, *self.verbs[verb]()]
 
     def question(self):
-        verb = self.rng.choice([*QUESTIONS, "wave", "wave", "wave"])
-        words = [] if verb == "vcd" else [self.words.net()] if verb == "wave" else [self.words.net(), self.words.time()]
-        return [verb, *words, *([self.words.value()] if verb == "seek" else [])]
+        verb = self.rng.choice([*self.session.questions, "wave", "wave", "wave"])
+        if verb in ("vcd", "nets", "inputs", "gates"):
+            return [verb]
+        if verb in ("wave", "drivers", "readers", "points", "gate"):
+            return [verb, self.words.gate() if verb == "gate" else self.words.input() if verb == "points" else self.words.net()]
+        last = {"seek": self.words.value, "window": self.words.time}.get(verb)
+        return [verb, self.words.net(), self.words.time(), *([last()] if last else [])]
 
     def held(self):
         held = list(self.session.holds)
@@ -135,7 +139,8 @@ class Lines:
 
     def told(self, line):
         """The line, or another one where the run would take too long; the session has gone on by it."""
-        if not line.split()[:1] or line.split()[0].decode("latin-1") in [*QUESTIONS, "at"]:
+        verb = next(iter(line.split()), b"").decode("latin-1")
+        if not verb or verb == "at" or verb in self.session.questions and verb not in EDITS:
             return line
         try:
             self.session.reply(line)
@@ -144,9 +149,9 @@ class Lines:
         return line
 
 
-def session(rng, design, horizon, count):
-    """The commands of a session of about so many lines."""
-    lines = Lines(rng, design, horizon)
+def session(rng, design, horizon, count, tools=False):
+    """The commands of a session of about so many lines, among them questions of tools where these are known."""
+    lines = Lines(rng, design, horizon, tools)
     made = [lines.told(lines.line()) for _ in range(count)]
     if rng.random() < 0.2:
         made.insert(rng.randrange(len(made) + 1), b"quit")

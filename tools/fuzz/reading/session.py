@@ -56,6 +56,61 @@ def vcd(snapshot):
     return list(dump.lines(snapshot.design, snapshot.waves()))
 
 
+# The questions of tools.
+
+
+def net_lines(design, wanted):
+    return [f"{name} {net.kind}" for name, net in design.nets.items() if wanted(net)]
+
+
+def nets(snapshot):
+    return net_lines(snapshot.design, lambda net: True)
+
+
+def inputs(snapshot):
+    return net_lines(snapshot.design, lambda net: net.is_input)
+
+
+def gate_line(name, gate):
+    rise, *others = gate.delays
+    return " ".join([name, gate.kind, str(rise), "/".join(map(str, others)), gate.output, *gate.inputs])
+
+
+def gates(snapshot):
+    return [gate_line(name, gate) for name, gate in snapshot.design.gates.items()]
+
+
+def gate(snapshot, name):
+    edits.check(name in snapshot.design.gates, "UnknownGate")
+    return [gate_line(name, snapshot.design.gates[name])]
+
+
+def gates_at(snapshot, net, is_at):
+    edits.check(net in snapshot.design.nets, "UnknownNet")
+    return [name for name, gate in snapshot.design.gates.items() if is_at(gate)]
+
+
+def drivers(snapshot, net):
+    return gates_at(snapshot, net, lambda gate: gate.output == net)
+
+
+def readers(snapshot, net):
+    return gates_at(snapshot, net, lambda gate: net in gate.inputs)
+
+
+def points(snapshot, name):
+    edits.check(name in snapshot.design.nets, "UnknownNet")
+    edits.check(snapshot.design.nets[name].is_input, "NotInput")
+    return [f"{time} {it}" for time, it in sorted(snapshot.design.nets[name].points.items())]
+
+
+def window(snapshot, name, begin, end):
+    changes = snapshot.wave(name, end)
+    edits.check(begin <= end, "TimeTooLarge")
+    first = [it for time, it in changes if time <= begin][-1]
+    return [f"{begin} {first}", *(f"{time} {it}" for time, it in changes if begin < time <= end)]
+
+
 # The words of commands: each reads a word or refuses it.
 
 
@@ -111,6 +166,16 @@ QUESTIONS = {
     "seek": (seek, name, number, of_value),
     "vcd": (vcd,),
 }
+TOOL_QUESTIONS = {
+    "nets": (nets,),
+    "inputs": (inputs,),
+    "gates": (gates,),
+    "gate": (gate, name),
+    "drivers": (drivers, name),
+    "readers": (readers, name),
+    "points": (points, name),
+    "window": (window, name, number, number),
+}
 
 
 def read_words(forms, words):
@@ -130,9 +195,11 @@ def read_words(forms, words):
 
 
 class Session:
-    """A session over a design. `made` is called with each design that a commit makes, before it stands."""
+    """A session over a design. `made` is called with each design that a commit makes, before it stands. With `tools` it knows
+    the questions of tools too."""
 
-    def __init__(self, design, horizon, made=lambda design: None):
+    def __init__(self, design, horizon, made=lambda design: None, tools=False):
+        self.questions = {**QUESTIONS, **(TOOL_QUESTIONS if tools else {})}
         self.snapshot = Snapshot(0, replace(design, horizon=horizon))
         self.holds, self.batch, self.ended, self.made = {}, None, False, made
 
@@ -162,11 +229,11 @@ class Session:
 
     def command(self, verb, words):
         """The lines of a command's reply, and the snapshot that was asked."""
-        if verb in EDITS:
+        if verb in EDITS and not (verb in self.questions and len(words) == 1):
             edit, *forms = EDITS[verb]
             said = read_words(forms, words)
             self.edit(lambda design: edit(design, *said))
-        elif verb in QUESTIONS:
+        elif verb in self.questions:
             return self.question(verb, words), self.snapshot
         elif verb == "at":
             return self.asked_of_held(words)
@@ -180,12 +247,12 @@ class Session:
         return [], self.snapshot
 
     def question(self, verb, words):
-        ask, *forms = QUESTIONS[verb]
+        ask, *forms = self.questions[verb]
         return ask(self.snapshot, *read_words(forms, words))
 
     def asked_of_held(self, words):
-        readable(len(words) > 1 and words[1] in QUESTIONS, "")
-        ask, *forms = QUESTIONS[words[1]]
+        readable(len(words) > 1 and words[1] in self.questions, "")
+        ask, *forms = self.questions[words[1]]
         said = read_words(forms, words[2:])
         edits.check(words[0] in self.holds, "UnknownHold")
         held = self.holds[words[0]]

@@ -93,6 +93,12 @@ fn a_small_step_and_a_large_one(rt: HostRuntime) {
     drop(calls);
 }
 
+// One worker gets all gates that a design can have as one piece.
+#[test]
+fn the_largest_piece(rt: HostRuntime) {
+    step(rt, rt.alloc(), 1, 65_536, Quiet);
+}
+
 /// Keeps an end of a channel for as long as a worker lives.
 #[derive(Drop)]
 struct Alive {

@@ -57,7 +57,8 @@ pub fn read(line: &[u8]) -> Command<'_>
     read_within(return_cut(line))
 }
 
-fn return_cut(line: &[u8]) -> &[u8]
+/// A line without the one byte 13 at its very end.
+pub fn return_cut(line: &[u8]) -> &[u8]
     ensures { result.now ≡ without_return line.now }
 {
     if !line.is_empty() && line[line.len() - 1] == b'\r' {
@@ -138,7 +139,8 @@ fn change(edit: Option<EditLine<'_>>) -> Command<'_>
     }
 }
 
-fn ask(question: Option<Question<'_>>) -> Command<'_>
+/// The command of a question; none is unreadable.
+pub fn ask(question: Option<Question<'_>>) -> Command<'_>
     ensures { result ≡ ask_of question.entry }
 {
     match question {

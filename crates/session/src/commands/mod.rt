@@ -10,8 +10,11 @@ mod nets;
 mod pins;
 mod question;
 mod times;
+mod tool;
+mod tool_verb;
 mod verb;
 
 pub use command::{Command, LINE_LIMIT, read};
 pub use edit_line::EditLine;
-pub use question::{NetQuestion, Query, Question};
+pub use question::{Listing, NetQuestion, Query, Question};
+pub use tool::read_by;

@@ -19,10 +19,12 @@ pub enum Query {
     Prev(u64),
     /// The first change after a moment to this value.
     Seek(u64, Value),
+    /// The value at the first moment, and the changes after it up to the second one.
+    Window(u64, u64),
 }
 
 impl Query {
-    /// Whether it is about a moment after `horizon`.
+    /// Whether it is about a moment after `horizon`, or its moments are in no order.
     pub fn is_past(self, horizon: u64) -> bool
         ensures { result ≡ is_past horizon self }
     {
@@ -31,6 +33,7 @@ impl Query {
             Query::Value(time) | Query::Next(time) | Query::Prev(time) | Query::Seek(time, _) => {
                 time > horizon
             }
+            Query::Window(from, to) => to > horizon || from > to,
         }
     }
 }
@@ -42,6 +45,27 @@ pub enum Question<'a> {
     Net(NetQuestion<'a>),
     /// The whole run, as a value change dump.
     Vcd,
+    /// What a design has.
+    Listing(Listing<'a>),
+}
+
+/// A question about what a design has. Each thing is named by the word of its line.
+#[derive(Drop)]
+pub enum Listing<'a> {
+    /// All nets.
+    Nets,
+    /// The inputs.
+    Inputs,
+    /// All gates.
+    Gates,
+    /// One gate.
+    Gate(WordRef<'a>),
+    /// The gates that drive a net.
+    Drivers(WordRef<'a>),
+    /// The gates that read a net.
+    Readers(WordRef<'a>),
+    /// The stimulus of an input.
+    Points(WordRef<'a>),
 }
 
 /// A question about the wave of the net of this name.

@@ -2,11 +2,10 @@
 
 ghost use Rattle.std.specs.Prelude.{◌≡◌, map};
 ghost use Rattle.devices.specs.Outgoing.{Adds};
-ghost use Rattle.session.specs.Replies.{change_line, ok_line, refusal_line, wave_lines};
+ghost use Rattle.session.specs.Replies.{ok_line, refusal_line, wave_lines};
 
 use crate::replies::refusal::Refusal;
 use devices::{Sink, Writer};
-use fourstate::Value;
 use waveform::Change;
 
 /// The reply to a command that was carried out: the version after it.
@@ -34,16 +33,6 @@ pub fn wave<W: Sink>(writer: &mut Writer<'_, W>, changes: &[Change])
     ensures { Adds writer.old writer.new (wave_lines changes.now) }
 {
     for change in changes {
-        change_reply(writer, change.time(), change.value());
+        listing::change(writer, change.time(), change.value());
     }
-}
-
-/// A line for a change.
-pub fn change_reply<W: Sink>(writer: &mut Writer<'_, W>, time: u64, value: Value)
-    ensures { Adds writer.old writer.new (change_line (time, value)) }
-{
-    writer.number(time);
-    writer.text(b" ");
-    writer.text(&[value.symbol()]);
-    writer.text(b"\n");
 }

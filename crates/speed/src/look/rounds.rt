@@ -86,7 +86,7 @@ fn look<J: HubName, R: Clock>(
 fn commit<J: HubName, L: Ledger, M: Ledger, R: Wait>(
     rt: &R,
     hub: &Hub<J, L, M, Serial, &R>,
-    editor: Editor<L, M>,
+    editor: Editor<J, L, M>,
     batches: &(Vec<Edit>, Vec<Edit>),
     until: (&AtomicU64, u64),
 ) -> u64 {

@@ -100,7 +100,11 @@ nand NAND2_4 (N19, N11, N7);\nnand NAND2_5 (N22, N10, N16);\nnand NAND2_6 (N23, 
 #[test]
 fn waves_of_texts(rt: HostRuntime) {
     for (text, delay, input, want) in TEXTS {
-        let options = Options { horizon: 40, delay };
+        let options = Options {
+            horizon: 40,
+            delay,
+            tools: false,
+        };
         check_opened(&rt, rt.alloc(), text, &options, input, want);
     }
 }
@@ -167,6 +171,7 @@ fn texts_that_are_refused(rt: HostRuntime) {
     let options = Options {
         horizon: 0,
         delay: None,
+        tools: false,
     };
     for (text, line, kind) in FAULTS {
         let fault = SessionFault::Design(ReadFault { line, kind });
@@ -186,6 +191,7 @@ fn default_delays(rt: HostRuntime) {
         let options = Options {
             horizon: 0,
             delay: Some(delay),
+            tools: false,
         };
         let kind = ReadFaultKind::Edit(fault);
         let fault = SessionFault::Design(ReadFault { line: 2, kind });
@@ -197,6 +203,7 @@ fn default_delays(rt: HostRuntime) {
 const OVER: Options = Options {
     horizon: 1_099_511_627_777,
     delay: None,
+    tools: false,
 };
 
 // A fault of the text comes first.

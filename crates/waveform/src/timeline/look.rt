@@ -5,7 +5,8 @@ ghost use Rattle.waveform.specs.Timelines.{value_by, first_after, last_before, n
 ghost use Rattle.waveform.specs.declared.times.TheConstants.{TIME_END};
 
 use super::Timeline;
-use crate::entries::{count_until, entry_at, first_to, latest_entry, value_at};
+use crate::entries::{count_until, entry_at, latest_entry, value_at};
+use crate::marks::first_from;
 use crate::sample::Sample;
 
 /// Look-ups by time. Those that find an entry find none where a value merely moves by itself: in a trace, none where an
@@ -45,7 +46,6 @@ impl<V: Sample> Timeline<V> {
         ensures can { IfSome result (λ entry. V.can_store entry.0 entry.1) }
     {
         let entries = self.entries.as_slice();
-        let (_, later) = entries.split_at(count_until::<V>(entries, t));
-        first_to::<V>(later, value)
+        first_from::<V>(entries, &self.marks, count_until::<V>(entries, t), value)
     }
 }

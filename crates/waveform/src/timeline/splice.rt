@@ -6,6 +6,7 @@ ghost use Rattle.waveform.specs.declared.times.TheConstants.{TIME_END};
 
 use super::Timeline;
 use crate::entries::splice;
+use crate::marks::Marks;
 use crate::sample::Sample;
 use std::alloc::AllocError;
 
@@ -28,6 +29,7 @@ impl<V: Sample> Timeline<V> {
             other.entries.as_slice(),
         )?;
         self.entries = entries;
+        self.marks = Marks::none();
         Ok(())
     }
 }

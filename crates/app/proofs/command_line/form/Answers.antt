@@ -1,8 +1,7 @@
 use Rattle.std.proofs.Common.{rules, ◌≡◌, ◌∙◌, ap₂, codes}
 use Rattle.std.proofs.lemmas.Result.{IfOk-weaker}
-use Rattle.clap.specs.Words.{app_of, new_app, rule_of, with_rule}
-use Rattle.clap.specs.Simple.{on_top}
-use Rattle.programs.specs.CommandLine.{nameless}
+use Rattle.clap.specs.Words.{app_of, rule_of, with_rule}
+use Rattle.programs.specs.CommandLine.{of_program}
 use Rattle.app.specs.CommandLine.{command_line, delay_rule, design_rule, horizon_rule, workers_rule}
 use Rattle.app.proofs.command_line.form.Goals as goal
 
@@ -13,7 +12,7 @@ returns c =
     let horizon_is : rule_of c.option_of-horizon.result ≡ horizon_rule = search rules in
     let workers_is : rule_of c.option_of-workers.result ≡ workers_rule = search rules in
     let delay_is : rule_of c.option_of-delay.result ≡ delay_rule = search rules in
-    let start_is : app_of c.program.result ≡ on_top nameless (new_app (codes "gatebench")) = c.program.ensures in
+    let start_is : app_of c.program.result ≡ of_program (codes "gatebench") = c.program.ensures in
     let designed = c.in_ok-arg.ensures.shape (search rules) ∙ ap₂ with_rule start_is design_is in
     let timed = c.in_ok-arg-2.ensures.shape (search rules) ∙ ap₂ with_rule designed horizon_is in
     let staffed = c.in_ok-arg-3.ensures.shape (search rules) ∙ ap₂ with_rule timed workers_is in

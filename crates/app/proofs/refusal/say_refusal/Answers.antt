@@ -1,11 +1,8 @@
-use Rattle.devices.specs.Outgoing.{Adds}
-use Rattle.app.specs.Refusals.{refusal_text}
-use Rattle.app.specs.declared.help.TheConstants.{HELP}
+use Rattle.app.specs.Refusals.{help_text, refusal_text}
 use Rattle.programs.specs.TextLaws.{adds_then}
 use Rattle.app.proofs.refusal.say_refusal.Goals as goal
 
 pub returns : goal.returns
 unfolding refusal_text
 returns g c =
-    let help : Adds c.say_complaint.new.writer c.text.new.self HELP.now = rw c.as_bytes.ensures.value at c.text.ensures.adds in
-    adds_then c.args.writer.now c.say_complaint.new.writer c.text.new.self _ HELP.now c.say_complaint.ensures help
+    adds_then c.args.writer.now c.say_complaint.new.writer c.say_help.new.writer _ (help_text c.args.program) c.say_complaint.ensures c.say_help.ensures

@@ -9,44 +9,36 @@ use Rattle.rundiff.specs.OldLines.{known_at}
 use Rattle.rundiff.specs.Places.{gate_at}
 use Rattle.resim.specs.Asking.{dirty_task}
 use Rattle.resim.proofs.Asked.{answers_are, held_err}
-use Rattle.resim.proofs.Weaving.{places_below, tasks_are, woven_are}
+use Rattle.resim.proofs.Weaving.{tasks_are, woven_are}
 use Rattle.resim.proofs.asking.ask_dirty.Goals as goal
 
-pub ask_some-requires-clause-there : goal.ask_some-requires-clause-there
-ask_some-requires-clause-there g c =
-    places_below g.S.Stepper.answer (netlist c.args.old.now) (netlist c.args.new.now) c.args.t c.args.gates.now c.requires.gates
-
-pub weave-requires-clause-there : goal.weave-requires-clause-there
-weave-requires-clause-there g c =
-    places_below g.S.Stepper.answer (netlist c.args.old.now) (netlist c.args.new.now) c.args.t c.args.gates.now c.requires.gates
-
 pub weave-requires-clause-lines : goal.weave-requires-clause-lines
-weave-requires-clause-lines g c = c.in_ok-pass.ensures.lines g.S.Stepper.answer (netlist c.args.old.now) (netlist c.args.new.now) c.requires.lines
+weave-requires-clause-lines g c = c.in_ok-pass.ensures.lines g.S.Stepper.answer (netlist c.args.former.now.old.now) (netlist c.args.former.now.new.now) c.requires.present.lines
 
 pub returns-clause-lines : goal.returns-clause-lines
-returns-clause-lines g c = c.in_ok-pass.ensures.lines g.S.Stepper.answer (netlist c.args.old.now) (netlist c.args.new.now) c.requires.lines
+returns-clause-lines g c = c.in_ok-pass.ensures.lines g.S.Stepper.answer (netlist c.args.former.now.old.now) (netlist c.args.former.now.new.now) c.requires.present.lines
 
 pub returns-in_err-ask_some-clause-part : goal.returns-in_err-ask_some-clause-part
 returns-in_err-ask_some-clause-part g c =
-    let answer = g.S.Stepper.answer in let asked = g.S.Stepper.asked in let old = netlist c.args.old.now in let new = netlist c.args.new.now in let t = c.args.t in
+    let answer = g.S.Stepper.answer in let asked = g.S.Stepper.asked in let old = netlist c.args.former.now.old.now in let new = netlist c.args.former.now.new.now in let t = c.args.present.now.t in
     held_err c.from_residual.result
-    (subst (λ tasks. HasGrownOrNot (asked c.args.stepper.now) (asked c.ask_some.new.stepper) (at_moment t tasks)) (tasks_are answer old new t c.args.gates.now c.requires.gates) c.in_err-ask_some.ensures.part)
+    (subst (λ tasks. HasGrownOrNot (asked c.args.stepper.now) (asked c.ask_some.new.stepper) (at_moment t tasks)) (tasks_are answer old new t c.args.present.now.gates.now c.requires.gates) c.in_err-ask_some.ensures.part)
 
 pub returns-in_err-pass-clause-part : goal.returns-in_err-pass-clause-part
 returns-in_err-pass-clause-part g c =
-    let answer = g.S.Stepper.answer in let old = netlist c.args.old.now in let new = netlist c.args.new.now in let t = c.args.t in
+    let answer = g.S.Stepper.answer in let old = netlist c.args.former.now.old.now in let new = netlist c.args.former.now.new.now in let t = c.args.present.now.t in
     held_err c.from_residual-in_err-pass.result
-    (inr (c.in_ok-ask_some.ensures.asked ∙ ap (λ l. g.S.Stepper.asked c.args.stepper.now ++ at_moment t l) (tasks_are answer old new t c.args.gates.now c.requires.gates)))
+    (inr (c.in_ok-ask_some.ensures.asked ∙ ap (λ l. g.S.Stepper.asked c.args.stepper.now ++ at_moment t l) (tasks_are answer old new t c.args.present.now.gates.now c.requires.gates)))
 
 pub returns-in_err-weave-clause-part : goal.returns-in_err-weave-clause-part
 returns-in_err-weave-clause-part g c =
-    let answer = g.S.Stepper.answer in let old = netlist c.args.old.now in let new = netlist c.args.new.now in let t = c.args.t in
+    let answer = g.S.Stepper.answer in let old = netlist c.args.former.now.old.now in let new = netlist c.args.former.now.new.now in let t = c.args.present.now.t in
     held_err c.from_residual-in_err-weave.result
-    (inr (c.in_ok-ask_some.ensures.asked ∙ ap (λ l. g.S.Stepper.asked c.args.stepper.now ++ at_moment t l) (tasks_are answer old new t c.args.gates.now c.requires.gates)))
+    (inr (c.in_ok-ask_some.ensures.asked ∙ ap (λ l. g.S.Stepper.asked c.args.stepper.now ++ at_moment t l) (tasks_are answer old new t c.args.present.now.gates.now c.requires.gates)))
 
 pub returns-clause-answers : goal.returns-clause-answers
 returns-clause-answers g c =
-    let answer = g.S.Stepper.answer in let old = netlist c.args.old.now in let new = netlist c.args.new.now in let t = c.args.t in let gates = c.args.gates.now in
+    let answer = g.S.Stepper.answer in let old = netlist c.args.former.now.old.now in let new = netlist c.args.former.now.new.now in let t = c.args.present.now.t in let gates = c.args.present.now.gates.now in
     let tasks = flat_map (dirty_task answer old new t) gates in
     let fresh : c.as_slice-2.result.now ≡ map (λ gate. state_after answer new gate t) (working_at answer old new t) =
     answers_are answer new t (working_at answer old new t) tasks tasks c.ask_some.new.fresh.items c.as_slice-2.result.now
@@ -57,5 +49,5 @@ returns-clause-answers g c =
 
 pub returns-clause-asked : goal.returns-clause-asked
 returns-clause-asked g c =
-    let answer = g.S.Stepper.answer in let old = netlist c.args.old.now in let new = netlist c.args.new.now in let t = c.args.t in
-    c.in_ok-ask_some.ensures.asked ∙ ap (λ l. g.S.Stepper.asked c.args.stepper.now ++ at_moment t l) (tasks_are answer old new t c.args.gates.now c.requires.gates)
+    let answer = g.S.Stepper.answer in let old = netlist c.args.former.now.old.now in let new = netlist c.args.former.now.new.now in let t = c.args.present.now.t in
+    c.in_ok-ask_some.ensures.asked ∙ ap (λ l. g.S.Stepper.asked c.args.stepper.now ++ at_moment t l) (tasks_are answer old new t c.args.present.now.gates.now c.requires.gates)

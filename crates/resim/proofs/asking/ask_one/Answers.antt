@@ -10,7 +10,7 @@ use Rattle.resim.proofs.asking.ask_one.Goals as goal
 
 pub returns-clause-fresh : goal.returns-clause-fresh
 returns-clause-fresh g c =
-    let answer = g.S.Stepper.answer in let old = netlist c.args.old.now in let new = netlist c.args.new.now in let t = c.args.t in
+    let answer = g.S.Stepper.answer in let old = netlist c.args.former.now.old.now in let new = netlist c.args.former.now.new.now in let t = c.args.present.now.t in
     let gate = gate_at new c.args.place in let before = c.args.fresh.now.items in
     let dirty : is_dirty answer old new gate t ≡ true = dirty_by (is_dirty answer old new gate t) c.is_clean_at.result c.is_clean_at.ensures c.if-is_clean_at.false in
     c.push_reserved.ensures.items
@@ -20,7 +20,7 @@ returns-clause-fresh g c =
 
 pub returns-clause-asked : goal.returns-clause-asked
 returns-clause-asked g c =
-    let answer = g.S.Stepper.answer in let old = netlist c.args.old.now in let new = netlist c.args.new.now in let t = c.args.t in
+    let answer = g.S.Stepper.answer in let old = netlist c.args.former.now.old.now in let new = netlist c.args.former.now.new.now in let t = c.args.present.now.t in
     let gate = gate_at new c.args.place in
     let dirty : is_dirty answer old new gate t ≡ true = dirty_by (is_dirty answer old new gate t) c.is_clean_at.result c.is_clean_at.ensures c.if-is_clean_at.false in
     c.evaluate.ensures.recorded
@@ -29,14 +29,14 @@ returns-clause-asked g c =
 
 pub returns-then-is_clean_at-clause-fresh : goal.returns-then-is_clean_at-clause-fresh
 returns-then-is_clean_at-clause-fresh g c =
-    let answer = g.S.Stepper.answer in let old = netlist c.args.old.now in let new = netlist c.args.new.now in let t = c.args.t in
+    let answer = g.S.Stepper.answer in let old = netlist c.args.former.now.old.now in let new = netlist c.args.former.now.new.now in let t = c.args.present.now.t in
     let gate = gate_at new c.args.place in let before = c.args.fresh.now.items in
     let clean : is_dirty answer old new gate t ≡ false = clean_by (is_dirty answer old new gate t) c.is_clean_at.result c.is_clean_at.ensures c.if-is_clean_at.true in
     sym (append-nil before) ∙ ap (λ (b : Bool). before ++ map (λ task. answer task t) (cond b (task_at answer new gate t ∷ []) [])) (sym clean)
 
 pub returns-then-is_clean_at-clause-asked : goal.returns-then-is_clean_at-clause-asked
 returns-then-is_clean_at-clause-asked g c =
-    let answer = g.S.Stepper.answer in let old = netlist c.args.old.now in let new = netlist c.args.new.now in let t = c.args.t in
+    let answer = g.S.Stepper.answer in let old = netlist c.args.former.now.old.now in let new = netlist c.args.former.now.new.now in let t = c.args.present.now.t in
     let gate = gate_at new c.args.place in
     let clean : is_dirty answer old new gate t ≡ false = clean_by (is_dirty answer old new gate t) c.is_clean_at.result c.is_clean_at.ensures c.if-is_clean_at.true in
     sym (append-nil (g.S.Stepper.asked c.args.stepper.now))

@@ -13,7 +13,7 @@ use Rattle.resim.proofs.asking.weave.Goals.{then-clean-i+in_ok-push, else-clean-
 
 pub loop-i-preserved : goal.loop-i-preserved
 loop-i-preserved g c =
-    let answer = g.S.Stepper.answer in let old = netlist c.args.old.now in let new = netlist c.args.new.now in let t = c.args.t in
+    let answer = g.S.Stepper.answer in let old = netlist c.args.former.now.old.now in let new = netlist c.args.former.now.new.now in let t = c.args.t in
     let i = c.loop-i.i in let next = c.loop-i.next in let gates = c.args.gates.now in let fresh = c.args.fresh.now in
     let low : i < length gates = c.loop-i-test.true in
     let place = slice_index_or gates i 0 in let gate = gate_at new place in let state = state_after answer new gate t in

@@ -8,7 +8,7 @@ use Rattle.resim.proofs.asking.weave.Given as goal
 -- what is woven so far, and what is left
 abbrev pub invariant-loop-i : goal.invariant-loop-i
 invariant-loop-i g l =
-    let old = netlist l.old in let new = netlist l.new in
+    let old = netlist l.former.old.now in let new = netlist l.former.new.now in
     let known = map (λ place. known_at g.S.Stepper.answer old new l.t (gate_at new place)) l.gates in
     record {
       woven : woven known l.fresh ≡ l.out.items ++ woven (drop l.i known) (drop l.next l.fresh);

@@ -6,9 +6,6 @@ use Rattle.resim.specs.Reruns.{Reruns}
 use Rattle.resim.proofs.Asked.{front_at, stopped}
 use Rattle.resim.proofs.level.follow.Goals as goal
 
-pub follow_until-requires-clause-front : goal.follow_until-requires-clause-front
-follow_until-requires-clause-front g c = c.in_ok-front.ensures.front g.S.Stepper.answer
-
 pub returns-in_err-next : goal.returns-in_err-next
 returns-in_err-next g c =
     let answer = g.S.Stepper.answer in let old = c.args.old.now in let new = c.args.new.now in

@@ -8,8 +8,8 @@ use Rattle.resim.proofs.level.follow_until.Given as goal
 abbrev pub invariant-loop-next : goal.invariant-loop-next
 invariant-loop-next g l =
     let answer = g.S.Stepper.answer in
-    let before = netlist l.fn.old in
-    let now = netlist l.fn.new in
+    let before = netlist l.fn.former.old.now in
+    let now = netlist l.fn.former.new.now in
     record {
       front : IsFront answer before now l.front l.next;
       within : l.next ≤ l.end;

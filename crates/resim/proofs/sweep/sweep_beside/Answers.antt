@@ -6,7 +6,7 @@ use Rattle.resim.proofs.sweep.sweep_beside.Goals as goal
 
 pub returns-in_err-engine : goal.returns-in_err-engine
 returns-in_err-engine g c =
-    let answer = g.S.Stepper.answer in let old = c.args.old.now in let new = c.args.new.now in
+    let answer = g.S.Stepper.answer in let old = c.args.former.now.old.now in let new = c.args.former.now.new.now in
     let before = g.S.Stepper.asked c.args.stepper.now in let losses = g.S.Stepper.losses c.args.stepper.now in
     record {
       reruns =

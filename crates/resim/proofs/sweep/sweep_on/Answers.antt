@@ -10,7 +10,7 @@ use Rattle.resim.proofs.sweep.sweep_on.Goals as goal
 
 pub loop-t-init : goal.loop-t-init
 loop-t-init g c =
-    let answer = g.S.Stepper.answer in let old = netlist c.args.old.now in let new = netlist c.args.new.now in
+    let answer = g.S.Stepper.answer in let old = netlist c.args.former.now.old.now in let new = netlist c.args.former.now.new.now in
     record {
       stands = c.advance-t.ensures.stands;
       within = let is = c.horizon-horizon.ensures.horizon in let within = c.advance-t.ensures.within in omega arith;
@@ -23,7 +23,7 @@ loop-t-init g c =
 
 pub returns-in_err-pass_beside : goal.returns-in_err-pass_beside
 returns-in_err-pass_beside g c =
-    let answer = g.S.Stepper.answer in let old = c.args.old.now in let new = c.args.new.now in let t = c.loop-t.t in
+    let answer = g.S.Stepper.answer in let old = c.args.former.now.old.now in let new = c.args.former.now.new.now in let t = c.loop-t.t in
     let asked = g.S.Stepper.asked in let losses = g.S.Stepper.losses in
     let is = c.horizon-horizon.ensures.horizon in
     let low = c.loop-t-test.true in
@@ -38,7 +38,7 @@ returns-in_err-pass_beside g c =
 
 pub loop-t-preserved : goal.loop-t-preserved
 loop-t-preserved g c =
-    let answer = g.S.Stepper.answer in let old = netlist c.args.old.now in let new = netlist c.args.new.now in let t = c.loop-t.t in
+    let answer = g.S.Stepper.answer in let old = netlist c.args.former.now.old.now in let new = netlist c.args.former.now.new.now in let t = c.loop-t.t in
     let next = c.advance-t-in-loop-t in
     record {
       stands = next.ensures.stands;
@@ -54,13 +54,13 @@ loop-t-preserved g c =
 
 pub finish-requires-clause-stands : goal.finish-requires-clause-stands
 finish-requires-clause-stands g c =
-    let new = netlist c.args.new.now in
+    let new = netlist c.args.former.now.new.now in
     let last : c.loop-t.t ≡ suc new.horizon = let past = c.loop-t-test.false in let within = c.loop-t.invariant.within in let is = c.horizon-horizon.ensures.horizon in omega arith in
     subst (Stands g.S.Stepper.answer new c.loop-t.engine) last c.loop-t.invariant.stands
 
 pub returns-in_err-finish : goal.returns-in_err-finish
 returns-in_err-finish g c =
-    let answer = g.S.Stepper.answer in let old = c.args.old.now in let new = c.args.new.now in
+    let answer = g.S.Stepper.answer in let old = c.args.former.now.old.now in let new = c.args.former.now.new.now in
     let losses = g.S.Stepper.losses in
     record {
       reruns = λ was began.
@@ -72,7 +72,7 @@ returns-in_err-finish g c =
 
 pub returns : goal.returns
 returns g c =
-    let answer = g.S.Stepper.answer in let old = netlist c.args.old.now in let new = netlist c.args.new.now in
+    let answer = g.S.Stepper.answer in let old = netlist c.args.former.now.old.now in let new = netlist c.args.former.now.new.now in
     let last : c.loop-t.t ≡ suc new.horizon = let past = c.loop-t-test.false in let within = c.loop-t.invariant.within in let is = c.horizon-horizon.ensures.horizon in omega arith in
     record {
       reruns = λ was began. record {

@@ -10,14 +10,14 @@ use Rattle.resim.proofs.sweep.sweep_on.Given as goal
 abbrev pub invariant-loop-t : goal.invariant-loop-t
 invariant-loop-t g l =
     let answer = g.S.Stepper.answer in
-    let old = netlist l.fn.old in let new = netlist l.fn.new in
+    let old = netlist l.fn.former.old.now in let new = netlist l.fn.former.new.now in
     record {
       stands : Stands answer new l.engine l.t;
       within : l.t ≤ suc l.horizon;
       asked : (was : List (Evaluation × ℕ)) → g.S.Stepper.asked l.fn.stepper ≡ was ++ rework_below answer old new l.fn.start → g.S.Stepper.asked l.stepper ≡ was ++ rework_below answer old new l.t;
-      lines : AreOldLines answer old new l.lines;
-      waves : waves_done l.lines ≤ l.t;
-      traces : traces_done l.lines ≤ l.t;
+      lines : AreOldLines answer old new l.beside.lines;
+      waves : waves_done l.beside.lines ≤ l.t;
+      traces : traces_done l.beside.lines ≤ l.t;
       losses : g.S.Stepper.losses l.stepper ≡ g.S.Stepper.losses l.fn.stepper;
     }
 

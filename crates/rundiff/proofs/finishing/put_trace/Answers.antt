@@ -21,8 +21,8 @@ pub returns-clause-traces : goal.returns-clause-traces
 returns-clause-traces g c =
     let answer = g.S.Stepper.answer in
     let pending = g.met.S.Stepper.answer_pending in
-    let old = netlist c.args.old.now in
-    let keyed = c.args.new.now in let new = netlist keyed in
+    let old = netlist c.args.former.now.old.now in
+    let keyed = c.args.former.now.new.now in let new = netlist keyed in
     let place = c.args.place in
     let x = gate_at new place in
     let entry = entry_in keyed.nets c.gate_at.result.now in
@@ -30,8 +30,8 @@ returns-clause-traces g c =
     let named : c.as_str.result.now ≡ x.name = c.as_str.ensures ∙ c.name.ensures ∙ sym (ap (λ (y : GateEntry). y.name) at) in
     let end : c.horizon.result + 1 ≡ suc new.horizon = let h = c.horizon.ensures.horizon in omega arith in
     let same_end : suc old.horizon ≡ c.horizon.result + 1 = let h = c.horizon.ensures.horizon in let e = c.requires.horizon in omega arith in
-    let stored : c.old_trace-former.result.now ≡ trace_below (named_state answer old x.name) (c.horizon.result + 1) =
-    c.old_trace-former.ensures answer c.requires.run
+    let stored : c.old_trace-was.result.now ≡ trace_below (named_state answer old x.name) (c.horizon.result + 1) =
+    c.old_trace-was.ensures answer c.requires.run
     ∙ ap (λ (name : List ℕ). trace_below (named_state answer old name) (suc old.horizon)) named
     ∙ ap (trace_below (named_state answer old x.name)) same_end in
     let Keep : Option (PatchRecord State) → ℕ → Type 0 = λ o n. Keeps same_state due (named_state answer old x.name) (state_after answer new x) o n in

@@ -26,7 +26,7 @@ pub put_trace-requires-clause-trace : goal.put_trace-requires-clause-trace
 put_trace-requires-clause-trace g c =
     let xs = c.args.held.now in let i = c.loop-place.place-index in let x = slice_index_or xs i 0 in
     let at = get_at xs i 0 c.loop-place-test.true in
-    let old = netlist c.args.old.now in let new = netlist c.args.new.now in
+    let old = netlist c.args.former.now.old.now in let new = netlist c.args.former.now.new.now in
     let same = c.loop-place.invariant.patches x (not_yet xs i x c.requires.rising at) in
     let there = c.requires.there x (is_one xs i x at) in
     subst (λ (o : Option (PatchRecord State)). Keeps same_state due (named_state g.S.Stepper.answer old (gate_at new x).name) (state_after g.S.Stepper.answer new (gate_at new x)) o (suc new.horizon)) (sym same) (c.requires.traces x there)
@@ -35,12 +35,12 @@ pub put_trace-requires-clause-end : goal.put_trace-requires-clause-end
 put_trace-requires-clause-end g c =
     let xs = c.args.held.now in let i = c.loop-place.place-index in let x = slice_index_or xs i 0 in
     let same = c.loop-place.invariant.patches x (not_yet xs i x c.requires.rising (get_at xs i 0 c.loop-place-test.true)) in
-    subst (λ (o : Option (PatchRecord State)). ForSome o (λ patch. end_of patch.line ≤ suc (netlist c.args.new.now).horizon)) (sym same) (c.requires.ends x)
+    subst (λ (o : Option (PatchRecord State)). ForSome o (λ patch. end_of patch.line ≤ suc (netlist c.args.former.now.new.now).horizon)) (sym same) (c.requires.ends x)
 
 pub loop-place-init : goal.loop-place-init
 loop-place-init g c =
     record {
-      traces = none_put (new_trace g.S.Stepper.answer c.args.new.now) (keys_of c.args.new.now.gates) c.args.held.now c.args.made.now.traces;
+      traces = none_put (new_trace g.S.Stepper.answer c.args.former.now.new.now) (keys_of c.args.former.now.new.now.gates) c.args.held.now c.args.made.now.traces;
       patches = λ q off. refl;
       waves = refl;
       horizon = refl;
@@ -51,7 +51,7 @@ loop-place-preserved g c =
     let xs = c.args.held.now in let i = c.loop-place.place-index in let x = slice_index_or xs i 0 in
     let at = get_at xs i 0 c.loop-place-test.true in
     record {
-      traces = put_next (new_trace g.S.Stepper.answer c.args.new.now) (keys_of c.args.new.now.gates) xs i x c.args.made.now.traces c.loop-place.made.traces c.put_trace.new.made.traces at c.loop-place.invariant.traces c.in_ok-put_trace.ensures.traces;
+      traces = put_next (new_trace g.S.Stepper.answer c.args.former.now.new.now) (keys_of c.args.former.now.new.now.gates) xs i x c.args.made.now.traces c.loop-place.made.traces c.put_trace.new.made.traces at c.loop-place.invariant.traces c.in_ok-put_trace.ensures.traces;
       patches = others_more (λ q o. Unit {0}) (kept_at c.args.traces.now) (kept_at c.loop-place.traces) (kept_at c.put_trace.new.traces) xs i x at c.put_trace.ensures.others c.loop-place.invariant.patches;
       waves = c.put_trace.ensures.waves ∙ c.loop-place.invariant.waves;
       horizon = c.put_trace.ensures.horizon ∙ c.loop-place.invariant.horizon;
@@ -59,4 +59,4 @@ loop-place-preserved g c =
 
 pub returns-clause-traces : goal.returns-clause-traces
 returns-clause-traces g c =
-    all_put (new_trace g.S.Stepper.answer c.args.new.now) (keys_of c.args.new.now.gates) c.args.held.now c.loop-place.place-index c.args.made.now.traces c.loop-place.made.traces c.loop-place-test.false c.loop-place.invariant.traces
+    all_put (new_trace g.S.Stepper.answer c.args.former.now.new.now) (keys_of c.args.former.now.new.now.gates) c.args.held.now c.loop-place.place-index c.args.made.now.traces c.loop-place.made.traces c.loop-place-test.false c.loop-place.invariant.traces

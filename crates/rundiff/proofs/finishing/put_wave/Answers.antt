@@ -21,16 +21,16 @@ use Rattle.rundiff.proofs.finishing.put_wave.Goals as goal
 pub returns-clause-waves : goal.returns-clause-waves
 returns-clause-waves g c =
     let answer = g.S.Stepper.answer in
-    let old = netlist c.args.old.now in
-    let keyed = c.args.new.now in let new = netlist keyed in
+    let old = netlist c.args.former.now.old.now in
+    let keyed = c.args.former.now.new.now in let new = netlist keyed in
     let place = c.args.place in
     let x = net_at new place in
     let at = at_place new.nets place blank_net c.net_at.result.now c.net_at.ensures in
     let named : c.as_str.result.now ≡ x.name = c.as_str.ensures ∙ c.name.ensures ∙ sym (ap (λ (y : NetEntry). y.name) at) in
     let end : c.horizon.result + 1 ≡ suc new.horizon = let h = c.horizon.ensures.horizon in omega arith in
     let same_end : suc old.horizon ≡ c.horizon.result + 1 = let h = c.horizon.ensures.horizon in let e = c.requires.horizon in omega arith in
-    let stored : c.old_wave-former.result.now ≡ wave_changes_below (read_at answer old (to_net x.name)) (c.horizon.result + 1) =
-    c.old_wave-former.ensures answer c.requires.run
+    let stored : c.old_wave-was.result.now ≡ wave_changes_below (read_at answer old (to_net x.name)) (c.horizon.result + 1) =
+    c.old_wave-was.ensures answer c.requires.run
     ∙ ap (λ (name : List ℕ). wave_changes_below (read_at answer old (to_net name)) (suc old.horizon)) named
     ∙ ap (wave_changes_below (read_at answer old (to_net x.name))) same_end in
     let Keep : Option (PatchRecord Value) → ℕ → Type 0 = λ o n. Keeps same_value standing (read_at answer old (to_net x.name)) (value answer new x) o n in

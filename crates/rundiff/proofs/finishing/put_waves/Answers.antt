@@ -28,7 +28,7 @@ pub put_wave-requires-clause-wave : goal.put_wave-requires-clause-wave
 put_wave-requires-clause-wave g c =
     let xs = c.args.live.now in let i = c.loop-place.place-index in let x = slice_index_or xs i 0 in
     let at = get_at xs i 0 c.loop-place-test.true in
-    let old = netlist c.args.old.now in let new = netlist c.args.new.now in
+    let old = netlist c.args.former.now.old.now in let new = netlist c.args.former.now.new.now in
     let same = c.loop-place.invariant.patches x (not_yet xs i x c.requires.rising at) in
     let there = c.requires.there x (is_one xs i x at) in
     subst (λ (o : Option (PatchRecord Value)). Keeps same_value standing (read_at g.S.Stepper.answer old (to_net (net_at new x).name)) (value g.S.Stepper.answer new (net_at new x)) o (suc new.horizon)) (sym same) (c.requires.waves x there)
@@ -37,12 +37,12 @@ pub put_wave-requires-clause-end : goal.put_wave-requires-clause-end
 put_wave-requires-clause-end g c =
     let xs = c.args.live.now in let i = c.loop-place.place-index in let x = slice_index_or xs i 0 in
     let same = c.loop-place.invariant.patches x (not_yet xs i x c.requires.rising (get_at xs i 0 c.loop-place-test.true)) in
-    subst (λ (o : Option (PatchRecord Value)). ForSome o (λ patch. end_of patch.line ≤ suc (netlist c.args.new.now).horizon)) (sym same) (c.requires.ends x)
+    subst (λ (o : Option (PatchRecord Value)). ForSome o (λ patch. end_of patch.line ≤ suc (netlist c.args.former.now.new.now).horizon)) (sym same) (c.requires.ends x)
 
 pub loop-place-init : goal.loop-place-init
 loop-place-init g c =
     record {
-      waves = none_put (new_wave g.S.Stepper.answer c.args.new.now) (keys_of c.args.new.now.nets) c.args.live.now c.args.made.now.waves;
+      waves = none_put (new_wave g.S.Stepper.answer c.args.former.now.new.now) (keys_of c.args.former.now.new.now.nets) c.args.live.now c.args.made.now.waves;
       patches = λ q off. refl;
       traces = refl;
       horizon = refl;
@@ -53,7 +53,7 @@ loop-place-preserved g c =
     let xs = c.args.live.now in let i = c.loop-place.place-index in let x = slice_index_or xs i 0 in
     let at = get_at xs i 0 c.loop-place-test.true in
     record {
-      waves = put_next (new_wave g.S.Stepper.answer c.args.new.now) (keys_of c.args.new.now.nets) xs i x c.args.made.now.waves c.loop-place.made.waves c.put_wave.new.made.waves at c.loop-place.invariant.waves c.in_ok-put_wave.ensures.waves;
+      waves = put_next (new_wave g.S.Stepper.answer c.args.former.now.new.now) (keys_of c.args.former.now.new.now.nets) xs i x c.args.made.now.waves c.loop-place.made.waves c.put_wave.new.made.waves at c.loop-place.invariant.waves c.in_ok-put_wave.ensures.waves;
       patches = others_more (λ q o. Unit {0}) (kept_at c.args.waves.now) (kept_at c.loop-place.waves) (kept_at c.put_wave.new.waves) xs i x at c.put_wave.ensures.others c.loop-place.invariant.patches;
       traces = c.put_wave.ensures.traces ∙ c.loop-place.invariant.traces;
       horizon = c.put_wave.ensures.horizon ∙ c.loop-place.invariant.horizon;
@@ -61,4 +61,4 @@ loop-place-preserved g c =
 
 pub returns-clause-waves : goal.returns-clause-waves
 returns-clause-waves g c =
-    all_put (new_wave g.S.Stepper.answer c.args.new.now) (keys_of c.args.new.now.nets) c.args.live.now c.loop-place.place-index c.args.made.now.waves c.loop-place.made.waves c.loop-place-test.false c.loop-place.invariant.waves
+    all_put (new_wave g.S.Stepper.answer c.args.former.now.new.now) (keys_of c.args.former.now.new.now.nets) c.args.live.now c.loop-place.place-index c.args.made.now.waves c.loop-place.made.waves c.loop-place-test.false c.loop-place.invariant.waves

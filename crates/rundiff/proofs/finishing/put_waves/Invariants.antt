@@ -8,7 +8,7 @@ use Rattle.rundiff.proofs.finishing.put_waves.Given as goal
 -- the waves so far are put, the other patches are as they were
 abbrev pub invariant-loop-place : goal.invariant-loop-place
 invariant-loop-place g l = record {
-  waves : ArePut (new_wave g.S.Stepper.answer l.new) (keys_of l.new.nets) (take l.place-index l.live) l.fn.made.waves l.made.waves;
+  waves : ArePut (new_wave g.S.Stepper.answer l.former.new.now) (keys_of l.former.new.now.nets) (take l.place-index l.live) l.fn.made.waves l.made.waves;
   patches : (q : ℕ) → is_among (take l.place-index l.live) q ≡ false → kept_at l.waves q ≡ kept_at l.fn.waves q;
   traces : l.made.traces ≡ l.fn.made.traces;
   horizon : l.made.horizon ≡ l.fn.made.horizon;

@@ -12,8 +12,8 @@ returns-then-is_own c = λ answer run. inl (c.is_own.ensures c.if-is_own.true)
 
 pub returns : goal.returns
 returns c = λ answer run.
-    let old = netlist c.args.old.now in
-    let keyed = c.args.new.now in let new = netlist keyed in
+    let old = netlist c.args.former.now.old.now in
+    let keyed = c.args.former.now.new.now in let new = netlist keyed in
     let gate = gate_at new c.args.place in
     let at = at_place new.gates c.args.place blank_gate (entry_in keyed.nets c.gate_at.result.now) c.gate_at.ensures.named in
     let named : c.as_str-name.result.now ≡ gate.name = c.as_str-name.ensures ∙ c.name.ensures ∙ sym (ap (λ (y : GateEntry). y.name) at) in

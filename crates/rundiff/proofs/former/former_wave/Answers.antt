@@ -13,8 +13,8 @@ returns-then-is_own c = λ answer run. inl (c.is_own.ensures c.if-is_own.true)
 
 pub returns : goal.returns
 returns c = λ answer run.
-    let old = netlist c.args.old.now in
-    let new = netlist c.args.new.now in
+    let old = netlist c.args.former.now.old.now in
+    let new = netlist c.args.former.now.new.now in
     let x = net_at new c.args.place in
     let at = at_place new.nets c.args.place blank_net c.net_at.result.now c.net_at.ensures in
     let named : c.as_str-name.result.now ≡ x.name = c.as_str-name.ensures ∙ c.name.ensures ∙ sym (ap (λ (y : NetEntry). y.name) at) in

@@ -18,7 +18,7 @@ note_net-requires-clause-there g c =
 pub loop-place-preserved : goal.loop-place-preserved
 loop-place-preserved g c =
     let xs = c.args.nets.now in let i = c.loop-place.place-index in let x = slice_index_or xs i 0 in
-    let old = netlist c.args.old.now in let new = netlist c.args.new.now in let t = c.args.t in
+    let old = netlist c.args.former.now.old.now in let new = netlist c.args.former.now.new.now in let t = c.args.t in
     let now = noted c.note_net.new.queue in
     let done = c.in_ok-note_net.ensures in
     record {

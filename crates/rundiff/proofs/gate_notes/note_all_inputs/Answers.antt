@@ -21,7 +21,7 @@ pub loop-place-preserved : goal.loop-place-preserved
 loop-place-preserved g c =
     let xs = c.args.places.now in let i = c.loop-place.place-index in let x = slice_index_or xs i 0 in
     let done = c.in_ok-note_inputs.ensures in
-    let moves : ℕ → ℕ → Bool = input_moves g.S.Stepper.answer (netlist c.args.old.now) (netlist c.args.new.now) (contains nat_cmp c.args.live.now) in
+    let moves : ℕ → ℕ → Bool = input_moves g.S.Stepper.answer (netlist c.args.former.now.old.now) (netlist c.args.former.now.new.now) (contains nat_cmp c.args.live.now) in
     record {
       next = more_within moves c.args.t xs i x (get_at xs i 0 c.loop-place-test.true) (noted c.loop-place.queue) (noted c.note_inputs.new.queue) done.kept c.loop-place.invariant.next done.next;
       kept = λ k u h. done.kept k u (c.loop-place.invariant.kept k u h);

@@ -12,7 +12,7 @@ use Rattle.rundiff.proofs.gate_notes.note_all_inputs.Given as goal
 abbrev pub invariant-loop-place : goal.invariant-loop-place
 invariant-loop-place g l =
     record {
-      next : (p u : ℕ) → is_among (take l.place-index l.places) p ≡ true → l.t < u → input_moves g.S.Stepper.answer (netlist l.old) (netlist l.new) (contains nat_cmp l.live) p u ≡ true →
+      next : (p u : ℕ) → is_among (take l.place-index l.places) p ≡ true → l.t < u → input_moves g.S.Stepper.answer (netlist l.former.old.now) (netlist l.former.new.now) (contains nat_cmp l.live) p u ≡ true →
           IsNotedWithin (noted l.queue) p (suc l.t) u;
       kept : Keeps (noted l.fn.queue) (noted l.queue);
       early : (u : ℕ) → u ≤ l.t → noted l.queue u ≡ noted l.fn.queue u;

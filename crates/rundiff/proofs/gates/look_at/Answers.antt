@@ -14,16 +14,16 @@ look-outcome-requires-clause-there g c =
     c.requires.there (slice_index_or xs i 0) (is_one xs i (slice_index_or xs i 0) (get_at xs i 0 c.loop-place-test.true))
 
 pub loop-place-init : goal.loop-place-init
-loop-place-init g c = c.clear.ensures g.S.Stepper.answer (netlist c.args.old.now) (netlist c.args.new.now) c.args.t
+loop-place-init g c = c.clear.ensures g.S.Stepper.answer (netlist c.args.former.now.old.now) (netlist c.args.former.now.new.now) c.args.t
 
 pub loop-place-preserved : goal.loop-place-preserved
 loop-place-preserved g c =
     let xs = c.args.held.now in let i = c.loop-place.place-index in let x = slice_index_or xs i 0 in
-    let old = netlist c.args.old.now in let new = netlist c.args.new.now in
+    let old = netlist c.args.former.now.old.now in let new = netlist c.args.former.now.new.now in
     subst (λ (l : List ℕ). AreOutcomes g.S.Stepper.answer old new c.args.t l c.add.new.out) (sym (take_next xs i x (get_at xs i 0 c.loop-place-test.true)))
     (c.in_ok-add.ensures g.S.Stepper.answer old new c.args.t (take i xs) c.loop-place.invariant c.look-outcome.ensures)
 
 pub returns : goal.returns
 returns g c =
     let xs = c.args.held.now in
-    subst (λ (l : List ℕ). AreOutcomes g.S.Stepper.answer (netlist c.args.old.now) (netlist c.args.new.now) c.args.t l c.loop-place.out) (take_whole xs c.loop-place.place-index c.loop-place-test.false) c.loop-place.invariant
+    subst (λ (l : List ℕ). AreOutcomes g.S.Stepper.answer (netlist c.args.former.now.old.now) (netlist c.args.former.now.new.now) c.args.t l c.loop-place.out) (take_whole xs c.loop-place.place-index c.loop-place-test.false) c.loop-place.invariant

@@ -5,4 +5,4 @@ use Rattle.rundiff.proofs.gates.look_at.Given as goal
 
 -- what comes of the gates so far
 abbrev pub invariant-loop-place : goal.invariant-loop-place
-invariant-loop-place g l = AreOutcomes g.S.Stepper.answer (netlist l.old) (netlist l.new) l.t (take l.place-index l.held) l.out
+invariant-loop-place g l = AreOutcomes g.S.Stepper.answer (netlist l.former.old.now) (netlist l.former.new.now) l.t (take l.place-index l.held) l.out

@@ -11,10 +11,10 @@ pub returns-clause-put : goal.returns-clause-put
 returns-clause-put g c =
     let answer = g.S.Stepper.answer in
     let pending = g.met.S.Stepper.answer_pending in
-    let old = netlist c.args.old.now in
-    let keyed = c.args.new.now in let new = netlist keyed in
+    let old = netlist c.args.former.now.old.now in
+    let keyed = c.args.former.now.new.now in let new = netlist keyed in
     let gate = gate_at new c.args.place in
-    let stored = c.former_trace-former.ensures answer c.requires.run in
+    let stored = c.former_trace-was.ensures answer c.requires.run in
     let is = c.lawful-2.ensures.design.gates c.args.place blank_gate c.requires.there in
     let within : c.args.t ≤ suc old.horizon = let h = c.requires.within in omega arith in
     mapped c.put.result c.put.ensures.made

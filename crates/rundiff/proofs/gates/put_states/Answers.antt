@@ -25,7 +25,7 @@ pub put_state-requires-clause-trace : goal.put_state-requires-clause-trace
 put_state-requires-clause-trace g c =
     let xs = c.args.places.now in let i = c.loop-i.i in let x = slice_index_or xs i 0 in
     let at = get_at xs i 0 c.loop-i-test.true in
-    let old = netlist c.args.old.now in let new = netlist c.args.new.now in
+    let old = netlist c.args.former.now.old.now in let new = netlist c.args.former.now.new.now in
     let same = c.loop-i.invariant.others x (not_yet xs i x c.requires.rising at) in
     subst (λ (o : Option (PatchRecord State)). Keeps same_state due (named_state g.S.Stepper.answer old (gate_at new x).name) (state_after g.S.Stepper.answer new (gate_at new x)) o c.args.t) (sym same) (c.requires.traces x (is_one xs i x at))
 
@@ -39,7 +39,7 @@ put_state-requires-clause-end g c =
 pub put_state-requires-clause-can : goal.put_state-requires-clause-can
 put_state-requires-clause-can g c =
     let xs = c.args.places.now in let i = c.loop-i.i in
-    let many : length c.args.states.now ≡ length xs = ap (λ (l : List State). length l) c.requires.states ∙ length-map xs (λ p. state_after g.S.Stepper.answer (netlist c.args.new.now) (gate_at (netlist c.args.new.now) p) c.args.t) in
+    let many : length c.args.states.now ≡ length xs = ap (λ (l : List State). length l) c.requires.states ∙ length-map xs (λ p. state_after g.S.Stepper.answer (netlist c.args.former.now.new.now) (gate_at (netlist c.args.former.now.new.now) p) c.args.t) in
     let low : i < length c.args.states.now = let h = c.loop-i-test.true in omega arith in
     let y = c.index-states-i.result in
     subst (CanStore c.args.t) (at_place c.args.states.now i y y (read_get c.args.states.now i y low c.index-states-i.is)) (c.requires.can i y low)
@@ -48,7 +48,7 @@ pub loop-i-preserved : goal.loop-i-preserved
 loop-i-preserved g c =
     let xs = c.args.places.now in let i = c.loop-i.i in let x = slice_index_or xs i 0 in
     let at = get_at xs i 0 c.loop-i-test.true in
-    let old = netlist c.args.old.now in let new = netlist c.args.new.now in
+    let old = netlist c.args.former.now.old.now in let new = netlist c.args.former.now.new.now in
     let P : ℕ → Option (PatchRecord State) → Type 0 = λ q o. Keeps same_state due (named_state g.S.Stepper.answer old (gate_at new q).name) (state_after g.S.Stepper.answer new (gate_at new q)) o (suc c.args.t) × IsOwn o × ForSome o (λ patch. end_of patch.line ≤ suc c.args.t) in
     let done = c.in_ok-put_state.ensures in
     record {

@@ -10,6 +10,6 @@ use Rattle.rundiff.proofs.gates.put_states.Given as goal
 -- the gates so far are put, the others are as they were
 abbrev pub invariant-loop-i : goal.invariant-loop-i
 invariant-loop-i g l = record {
-  put : (q : ℕ) → is_among (take l.i l.places) q ≡ true → IsTrace g.S.Stepper.answer (netlist l.old) (netlist l.new) l.traces q (suc l.t) × IsOwn (kept_at l.traces q) × ForSome (kept_at l.traces q) (λ patch. end_of patch.line ≤ suc l.t);
+  put : (q : ℕ) → is_among (take l.i l.places) q ≡ true → IsTrace g.S.Stepper.answer (netlist l.former.old.now) (netlist l.former.new.now) l.traces q (suc l.t) × IsOwn (kept_at l.traces q) × ForSome (kept_at l.traces q) (λ patch. end_of patch.line ≤ suc l.t);
   others : (q : ℕ) → is_among (take l.i l.places) q ≡ false → kept_at l.traces q ≡ kept_at l.fn.traces q;
 }

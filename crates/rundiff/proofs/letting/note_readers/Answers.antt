@@ -19,7 +19,7 @@ pub loop-reader-preserved : goal.loop-reader-preserved
 loop-reader-preserved g c =
     let keys = c.fanout-readers.result.now in let i = c.loop-reader.reader-index in let x = c.reader-item.result in
     let at = read_get keys i x c.loop-reader-test.true c.reader-item.is in
-    let gates = c.args.new.now.gates in
+    let gates = c.args.former.now.new.now.gates in
     let gate = c.in-Some.gate in
     let now = noted c.note.new.queue in
     let done = c.in_ok-note.ensures in
@@ -39,7 +39,7 @@ loop-reader-preserved g c =
 
 pub returns-clause-next : goal.returns-clause-next
 returns-clause-next g c = λ q u low reading later moves.
-    let keyed = c.args.new.now in let d = netlist keyed in
+    let keyed = c.args.former.now.new.now in let d = netlist keyed in
     let key = c.net_key_at-key.result in
     let n = net_at d c.args.net in
     let there : net_by_key keyed key ≡ Some n = c.net_key_at-key.ensures.net ∙ get_at d.nets c.args.net blank_net c.requires.there in
@@ -49,4 +49,4 @@ returns-clause-next g c = λ q u low reading later moves.
     let net = c.net_at.result.now in
     let name : c.as_str-name.result.now ≡ n.name = c.as_str-name.ensures ∙ c.name.ensures ∙ ap (λ (m : NetEntry). m.name) (sym (at_place d.nets c.args.net blank_net net c.net_at.ensures)) in
     c.loop-reader.invariant.next k (ap (λ (l : List ℕ). is_among l k) (whole ∙ c.fanout-readers.ensures.readers) ∙ among) q u (entry_at keyed c.lawful.ensures.keys q low).position
-    (c.next_old_change-change.ensures.first d u later (ap (λ (m : List ℕ). old_moves g.S.Stepper.answer (netlist c.args.old.now) d (to_net m) u) name ∙ moves))
+    (c.next_old_change-change.ensures.first d u later (ap (λ (m : List ℕ). old_moves g.S.Stepper.answer (netlist c.args.former.now.old.now) d (to_net m) u) name ∙ moves))

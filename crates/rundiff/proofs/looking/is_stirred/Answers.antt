@@ -11,8 +11,8 @@ use Rattle.rundiff.proofs.looking.is_stirred.Goals as goal
 pub returns : goal.returns
 returns g c =
     let answer = g.S.Stepper.answer in
-    let new = netlist c.args.new.now in
-    let nets = c.args.new.now.nets in
+    let new = netlist c.args.former.now.new.now in
+    let nets = c.args.former.now.new.now.nets in
     let gate = entry_in nets c.args.gate.now in
     let some : 0 < c.args.t = let h = c.if-t-eq0.false in omega arith in
     let none : is_due (state_before answer new c.args.t gate) c.args.t ≡ false = ap (λ (s : State). is_due s c.args.t) (sym c.requires.state) ∙ sym c.is_due.ensures ∙ c.if-is_due.false in

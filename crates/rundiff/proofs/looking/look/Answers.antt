@@ -25,8 +25,8 @@ use Rattle.rundiff.proofs.looking.look.Goals as goal
 
 pub is_dirty-requires-clause-known : goal.is_dirty-requires-clause-known
 is_dirty-requires-clause-known g c = λ off.
-    let old = netlist c.args.old.now in
-    let keyed = c.args.new.now in let new = netlist keyed in
+    let old = netlist c.args.former.now.old.now in
+    let keyed = c.args.former.now.new.now in let new = netlist keyed in
     let gate = entry_in keyed.nets c.gate_at-gate.result.now in
     let at : gate_at new c.args.place ≡ gate = at_place new.gates c.args.place blank_gate gate c.gate_at-gate.ensures.named in
     ap (is_new old) (sym at)
@@ -34,27 +34,27 @@ is_dirty-requires-clause-known g c = λ off.
 
 pub is_dirty-requires-clause-inputs : goal.is_dirty-requires-clause-inputs
 is_dirty-requires-clause-inputs g c =
-    let nets = c.args.new.now.nets in
+    let nets = c.args.former.now.new.now.nets in
     c.inputs_at-inputs.ensures
-    ∙ sym (map_twice (connection_in nets) (λ x. read_at g.S.Stepper.answer (netlist c.args.new.now) x c.args.t) c.gate_at-gate.result.now.inputs)
+    ∙ sym (map_twice (connection_in nets) (λ x. read_at g.S.Stepper.answer (netlist c.args.former.now.new.now) x c.args.t) c.gate_at-gate.result.now.inputs)
 
 pub is_stirred-requires-clause-state : goal.is_stirred-requires-clause-state
 is_stirred-requires-clause-state g c =
-    let keyed = c.args.new.now in let new = netlist keyed in
+    let keyed = c.args.former.now.new.now in let new = netlist keyed in
     c.gate_state-state.ensures.state
     ∙ ap (state_before g.S.Stepper.answer new c.args.t) (at_place new.gates c.args.place blank_gate (entry_in keyed.nets c.gate_at-gate.result.now) c.gate_at-gate.ensures.named)
 
 pub is_stirred-requires-clause-inputs : goal.is_stirred-requires-clause-inputs
 is_stirred-requires-clause-inputs g c =
-    let nets = c.args.new.now.nets in
+    let nets = c.args.former.now.new.now.nets in
     c.inputs_at-inputs.ensures
-    ∙ sym (map_twice (connection_in nets) (λ x. read_at g.S.Stepper.answer (netlist c.args.new.now) x c.args.t) c.gate_at-gate.result.now.inputs)
+    ∙ sym (map_twice (connection_in nets) (λ x. read_at g.S.Stepper.answer (netlist c.args.former.now.new.now) x c.args.t) c.gate_at-gate.result.now.inputs)
 
 pub returns-then-not-is_dirty : goal.returns-then-not-is_dirty
 returns-then-not-is_dirty g c =
     let answer = g.S.Stepper.answer in
-    let old = netlist c.args.old.now in
-    let keyed = c.args.new.now in let new = netlist keyed in
+    let old = netlist c.args.former.now.old.now in
+    let keyed = c.args.former.now.new.now in let new = netlist keyed in
     let gate = entry_in keyed.nets c.gate_at-gate.result.now in
     let at : gate_at new c.args.place ≡ gate = at_place new.gates c.args.place blank_gate gate c.gate_at-gate.ensures.named in
     let clean : is_dirty answer old new gate c.args.t ≡ false = sym c.is_dirty.ensures ∙ c.if-not-is_dirty.true in
@@ -71,8 +71,8 @@ pub returns-then-not-is_stirred : goal.returns-then-not-is_stirred
 returns-then-not-is_stirred g c =
     let answer = g.S.Stepper.answer in
     let laws = g.met.S.Stepper in
-    let old = netlist c.args.old.now in
-    let keyed = c.args.new.now in let new = netlist keyed in
+    let old = netlist c.args.former.now.old.now in
+    let keyed = c.args.former.now.new.now in let new = netlist keyed in
     let gate = entry_in keyed.nets c.gate_at-gate.result.now in
     let at : gate_at new c.args.place ≡ gate = at_place new.gates c.args.place blank_gate gate c.gate_at-gate.ensures.named in
     let calm : is_stirred answer new gate c.args.t ≡ false = sym c.is_stirred.ensures ∙ c.if-not-is_stirred.true in
@@ -88,7 +88,7 @@ returns-then-not-is_stirred g c =
 
 pub new-requires : goal.new-requires
 new-requires g c =
-    let keyed = c.args.new.now in let new = netlist keyed in
+    let keyed = c.args.former.now.new.now in let new = netlist keyed in
     let gate = entry_in keyed.nets c.gate_at-gate.result.now in
     let at : gate_at new c.args.place ≡ gate = at_place new.gates c.args.place blank_gate gate c.gate_at-gate.ensures.named in
     let is : IsGate gate = subst IsGate at (c.lawful-2.ensures.design.gates c.args.place blank_gate c.requires.there) in
@@ -100,8 +100,8 @@ new-requires g c =
 pub returns : goal.returns
 returns g c =
     let answer = g.S.Stepper.answer in
-    let old = netlist c.args.old.now in
-    let keyed = c.args.new.now in let new = netlist keyed in
+    let old = netlist c.args.former.now.old.now in
+    let keyed = c.args.former.now.new.now in let new = netlist keyed in
     let gate = entry_in keyed.nets c.gate_at-gate.result.now in
     let at : gate_at new c.args.place ≡ gate = at_place new.gates c.args.place blank_gate gate c.gate_at-gate.ensures.named in
     let dirty : is_dirty answer old new gate c.args.t ≡ true = sym c.is_dirty.ensures ∙ c.if-not-is_dirty.false in

@@ -12,7 +12,7 @@ use Rattle.rundiff.proofs.looking.old_state.Goals as goal
 pub returns-clause-state : goal.returns-clause-state
 returns-clause-state g c = λ gate found.
     let answer = g.S.Stepper.answer in
-    let old = netlist c.args.old.now in
+    let old = netlist c.args.former.now.old.now in
     let name = c.args.name.now in
     let f : ℕ → State = named_state answer old name in
     let below : c.args.t < suc old.horizon = let h = c.requires.within in omega arith in

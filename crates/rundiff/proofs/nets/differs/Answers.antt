@@ -18,12 +18,12 @@ use Rattle.rundiff.proofs.nets.differs.Goals as goal
 pub returns : goal.returns
 returns g c = λ off.
     let answer = g.S.Stepper.answer in
-    let old = netlist c.args.old.now in
-    let new = netlist c.args.new.now in
+    let old = netlist c.args.former.now.old.now in
+    let new = netlist c.args.former.now.new.now in
     let x = net_at new c.args.place in
     let at = at_place new.nets c.args.place blank_net c.net_at.result.now c.net_at.ensures in
     let named : c.as_str.result.now ≡ x.name = c.as_str.ensures ∙ c.name.ensures ∙ sym (ap (λ (y : NetEntry). y.name) at) in
-    let stored = c.old_wave-former.ensures answer c.requires.run ∙ ap (λ (name : List ℕ). wave_changes_below (read_at answer old (to_net name)) (suc old.horizon)) named in
+    let stored = c.old_wave-was.ensures answer c.requires.run ∙ ap (λ (name : List ℕ). wave_changes_below (read_at answer old (to_net name)) (suc old.horizon)) named in
     let below : c.args.t < suc old.horizon = let h = c.requires.within in omega arith in
     let known : c.args.t < suc c.args.t = omega arith in
     let mine = c.value_at.ensures.value (value answer new x) (read_at answer old (to_net x.name)) (suc old.horizon) (suc c.args.t) (λ t. refl) (λ t. refl) (inr stored) below known c.requires.wave in

@@ -24,7 +24,7 @@ add_differing-requires-clause-wave g c =
 pub loop-place-preserved : goal.loop-place-preserved
 loop-place-preserved g c =
     let xs = c.args.live.now in let i = c.loop-place.place-index in let x = slice_index_or xs i 0 in
-    let old = netlist c.args.old.now in let new = netlist c.args.new.now in let t = c.args.t in
+    let old = netlist c.args.former.now.old.now in let new = netlist c.args.former.now.new.now in let t = c.args.t in
     let done = c.in_ok-add_differing.ensures in
     let live : ℕ → Bool = contains nat_cmp c.args.all_live.now in
     let was : ℕ → Bool = λ q. is_among c.loop-place.found.items q || live q in

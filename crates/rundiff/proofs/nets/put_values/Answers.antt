@@ -27,7 +27,7 @@ pub put_value-requires-clause-wave : goal.put_value-requires-clause-wave
 put_value-requires-clause-wave g c =
     let xs = c.args.live.now in let i = c.loop-place.place-index in let x = slice_index_or xs i 0 in
     let at = get_at xs i 0 c.loop-place-test.true in
-    let old = netlist c.args.old.now in let new = netlist c.args.new.now in
+    let old = netlist c.args.former.now.old.now in let new = netlist c.args.former.now.new.now in
     let same = c.loop-place.invariant.others x (not_yet xs i x c.requires.rising at) in
     let there = c.requires.there x (is_one xs i x at) in
     subst (λ (o : Option (PatchRecord Value)). Keeps same_value standing (read_at g.S.Stepper.answer old (to_net (net_at new x).name)) (value g.S.Stepper.answer new (net_at new x)) o c.args.t) (sym same) (c.requires.waves x there)
@@ -42,7 +42,7 @@ pub loop-place-preserved : goal.loop-place-preserved
 loop-place-preserved g c =
     let xs = c.args.live.now in let i = c.loop-place.place-index in let x = slice_index_or xs i 0 in
     let at = get_at xs i 0 c.loop-place-test.true in
-    let old = netlist c.args.old.now in let new = netlist c.args.new.now in
+    let old = netlist c.args.former.now.old.now in let new = netlist c.args.former.now.new.now in
     let P : ℕ → Option (PatchRecord Value) → Type 0 = λ q o. Keeps same_value standing (read_at g.S.Stepper.answer old (to_net (net_at new q).name)) (value g.S.Stepper.answer new (net_at new q)) o (suc c.args.t) × IsOwn o × ForSome o (λ patch. end_of patch.line ≤ suc c.args.t) in
     let done = c.in_ok-put_value.ensures in
     record {

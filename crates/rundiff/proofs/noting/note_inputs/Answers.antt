@@ -17,8 +17,8 @@ use Rattle.rundiff.proofs.noting.note_inputs.Goals as goal
 
 pub returns-clause-next : goal.returns-clause-next
 returns-clause-next g c = mapped c.note.result c.note.ensures.next (λ noted u later moves.
-    let old = netlist c.args.old.now in
-    let keyed = c.args.new.now in let new = netlist keyed in
+    let old = netlist c.args.former.now.old.now in
+    let keyed = c.args.former.now.new.now in let new = netlist keyed in
     let gate = c.gate_at-gate.result.now in
     let items = c.inputs-terminal-items.result.now in
     let test : Connection → Bool = λ x. not (is_at_live new (contains nat_cmp c.args.live.now) x) && old_moves g.S.Stepper.answer old new x u in

@@ -19,8 +19,8 @@ note-requires g c =
 pub returns-clause-next : goal.returns-clause-next
 returns-clause-next g c = mapped c.note.result c.note.ensures.next (λ noted u later moves.
     let answer = g.S.Stepper.answer in
-    let old = netlist c.args.old.now in
-    let new = netlist c.args.new.now in
+    let old = netlist c.args.former.now.old.now in
+    let new = netlist c.args.former.now.new.now in
     let n = c.net_at-net.result.now in
     let at : net_at new c.args.place ≡ n = at_place new.nets c.args.place blank_net n c.net_at-net.ensures in
     let named : c.as_str.result.now ≡ n.name = c.as_str.ensures ∙ c.name.ensures in

@@ -7,12 +7,12 @@ use Rattle.rundiff.proofs.old.old_wave.Goals as goal
 
 pub returns-in_default : goal.returns-in_default
 returns-in_default c = λ answer run.
-    let d = netlist c.args.old.now in
-    unnamed_wave answer d c.no_change.ensures c.args.blank.now c.args.name.now c.requires (sym (ap (option_map (wave_of answer d)) (rw c.in_default.is at c.old_net.ensures.absent)))
+    let d = netlist c.args.former.now.old.now in let blanks = c.args.former.now.blanks.now in
+    unnamed_wave answer d c.no_change.ensures blanks.wave c.args.name.now blanks.wave_is_x (sym (ap (option_map (wave_of answer d)) (rw c.in_default.is at c.old_net.ensures.absent)))
 
 pub returns-in-Some-wave : goal.returns-in-Some-wave
 returns-in-Some-wave c = λ answer run.
-    let old = c.args.old.now in
+    let old = c.args.former.now.old.now in
     let d = netlist old in
     named_wave answer d c.in-Some-wave.wave.now c.args.name.now
     (sym (ap option_copied c.in-Some-wave.is) ∙ c.wave.ensures ∙ run.waves c.number.result ∙ ap (λ k. option_map (wave_of answer d) (net_by_key old k)) c.number.ensures
@@ -20,8 +20,8 @@ returns-in-Some-wave c = λ answer run.
 
 pub returns-in-None : goal.returns-in-None
 returns-in-None c = λ answer run.
-    let old = c.args.old.now in
-    let d = netlist old in
-    unnamed_wave answer d c.no_change.ensures c.args.blank.now c.args.name.now c.requires
+    let old = c.args.former.now.old.now in
+    let d = netlist old in let blanks = c.args.former.now.blanks.now in
+    unnamed_wave answer d c.no_change.ensures blanks.wave c.args.name.now blanks.wave_is_x
     (sym (ap option_copied c.in-None.is) ∙ c.wave.ensures ∙ run.waves c.number.result ∙ ap (λ k. option_map (wave_of answer d) (net_by_key old k)) c.number.ensures
     ∙ ap (option_map (wave_of answer d)) c.in-Some.ensures.net)

@@ -10,7 +10,7 @@ use Rattle.rundiff.proofs.old_lines.old_traces.Goals as goal
 
 pub loop-place-preserved : goal.loop-place-preserved
 loop-place-preserved g c =
-    let answer = g.S.Stepper.answer in let old = netlist c.args.old.now in let keyed = c.args.new.now in let new = netlist keyed in let place = c.loop-place.place in
+    let answer = g.S.Stepper.answer in let old = netlist c.args.former.now.old.now in let keyed = c.args.former.now.new.now in let new = netlist keyed in let place = c.loop-place.place in
     let at : gate_at new place ≡ entry_in keyed.nets c.gate_at.result.now = at_place new.gates place blank_gate (entry_in keyed.nets c.gate_at.result.now) c.gate_at.ensures.named in
     let named : c.as_str-name.result.now ≡ (gate_at new place).name = c.as_str-name.ensures ∙ c.name.ensures ∙ ap (λ (g : GateEntry). g.name) (sym at) in
     record {

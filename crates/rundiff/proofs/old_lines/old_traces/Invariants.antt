@@ -9,7 +9,7 @@ use Rattle.rundiff.proofs.old_lines.old_traces.Given as goal
 -- those of the gates so far
 abbrev pub invariant-loop-place : goal.invariant-loop-place
 invariant-loop-place g l =
-    let old = netlist l.old in let new = netlist l.new in
+    let old = netlist l.former.old.now in let new = netlist l.former.new.now in
     record {
       count : length l.traces.lines ≡ l.place;
       each : HoldsEach l.traces.lines (λ p trace. trace ≡ trace_below (named_state g.S.Stepper.answer old (gate_at new p).name) (suc old.horizon));

@@ -11,7 +11,7 @@ use Rattle.rundiff.proofs.old_lines.old_waves.Goals as goal
 
 pub loop-place-preserved : goal.loop-place-preserved
 loop-place-preserved g c =
-    let answer = g.S.Stepper.answer in let old = netlist c.args.old.now in let new = netlist c.args.new.now in let place = c.loop-place.place in
+    let answer = g.S.Stepper.answer in let old = netlist c.args.former.now.old.now in let new = netlist c.args.former.now.new.now in let place = c.loop-place.place in
     let at : net_at new place ≡ c.net_at.result.now = at_place new.nets place blank_net c.net_at.result.now c.net_at.ensures in
     let named : c.as_str-name.result.now ≡ (net_at new place).name = c.as_str-name.ensures ∙ c.name.ensures ∙ ap (λ (n : NetEntry). n.name) (sym at) in
     record {

@@ -10,7 +10,7 @@ use Rattle.rundiff.proofs.old_lines.old_waves.Given as goal
 -- those of the nets so far
 abbrev pub invariant-loop-place : goal.invariant-loop-place
 invariant-loop-place g l =
-    let old = netlist l.old in let new = netlist l.new in
+    let old = netlist l.former.old.now in let new = netlist l.former.new.now in
     record {
       count : length l.waves.lines ≡ l.place;
       each : HoldsEach l.waves.lines (λ p wave. wave ≡ wave_changes_below (read_at g.S.Stepper.answer old (to_net (net_at new p).name)) (suc old.horizon));

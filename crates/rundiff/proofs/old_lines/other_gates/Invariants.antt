@@ -10,5 +10,5 @@ abbrev pub invariant-loop-place : goal.invariant-loop-place
 invariant-loop-place l =
     record {
       count : length l.others.items ≡ l.place;
-      each : HoldsEach l.others.items (λ p other. other ≡ is_new (netlist l.old) (gate_at (netlist l.new) p));
+      each : HoldsEach l.others.items (λ p other. other ≡ is_new (netlist l.former.old.now) (gate_at (netlist l.former.new.now) p));
     }

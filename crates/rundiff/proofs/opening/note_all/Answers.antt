@@ -1,5 +1,6 @@
-use Rattle.std.proofs.Common.{◌≡◌, ◌∙◌, ap, ℕ, List, true}
-use Rattle.std.specs.Prelude.{slice_index_or}
+use Rattle.std.proofs.Common.{◌≡◌, ◌∙◌, ap, cond, ℕ, List, [], ◌∷◌, ◌++◌, false, true, arith}
+use Rattle.std.specs.Prelude.{nat_eq, slice_index_or}
+use Rattle.std.proofs.lemmas.Bool.Decides.{nat_tests}
 use Rattle.event_queue.specs.Noted.{noted}
 use Rattle.rundiff.specs.Places.{is_among}
 use Rattle.rundiff.proofs.ByPlace.{get_at}
@@ -11,12 +12,21 @@ pub loop-place-preserved : goal.loop-place-preserved
 loop-place-preserved c =
     let xs = c.deref-place-items.result.now in let i = c.loop-place.place-index in let x = slice_index_or xs i 0 in
     let added = c.in_ok-add.ensures.ok in
-    more_noted xs i x (get_at xs i 0 c.loop-place-test.true) (noted c.loop-place.queue) (noted c.add.new.self) 0 (added_keeps 0 x c.loop-place.queue c.add.new.self added)
-    c.loop-place.invariant (added_there 0 x c.loop-place.queue c.add.new.self added)
+    record {
+      listed =
+          more_noted xs i x (get_at xs i 0 c.loop-place-test.true) (noted c.loop-place.queue) (noted c.add.new.self) c.args.t (added_keeps c.args.t x c.loop-place.queue c.add.new.self added)
+          c.loop-place.invariant.listed (added_there c.args.t x c.loop-place.queue c.add.new.self added);
+      early = λ u low.
+          let apart : nat_eq c.args.t u ≡ false = grind (arith, nat_tests) in
+          added u ∙ ap (λ b. cond b (noted c.loop-place.queue u ++ x ∷ []) (noted c.loop-place.queue u)) apart ∙ c.loop-place.invariant.early u low;
+    }
 
-pub returns : goal.returns
-returns c = λ p among.
+pub returns-clause-noted : goal.returns-clause-noted
+returns-clause-noted c = λ p among.
     let xs = c.deref-place-items.result.now in
     let whole = take_whole xs c.loop-place.place-index c.loop-place-test.false in
     let listed : is_among xs p ≡ true = ap (λ (l : List ℕ). is_among l p) c.deref-place-items.ensures.value ∙ c.in_ok-listed.ensures.all p ∙ among in
-    c.loop-place.invariant p (ap (λ (l : List ℕ). is_among l p) whole ∙ listed)
+    c.loop-place.invariant.listed p (ap (λ (l : List ℕ). is_among l p) whole ∙ listed)
+
+pub returns-clause-early : goal.returns-clause-early
+returns-clause-early c = c.loop-place.invariant.early

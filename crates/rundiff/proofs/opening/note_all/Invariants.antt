@@ -1,4 +1,4 @@
-use Rattle.std.proofs.Common.{◌≡◌, ℕ, true, take}
+use Rattle.std.proofs.Common.{◌≡◌, ◌<◌, ℕ, [], true, take}
 use Rattle.event_queue.specs.Noted.{noted}
 use Rattle.rundiff.specs.Places.{is_among}
 use Rattle.scratch.specs.Places.{has}
@@ -6,4 +6,7 @@ use Rattle.rundiff.proofs.opening.note_all.Given as goal
 
 -- the places so far are noted
 abbrev pub invariant-loop-place : goal.invariant-loop-place
-invariant-loop-place l = (p : ℕ) → is_among (take l.place-index l.place-items) p ≡ true → has p (noted l.queue 0) ≡ true
+invariant-loop-place l = record {
+  listed : (p : ℕ) → is_among (take l.place-index l.place-items) p ≡ true → has p (noted l.queue l.t) ≡ true;
+  early : (u : ℕ) → u < l.t → noted l.queue u ≡ [];
+}

@@ -1,4 +1,5 @@
 use Rattle.std.proofs.Common.{◌∙◌, sym, refl, arith}
+use Rattle.rundiff.specs.declared.place_map.TheConstants.{PAGE}
 use Rattle.rundiff.proofs.Pages.{filled}
 use Rattle.rundiff.proofs.place_map.fill_page.Goals as goal
 
@@ -9,6 +10,6 @@ returns-in_ok-resize-clause-same c =
     let short = c.if-len-lt-PAGE.true in
     let many = c.len.ensures in
     let counted = old.ok.0 in
-    λ q. filled old.items new.items 256 q (sym new.ok.0 ∙ c.in_ok-resize.ensures.len) (omega (arith, short, many, counted))
+    λ q. filled old.items new.items PAGE q (sym new.ok.0 ∙ c.in_ok-resize.ensures.len) (omega (arith, short, many, counted))
     (λ k low there. c.in_ok-resize.ensures.by_index.0 k 0 low (omega (arith, there, counted)))
     (λ k high low. c.in_ok-resize.ensures.by_index.1 k 0 refl (omega (arith, high, counted)) low)

@@ -6,7 +6,7 @@ use Rattle.rundiff.proofs.reading.connection_value.Goals as goal
 
 pub returns-in-Some : goal.returns-in-Some
 returns-in-Some c = λ answer n run waves known.
-    let keyed = c.args.new.now in
+    let keyed = c.args.former.now.new.now in
     let new = netlist keyed in
     let place = c.in-Some.place in
     let found = c.names_are_keys.ensures.nets c.in-Net.net ∙ sym c.in-Some.ensures.net in

@@ -13,7 +13,7 @@ use Rattle.rundiff.proofs.reading.driven_value.Goals as goal
 pub returns : goal.returns
 returns g c =
     let answer = g.S.Stepper.answer in
-    let keyed = c.args.new.now in
+    let keyed = c.args.former.now.new.now in
     let d = netlist keyed in
     let key = c.net_key_at.result in
     let n = c.net_at-net.result.now in

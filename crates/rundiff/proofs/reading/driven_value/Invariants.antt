@@ -11,4 +11,4 @@ use Rattle.rundiff.proofs.reading.driven_value.Given as goal
 abbrev pub invariant-loop-driver : goal.invariant-loop-driver
 invariant-loop-driver g l =
     map (λ v. Some v) l.values.items
-    ≡ map (λ key. option_map (λ place. (due (state_before g.S.Stepper.answer (netlist l.new) l.t (gate_at (netlist l.new) place)) l.t).current) (place_of l.new.gates key)) (take l.driver-index l.drivers)
+    ≡ map (λ key. option_map (λ place. (due (state_before g.S.Stepper.answer (netlist l.former.new.now) l.t (gate_at (netlist l.former.new.now) place)) l.t).current) (place_of l.former.new.now.gates key)) (take l.driver-index l.drivers)

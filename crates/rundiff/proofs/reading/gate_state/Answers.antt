@@ -11,12 +11,12 @@ pub returns-clause-state : goal.returns-clause-state
 returns-clause-state g c =
     let answer = g.S.Stepper.answer in
     let pending = g.met.S.Stepper.answer_pending in
-    let old = netlist c.args.old.now in
-    let keyed = c.args.new.now in
+    let old = netlist c.args.former.now.old.now in
+    let keyed = c.args.former.now.new.now in
     let new = netlist keyed in
     let gate = gate_at new c.args.place in
     let some : 0 < c.args.t = let h = c.if-t-eq0.false in omega arith in
-    let stored = c.former_trace-former.ensures answer c.requires.run in
+    let stored = c.former_trace-was.ensures answer c.requires.run in
     let is = c.lawful-2.ensures.design.gates c.args.place blank_gate c.requires.there in
     let below : c.args.t - 1 < suc old.horizon = let h = c.requires.within in omega arith in
     let known : c.args.t - 1 < c.args.t = omega arith in

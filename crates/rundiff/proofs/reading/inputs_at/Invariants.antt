@@ -8,7 +8,7 @@ abbrev pub invariant-loop-place : goal.invariant-loop-place
 invariant-loop-place g l =
     record {
       within : l.place ≤ length l.terminals;
-      read : l.values ≡ map (λ terminal. read_at g.S.Stepper.answer (netlist l.new) (connection_in l.new.nets terminal) l.m) (drop l.place l.terminals);
+      read : l.values ≡ map (λ terminal. read_at g.S.Stepper.answer (netlist l.former.new.now) (connection_in l.former.new.now.nets terminal) l.m) (drop l.place l.terminals);
     }
 
 abbrev pub decreases-loop-place : goal.decreases-loop-place

@@ -11,8 +11,8 @@ use Rattle.rundiff.proofs.reading.old_connection_value.Goals as goal
 
 pub returns-in-Net : goal.returns-in-Net
 returns-in-Net c = λ answer run.
-    let old = netlist c.args.old.now in
-    let nets = c.args.new.now.nets in
+    let old = netlist c.args.former.now.old.now in
+    let nets = c.args.former.now.new.now.nets in
     let name = name_of nets c.in-Net.net in
     let named : c.as_str.result.now ≡ name = c.as_str.ensures ∙ c.name_of.ensures in
     let stored = c.old_wave.ensures answer run ∙ ap (λ (name : List ℕ). wave_changes_below (read_at answer old (to_net name)) (suc old.horizon)) named in

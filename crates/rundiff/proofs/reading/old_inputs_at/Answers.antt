@@ -11,7 +11,7 @@ loop-place-preserved g c =
       within = omega arith;
       read =
           c.put_first.ensures
-          ∙ map_before (λ terminal. read_at answer (netlist c.args.old.now) (connection_in c.args.new.now.nets terminal) c.args.m) c.inputs-terminals.result.now c.loop-place.place
+          ∙ map_before (λ terminal. read_at answer (netlist c.args.former.now.old.now) (connection_in c.args.former.now.new.now.nets terminal) c.args.m) c.inputs-terminals.result.now c.loop-place.place
           c.index-terminals-place.result c.old_connection_value.result c.loop-place.values c.loop-place-test.true c.loop-place.invariant.within c.index-terminals-place.is
           (c.old_connection_value.ensures answer c.requires.run) c.loop-place.invariant.read;
     }

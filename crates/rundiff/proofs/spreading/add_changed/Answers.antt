@@ -27,7 +27,7 @@ add_if_changed-requires-clause-wave g c =
 pub loop-place-preserved : goal.loop-place-preserved
 loop-place-preserved g c =
     let xs = c.args.nets.now in let i = c.loop-place.place-index in let x = slice_index_or xs i 0 in
-    let answer = g.S.Stepper.answer in let new = netlist c.args.new.now in let t = c.args.t in
+    let answer = g.S.Stepper.answer in let new = netlist c.args.former.now.new.now in let t = c.args.t in
     let now = is_among c.add_if_changed.new.gates.items in
     let done = c.in_ok-add_if_changed.ensures in
     record {

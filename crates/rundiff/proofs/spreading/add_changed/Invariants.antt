@@ -8,5 +8,5 @@ use Rattle.rundiff.proofs.spreading.add_changed.Given as goal
 abbrev pub invariant-loop-place : goal.invariant-loop-place
 invariant-loop-place g l = record {
   more : (q : ℕ) → is_among l.fn.gates.items q ≡ true → is_among l.gates.items q ≡ true;
-  steady : (p : ℕ) → is_among (take l.place-index l.nets) p ≡ true → IsSteady g.S.Stepper.answer (netlist l.new) (is_among l.gates.items) l.t p;
+  steady : (p : ℕ) → is_among (take l.place-index l.nets) p ≡ true → IsSteady g.S.Stepper.answer (netlist l.former.new.now) (is_among l.gates.items) l.t p;
 }

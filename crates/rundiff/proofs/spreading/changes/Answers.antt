@@ -14,15 +14,15 @@ same_first : (f : ℕ → Value) (t : ℕ) → t ≡ 0 → f t ≡ f (t - 1)
 same_first f t is = let e : t ≡ t - 1 = omega arith in ap f e
 
 pub returns-then-t-eq0 : goal.returns-then-t-eq0
-returns-then-t-eq0 g c = λ off. same_first (value g.S.Stepper.answer (netlist c.args.new.now) (net_at (netlist c.args.new.now) c.args.place)) c.args.t c.if-t-eq0.true
+returns-then-t-eq0 g c = λ off. same_first (value g.S.Stepper.answer (netlist c.args.former.now.new.now) (net_at (netlist c.args.former.now.new.now) c.args.place)) c.args.t c.if-t-eq0.true
 
 pub returns : goal.returns
 returns g c = λ off.
     let answer = g.S.Stepper.answer in
-    let old = netlist c.args.old.now in
-    let new = netlist c.args.new.now in
+    let old = netlist c.args.former.now.old.now in
+    let new = netlist c.args.former.now.new.now in
     let x = net_at new c.args.place in
-    let stored = c.former_wave-former.ensures answer c.requires.run in
+    let stored = c.former_wave-was.ensures answer c.requires.run in
     let below : c.args.t < suc old.horizon = let h = c.requires.within in omega arith in
     let below_too : c.args.t - 1 < suc old.horizon = let h = c.requires.within in omega arith in
     let known : c.args.t < suc c.args.t = omega arith in

@@ -18,12 +18,12 @@ use Rattle.scratch.proofs.resolving.resolve_nets.Goals.{then-place-len+in_ok-val
 pub push_known-requires-clause-later : goal.push_known-requires-clause-later
 push_known-requires-clause-later g c =
     let answer = g.S.Stepper.answer in let d = netlist c.args.design.now in let t = c.args.t in
-    let part = c.loop-place.invariant in let done = take c.loop-place.place-index c.args.nets.now in
+    let part = c.loop-place.invariant.part in let done = take c.loop-place.place-index c.args.nets.now in
     let place = slice_index_or c.args.nets.now c.loop-place.place-index 0 in
     let in_nets : place < length d.nets = let low = c.if-place-len.true in let many = part.as_many in grind (arith, common_steps) in
     let it = some_at d.nets place in_nets in let n = it.0 in
     let v = c.in_ok-value.value in
-    let is : v ≡ value answer d n t = resolved_is answer d t c.args.states.now n (driver_places d.gates n.name) v c.requires.states refl (rw it.1 at c.in_ok-value.ensures) in
+    let is : v ≡ value answer d n t = resolved_is answer d t c.args.states.now n (driver_places d.gates n.name) v c.requires.states refl (rw it.1 at c.in_ok-value.ensures.value) in
     let in_values : place < length c.loop-place.values.items = rw part.as_many in_nets in
     let old = slice_get_read c.loop-place.values.items (length c.loop-place.values.items) place c.index-former.result.now refl in_values c.index-former.ensures in
     let other : not (same_value v c.index-former.result.now) ≡ true = sym c.is_other.ensures ∙ c.if-is_other.true in
@@ -37,12 +37,12 @@ push_known-requires-clause-later g c =
 pub push_known-requires-clause-known : goal.push_known-requires-clause-known
 push_known-requires-clause-known g c =
     let answer = g.S.Stepper.answer in let d = netlist c.args.design.now in let t = c.args.t in
-    let part = c.loop-place.invariant in let done = take c.loop-place.place-index c.args.nets.now in
+    let part = c.loop-place.invariant.part in let done = take c.loop-place.place-index c.args.nets.now in
     let place = slice_index_or c.args.nets.now c.loop-place.place-index 0 in
     let in_nets : place < length d.nets = let low = c.if-place-len.true in let many = part.as_many in grind (arith, common_steps) in
     let it = some_at d.nets place in_nets in let n = it.0 in
     let v = c.in_ok-value.value in
-    let is : v ≡ value answer d n t = resolved_is answer d t c.args.states.now n (driver_places d.gates n.name) v c.requires.states refl (rw it.1 at c.in_ok-value.ensures) in
+    let is : v ≡ value answer d n t = resolved_is answer d t c.args.states.now n (driver_places d.gates n.name) v c.requires.states refl (rw it.1 at c.in_ok-value.ensures.value) in
     let in_values : place < length c.loop-place.values.items = rw part.as_many in_nets in
     let old = slice_get_read c.loop-place.values.items (length c.loop-place.values.items) place c.index-former.result.now refl in_values c.index-former.ensures in
     let other : not (same_value v c.index-former.result.now) ≡ true = sym c.is_other.ensures ∙ c.if-is_other.true in
@@ -56,59 +56,67 @@ push_known-requires-clause-known g c =
 pub loop-place-preserved : goal.loop-place-preserved
 loop-place-preserved g c =
     let answer = g.S.Stepper.answer in let d = netlist c.args.design.now in let t = c.args.t in
-    let part = c.loop-place.invariant in let nets = c.args.nets.now in let i = c.loop-place.place-index in let done = take i nets in
+    let part = c.loop-place.invariant.part in let nets = c.args.nets.now in let i = c.loop-place.place-index in let done = take i nets in
     let place = slice_index_or nets i 0 in
     let more : take (i + 1) nets ≡ done ++ place ∷ [] = take_next nets i place (slice_get-get_or nets i 0 c.loop-place-test.true) in
     let vs = c.loop-place.values.items in let ws = c.loop-place.waves in let cs = c.loop-place.changed.items in
     let still = c.no_change.ensures in
-    elim c.if-place-len.branch [
-      | then-place-len+in_ok-value+then-is_other+in_ok-push w ↦
-          let in_nets : place < length d.nets = let low = w.if-place-len.true in let many = part.as_many in grind (arith, common_steps) in
-          let it = some_at d.nets place in_nets in let n = it.0 in
-          let v = w.in_ok-value.value in
-          let is : v ≡ value answer d n t = resolved_is answer d t c.args.states.now n (driver_places d.gates n.name) v c.requires.states refl (rw it.1 at w.in_ok-value.ensures) in
-          let in_values : place < length vs = rw part.as_many in_nets in
-          let old = slice_get_read vs (length vs) place w.index-former.result.now refl in_values w.index-former.ensures in
-          let other : not (same_value v w.index-former.result.now) ≡ true = sym w.is_other.ensures ∙ w.if-is_other.true in
-          let lone = c.args.wiring.now.lone_drivers.items in
-          elim w.if-is_none.branch [
-            | then-is_none+in_ok-push_known u ↦
-                let in_waves : place < length ws = rw part.as_many_waves in_nets in
-                let wave = slice_get-get_or ws place [] in_waves in
-                let whole = whole_there d lone place n w.index.result.now c.requires.wired.lone_drivers it.1 in_nets w.index.ensures (w.is_none.ensures ∙ ap not u.if-is_none.true) in
-                rw (more, w.values-is, w.waves-is, u.waves-is, w.changed-is, u.in_ok-push_known.ensures, w.in_ok-push.ensures.items)
-                (went answer d t c.requires.begun still place done vs ws cs part n it.1 v w.index-former.result.now is old other whole (slice_index_or ws place []) wave c.push_to_changes.ensures)
-            | else-is_none u ↦
-                let alone = alone_there d lone place n w.index.result.now c.requires.wired.lone_drivers it.1 in_nets w.index.ensures (w.is_none.ensures ∙ ap not u.if-is_none.false) in
-                rw (more, w.values-is, w.waves-is, u.waves-is, w.changed-is, w.in_ok-push.ensures.items)
-                (went_alone answer d t c.requires.begun still place done vs ws cs part n it.1 v w.index-former.result.now is old other alone.0 alone.1)
-          ]
-      | then-place-len+in_ok-value+else-is_other w ↦
-          let in_nets : place < length d.nets = let low = w.if-place-len.true in let many = part.as_many in grind (arith, common_steps) in
-          let it = some_at d.nets place in_nets in let n = it.0 in
-          let v = w.in_ok-value.value in
-          let is : v ≡ value answer d n t = resolved_is answer d t c.args.states.now n (driver_places d.gates n.name) v c.requires.states refl (rw it.1 at w.in_ok-value.ensures) in
-          let in_values : place < length vs = rw part.as_many in_nets in
-          let old = slice_get_read vs (length vs) place w.index-former.result.now refl in_values w.index-former.ensures in
-          let same : not (same_value v w.index-former.result.now) ≡ false = sym w.is_other.ensures ∙ w.if-is_other.false in
-          rw (more, w.values-is, w.waves-is, w.changed-is) (again answer d t c.requires.begun still place done vs ws cs part n it.1 v w.index-former.result.now is old same)
-      | else-place-len w ↦
-          let past : length d.nets ≤ place = let high = w.if-place-len.false in let many = part.as_many in grind (arith, common_steps) in
-          let off : changes_at answer d place t ≡ false =
-          ap (λ o. option_map_or (λ n. not (same_value (value answer d n t) (value answer d n (t - 1)))) o false) (slice_get_past d.nets place past) in
-          rw (more, w.values-is, w.waves-is, w.changed-is) (stayed answer d t c.requires.begun still place done vs ws cs part off)
-    ]
+    record {
+      part =
+          elim c.if-place-len.branch [
+            | then-place-len+in_ok-value+then-is_other+in_ok-push w ↦
+                let in_nets : place < length d.nets = let low = w.if-place-len.true in let many = part.as_many in grind (arith, common_steps) in
+                let it = some_at d.nets place in_nets in let n = it.0 in
+                let v = w.in_ok-value.value in
+                let is : v ≡ value answer d n t = resolved_is answer d t c.args.states.now n (driver_places d.gates n.name) v c.requires.states refl (rw it.1 at w.in_ok-value.ensures.value) in
+                let in_values : place < length vs = rw part.as_many in_nets in
+                let old = slice_get_read vs (length vs) place w.index-former.result.now refl in_values w.index-former.ensures in
+                let other : not (same_value v w.index-former.result.now) ≡ true = sym w.is_other.ensures ∙ w.if-is_other.true in
+                let lone = c.args.wiring.now.lone_drivers.items in
+                elim w.if-is_none.branch [
+                  | then-is_none+in_ok-push_known u ↦
+                      let in_waves : place < length ws = rw part.as_many_waves in_nets in
+                      let wave = slice_get-get_or ws place [] in_waves in
+                      let whole = whole_there d lone place n w.index.result.now c.requires.wired.lone_drivers it.1 in_nets w.index.ensures (w.is_none.ensures ∙ ap not u.if-is_none.true) in
+                      rw (more, w.values-is, w.waves-is, u.waves-is, w.changed-is, u.in_ok-push_known.ensures, w.in_ok-push.ensures.items)
+                      (went answer d t c.requires.begun still place done vs ws cs part n it.1 v w.index-former.result.now is old other whole (slice_index_or ws place []) wave c.push_to_changes.ensures)
+                  | else-is_none u ↦
+                      let alone = alone_there d lone place n w.index.result.now c.requires.wired.lone_drivers it.1 in_nets w.index.ensures (w.is_none.ensures ∙ ap not u.if-is_none.false) in
+                      rw (more, w.values-is, w.waves-is, u.waves-is, w.changed-is, w.in_ok-push.ensures.items)
+                      (went_alone answer d t c.requires.begun still place done vs ws cs part n it.1 v w.index-former.result.now is old other alone.0 alone.1)
+                ]
+            | then-place-len+in_ok-value+else-is_other w ↦
+                let in_nets : place < length d.nets = let low = w.if-place-len.true in let many = part.as_many in grind (arith, common_steps) in
+                let it = some_at d.nets place in_nets in let n = it.0 in
+                let v = w.in_ok-value.value in
+                let is : v ≡ value answer d n t = resolved_is answer d t c.args.states.now n (driver_places d.gates n.name) v c.requires.states refl (rw it.1 at w.in_ok-value.ensures.value) in
+                let in_values : place < length vs = rw part.as_many in_nets in
+                let old = slice_get_read vs (length vs) place w.index-former.result.now refl in_values w.index-former.ensures in
+                let same : not (same_value v w.index-former.result.now) ≡ false = sym w.is_other.ensures ∙ w.if-is_other.false in
+                rw (more, w.values-is, w.waves-is, w.changed-is) (again answer d t c.requires.begun still place done vs ws cs part n it.1 v w.index-former.result.now is old same)
+            | else-place-len w ↦
+                let past : length d.nets ≤ place = let high = w.if-place-len.false in let many = part.as_many in grind (arith, common_steps) in
+                let off : changes_at answer d place t ≡ false =
+                ap (λ o. option_map_or (λ n. not (same_value (value answer d n t) (value answer d n (t - 1)))) o false) (slice_get_past d.nets place past) in
+                rw (more, w.values-is, w.waves-is, w.changed-is) (stayed answer d t c.requires.begun still place done vs ws cs part off)
+          ];
+      counts = elim c.if-place-len.branch [
+        | then-place-len+in_ok-value+then-is_other+in_ok-push w ↦ rw w.tallies-is w.in_ok-value.ensures.counts
+        | then-place-len+in_ok-value+else-is_other w ↦ rw w.tallies-is w.in_ok-value.ensures.counts
+        | else-place-len w ↦ rw w.tallies-is c.loop-place.invariant.counts
+      ];
+    }
 
 pub returns-clause-values : goal.returns-clause-values
 returns-clause-values g c =
     let answer = g.S.Stepper.answer in let d = netlist c.args.design.now in let t = c.args.t in
     let whole : take c.loop-place.place-index c.args.nets.now ≡ c.args.nets.now = take_all c.loop-place.place-index c.args.nets.now (let past = c.loop-place-test.false in omega arith) in
-    finish (take c.loop-place.place-index c.args.nets.now) (map (λ n. value answer d n (t - 1)) d.nets) (map (λ n. value answer d n t) d.nets) c.loop-place.values.items c.loop-place.invariant.values
+    finish (take c.loop-place.place-index c.args.nets.now) (map (λ n. value answer d n (t - 1)) d.nets) (map (λ n. value answer d n t) d.nets) c.loop-place.values.items c.loop-place.invariant.part.values
     (λ k off. same_value_at answer d t c.requires.begun c.no_change.ensures k (c.requires.others k (ap (has k) (sym whole) ∙ off)))
 
 pub returns-clause-waves : goal.returns-clause-waves
 returns-clause-waves g c =
     let answer = g.S.Stepper.answer in let d = netlist c.args.design.now in let t = c.args.t in
     let whole : take c.loop-place.place-index c.args.nets.now ≡ c.args.nets.now = take_all c.loop-place.place-index c.args.nets.now (let past = c.loop-place-test.false in omega arith) in
-    finish (take c.loop-place.place-index c.args.nets.now) (map (λ n. recorded_below answer d n t) d.nets) (map (λ n. recorded_below answer d n (t + 1)) d.nets) c.loop-place.waves c.loop-place.invariant.waves
+    finish (take c.loop-place.place-index c.args.nets.now) (map (λ n. recorded_below answer d n t) d.nets) (map (λ n. recorded_below answer d n (t + 1)) d.nets) c.loop-place.waves c.loop-place.invariant.part.waves
     (λ k off. same_wave_at answer d t c.requires.begun c.no_change.ensures k (c.requires.others k (ap (has k) (sym whole) ∙ off)))

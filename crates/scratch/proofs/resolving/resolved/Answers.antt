@@ -1,16 +1,18 @@
 use Rattle.std.proofs.Common.{◌≡◌, ◌<◌, ◌∙◌, sym, ap, refl, Some, None, length, slice_get, arith}
 use Rattle.std.proofs.lemmas.List.{length-map}
-use Rattle.std.proofs.lemmas.Option.{slice_get_read}
+use Rattle.std.proofs.lemmas.Option.{slice_get_read, slice_get_within}
 use Rattle.fourstate.specs.Nets.{net_of}
 use Rattle.design.specs.Keys.{netlist}
 use Rattle.design.specs.Places.{driver_places}
 use Rattle.scratch.specs.Kept.{currents_of, driven_kind, net_from, values_at}
+use Rattle.scratch.specs.Tally.{tally_of}
+use Rattle.scratch.proofs.Counting.{counts_kept}
 use Rattle.scratch.proofs.Lists.{if_there, some_at}
 use Rattle.scratch.proofs.NetSteps.{driven_is, drivers_at, kind_there, lone_gives, lone_there, stimulus_is}
 use Rattle.scratch.proofs.resolving.resolved.Goals as goal
 
-pub returns-in-Some : goal.returns-in-Some
-returns-in-Some c =
+pub returns-in-Some-clause-value : goal.returns-in-Some-clause-value
+returns-in-Some-clause-value c =
     let d = netlist c.args.design.now in let place = c.args.place in
     let it = some_at d.nets place c.requires.there in let n = it.0 in
     let lone = c.args.wiring.now.lone_drivers.items in
@@ -20,8 +22,8 @@ returns-in-Some c =
     if_there (slice_get d.nets place) n (λ n. c.current_at.result ≡ net_from (currents_of c.args.states.now c.args.t) c.args.t n (driver_places d.gates n.name)) it.1
     (c.current_at.ensures ∙ lone_gives d (currents_of c.args.states.now c.args.t) c.args.t n c.in-Some.driver alone)
 
-pub returns-in-None : goal.returns-in-None
-returns-in-None c =
+pub returns-in-None-clause-value : goal.returns-in-None-clause-value
+returns-in-None-clause-value c =
     let d = netlist c.args.design.now in let place = c.args.place in
     let kinds = c.args.wiring.now.kinds.items in
     let below : place < length kinds = (let as_many = simp length-map at (ap length c.requires.wired.kinds) in let low = c.requires.there in omega arith) in
@@ -31,8 +33,8 @@ returns-in-None c =
     if_there (slice_get d.nets place) n (λ n. c.stimulus_at.result ≡ net_from (currents_of c.args.states.now c.args.t) c.args.t n (driver_places d.gates n.name)) c.net_at.ensures
     (c.stimulus_at.ensures ∙ stimulus_is (currents_of c.args.states.now c.args.t) c.args.t n (driver_places d.gates n.name) none)
 
-pub returns-in_ok-value-in-Some-index : goal.returns-in_ok-value-in-Some-index
-returns-in_ok-value-in-Some-index c =
+pub returns-in_ok-value-in-Some-index-clause-value : goal.returns-in_ok-value-in-Some-index-clause-value
+returns-in_ok-value-in-Some-index-clause-value c =
     let d = netlist c.args.design.now in let place = c.args.place in
     let it = some_at d.nets place c.requires.there in let n = it.0 in
     let kinds = c.args.wiring.now.kinds.items in
@@ -45,4 +47,24 @@ returns-in_ok-value-in-Some-index c =
     let places : c.as_slice-places.result.now ≡ driver_places d.gates n.name = c.as_slice-places.ensures ∙ drivers_at d drivers place n c.index-in-Some-index.result.now c.requires.wired.drivers it.1 beside in
     let currents = currents_of c.args.states.now c.args.t in
     if_there (slice_get d.nets place) n (λ n. c.in_ok-value-in-Some-index.value ≡ net_from currents c.args.t n (driver_places d.gates n.name)) it.1
-    (c.in_ok-value-in-Some-index.ensures ∙ ap (λ l. net_of c.in-Some-index.kind (values_at currents l)) places ∙ driven_is currents c.args.t n c.in-Some-index.kind (driver_places d.gates n.name) some)
+    (c.in_ok-value-in-Some-index.ensures.value ∙ ap (λ l. net_of c.in-Some-index.kind (values_at currents l)) places ∙ driven_is currents c.args.t n c.in-Some-index.kind (driver_places d.gates n.name) some)
+
+pub returns-in_ok-value-in-Some-index-clause-counts : goal.returns-in_ok-value-in-Some-index-clause-counts
+returns-in_ok-value-in-Some-index-clause-counts c =
+    counts_kept (netlist c.args.design.now) c.args.tallies.now c.resolve_drivers.new.tallies (currents_of c.args.states.now c.args.t) c.in_ok-value-in-Some-index.ensures.nets c.in_ok-value-in-Some-index.ensures.counted
+    c.requires.counts
+
+pub resolve_drivers-requires : goal.resolve_drivers-requires
+resolve_drivers-requires c =
+    let d = netlist c.args.design.now in let place = c.args.place in
+    let it = some_at d.nets place c.requires.there in let n = it.0 in
+    let drivers = c.args.wiring.now.drivers.items in
+    let in_drivers : place < length drivers = (let as_many = simp length-map at (ap length c.requires.wired.drivers) in let low = c.requires.there in omega arith) in
+    let beside = slice_get_read drivers (length drivers) place c.index-in-Some-index.result.now refl in_drivers c.index-in-Some-index.ensures in
+    let places : c.as_slice-places.result.now ≡ driver_places d.gates n.name = c.as_slice-places.ensures ∙ drivers_at d drivers place n c.index-in-Some-index.result.now c.requires.wired.drivers it.1 beside in
+    let nets = c.args.tallies.now.nets.items in
+    λ tally there.
+    let low : 0 < length nets = (let within = slice_get_within nets place (Some tally) there in omega arith) in
+    c.requires.counts.nets place tally n there it.1
+    ∙ ap (λ vs. tally_of (values_at vs (driver_places d.gates n.name))) (c.requires.counts.counted low)
+    ∙ ap (λ l. tally_of (values_at (currents_of c.args.states.now c.args.t) l)) (sym places)

@@ -6,6 +6,7 @@ use Rattle.design.specs.Keys.{netlist}
 use Rattle.waveform.specs.Timelines.{value_by}
 use Rattle.scratch.specs.Places.{Announces, has, pends_at, point_at}
 use Rattle.scratch.specs.Run.{state_before}
+use Rattle.scratch.specs.Tallies.{Counts}
 use Rattle.scratch.proofs.Copies.{last_states}
 use Rattle.scratch.proofs.Runs.{ready_all}
 use Rattle.scratch.proofs.resuming.resume.Goals as goal
@@ -37,4 +38,9 @@ returns g c =
           let ready : All (PendingFrom (suc d.horizon)) c.as_slice-2.result.now = ready_all answer d pending are (suc d.horizon) c.as_slice-2.result.now (there ∙ states) in
           ap (λ q. noted q t) c.new.ensures.events ∙ c.in_ok-events.ensures.early (suc d.horizon) ready t low;
       no_early_point = λ t low. ap (λ q. noted q t) c.new.ensures.points ∙ c.in_ok-points.ensures.early t (omega arith);
+      counts =
+          let same : c.as_slice-3.result.now ≡ c.new.result.states.items = c.as_slice-3.ensures.value ∙ sym (ap (λ v. v.items) c.new.ensures.states) in
+          let kept : Counts d c.in_ok-tallies.tallies (map (λ s. s.current) c.new.result.states.items) =
+          subst (λ ss. Counts d c.in_ok-tallies.tallies (map (λ s. s.current) ss)) same c.in_ok-tallies.ensures in
+          subst (λ tallies. Counts d tallies (map (λ s. s.current) c.new.result.states.items)) (sym c.new.ensures.tallies) kept;
     }

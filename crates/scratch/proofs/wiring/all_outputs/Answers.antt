@@ -6,7 +6,7 @@ use Rattle.design.specs.Names.{same_name}
 use Rattle.design.specs.Netlist.{GateEntry}
 use Rattle.design.specs.Places.{place_of}
 use Rattle.scratch.proofs.Lists.{take_next}
-use Rattle.scratch.proofs.Readers.{outputs_are}
+use Rattle.scratch.proofs.Readers.{driven_are, outputs_are}
 use Rattle.scratch.proofs.wiring.all_outputs.Goals as goal
 
 pub loop-place-preserved : goal.loop-place-preserved
@@ -20,8 +20,14 @@ loop-place-preserved c =
     ∙ ap (λ o. map f (take c.loop-place.place d.gates) ++ o ∷ []) here ∙ sym (map-append f (take c.loop-place.place d.gates) (g ∷ []))
     ∙ ap (map f) (sym (take_next d.gates c.loop-place.place g c.gate_at.ensures.named))
 
-pub returns : goal.returns
-returns c =
+pub returns-clause-outputs : goal.returns-clause-outputs
+returns-clause-outputs c =
     let d = netlist c.args.design.now in
     let whole : take c.loop-place.place d.gates ≡ d.gates = take_all c.loop-place.place d.gates (let past = c.loop-place-test.false in omega arith) in
     outputs_are d c.lawful.ensures.design.distinct_nets c.loop-place.all.items (c.loop-place.invariant ∙ ap (map (λ g. position_from (λ n. same_name n.name g.output) 0 d.nets)) whole)
+
+pub returns-clause-driven : goal.returns-clause-driven
+returns-clause-driven c =
+    let d = netlist c.args.design.now in
+    let whole : take c.loop-place.place d.gates ≡ d.gates = take_all c.loop-place.place d.gates (let past = c.loop-place-test.false in omega arith) in
+    driven_are d c.lawful.ensures.design.distinct_nets c.loop-place.all.items (c.loop-place.invariant ∙ ap (map (λ g. position_from (λ n. same_name n.name g.output) 0 d.nets)) whole)

@@ -1,60 +1,17 @@
-use Rattle.std.proofs.Common.{◌≡◌, ℕ, List, Option, None, Some, inr, sym, ap, ◌∙◌}
-use Rattle.std.specs.Prelude.{option_map}
-use Rattle.vtext.specs.declared.fault.ReadFaultKind.{ReadFaultKind}
-use Rattle.vtext.specs.Modules.{ModuleEntry}
-use Rattle.elaboration.specs.Ports.{fault_at}
-use Rattle.elaboration.specs.Scopes.{nets_of}
-use Rattle.vread.specs.LateFaults.{scopes_fault}
-use Rattle.vread.specs.Netlists.{netlist_of}
-use Rattle.vread.specs.Parts.{kept_fault}
-use Rattle.vread.proofs.DesignLemmas.{top_sound}
-use Rattle.vread.proofs.FaultLemmas.{fault_same, late_is}
+use Rattle.std.proofs.Common.{arith}
 use Rattle.vread.proofs.build.design_of.Goals as goal
 
-pub design_from-requires : goal.design_from-requires
-design_from-requires c =
-    let list = c.args.modules.now in
-    let design = c.in_ok-elaboration.elaboration in
-    let is = c.in_ok-elaboration.ensures.ok in
-    let text = c.args.text.now in
-    let same : kept_fault list.names design ≡ scopes_fault list.names list.modules design.top.1 =
-    fault_same text list design is (c.terminals_are_nodes.ensures list.names list.modules (nets_of list.names list.modules design.top.1))
-    (c.scopes_are_sound.ensures list.names list.modules design.top c.requires (top_sound text list design is c.requires)) in
-    record {
-      sound = c.requires;
-      elaborated = (text, is);
-      faultless = sym same ∙ ap (λ (ns : List (List ℕ)). kept_fault ns design) (sym c.names.ensures) ∙ sym c.scopes_fault.ensures ∙ c.in_default.is;
-    }
+pub design_of_scopes-requires : goal.design_of_scopes-requires
+design_of_scopes-requires c = record {
+  sound = c.requires;
+  elaborated = (rw c.in-Some.is at c.in_ok-listed.ensures.whole) c.args.text.now c.in_ok-top.ensures.ok;
+  few = rw c.in-Some.is at c.in_ok-listed.ensures.few;
+}
 
-pub returns-in-Some-clause-err : goal.returns-in-Some-clause-err
-returns-in-Some-clause-err c =
-    let list = c.args.modules.now in
-    let design = c.in_ok-elaboration.elaboration in
-    let is = c.in_ok-elaboration.ensures.ok in
-    let text = c.args.text.now in
-    let same : kept_fault list.names design ≡ scopes_fault list.names list.modules design.top.1 =
-    fault_same text list design is (c.terminals_are_nodes.ensures list.names list.modules (nets_of list.names list.modules design.top.1))
-    (c.scopes_are_sound.ensures list.names list.modules design.top c.requires (top_sound text list design is c.requires)) in
-    let kind : Option ReadFaultKind = scopes_fault list.names list.modules design.top.1 in
-    let found : kind ≡ Some c.in-Some.kind = sym same ∙ ap (λ (ns : List (List ℕ)). kept_fault ns design) (sym c.names.ensures) ∙ sym c.scopes_fault.ensures ∙ c.in-Some.is in
-    inr (
-    late_is text list design is
-    ∙ ap (λ (k : Option ReadFaultKind). option_map (fault_at text design.top.1.start) k) found
-    ∙ sym (ap Some (c.fault_at.ensures ∙ ap (λ (start : ℕ). fault_at text start c.in-Some.kind) c.start.ensures))
-    )
-
-pub returns : goal.returns
-returns c =
-    let list = c.args.modules.now in
-    let design = c.in_ok-elaboration.elaboration in
-    let is = c.in_ok-elaboration.ensures.ok in
-    let text = c.args.text.now in
-    let same : kept_fault list.names design ≡ scopes_fault list.names list.modules design.top.1 =
-    fault_same text list design is (c.terminals_are_nodes.ensures list.names list.modules (nets_of list.names list.modules design.top.1))
-    (c.scopes_are_sound.ensures list.names list.modules design.top c.requires (top_sound text list design is c.requires)) in
-    let found : scopes_fault list.names list.modules design.top.1 ≡ None = sym same ∙ ap (λ (ns : List (List ℕ)). kept_fault ns design) (sym c.names.ensures) ∙ sym c.scopes_fault.ensures ∙ c.in_default.is in
-    record {
-      faultless = late_is text list design is ∙ ap (λ (k : Option ReadFaultKind). option_map (fault_at text design.top.1.start) k) found;
-      whole = ap (λ (t : Option (ℕ × ModuleEntry)). option_map (netlist_of list) t) is.top ∙ ap Some (sym c.in_ok-design.ensures);
-      err = tt;
-    }
+pub crowded_text_fault-requires : goal.crowded_text_fault-requires
+crowded_text_fault-requires c = record {
+  sound = c.requires;
+  top = c.in_ok-top.ensures.top;
+  faultless = c.in_ok-top.ensures.ok;
+  crowded = omega (arith, c.in_ok-listed.ensures.many c.in-None.is);
+}

@@ -1,17 +1,16 @@
-use Rattle.std.proofs.Common.{◌≡◌, ◌∙◌, Some, sym, ap}
+use Rattle.std.proofs.Common.{◌≡◌, ◌∙◌, Some, is_some, sym, ap}
 use Rattle.catalog.specs.Catalog.{place_of}
 use Rattle.catalog.specs.Columns.{entries_in}
 use Rattle.catalog.specs.Slots.{slot_at}
-use Rattle.catalog.proofs.CellLemmas.{cell_within}
 use Rattle.catalog.proofs.EntryLemmas.{place_facts}
 use Rattle.catalog.proofs.TableLemmas.{by_slot, no_slot}
 use Rattle.catalog.proofs.catalog.Catalog.place.Goals as goal
 
-pub place_at-requires-clause-within : goal.place_at-requires-clause-within
-place_at-requires-clause-within g c =
+pub place_at-requires : goal.place_at-requires
+place_at-requires g c =
     let cells = c.self.inside.order in
     let at = by_slot (slot_at c.self.inside.slots) cells c.args.key c.in-Some.index c.self.invariant.placed (sym c.get.ensures ∙ c.in-Some.is) in
-    cell_within cells c.in-Some.index at.2.0 at.2.1
+    ap is_some at.2.1
 
 pub returns-in-Some : goal.returns-in-Some
 returns-in-Some g c =

@@ -6,7 +6,7 @@ use Rattle.catalog.specs.Columns.{entries_in}
 use Rattle.catalog.specs.Slots.{slot_at}
 use Rattle.catalog.specs.Found.{found}
 use Rattle.catalog.specs.Table.{IsTable}
-use Rattle.catalog.proofs.CellLemmas.{apart_from_placed, cell_within, entries_set}
+use Rattle.catalog.proofs.CellLemmas.{apart_from_placed, entries_set}
 use Rattle.catalog.proofs.ChangeLemmas.{table_set}
 use Rattle.catalog.proofs.TableLemmas.{by_slot, no_slot, table_distinct}
 use Rattle.catalog.proofs.catalog.Catalog.replace.Goals as goal
@@ -15,7 +15,7 @@ pub set-requires : goal.set-requires
 set-requires g c =
     let cells = c.self.inside.order in
     let at = by_slot (slot_at c.self.inside.slots) cells c.args.key c.in-Some.index c.self.invariant.placed (sym c.get.ensures ∙ c.in-Some.is) in
-    cell_within cells c.in-Some.index at.2.0 at.2.1
+    ap is_some at.2.1
 
 pub unreachable-requires : goal.unreachable-requires
 unreachable-requires g c =

@@ -15,4 +15,5 @@ invariant_of-self-in-Ok-commit g c = (
   c.self.invariant.1,
   grind (arith, common_steps),
   starts_on _ _ _ c.follow.ensures.grows c.self.invariant.3,
+  c.self.invariant.4,
 )

@@ -1,6 +1,7 @@
 use Rattle.std.proofs.Common.{List, subst}
 use Rattle.hubcore.specs.Lists.{EntryRecord, StartsWith}
-use Rattle.hub.proofs.Beginnings.{starts_on}
+use Rattle.hub.specs.Desks.{DeskRecord}
+use Rattle.hub.proofs.Beginnings.{starts_on, told_within}
 use Rattle.hub.proofs.desk.Desk.show.Goals as goal
 
 pub invariant_of-self : goal.invariant_of-self
@@ -20,4 +21,8 @@ invariant_of-self g c =
       kept.1,
       kept.2,
       begins,
+      told_within _ _ _ _ c.publish.ensures.later kept.4,
     )
+
+pub returns-clause-grows : goal.returns-clause-grows
+returns-clause-grows g c = subst (λ (d : DeskRecord). StartsWith c.publish.new.self d.shown) c.self.view_is c.publish.ensures.later

@@ -11,8 +11,8 @@ use Rattle.rundiff.proofs.front.Front.give_run.Goals as goal
 pub returns : goal.returns
 returns g c =
     let answer = g.S.Stepper.answer in
-    let old = c.args.old.now in let new = c.args.new.now in
-    let run = c.args.run.now in let copy = c.in_ok-made.made in
+    let old = c.args.former.now.old.now in let new = c.args.former.now.new.now in
+    let run = c.args.former.now.run.now in let copy = c.in_ok-made.made in
     let nets = c.args.touched.now.nets.items in let gates = c.args.touched.now.gates.items in
     let live = contains nat_cmp c.hold_all.new.live in
     let held = contains nat_cmp c.hold_all.new.held in

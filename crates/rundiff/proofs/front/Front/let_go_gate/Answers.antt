@@ -25,7 +25,7 @@ use Rattle.rundiff.proofs.front.Front.let_go_gate.Goals as goal
 pub returns-clause-front : goal.returns-clause-front
 returns-clause-front g c =
     let answer = g.S.Stepper.answer in
-    let old = netlist c.args.old.now in let new = netlist c.args.new.now in let t = c.args.t in
+    let old = netlist c.args.former.now.old.now in let new = netlist c.args.former.now.new.now in let t = c.args.t in
     let front = c.args.self.now in
     let right = c.requires.front in
     let is = c.lawful-2.ensures.design in
@@ -118,7 +118,6 @@ returns-clause-front g c =
             | true ↦ λ same. subst (λ (k : ℕ). IsFree (has_now k)) (same_place q r same) quit.free
             | false ↦ λ apart. subst (λ (o : Option (PatchRecord State)). IsFree o) (sym (quit.others r apart)) (right.other_traces r (stays_off q held kept freed r apart off))
           ] refl;
-      blank = right.blank;
       awaits =
           noted_less answer old new is t p q low there clean output alone live later held kept fixed gone freed lives unfixed front.waves right.live
           (noted front.events) (noted front.inputs) (noted front.nets) (noted c.note_readers.new.queue) c.in_ok-note_readers.ensures.kept c.in_ok-note_readers.ensures.early c.in_ok-note_readers.ensures.next right.awaits;

@@ -32,20 +32,20 @@ look_at-requires-clause-there g c = λ p among.
 
 pub put_states-requires-clause-there : goal.put_states-requires-clause-there
 put_states-requires-clause-there g c = λ p among.
-    let test = is_working g.S.Stepper.answer (netlist c.args.old.now) (netlist c.args.new.now) c.args.t in
+    let test = is_working g.S.Stepper.answer (netlist c.args.former.now.old.now) (netlist c.args.former.now.new.now) c.args.t in
     let chosen = c.args.self.now.gates.items in
     let are = resting_held c.as_slice.result.now chosen c.as_slice-2.result.now c.look_at.new.out.resting.items (is_among chosen) test c.as_slice.ensures.value c.as_slice-2.ensures.value c.requires.front.chosen c.in_ok-look_at.ensures.resting in
     c.requires.front.live.drivers.gates p (c.requires.front.chosen_held p (both (is_among chosen p) (not (test p)) (sym (are.all p) ∙ among)).0)
 
 pub put_states-requires-clause-rising : goal.put_states-requires-clause-rising
 put_states-requires-clause-rising g c =
-    let test = is_working g.S.Stepper.answer (netlist c.args.old.now) (netlist c.args.new.now) c.args.t in
+    let test = is_working g.S.Stepper.answer (netlist c.args.former.now.old.now) (netlist c.args.former.now.new.now) c.args.t in
     let chosen = c.args.self.now.gates.items in
     (resting_held c.as_slice.result.now chosen c.as_slice-2.result.now c.look_at.new.out.resting.items (is_among chosen) test c.as_slice.ensures.value c.as_slice-2.ensures.value c.requires.front.chosen c.in_ok-look_at.ensures.resting).rising
 
 pub put_states-requires-clause-traces : goal.put_states-requires-clause-traces
 put_states-requires-clause-traces g c = λ p among.
-    let test = is_working g.S.Stepper.answer (netlist c.args.old.now) (netlist c.args.new.now) c.args.t in
+    let test = is_working g.S.Stepper.answer (netlist c.args.former.now.old.now) (netlist c.args.former.now.new.now) c.args.t in
     let chosen = c.args.self.now.gates.items in
     let are = resting_held c.as_slice.result.now chosen c.as_slice-2.result.now c.look_at.new.out.resting.items (is_among chosen) test c.as_slice.ensures.value c.as_slice-2.ensures.value c.requires.front.chosen c.in_ok-look_at.ensures.resting in
     c.requires.front.traces p (c.requires.front.live.drivers.gates p (c.requires.front.chosen_held p (both (is_among chosen p) (not (test p)) (sym (are.all p) ∙ among)).0))
@@ -56,14 +56,14 @@ put_states-requires-clause-ends g c = λ p among. c.requires.front.trace_ends p
 pub put_states-requires-clause-states : goal.put_states-requires-clause-states
 put_states-requires-clause-states g c =
     c.as_slice-3.ensures.value ∙ c.in_ok-look_at.ensures.states
-    ∙ ap (map (λ p. state_after g.S.Stepper.answer (netlist c.args.new.now) (gate_at (netlist c.args.new.now) p) c.args.t)) (sym c.as_slice-2.ensures.value)
+    ∙ ap (map (λ p. state_after g.S.Stepper.answer (netlist c.args.former.now.new.now) (gate_at (netlist c.args.former.now.new.now) p) c.args.t)) (sym c.as_slice-2.ensures.value)
 
 pub put_states-requires-clause-can : goal.put_states-requires-clause-can
 put_states-requires-clause-can g c = subst (All (CanStore c.args.t)) (sym c.as_slice-3.ensures.value) c.in_ok-look_at.ensures.can
 
 pub note_events-requires-clause-many : goal.note_events-requires-clause-many
 note_events-requires-clause-many g c =
-    let new = netlist c.args.new.now in
+    let new = netlist c.args.former.now.new.now in
     let gates = c.look_at.new.out.resting.items in
     ap (λ (l : List State). length l) (c.as_slice-5.ensures.value ∙ c.in_ok-look_at.ensures.states)
     ∙ length-map gates (λ p. state_after g.S.Stepper.answer new (gate_at new p) c.args.t) ∙ ap (λ (l : List ℕ). length l) (sym c.as_slice-4.ensures.value)
@@ -78,7 +78,7 @@ note_all_inputs-requires-clause-there g c = λ p among.
 pub returns-clause-tasks : goal.returns-clause-tasks
 returns-clause-tasks g c =
     let answer = g.S.Stepper.answer in
-    let old = netlist c.args.old.now in let new = netlist c.args.new.now in let t = c.args.t in
+    let old = netlist c.args.former.now.old.now in let new = netlist c.args.former.now.new.now in let t = c.args.t in
     let before = c.requires.front in
     let out = c.in_ok-look_at.ensures in
     let held = contains nat_cmp c.args.self.now.held in
@@ -95,7 +95,7 @@ pub returns-clause-front : goal.returns-clause-front
 returns-clause-front g c =
     let answer = g.S.Stepper.answer in
     let laws = g.met.S.Stepper in
-    let old = netlist c.args.old.now in let new = netlist c.args.new.now in let t = c.args.t in
+    let old = netlist c.args.former.now.old.now in let new = netlist c.args.former.now.new.now in let t = c.args.t in
     let test = is_working answer old new t in
     let held = contains nat_cmp c.args.self.now.held in
     let chosen = c.args.self.now.gates.items in
@@ -146,7 +146,6 @@ returns-clause-front g c =
             | false ↦ λ past. subst (λ (o : Option (PatchRecord State)). IsOwn o) (sym (passed p past)) (before.own_traces p (rests_on (held p) (is_among chosen p) on past))
           ] refl;
       other_traces = λ p free. subst (λ (o : Option (PatchRecord State)). IsFree o) (sym (untouched p free)) (before.other_traces p free);
-      blank = before.blank;
       places =
           let those = filter_places chosen (is_among chosen) test before.chosen in
           let same = chosen_working answer old new t held chosen before.live.drivers.gates before.chosen_held before.clean before.quiet in

@@ -24,38 +24,48 @@ use Rattle.rundiff.proofs.Resting.{along_more, free_along}
 use Rattle.rundiff.proofs.Sets.{or_none, or_second}
 use Rattle.rundiff.proofs.front.Front.look_at_nets.Goals as goal
 
+pub choose_nets-requires-clause-there : goal.choose_nets-requires-clause-there
+choose_nets-requires-clause-there g c = λ q among.
+    c.requires.front.live.drivers.gates q (c.in_ok-choose_gates.ensures.held q (ap (λ (l : List ℕ). is_among l q) (sym c.as_slice.ensures.value) ∙ among))
+
+pub choose_nets-requires-clause-live : goal.choose_nets-requires-clause-live
+choose_nets-requires-clause-live g c = λ q among.
+    let drivers = c.requires.front.live.drivers in
+    let on = c.in_ok-choose_gates.ensures.held q (ap (λ (l : List ℕ). is_among l q) (sym c.as_slice.ensures.value) ∙ among) in
+    sym (drivers.drivers q (drivers.gates q on)) ∙ on
+
 pub put_values-requires-clause-there : goal.put_values-requires-clause-there
 put_values-requires-clause-there g c = λ p among.
-    c.requires.front.live.drivers.nets p (c.in_ok-choose_nets.ensures.live p (ap (λ (l : List ℕ). is_among l p) (sym c.as_slice.ensures.value) ∙ among))
+    c.requires.front.live.drivers.nets p (c.in_ok-choose_nets.ensures.live p (ap (λ (l : List ℕ). is_among l p) (sym c.as_slice-2.ensures.value) ∙ among))
 
 pub put_values-requires-clause-rising : goal.put_values-requires-clause-rising
-put_values-requires-clause-rising g c = subst (AllPairs (λ p q. p < q)) (sym c.as_slice.ensures.value) c.in_ok-choose_nets.ensures.rising
+put_values-requires-clause-rising g c = subst (AllPairs (λ p q. p < q)) (sym c.as_slice-2.ensures.value) c.in_ok-choose_nets.ensures.rising
 
 pub add_changed-requires-clause-there : goal.add_changed-requires-clause-there
 add_changed-requires-clause-there g c = λ p among.
-    c.requires.front.live.drivers.nets p (c.in_ok-choose_nets.ensures.live p (ap (λ (l : List ℕ). is_among l p) (sym c.as_slice-2.ensures.value) ∙ among))
+    c.requires.front.live.drivers.nets p (c.in_ok-choose_nets.ensures.live p (ap (λ (l : List ℕ). is_among l p) (sym c.as_slice-3.ensures.value) ∙ among))
 
 pub add_changed-requires-clause-waves : goal.add_changed-requires-clause-waves
 add_changed-requires-clause-waves g c = λ p among.
-    c.in_ok-put_values.ensures.put p (ap (λ (l : List ℕ). is_among l p) (c.as_slice.ensures.value ∙ sym c.as_slice-2.ensures.value) ∙ among)
+    c.in_ok-put_values.ensures.put p (ap (λ (l : List ℕ). is_among l p) (c.as_slice-2.ensures.value ∙ sym c.as_slice-3.ensures.value) ∙ among)
 
 pub find_differing-requires-clause-there : goal.find_differing-requires-clause-there
 find_differing-requires-clause-there g c = λ p among.
-    c.requires.front.live.drivers.nets p (c.in_ok-choose_nets.ensures.live p (ap (λ (l : List ℕ). is_among l p) (sym c.as_slice-3.ensures.value) ∙ among))
+    c.requires.front.live.drivers.nets p (c.in_ok-choose_nets.ensures.live p (ap (λ (l : List ℕ). is_among l p) (sym c.as_slice-4.ensures.value) ∙ among))
 
 pub find_differing-requires-clause-waves : goal.find_differing-requires-clause-waves
 find_differing-requires-clause-waves g c = λ p among.
-    c.in_ok-put_values.ensures.put p (ap (λ (l : List ℕ). is_among l p) (c.as_slice.ensures.value ∙ sym c.as_slice-3.ensures.value) ∙ among)
+    c.in_ok-put_values.ensures.put p (ap (λ (l : List ℕ). is_among l p) (c.as_slice-2.ensures.value ∙ sym c.as_slice-4.ensures.value) ∙ among)
 
 pub hold_found-requires-clause-there : goal.hold_found-requires-clause-there
 hold_found-requires-clause-there g c = c.in_ok-find_differing.ensures.there
 
 pub note_nets-requires-clause-there : goal.note_nets-requires-clause-there
 note_nets-requires-clause-there g c = λ p among.
-    let added = ap (λ (l : List ℕ). is_among l p) (sym c.as_slice-4.ensures.value) ∙ among in
+    let added = ap (λ (l : List ℕ). is_among l p) (sym c.as_slice-5.ensures.value) ∙ among in
     let nets = c.choose_nets.new.nets.items in
     let holds = c.in_ok-hold_found.ensures in
-    elim (is_among nets p) as (λ b. is_among nets p ≡ b → p < length (netlist c.args.new.now).nets) [
+    elim (is_among nets p) as (λ b. is_among nets p ≡ b → p < length (netlist c.args.former.now.new.now).nets) [
       | true ↦ λ on. c.requires.front.live.drivers.nets p (c.in_ok-choose_nets.ensures.live p on)
       | false ↦ λ off. holds.drivers.nets p (holds.nets_live p off added)
     ] refl
@@ -65,7 +75,7 @@ returns g c =
     let answer = g.S.Stepper.answer in
     let current = g.met.S.Stepper.answer_current in
     let pending = g.met.S.Stepper.answer_pending in
-    let old = netlist c.args.old.now in let new = netlist c.args.new.now in let t = c.args.t in
+    let old = netlist c.args.former.now.old.now in let new = netlist c.args.former.now.new.now in let t = c.args.t in
     let front = c.args.self.now in
     let before = c.requires.front in
     let is = c.lawful.ensures.design in
@@ -73,30 +83,31 @@ returns g c =
     let held = contains nat_cmp front.held in
     let later = contains nat_cmp c.hold_found.new.live in
     let kept = contains nat_cmp c.hold_found.new.held in
+    let first = c.in_ok-choose_gates.ensures in
     let chose = c.in_ok-choose_nets.ensures in
     let put = c.in_ok-put_values.ensures in
     let marks = c.in_ok-add_changed.ensures in
     let holds = c.in_ok-hold_found.ensures in
-    let gates = c.in_ok-choose_gates.ensures in
+    let gates = c.in_ok-choose_gates-2.ensures in
     let notes = c.in_ok-note_nets.ensures in
     let looked = is_among c.choose_nets.new.nets.items in
     let marked = is_among c.add_changed.new.gates.items in
-    let chosen = is_among c.choose_gates.new.gates.items in
+    let chosen = is_among c.choose_gates-2.new.gates.items in
     let found = is_among c.find_differing.new.found.items in
     let events_at = noted front.events in let inputs_at = noted front.inputs in let nets_at = noted front.nets in
     let are : AreLookedAt answer old new live held events_at inputs_at nets_at t looked =
-    record { within = c.requires.within; drivers = before.live.drivers; closed = before.live.closed; agrees = before.live.agrees; awaits = before.awaits; noted = chose.noted; driven = chose.driven } in
+    record { within = c.requires.within; drivers = before.live.drivers; closed = before.live.closed; agrees = before.live.agrees; awaits = before.awaits; noted = chose.noted; driven = λ q on there. chose.driven q (ap (λ (l : List ℕ). is_among l q) c.as_slice.ensures.value ∙ first.noted q on there) } in
     let grows : (p : ℕ) → live p ≡ true → later p ≡ true = λ p on. holds.live p ∙ or_second (found p) (live p) on in
     let alike : (p : ℕ) → live p ≡ true → IsAlike answer old new later t p =
     alike_all answer old new current pending is live held events_at inputs_at nets_at looked t are later grows
-    (λ p at. alike_grows answer old new (λ q. found q || live q) later t p (λ q on. holds.live q ∙ on) (c.in_ok-find_differing.ensures.alike p (ap (λ (l : List ℕ). is_among l p) c.as_slice-3.ensures.value ∙ at))) in
-    let steady : (p : ℕ) → looked p ≡ true → IsSteady answer new marked t p = λ p at. marks.steady p (ap (λ (l : List ℕ). is_among l p) c.as_slice-2.ensures.value ∙ at) in
+    (λ p at. alike_grows answer old new (λ q. found q || live q) later t p (λ q on. holds.live q ∙ on) (c.in_ok-find_differing.ensures.alike p (ap (λ (l : List ℕ). is_among l p) c.as_slice-4.ensures.value ∙ at))) in
+    let steady : (p : ℕ) → looked p ≡ true → IsSteady answer new marked t p = λ p at. marks.steady p (ap (λ (l : List ℕ). is_among l p) c.as_slice-3.ensures.value ∙ at) in
     let passed : (q : ℕ) → (kept q && not (chosen q)) ≡ true → IsPassed held marked (events_at t) (inputs_at t) q =
-    passed_by held kept marked (is_among c.hold_found.new.gates.items) chosen (events_at t) (inputs_at t) (λ q on there. marks.more q (chose.gates q on there)) holds.gates_more holds.gates gates.more gates.noted in
+    passed_by held kept marked (is_among c.hold_found.new.gates.items) chosen (events_at t) (inputs_at t) (λ q on there. marks.more q (first.noted q on there)) holds.gates_more holds.gates gates.more gates.noted in
     let was : ℕ → Option (PatchRecord Value) = kept_at front.waves in
     let now : ℕ → Option (PatchRecord Value) = kept_at c.put_values.new.waves in
     let Keep : ℕ → Option (PatchRecord Value) → ℕ → Type 0 = λ p o n. Keeps same_value standing (read_at answer old (to_net (net_at new p).name)) (value answer new (net_at new p)) o n in
-    let others : (p : ℕ) → looked p ≡ false → now p ≡ was p = λ p off. put.others p (ap (λ (l : List ℕ). is_among l p) c.as_slice.ensures.value ∙ off) in
+    let others : (p : ℕ) → looked p ≡ false → now p ≡ was p = λ p off. put.others p (ap (λ (l : List ℕ). is_among l p) c.as_slice-2.ensures.value ∙ off) in
     let unlooked : (p : ℕ) → live p ≡ false → looked p ≡ false = λ p free. not_so (looked p) (live p) (chose.live p) free in
     record {
       live = record {
@@ -107,7 +118,7 @@ returns g c =
         agrees = agrees_now answer old new is t c.requires.within live later grows before.live.closed before.live.agrees alike;
         waves = λ p low.
             elim (looked p) as (λ b. looked p ≡ b → Keep p (now p) (suc t)) [
-              | true ↦ λ at. put.put p (ap (λ (l : List ℕ). is_among l p) c.as_slice.ensures.value ∙ at)
+              | true ↦ λ at. put.put p (ap (λ (l : List ℕ). is_among l p) c.as_slice-2.ensures.value ∙ at)
               | false ↦ λ off.
                   subst (λ (o : Option (PatchRecord Value)). Keep p o (suc t)) (sym (others p off))
                   (elim (live p) as (λ b. live p ≡ b → Keep p (was p) (suc t)) [
@@ -118,7 +129,7 @@ returns g c =
         wave_ends = put.ends;
         kept_waves = λ p lives.
             elim (looked p) as (λ b. looked p ≡ b → GoesAlong (now p) (suc t) ⊎ IsOwn (now p)) [
-              | true ↦ λ at. inr (put.own p (ap (λ (l : List ℕ). is_among l p) c.as_slice.ensures.value ∙ at))
+              | true ↦ λ at. inr (put.own p (ap (λ (l : List ℕ). is_among l p) c.as_slice-2.ensures.value ∙ at))
               | false ↦ λ off.
                   subst (λ (o : Option (PatchRecord Value)). GoesAlong o (suc t) ⊎ IsOwn o) (sym (others p off))
                   (elim (live p) as (λ b. live p ≡ b → GoesAlong (was p) (suc t) ⊎ IsOwn (was p)) [
@@ -136,7 +147,6 @@ returns g c =
       trace_ends = before.trace_ends;
       other_traces = λ p off.
           before.other_traces p (free_before answer old new is t c.requires.within live later grows before.live.closed before.live.agrees alike held kept before.live.drivers holds.drivers p off);
-      blank = before.blank;
       chosen = gates.rising;
       chosen_held = gates.held;
       quiet = λ q low on.
@@ -147,11 +157,11 @@ returns g c =
           own_all answer old new current pending is live held events_at inputs_at nets_at looked t are q facts.held_before facts.no_input (IsOwn (kept_at front.traces q)) (before.own_traces q facts.held_before);
       awaits =
           noted_now answer old new live later held (λ q. kept q && not (chosen q)) t grows (λ q on. (passed q on).held_before)
-          front.events c.choose_nets.new.events front.inputs c.choose_gates.new.queue front.nets c.choose_nets.new.queue c.note_nets.new.queue
-          before.awaits chose.events gates.queue chose.queue (λ q on there. sym (passed q on).no_input ∙ there) notes.kept notes.early
+          front.events c.choose_gates.new.queue front.inputs c.choose_gates-2.new.queue front.nets c.choose_nets.new.queue c.note_nets.new.queue
+          before.awaits first.queue gates.queue chose.queue (λ q on there. sym (passed q on).no_input ∙ there) notes.kept notes.early
           (λ p u on there after moves.
           notes.next p u
-          (ap (λ (l : List ℕ). is_among l p) c.as_slice-4.ensures.value
+          (ap (λ (l : List ℕ). is_among l p) c.as_slice-5.ensures.value
           ∙ elim (live p) as (λ b. live p ≡ b → is_among c.hold_found.new.nets.items p ≡ true) [
             | true ↦ λ lives. holds.nets_more p (chose.noted p lives (there lives))
             | false ↦ λ free. holds.nets p on free

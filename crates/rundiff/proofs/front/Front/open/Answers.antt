@@ -41,7 +41,7 @@ hold-requires-clause-drivers c =
 
 pub returns-clause-front : goal.returns-clause-front
 returns-clause-front c = λ answer.
-    let old = netlist c.args.old.now in let new = netlist c.args.new.now in
+    let old = netlist c.args.former.now.old.now in let new = netlist c.args.former.now.new.now in
     let later = contains nat_cmp c.hold.new.live in
     let places = c.in_ok-found.found.items in
     let covers : (p : ℕ) → is_among places p ≡ true → later p ≡ true = λ p among.
@@ -55,13 +55,13 @@ returns-clause-front c = λ answer.
       live = record {
         drivers = c.in_ok-hold.ensures.drivers;
         base =
-            first_closed c.args.old.now c.args.new.now c.lawful.ensures.keys c.lawful-2.ensures.keys c.lawful-2.ensures.design.distinct_nets c.places_are_keys.ensures.nets
+            first_closed c.args.former.now.old.now c.args.former.now.new.now c.lawful.ensures.keys c.lawful-2.ensures.keys c.lawful-2.ensures.design.distinct_nets c.places_are_keys.ensures.nets
             c.names_are_keys.ensures.nets c.names_are_keys.ensures.drivers c.names_are_keys-2.ensures.drivers
             c.args.touched.now.nets.items c.args.touched.now.gates.items places c.requires c.in_ok-found.ensures.touched fixed
             (λ p among. fixed_is p ∙ among);
         fixed_live = λ p on. covers p (sym (fixed_is p) ∙ on);
         closed =
-            first_closed c.args.old.now c.args.new.now c.lawful.ensures.keys c.lawful-2.ensures.keys c.lawful-2.ensures.design.distinct_nets c.places_are_keys.ensures.nets
+            first_closed c.args.former.now.old.now c.args.former.now.new.now c.lawful.ensures.keys c.lawful-2.ensures.keys c.lawful-2.ensures.design.distinct_nets c.places_are_keys.ensures.nets
             c.names_are_keys.ensures.nets c.names_are_keys.ensures.drivers c.names_are_keys-2.ensures.drivers
             c.args.touched.now.nets.items c.args.touched.now.gates.items places c.requires c.in_ok-found.ensures.touched later covers;
         agrees = record { states = λ k d low off. refl; inputs = λ k d low off i e within. tt; nets = λ k d low off. tt };
@@ -75,6 +75,5 @@ returns-clause-front c = λ answer.
       own_traces = λ p on. inl refl;
       other_traces = λ p off. inl (no_trace p);
       awaits =
-          opened_noted answer old new later (contains nat_cmp c.hold.new.held) (noted c.new-events.result) (noted c.in_ok-inputs.inputs) (noted c.in_ok-nets.nets) c.in_ok-inputs.ensures c.in_ok-nets.ensures;
-      blank = record { wave = c.in_ok-blank_wave.ensures; trace = c.in_ok-blank_trace.ensures ∙ ap (λ (s : State). (0, s) ∷ []) c.start.ensures };
+          opened_noted answer old new later (contains nat_cmp c.hold.new.held) (noted c.new-events.result) (noted c.in_ok-inputs.inputs) (noted c.in_ok-nets.nets) c.in_ok-inputs.ensures.noted c.in_ok-nets.ensures.noted;
     }

@@ -24,7 +24,7 @@ use Rattle.rundiff.proofs.front.Front.take_answers.Goals as goal
 
 pub put_states-requires-clause-there : goal.put_states-requires-clause-there
 put_states-requires-clause-there g c = λ p among.
-    let test = is_working g.S.Stepper.answer (netlist c.args.old.now) (netlist c.args.new.now) c.args.t in
+    let test = is_working g.S.Stepper.answer (netlist c.args.former.now.old.now) (netlist c.args.former.now.new.now) c.args.t in
     let held = contains nat_cmp c.args.self.now.held in
     c.requires.front.live.drivers.gates p (both (held p) (test p) (sym (c.requires.front.places.all p) ∙ ap (λ (l : List ℕ). is_among l p) (sym c.as_slice.ensures.value) ∙ among)).0
 
@@ -33,29 +33,29 @@ put_states-requires-clause-rising g c = subst (AllPairs (λ p q. p < q)) (sym c.
 
 pub put_states-requires-clause-traces : goal.put_states-requires-clause-traces
 put_states-requires-clause-traces g c = λ p among.
-    let test = is_working g.S.Stepper.answer (netlist c.args.old.now) (netlist c.args.new.now) c.args.t in
+    let test = is_working g.S.Stepper.answer (netlist c.args.former.now.old.now) (netlist c.args.former.now.new.now) c.args.t in
     let held = contains nat_cmp c.args.self.now.held in
     let parts = both (held p) (test p) (sym (c.requires.front.places.all p) ∙ ap (λ (l : List ℕ). is_among l p) (sym c.as_slice.ensures.value) ∙ among) in
     c.requires.front.working p (c.requires.front.live.drivers.gates p parts.0) parts.1
 
 pub put_states-requires-clause-ends : goal.put_states-requires-clause-ends
 put_states-requires-clause-ends g c = λ p among.
-    let test = is_working g.S.Stepper.answer (netlist c.args.old.now) (netlist c.args.new.now) c.args.t in
+    let test = is_working g.S.Stepper.answer (netlist c.args.former.now.old.now) (netlist c.args.former.now.new.now) c.args.t in
     let held = contains nat_cmp c.args.self.now.held in
     let parts = both (held p) (test p) (sym (c.requires.front.places.all p) ∙ ap (λ (l : List ℕ). is_among l p) (sym c.as_slice.ensures.value) ∙ among) in
     λ patch is. (c.requires.front.trace_ends p patch is).1 parts.1
 
 pub put_states-requires-clause-states : goal.put_states-requires-clause-states
 put_states-requires-clause-states g c =
-    let answer = g.S.Stepper.answer in let new = netlist c.args.new.now in let t = c.args.t in
+    let answer = g.S.Stepper.answer in let new = netlist c.args.former.now.new.now in let t = c.args.t in
     c.requires.answers ∙ ap (map (λ h. state_after answer new h t)) c.requires.front.tasks
     ∙ map_twice (gate_at new) (λ h. state_after answer new h t) c.args.self.now.outcomes.working.items
     ∙ ap (map (λ p. state_after answer new (gate_at new p) t)) (sym c.as_slice.ensures.value)
 
 pub put_states-requires-clause-can : goal.put_states-requires-clause-can
 put_states-requires-clause-can g c =
-    let answer = g.S.Stepper.answer in let laws = g.met.S.Stepper in let new = netlist c.args.new.now in let t = c.args.t in
-    let test = is_working answer (netlist c.args.old.now) new t in
+    let answer = g.S.Stepper.answer in let laws = g.met.S.Stepper in let new = netlist c.args.former.now.new.now in let t = c.args.t in
+    let test = is_working answer (netlist c.args.former.now.old.now) new t in
     let held = contains nat_cmp c.args.self.now.held in
     let those = c.requires.answers ∙ ap (map (λ h. state_after answer new h t)) c.requires.front.tasks ∙ map_twice (gate_at new) (λ h. state_after answer new h t) c.args.self.now.outcomes.working.items in
     let low : t < TIME_END = let h = c.requires.within in let end = c.lawful.ensures.design.horizon in omega arith in
@@ -64,15 +64,15 @@ put_states-requires-clause-can g c =
 
 pub note_events-requires-clause-many : goal.note_events-requires-clause-many
 note_events-requires-clause-many g c =
-    let answer = g.S.Stepper.answer in let new = netlist c.args.new.now in let t = c.args.t in
+    let answer = g.S.Stepper.answer in let new = netlist c.args.former.now.new.now in let t = c.args.t in
     let gates = c.args.self.now.outcomes.working.items in
     let those = c.requires.answers ∙ ap (map (λ h. state_after answer new h t)) c.requires.front.tasks ∙ map_twice (gate_at new) (λ h. state_after answer new h t) gates in
     ap (λ (l : List State). length l) those ∙ length-map gates (λ p. state_after answer new (gate_at new p) t) ∙ ap (λ (l : List ℕ). length l) (sym c.as_slice-2.ensures.value)
 
 pub note_events-requires-clause-later : goal.note_events-requires-clause-later
 note_events-requires-clause-later g c =
-    let answer = g.S.Stepper.answer in let laws = g.met.S.Stepper in let new = netlist c.args.new.now in let t = c.args.t in
-    let test = is_working answer (netlist c.args.old.now) new t in
+    let answer = g.S.Stepper.answer in let laws = g.met.S.Stepper in let new = netlist c.args.former.now.new.now in let t = c.args.t in
+    let test = is_working answer (netlist c.args.former.now.old.now) new t in
     let held = contains nat_cmp c.args.self.now.held in
     let those = c.requires.answers ∙ ap (map (λ h. state_after answer new h t)) c.requires.front.tasks ∙ map_twice (gate_at new) (λ h. state_after answer new h t) c.args.self.now.outcomes.working.items in
     let low : t < TIME_END = let h = c.requires.within in let end = c.lawful.ensures.design.horizon in omega arith in
@@ -86,7 +86,7 @@ overflow_add-self g c = let most = c.lawful.ensures.design.horizon in let h = c.
 pub returns-clause-front : goal.returns-clause-front
 returns-clause-front g c =
     let answer = g.S.Stepper.answer in
-    let old = netlist c.args.old.now in let new = netlist c.args.new.now in let t = c.args.t in
+    let old = netlist c.args.former.now.old.now in let new = netlist c.args.former.now.new.now in let t = c.args.t in
     let test = is_working answer old new t in
     let held = contains nat_cmp c.args.self.now.held in
     let before = c.requires.front in
@@ -123,7 +123,6 @@ returns-clause-front g c =
             | false ↦ λ no. subst (λ (o : Option (PatchRecord State)). IsOwn o) (sym (done.others p (among p ∙ off_right (held p) (test p) no))) (before.own_traces p on no)
           ] refl);
       other_traces = λ p free. subst (λ (o : Option (PatchRecord State)). IsFree o) (sym (done.others p (among p ∙ off_left (held p) (test p) free))) (before.other_traces p free);
-      blank = before.blank;
       awaits =
           settled_noted answer old new t (contains nat_cmp c.args.self.now.live) held (noted c.args.self.now.events) (noted c.args.self.now.inputs) (noted c.args.self.now.nets) (noted c.note_events.new.queue)
           notes.kept notes.early working before.places.all before.awaits

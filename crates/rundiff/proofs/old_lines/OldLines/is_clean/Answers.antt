@@ -18,12 +18,12 @@ use Rattle.rundiff.proofs.old_lines.OldLines.is_clean.Goals as goal
 
 pub are_read-requires-clause-there : goal.are_read-requires-clause-there
 are_read-requires-clause-there g c =
-    let old = netlist c.args.old.now in let new = netlist c.args.new.now in let lines = c.args.self.now in
+    let old = netlist c.args.former.now.old.now in let new = netlist c.args.former.now.new.now in let lines = c.args.self.now in
     subst (λ (cell : CellRecord). All (HasWave lines) cell.inputs) (sym c.requires.cell) (all_placed g.S.Stepper.answer old new lines c.requires.lines (gate_at new c.args.place).inputs)
 
 pub returns-then-index : goal.returns-then-index
 returns-then-index g c =
-    let answer = g.S.Stepper.answer in let old = netlist c.args.old.now in let new = netlist c.args.new.now in let p = c.args.place in let gate = gate_at new p in
+    let answer = g.S.Stepper.answer in let old = netlist c.args.former.now.old.now in let new = netlist c.args.former.now.new.now in let p = c.args.place in let gate = gate_at new p in
     let low : p < length c.args.self.now.others.items = let count = c.requires.lines.other_count in let there = c.requires.there in omega (arith, count, there) in
     let other : c.index.result.now ≡ is_new old gate =
     holds_at (λ p other. other ≡ is_new old (gate_at new p)) c.args.self.now.others.items p c.index.result.now c.requires.lines.others (read_get c.args.self.now.others.items p c.index.result.now low c.index.ensures) in
@@ -31,14 +31,14 @@ returns-then-index g c =
 
 pub returns-then-not-is_same : goal.returns-then-not-is_same
 returns-then-not-is_same g c =
-    let answer = g.S.Stepper.answer in let old = netlist c.args.old.now in let new = netlist c.args.new.now in let t = c.args.t in let p = c.args.place in let within = c.requires.within in
+    let answer = g.S.Stepper.answer in let old = netlist c.args.former.now.old.now in let new = netlist c.args.former.now.new.now in let t = c.args.t in let p = c.args.place in let within = c.requires.within in
     let read = state_read answer old new c.args.self.now c.requires.lines c.value_of_changes-2.ensures g.met.S.Stepper.answer_pending c.lawful.ensures.design p c.requires.there in
     ap not (state_differs answer old new (gate_at new p) t within c.state_before.result c.args.state (λ known. c.state_before.ensures ∙ read known t (omega arith)) (ap (λ (e : Evaluation). e.state) c.requires.task)
     (sym c.is_same.ensures ∙ c.if-not-is_same.true))
 
 pub returns : goal.returns
 returns g c =
-    let answer = g.S.Stepper.answer in let old = netlist c.args.old.now in let new = netlist c.args.new.now in let t = c.args.t in let p = c.args.place in let gate = gate_at new p in
+    let answer = g.S.Stepper.answer in let old = netlist c.args.former.now.old.now in let new = netlist c.args.former.now.new.now in let t = c.args.t in let p = c.args.place in let gate = gate_at new p in
     let wired = all_pass (is_readable new) gate.inputs (c.lawful-2.ensures.design.wiring p blank_gate c.requires.there).inputs in
     let lines = c.args.self.now in
     let former = map (former_value lines t) c.args.cell.now.inputs in

@@ -8,7 +8,7 @@ use Rattle.rundiff.proofs.old_lines.OldLines.state_after.Goals as goal
 
 pub returns : goal.returns
 returns g c =
-    let answer = g.S.Stepper.answer in let old = netlist c.args.old.now in let new = netlist c.args.new.now in let t = c.args.t in let p = c.args.place in let gate = gate_at new p in
+    let answer = g.S.Stepper.answer in let old = netlist c.args.former.now.old.now in let new = netlist c.args.former.now.new.now in let t = c.args.t in let p = c.args.place in let gate = gate_at new p in
     let within = clean_within answer old new gate t c.requires.clean in
     c.at.ensures
     ∙ state_read answer old new c.args.self.now c.requires.lines c.value_of_changes.ensures g.met.S.Stepper.answer_pending c.lawful.ensures.design p c.requires.there (clean_known answer old new gate t c.requires.clean) (suc t) (omega arith)

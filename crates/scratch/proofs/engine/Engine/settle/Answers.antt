@@ -1,9 +1,11 @@
-use Rattle.std.proofs.Common.{◌≡◌, ◌+◌, ◌∙◌, arith}
+use Rattle.std.proofs.Common.{◌≡◌, ◌+◌, ◌∙◌, subst, arith}
 use Rattle.std.specs.Prelude.{◌-◌}
 use Rattle.design.specs.Keys.{netlist}
 use Rattle.scratch.specs.Run.{state_before}
+use Rattle.scratch.specs.Tallies.{Counts}
 use Rattle.scratch.specs.Work.{is_stirred}
 use Rattle.scratch.proofs.Passing.{as_many_values}
+use Rattle.scratch.proofs.Counting.{settled_currents}
 use Rattle.scratch.proofs.engine.Engine.settle.Goals as goal
 
 pub settle-requires-clause-gates : goal.settle-requires-clause-gates
@@ -35,4 +37,8 @@ returns g c =
       points = c.requires.stirred.points;
       no_early_event = c.in_ok-settle.ensures.early;
       no_early_point = c.requires.stirred.no_early_point;
+      counts =
+          subst (Counts d c.args.self.now.tallies)
+          (settled_currents answer d g.met.S.Stepper.answer_current t c.args.self.now.states.items c.settle.new.states.items c.requires.stirred.states c.in_ok-settle.ensures.states)
+          c.requires.stirred.counts;
     }

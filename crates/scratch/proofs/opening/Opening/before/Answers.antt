@@ -1,7 +1,8 @@
-use Rattle.std.proofs.Common.{◌∙◌, sym, subst, All}
+use Rattle.std.proofs.Common.{◌∙◌, sym, subst, map, All}
 use Rattle.gatestep.specs.Step.{initial}
 use Rattle.gatestep.specs.Tasks.{PendingFrom}
 use Rattle.design.specs.Keys.{netlist}
+use Rattle.scratch.specs.Tallies.{Counts}
 use Rattle.scratch.proofs.Runs.{all_map}
 use Rattle.scratch.proofs.opening.Opening.before.Goals as goal
 
@@ -13,4 +14,5 @@ returns g c =
       ready = subst (All (PendingFrom 0)) (sym (c.parts-states.ensures.states ∙ c.resolve.ensures.states ∙ c.in_ok-moment.ensures.states)) (all_map (PendingFrom 0) (λ _. initial) (λ gate event none. absurd (cc)) d.gates);
       values = c.parts-states.ensures.values ∙ c.in_ok-resolve.ensures.values;
       gates = c.in_ok-gates.ensures;
+      counts = subst (λ ss. Counts d c.in_ok-tallies.tallies (map (λ s. s.current) ss)) c.as_slice.ensures.value c.in_ok-tallies.ensures;
     }

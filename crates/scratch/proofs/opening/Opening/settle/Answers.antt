@@ -1,4 +1,4 @@
-use Rattle.std.proofs.Common.{◌≡◌, ◌∷◌, ◌∙◌, ap, sym, [], map, All, arith}
+use Rattle.std.proofs.Common.{◌≡◌, ◌∷◌, ◌∙◌, ap, sym, subst, [], map, All, arith}
 use Rattle.event_queue.specs.Noted.{noted}
 use Rattle.gatestep.specs.Tasks.{PendingFrom}
 use Rattle.design.specs.Keys.{netlist}
@@ -6,10 +6,12 @@ use Rattle.scratch.specs.Places.{has, pends_at}
 use Rattle.waveform.specs.Changes.{wave_changes_below}
 use Rattle.scratch.specs.Recorded.{recorded_below}
 use Rattle.scratch.specs.Run.{state_after, state_before, value}
+use Rattle.scratch.specs.Tallies.{Counts}
 use Rattle.scratch.proofs.Lists.{map_alike}
 use Rattle.scratch.proofs.Moments.{map_twice}
 use Rattle.scratch.proofs.Recorded.{recorded_first}
 use Rattle.scratch.proofs.Runs.{ready_all, storable}
+use Rattle.scratch.proofs.Counting.{opening_currents}
 use Rattle.scratch.proofs.Tasks.{first_answers}
 use Rattle.scratch.proofs.opening.Opening.settle.Goals as goal
 
@@ -36,4 +38,10 @@ returns g c =
       points = rw c.new.ensures.points c.in_ok-points.ensures.announces;
       no_early_event = λ t low. ap (λ q. noted q t) c.new.ensures.events ∙ c.in_ok-events.ensures.early 1 ready t low;
       no_early_point = λ t low. ap (λ q. noted q t) c.new.ensures.points ∙ c.in_ok-points.ensures.early t (omega arith);
+      counts =
+          let kept : Counts d c.args.self.tallies (map (λ s. s.current) c.new.result.states.items) =
+          subst (Counts d c.args.self.tallies)
+          (opening_currents answer d laws.answer_current c.args.self.states.items c.new.result.states.items c.requires.opening.states (ap (λ v. v.items) c.new.ensures.states ∙ after))
+          c.requires.opening.counts in
+          subst (λ tallies. Counts d tallies (map (λ s. s.current) c.new.result.states.items)) (sym c.new.ensures.tallies) kept;
     }

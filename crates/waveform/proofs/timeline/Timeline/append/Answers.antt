@@ -1,6 +1,8 @@
 use Rattle.std.proofs.Common.{ℕ, map, ◌≡◌, ◌∙◌, ◌<◌, sym, subst, ap, cond, false, [], ◌∷◌, ◌++◌}
 use Rattle.std.specs.List.{All}
 use Rattle.waveform.proofs.Drifts.{Drifts}
+use Rattle.waveform.proofs.Marking.{pushed_marks}
+use Rattle.waveform.specs.Marks.{AreMarks}
 use Rattle.waveform.specs.Timelines.{IsTimeline, pushed, is_reached}
 use Rattle.waveform.proofs.Pushes.{pushed_all, pushed_timeline}
 use Rattle.waveform.proofs.timeline.Timeline.append.Goals as goal
@@ -16,5 +18,8 @@ invariant_of-self-2 g c =
     let later : All (λ (x : ℕ × g.row.V.Denot). x.0 < e.0) old = rw c.self.view_is c.requires.later in
     let other : is_reached sample.same sample.drift old e.0 e.1 ≡ false = rw c.self.view_is c.requires.other in
     let is : pushed sample.same sample.drift old e.0 e.1 ≡ old ++ e ∷ [] = ap (λ b. cond b old (old ++ (e.0, e.1) ∷ [])) other in
-    subst (λ entries. IsTimeline sample.same sample.drift entries × All can entries) (is ∙ sym c.in_ok-append.ensures.ok)
-    (pushed_timeline drifts old e.0 e.1 c.self.invariant.0 later (laws.stored_is_settled e.0 e.1 c.requires.can), pushed_all drifts can old e.0 e.1 c.self.invariant.1 c.requires.can)
+    subst (λ entries. IsTimeline sample.same sample.drift entries × All can entries × AreMarks sample.digit c.self.inside.marks entries) (is ∙ sym c.in_ok-append.ensures.ok) (
+      pushed_timeline drifts old e.0 e.1 c.self.invariant.0 later (laws.stored_is_settled e.0 e.1 c.requires.can),
+      pushed_all drifts can old e.0 e.1 c.self.invariant.1 c.requires.can,
+      pushed_marks sample.digit sample.same sample.drift c.self.inside.marks old e.0 e.1 c.self.invariant.2,
+    )

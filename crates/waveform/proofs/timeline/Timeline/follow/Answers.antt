@@ -3,9 +3,11 @@ use Rattle.std.specs.List.{All}
 use Rattle.std.proofs.lemmas.List.Elements.{All-filter}
 use Rattle.waveform.proofs.Drifts.{Drifts}
 use Rattle.waveform.specs.Joins.{joined}
-use Rattle.waveform.specs.Timelines.{IsTimeline, entries_until}
+use Rattle.waveform.specs.Timelines.{IsTimeline, entries_after, entries_until, pushed, value_by}
 use Rattle.waveform.proofs.Ends.{below_end, joined_end}
 use Rattle.waveform.proofs.Joins.{joined_timeline, joined_all, joined_value}
+use Rattle.waveform.proofs.Marking.{marks_kept, pushed_marks}
+use Rattle.waveform.specs.Marks.{AreMarks}
 use Rattle.waveform.proofs.Pushes.{ends_before}
 use Rattle.waveform.proofs.Splices.{value_can_store}
 use Rattle.waveform.proofs.Turns.{until_timeline}
@@ -25,9 +27,11 @@ invariant_of-result g c =
     let both = c.self.invariant in
     let cut = until_timeline sample.same sample.drift (map sample.stored c.other.inside.entries.items) c.args.to c.other.invariant.0 in
     let stored = All-filter _ can (map sample.stored c.other.inside.entries.items) c.other.invariant.1 in
-    subst (λ entries. IsTimeline sample.same sample.drift entries × All can entries) (sym made) (
+    subst (λ entries. IsTimeline sample.same sample.drift entries × All can entries × AreMarks sample.digit c.self.inside.marks entries) (sym made) (
       joined_timeline drifts sample.start mine theirs c.args.from (ends_before mine c.args.from both.0.begins later) both.0.in_turn cut,
       joined_all drifts can sample.start mine theirs c.args.from both.1 (value_can_store drifts sample.can_store laws.stored_later sample.start theirs c.args.from cut stored c.requires.within) stored,
+      marks_kept sample.digit c.self.inside.marks (pushed sample.same sample.drift mine c.args.from (value_by sample.drift sample.start theirs c.args.from)) (entries_after theirs c.args.from)
+          (pushed_marks sample.digit sample.same sample.drift c.self.inside.marks mine c.args.from (value_by sample.drift sample.start theirs c.args.from) both.2),
     )
 
 pub returns-clause-entries : goal.returns-clause-entries

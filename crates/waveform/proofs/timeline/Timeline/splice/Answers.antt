@@ -3,6 +3,8 @@ use Rattle.std.specs.List.{All}
 use Rattle.waveform.proofs.Drifts.{Drifts}
 use Rattle.waveform.specs.Joins.{spliced}
 use Rattle.waveform.specs.Timelines.{IsTimeline}
+use Rattle.waveform.proofs.Marking.{no_marks}
+use Rattle.waveform.specs.Marks.{AreMarks}
 use Rattle.waveform.proofs.Splices.{spliced_timeline, spliced_can_store, spliced_value}
 use Rattle.waveform.proofs.timeline.Timeline.splice.Goals as goal
 
@@ -18,9 +20,10 @@ invariant_of-self g c =
     rw (← c.as_slice.ensures.value, ← c.as_slice-2.ensures.value) c.in_ok-entries.ensures in
     let both = c.self.invariant in
     let others = c.other.invariant in
-    subst (λ entries. IsTimeline sample.same sample.drift entries × All can entries) (sym made) (
+    subst (λ entries. IsTimeline sample.same sample.drift entries × All can entries × AreMarks sample.digit c.none.result entries) (sym made) (
       spliced_timeline drifts sample.start mine theirs c.args.from c.args.to c.requires.order both.0 others.0,
       spliced_can_store drifts sample.start mine theirs c.args.from c.args.to c.requires.order both.0 others.0 sample.can_store laws.stored_later c.requires.within both.1 others.1,
+      no_marks sample.digit c.none.result (spliced sample.same sample.drift sample.start mine c.args.from c.args.to theirs) c.none.ensures,
     )
 
 pub returns-clause-ok : goal.returns-clause-ok

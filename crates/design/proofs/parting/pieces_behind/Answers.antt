@@ -1,0 +1,5 @@
+use Rattle.design.proofs.PartingLemmas.{from_index}
+use Rattle.design.proofs.parting.pieces_behind.Goals as goal
+
+pub returns : goal.returns
+returns c = from_index c.args.pieces.now c.args.count

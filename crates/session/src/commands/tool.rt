@@ -1,0 +1,108 @@
+//! The questions that tools ask beside the commands of a session.
+
+ghost use Rattle.std.specs.Prelude.{◌≡◌};
+ghost use Rattle.session.specs.ToolCommands.{command_by, listing_alone, tool_at_command, tool_command, tool_command_within, tool_question_in, tool_question_of, window_question};
+
+use crate::commands::command::{Command, ask, read, return_cut};
+use crate::commands::question::{Listing, NetQuestion, Query, Question};
+use crate::commands::tool_verb::ToolVerb;
+use crate::words::{Words, number};
+
+/// Reads a line, which comes without its line feed, by whether the questions of tools are known: with them some lines that are
+/// no command without them are questions. It takes no memory.
+pub fn read_by(tools: bool, line: &[u8]) -> Command<'_>
+    ensures { result ≡ command_by tools line.now }
+{
+    let command = read(line);
+    if !tools {
+        return command;
+    }
+    match command {
+        Command::Unreadable => read_further(return_cut(line)),
+        command => command,
+    }
+}
+
+fn read_further(line: &[u8]) -> Command<'_>
+    ensures { result ≡ tool_command_within line.now }
+{
+    match Words::new(line) {
+        Some(words) => read_command(words),
+        None => Command::Unreadable,
+    }
+}
+
+fn read_command(words: Words<'_>) -> Command<'_>
+    ensures { result ≡ tool_command words.entry }
+{
+    let mut rest = words.again();
+    let Some(first) = rest.next() else {
+        return Command::Unreadable;
+    };
+    if b"at".as_slice() == first.as_bytes() {
+        read_at(rest)
+    } else {
+        ask(read_question(words))
+    }
+}
+
+// `at K LINE`, behind its first word.
+fn read_at(words: Words<'_>) -> Command<'_>
+    ensures { result ≡ tool_at_command words.entry }
+{
+    let mut rest = words;
+    let Some(name) = rest.next() else {
+        return Command::Unreadable;
+    };
+    match read_question(rest) {
+        Some(question) => Command::At { name, question },
+        None => Command::Unreadable,
+    }
+}
+
+fn read_question(words: Words<'_>) -> Option<Question<'_>>
+    ensures { result ≡ tool_question_in words.entry }
+{
+    let mut rest = words;
+    let first = rest.next()?;
+    let verb = ToolVerb::from_keyword(first.as_bytes())?;
+    question_by(verb, rest)
+}
+
+// The question that a verb asks with the words behind it; none where these are unreadable.
+fn question_by(verb: ToolVerb, words: Words<'_>) -> Option<Question<'_>>
+    ensures { result ≡ tool_question_of verb words.entry }
+{
+    match verb {
+        ToolVerb::Nets => ask_alone(words, Listing::Nets),
+        ToolVerb::Inputs => ask_alone(words, Listing::Inputs),
+        ToolVerb::Gates => ask_alone(words, Listing::Gates),
+        ToolVerb::Gate => Some(Question::Listing(Listing::Gate(words.one()?))),
+        ToolVerb::Drivers => Some(Question::Listing(Listing::Drivers(words.one()?))),
+        ToolVerb::Readers => Some(Question::Listing(Listing::Readers(words.one()?))),
+        ToolVerb::Points => Some(Question::Listing(Listing::Points(words.one()?))),
+        ToolVerb::Window => ask_window(words),
+    }
+}
+
+// A question of one word.
+fn ask_alone<'a>(words: Words<'a>, listing: Listing<'a>) -> Option<Question<'a>>
+    ensures { result ≡ listing_alone words.entry listing.entry }
+{
+    if words.none() {
+        Some(Question::Listing(listing))
+    } else {
+        None
+    }
+}
+
+// `window N FROM TO`, behind its first word.
+fn ask_window(words: Words<'_>) -> Option<Question<'_>>
+    ensures { result ≡ window_question words.entry }
+{
+    let (net, from, to) = words.three()?;
+    let from = number(from.as_bytes())?;
+    let to = number(to.as_bytes())?;
+    let query = Query::Window(from, to);
+    Some(Question::Net(NetQuestion { net, query }))
+}

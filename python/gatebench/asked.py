@@ -1,0 +1,64 @@
+"""What answers questions, and which of the questions of tools it knows."""
+from abc import ABC, abstractmethod
+from typing import Dict, FrozenSet, List, Optional, Sequence
+
+from .command_word import command_word
+from .errors import QuestionMissing, Refused
+from .replies import Reply
+
+UNKNOWN_NET, TIME_TOO_LARGE, OUT_OF_MEMORY, WORKER_LOST, BAD_COMMAND = 1, 11, 14, 15, 16
+# Causes that lie with no word, and may be gone when the line comes again.
+NO_WORD = (OUT_OF_MEMORY, WORKER_LOST)
+
+# The questions about nets, gates, points and windows, those of a window in parts, of what differs, and of the word at fault. Of
+# each a line that changes nothing and that a program which knows it refuses for its name: no name has an apostrophe.
+TOOLS, PARTS, DIFF, FAULT = "nets", "window .. PARTS", "diff", "fault"
+PROBES: Dict[str, str] = {TOOLS: "drivers '", PARTS: "window ' 0 0 1", DIFF: "diff '", FAULT: "fault value ' 0"}
+
+
+class Asked(ABC):
+    """A version of a design that questions are asked of."""
+
+    _known: Optional[FrozenSet[str]] = None
+
+    @abstractmethod
+    def ask(self, lines: Sequence[str]) -> List[Reply]:
+        """The replies to questions, asked of one version, by their lines."""
+
+    def knows(self, questions: str) -> bool:
+        """Whether the program knows these questions, one of the names in PROBES. It is asked once."""
+        if self._known is None:
+            replies = self.ask(list(PROBES.values()))
+            self._known = frozenset(name for name, it in zip(PROBES, replies) if it.code != BAD_COMMAND)
+        return questions in self._known
+
+    def see_known(self, questions: str) -> None:
+        """QuestionMissing where the program does not know these questions."""
+        if not self.knows(questions):
+            raise QuestionMissing(questions)
+
+    def answers(self, lines: Sequence[str]) -> List[Sequence[str]]:
+        """The lines of the answer to each question, asked in one block. Refused where one is refused."""
+        replies = self.ask(lines)
+        for line, reply in zip(lines, replies):
+            self.see_ok(line, reply)
+        return [it.lines for it in replies]
+
+    def answer(self, line: str) -> Sequence[str]:
+        """The lines of the answer to a question."""
+        [lines] = self.answers([line])
+        return lines
+
+    def see_ok(self, line: str, reply: Reply) -> None:
+        """Refused where a line was refused."""
+        if not reply.is_ok:
+            raise self.refused(line, reply)
+
+    def refused(self, line: str, reply: Reply) -> Refused:
+        """What to raise for a line that was refused by itself. Where the line leaves open which word is at fault the program is asked:
+        it refuses the line once more."""
+        word = None
+        if command_word(line, reply.code) is None and reply.code not in NO_WORD and self.knows(FAULT):
+            [again] = self.ask([f"fault {line}"])
+            word = again.end[len(reply.end) + 1 :] if again.end.startswith(f"{reply.end} ") else None
+        return Refused(reply.code, reply.name, line, word)

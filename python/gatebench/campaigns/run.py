@@ -1,0 +1,187 @@
+"""Runs what-ifs over a design, by any executor of concurrent.futures: each one by itself, so their order and who runs them
+change no verdict."""
+import os
+from concurrent.futures import FIRST_COMPLETED, Executor, Future, wait
+from threading import Event, local
+from typing import Any, Callable, Dict, Iterable, Iterator, List, NamedTuple, Optional, Sequence, Tuple
+
+from ..errors import Closed, Refused
+from ..lines import line_of
+from ..refusal import NO_EDIT
+from ..script import Step, carry_out
+from ..session import TIMEOUT, Session
+from ..values import change_of
+from ..wave import Wave
+from .judge import REFUSED, Judge, Verdict, Waves
+from .what_if import WhatIf
+
+# What-ifs are given away in pieces: so many pieces at least, so many what-ifs at most.
+PIECES, MOST = 16, 200
+# Set in a process that works for another one when it is interrupted: what it still has to do is not done.
+interrupted = Event()
+# How many pieces are given away before one has to come back: they are in memory until then.
+AHEAD = 64
+
+
+class Bench(NamedTuple):
+    """A design with its stimulus, and the nets whose waves are compared. It holds the text and no path, so that it can be sent
+    to a machine that has no such file; without `program` each one looks for its own."""
+
+    text: str
+    steps: Tuple[Step, ...]
+    nets: Tuple[str, ...]
+    horizon: Optional[int] = None
+    delay: Optional[int] = None
+    program: Optional[str] = None
+    timeout: Optional[float] = TIMEOUT
+
+    def open(self) -> Session:
+        """A session with the stimulus. BadStep where a command is refused."""
+        session = Session(
+            text=self.text, horizon=self.horizon, delay=self.delay, program=self.program, timeout=self.timeout
+        )
+        carry_out(session, self.steps)
+        return session
+
+
+def bench_of(
+    text: str,
+    lines: Iterable[str],
+    nets: Iterable[str],
+    *,
+    horizon: Optional[int] = None,
+    delay: Optional[int] = None,
+    program: Optional[str] = None,
+    timeout: Optional[float] = TIMEOUT,
+) -> Bench:
+    """A design text with the command lines of its stimulus, and the nets that are compared."""
+    steps = tuple(Step(number, line, line) for number, line in enumerate(lines, 1))
+    return Bench(text, steps, tuple(nets), horizon, delay, program, timeout)
+
+
+class Runner:
+    """Takes one what-if after another: a commit undoes one and makes the next."""
+
+    def __init__(self, bench: Bench, judge: Judge) -> None:
+        self.bench, self.judge = bench, judge
+        self.questions = [line_of("wave", net) for net in bench.nets]
+        self.begin()
+        self.good: Waves = self.session.waves(*bench.nets)
+        self.replies = [it.lines for it in self.session.ask(self.questions)]
+
+    def begin(self) -> None:
+        self.session, self.undo = self.bench.open(), ()  # type: Session, Tuple[str, ...]
+
+    def verdict(self, what_if: WhatIf) -> Verdict:
+        try:
+            self.session.edits([*self.undo, *what_if.edits])
+        except Refused as refused:
+            if refused.code in NO_EDIT:
+                raise
+            # Some batches may have been carried out.
+            self.session.kill()
+            self.begin()
+            return Verdict(REFUSED, note=str(refused))
+        self.undo = what_if.undo
+        return self.judge(self.good, self.waves())
+
+    def waves(self) -> Waves:
+        """The waves of the nets, read where they are not the good ones."""
+        found = {}
+        for (net, good), before, reply in zip(self.good.items(), self.replies, self.session.ask(self.questions)):
+            changed = reply.lines != before
+            found[net] = Wave(net, tuple(map(change_of, reply.lines)), good.horizon) if changed else good
+        return found
+
+
+    def verdicts(self, what_ifs: Iterable[WhatIf]) -> Iterator[Verdict]:
+        """The verdicts of some what-ifs as they come. Behind an error the session has ended."""
+        try:
+            for it in what_ifs:
+                if interrupted.is_set():
+                    raise Closed("the campaign was interrupted")
+                yield self.verdict(it)
+        except BaseException:
+            self.session.kill()
+            raise
+
+
+def verdicts_of(bench: Bench, judge: Judge, what_ifs: Iterable[WhatIf]) -> Iterator[Verdict]:
+    """The verdicts of some what-ifs as they come, in a session of their own."""
+    runner = Runner(bench, judge)
+    try:
+        yield from runner.verdicts(what_ifs)
+    finally:
+        runner.session.kill()
+
+
+class Kept(local):
+    """The runner of the last piece of this thread: its session, with the stimulus carried out, is that of the next piece too. A
+    process that was forked has none of another one's."""
+
+    runner: Optional[Runner] = None
+    process = 0
+
+
+kept = Kept()
+
+
+def run_piece(bench: Bench, judge: Judge, what_ifs: Sequence[WhatIf]) -> List[Verdict]:
+    """The verdicts of some what-ifs, for an executor."""
+    runner = kept.runner if kept.process == os.getpid() else None
+    kept.runner, kept.process = None, os.getpid()
+    if runner is None or (runner.bench, runner.judge) != (bench, judge):
+        if runner is not None:
+            runner.session.kill()
+        runner = Runner(bench, judge)
+    verdicts = list(runner.verdicts(what_ifs))
+    kept.runner = runner
+    return verdicts
+
+
+def run(
+    bench: Bench,
+    what_ifs: Sequence[WhatIf],
+    judge: Judge,
+    executor: Optional[Executor] = None,
+    done: Sequence[int] = (),
+) -> Iterator[Tuple[int, Verdict]]:
+    """The place and the verdict of each what-if but those that are done, as they come. Without an executor they run here."""
+    left = sorted(set(range(len(what_ifs))) - set(done))
+    if executor is None:
+        yield from zip(left, verdicts_of(bench, judge, (what_ifs[it] for it in left)))
+        return
+    size = max(1, min(MOST, -(-len(left) // PIECES)))
+    pieces = (left[start : start + size] for start in range(0, len(left), size))
+
+    def words(places: Sequence[int]) -> Tuple[Any, ...]:
+        return bench, judge, [what_ifs[it] for it in places]
+
+    for places, future in finished(executor, pieces, words):
+        yield from zip(places, future.result())
+
+
+def finished(
+    executor: Executor, pieces: Iterator[Sequence[int]], words: Callable[[Sequence[int]], Tuple[Any, ...]]
+) -> "Iterator[Tuple[Sequence[int], Future[List[Verdict]]]]":
+    """Each piece with what came of it, as they come. `words` are those of `run_piece`."""
+    given: "Dict[Future[List[Verdict]], Sequence[int]]" = {}
+    try:
+        while True:
+            for _, places in zip(range(AHEAD - len(given)), pieces):
+                given[executor.submit(run_piece, *words(places))] = places
+            if not given:
+                return
+            for future in wait(given, return_when=FIRST_COMPLETED).done:
+                yield given.pop(future), future
+    finally:
+        for future in given:
+            future.cancel()
+
+
+def run_all(
+    bench: Bench, what_ifs: Sequence[WhatIf], judge: Judge, executor: Optional[Executor] = None
+) -> List[Verdict]:
+    """The verdicts of all what-ifs, in their order."""
+    found = dict(run(bench, what_ifs, judge, executor))
+    return [found[place] for place in range(len(what_ifs))]

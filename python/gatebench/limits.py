@@ -1,0 +1,10 @@
+"""Limits of gatebench (docs/SPEC.md), each of them allowed."""
+
+# Bytes of a design text, and of a name.
+MOST_TEXT, MOST_NAME = 4_194_304, 1_024
+
+# A bound of a range, or an index.
+MOST_BOUND = 65_535
+
+# A delay of a gate, and a moment, in time units.
+MOST_DELAY, MOST_TIME = 1_000_000, 1_099_511_627_776

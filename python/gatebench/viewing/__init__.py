@@ -1,0 +1,1 @@
+"""`python -m gatebench view`: a page in a browser that shows the waves of a design, and changes it."""
