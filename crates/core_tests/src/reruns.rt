@@ -2,6 +2,7 @@
 
 mod definition;
 mod horizons;
+mod many_drivers;
 mod many_points;
 pub mod plain;
 mod pulls;

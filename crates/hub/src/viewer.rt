@@ -1,6 +1,6 @@
 //! Who looks at what is published.
 
-ghost use Rattle.std.specs.Prelude.{◌≡◌, ◌<◌, IfOk, IfSome, Ok, Err, Some, length, MatchBool};
+ghost use Rattle.std.specs.Prelude.{◌≡◌, IfOk, IfSome, Ok, Err, Some};
 ghost use Rattle.std.specs.Arc.{arc_value};
 ghost use Rattle.left_right.specs.Sides.{view};
 ghost use Rattle.hubcore.specs.Lists.{StartsWith, longer};
@@ -67,13 +67,6 @@ impl<J: HubName> Viewer<J> {
             Some((commits, snapshot)) => self.known.keep(commits, snapshot),
             None => Err(LookFault::Closed),
         }
-    }
-
-    /// Whether it saw or was told of all that another viewer of its hub was. If not, the other one's list goes on behind its own.
-    pub fn reaches(&self, other: &Viewer<J>) -> bool
-        ensures { MatchBool result (StartsWith self.now other.now) (StartsWith other.now self.now × (length self.now < length other.now)) }
-    {
-        self.commits().reaches(other.commits())
     }
 
     // The commits that it saw or was told of.

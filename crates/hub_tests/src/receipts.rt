@@ -62,16 +62,9 @@ fn submit_refused<J: HubName, L: Ledger, M: Ledger, R: Wait + Abort>(
     equal(rt, "commits told", editor.told_count(), length);
 }
 
-/// The viewer that was told last has the longer list, and sees as many commits as there are.
-fn check_viewers<J: HubName>(
-    rt: &impl Abort,
-    last: &mut Viewer<J>,
-    other: &Viewer<J>,
-    length: u64,
-) {
-    equal(rt, "the longer list", last.reaches(other), true);
-    equal(rt, "the shorter list", other.reaches(last), false);
-    let seen = look(rt, last);
+/// A viewer that was told last sees as many commits as there are.
+fn check_viewer<J: HubName>(rt: &impl Abort, viewer: &mut Viewer<J>, length: u64) {
+    let seen = look(rt, viewer);
     equal(rt, "version", seen.version(), length);
     drop(seen);
 }
@@ -93,11 +86,11 @@ fn take_turns<J: HubName, L: Ledger, M: Ledger, R: Wait + Abort>(
         length = length.wrapping_add(1);
         let news = if turn == 0 {
             let news = submit(rt, alloc, hub, &mut editors.0, &mut viewers.0);
-            check_viewers(rt, &mut viewers.0, &viewers.1, length);
+            check_viewer(rt, &mut viewers.0, length);
             news
         } else {
             let news = submit(rt, alloc, hub, &mut editors.1, &mut viewers.1);
-            check_viewers(rt, &mut viewers.1, &viewers.0, length);
+            check_viewer(rt, &mut viewers.1, length);
             news
         };
         equal(rt, "commits told", news.to, length);

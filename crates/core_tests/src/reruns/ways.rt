@@ -18,7 +18,7 @@ use waveform::Run;
 
 /// What a commit asks of a stepper that is dealt no step: the steps and tasks of the moments at which what differs is followed,
 /// and the tasks of those at which the whole design is gone through.
-type Asked = (u64, u64, u64);
+pub type Asked = (u64, u64, u64);
 
 /// A commit to a design, and what it asks from which limit on.
 #[derive(Clone, Copy)]
@@ -30,7 +30,7 @@ struct Case<'a> {
 }
 
 /// What the commit asks at this limit. The run is that of the reference implementation.
-fn asked_at(
+pub fn asked_at(
     rt: &impl Abort,
     alloc: Global,
     old: &Design,
