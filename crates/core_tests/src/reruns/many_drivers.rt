@@ -34,14 +34,14 @@ fn design_of(rt: &impl Abort, alloc: Global, count: u64) -> Design {
     made_of(rt, alloc, edits)
 }
 
-/// Commits, and what each asks: the driver that is edited at its points and where its events are due, and h where what it reads
-/// or drives differs at a change of n or a due event.
+/// Commits, and what each asks: a driver that is edited, at the points of b and where its events are due; h where n changes in
+/// another way than before, and where its event is due then.
 const COMMITS: [(&str, Asked); 5] = [
     ("stim b 5 z", (2, 2, 0)),
     ("unstim b 5", (2, 2, 0)),
     ("drop g0", (2, 2, 0)),
-    ("gate k not 1 1 n b", (7, 7, 0)),
-    ("kind n wor", (3, 3, 0)),
+    ("gate k not 1 1 n b", (4, 4, 0)),
+    ("kind n wor", (2, 2, 0)),
 ];
 
 /// The run is that of the reference implementation, and as much is asked whatever the number of drivers.
