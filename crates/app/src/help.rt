@@ -12,7 +12,7 @@ line, and each gets its reply on the standard output.
 
   DESIGN         the file of the design text, which is structural Verilog
   --horizon H    the last moment of a run: 0 to 1099511627776, 1000 if not given
-  --workers N    the threads that may evaluate gates: 1 to 64, 1 if not given
+  --workers N    the threads that are started: 1 to 64, 1 if not given
   --delay D      the delay of gates that are written without one: 1 to 1000000
   --version      prints the version, and does nothing else
 
@@ -27,5 +27,5 @@ this shows each change of y up to moment 20, `2 1` among them:
 /// And then this.
 pub const ENDING: &str = " m.v --horizon 20
 
-docs/GUIDE.md has the commands, the design texts, the faults and the statuses.
+docs/GUIDE.md leads to the commands, the design texts, the faults and statuses.
 ";

@@ -17,11 +17,11 @@ MayRefuse s edits (commit.Edit place fault) = commit_of s.version s.design edits
 MayRefuse s edits commit.OutOfMemory = Unit {0}
 MayRefuse s edits commit.WorkerLost = IsOk (commit_of s.version s.design edits)
 
--- where an opening is refused so, the stepper that is left counts one loss more than before if a worker was lost, and as many as
--- before if memory ran out
+-- where an opening is refused because a worker was lost, the stepper that is left counts one loss more than before; of want of
+-- memory nothing is said
 abbrev pub LeavesBehind : {S : Type 0} → (losses_of : S → ℕ) → ℕ → StepFault → Type 0
 LeavesBehind {S} losses_of losses step.WorkerLost = (left : S) × (losses_of left ≡ losses + 1)
-LeavesBehind {S} losses_of losses step.OutOfMemory = (left : S) × (losses_of left ≡ losses)
+LeavesBehind {S} losses_of losses step.OutOfMemory = Unit {0}
 
 -- a commit lost a worker
 abbrev pub loses_a_worker : {A : Type 0} → Result A CommitFault → Bool

@@ -100,6 +100,23 @@ fn two_commits(rt: HostRuntime) {
     check_all(&rt, rt.alloc(), 2, &TWO_COMMITS);
 }
 
+// As many commits as a hub is raced with.
+#[test]
+fn ten_thousand_commits(rt: HostRuntime) {
+    let mut core = Core::open(rt.alloc(), 1).expect(&rt, "room");
+    for version in 1..=10_000 {
+        let case = (Call::Accept(version), Ok(Reply::Done));
+        check(&rt, rt.alloc(), &mut core, case);
+    }
+    for case in [
+        (Call::Show, Ok(Reply::Done)),
+        (Call::Look(0), Ok(Reply::At(10_000))),
+    ] {
+        check(&rt, rt.alloc(), &mut core, case);
+    }
+    drop(core);
+}
+
 /// What happened.
 #[derive(Clone, Copy, PartialEq, Eq)]
 enum Past {

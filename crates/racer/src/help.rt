@@ -15,5 +15,5 @@ from scratch. It prints `looks N wrong W`: of N looks W were wrong.
   LOOKS          how often each of them looks: 1 to 1000000
   --version      prints the version, and does nothing else
 
-docs/GUIDE.md has an example, the lines, the faults and the statuses.
+docs/GUIDE.md leads to an example, the lines, the faults and the statuses.
 ";

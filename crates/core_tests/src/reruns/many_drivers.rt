@@ -49,7 +49,7 @@ fn check(rt: &impl Abort, alloc: Global, count: u64) {
     let old = design_of(rt, alloc, count);
     let run = simulated(rt, alloc, &old, &mut Serial::new());
     for (line, wanted) in COMMITS {
-        let limit = Limit::Looks(u64::MAX);
+        let limit = Some(Limit::Looks(u64::MAX));
         let asked = asked_at(rt, alloc, &old, &run, &[line], limit);
         equal(rt, (count, line), asked, wanted);
     }

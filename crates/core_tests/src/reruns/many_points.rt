@@ -1,6 +1,10 @@
 //! Edits of as many points as make a commit go through the whole design, where they differ early enough.
 
-use super::rows::{Case, check_all};
+use super::rows::{Case, check_all, design_of};
+use super::ways::asked_at;
+use crate::calls::simulated;
+use crate::compare::equal;
+use gatestep::Serial;
 
 // The output goes up at 3, and stays.
 const A_BUFFER: [&str; 4] = ["input a", "net y wire", "gate g buf 3 3 y a", "stim a 0 1"];
@@ -104,4 +108,21 @@ const MANY_POINTS: [Case<'static>; 2] = [
 #[test]
 fn many_points_at_once(rt: HostRuntime) {
     check_all(&rt, rt.alloc(), &MANY_POINTS);
+}
+
+// From 32 points on, the first of them in the first half of the run, the whole design is gone through.
+#[test]
+fn which_way_many_points_take(rt: HostRuntime) {
+    let old = design_of(&rt, rt.alloc(), &MANY_POINTS[0]);
+    let run = simulated(&rt, rt.alloc(), &old, &mut Serial::new());
+    for (name, lines, wanted) in [
+        ("31 early ones", &EARLY[..31], (62, 62, 0)),
+        ("32 early ones", &EARLY[..], (0, 0, 64)),
+        ("32 late ones", &LATE[..], (64, 64, 0)),
+    ] {
+        let asked = asked_at(&rt, rt.alloc(), &old, &run, lines, None);
+        equal(&rt, name, asked, wanted);
+    }
+    drop(run);
+    drop(old);
 }

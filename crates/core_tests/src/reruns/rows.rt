@@ -29,7 +29,7 @@ pub struct Case<'a> {
     pub tasks: u64,
 }
 
-fn design_of(rt: &impl Abort, alloc: Global, case: &Case<'_>) -> Design {
+pub fn design_of(rt: &impl Abort, alloc: Global, case: &Case<'_>) -> Design {
     let mut edits = edits(rt, alloc, case.first);
     let time = case.horizon;
     edits
@@ -336,6 +336,19 @@ const AND_GATES_TOUCHED: Case<'static> = Case {
     ..TWO_POINTS_MOVED
 };
 
+// With two of 21 gates touched it follows what differs.
+const AND_TWO_GATES_TOUCHED: Case<'static> = Case {
+    edits: &[
+        "unstim a 10",
+        "stim a 12 1",
+        "unstim b 20",
+        "stim b 25 1",
+        "delay h 2 2",
+        "delay g0 1 1",
+    ],
+    ..TWO_POINTS_MOVED
+};
+
 /// What the commit asks of a stepper that deals the steps of so many tasks, where all that differs is followed.
 fn check_followed(
     rt: &impl Abort,
@@ -383,6 +396,13 @@ fn check_asked(
 fn twenty_gates_at_a_moment(rt: HostRuntime) {
     for least_dealt in [0, 20, 21] {
         check_followed(&rt, rt.alloc(), &TWO_POINTS_MOVED, least_dealt, (4, 42, 0));
+        check_asked(
+            &rt,
+            rt.alloc(),
+            &AND_TWO_GATES_TOUCHED,
+            least_dealt,
+            (4, 42, 0),
+        );
     }
     for (least_dealt, asked) in [(0, (4, 42, 0)), (20, (2, 40, 2)), (21, (0, 0, 42))] {
         check_asked(&rt, rt.alloc(), &AND_GATES_TOUCHED, least_dealt, asked);

@@ -5,7 +5,7 @@ ghost use Rattle.scratch.specs.Run.{IsRun};
 
 use super::plain::rows;
 use super::random::check_run;
-use crate::calls::{changed, followed, simulated};
+use crate::calls::{changed, followed, rerun, simulated};
 use crate::compare::equal;
 use crate::counting::Counting;
 use crate::edit_lists::lines::{edit, edits, made_of};
@@ -29,21 +29,24 @@ struct Case<'a> {
     asked: &'a [(u64, Asked)],
 }
 
-/// What the commit asks at this limit. The run is that of the reference implementation.
+/// What the commit asks at this limit, or without one. The run is that of the reference implementation.
 pub fn asked_at(
     rt: &impl Abort,
     alloc: Global,
     old: &Design,
     run: &Run,
     lines: &[&str],
-    limit: Limit,
+    limit: Option<Limit>,
 ) -> Asked
     requires { IsRun advance old.now run.now }
 {
     let edits = edits(rt, alloc, lines);
     let (new, touched) = changed(alloc, old, &edits).expect(rt, "accepted edits");
     let mut stepper = Counting::new(usize::MAX);
-    let made = followed(rt, alloc, old, run, &new, &touched, limit, &mut stepper);
+    let made = match limit {
+        Some(limit) => followed(rt, alloc, old, run, &new, &touched, limit, &mut stepper),
+        None => rerun(rt, alloc, old, run, &new, &touched, &mut stepper),
+    };
     let wanted = rows(rt, alloc, &new);
     check_run(rt, &new, &made, wanted.as_slice());
     drop(wanted);
@@ -69,7 +72,8 @@ fn check(rt: &impl Abort, alloc: Global, case: &Case<'_>) {
     let old = made_of(rt, alloc, edits(rt, alloc, case.first));
     let run = simulated(rt, alloc, &old, &mut Serial::new());
     for limit in 0..40 {
-        let asked = asked_at(rt, alloc, &old, &run, case.edits, Limit::Looks(limit));
+        let at = Some(Limit::Looks(limit));
+        let asked = asked_at(rt, alloc, &old, &run, case.edits, at);
         equal(rt, (case.name, limit), Some(asked), wanted_at(case, limit));
     }
     drop(run);
@@ -162,7 +166,7 @@ fn asked_of_rings(rt: &impl Abort, alloc: Global, count: u64) -> Asked {
         &old,
         &run,
         &["unstim a 5", "stim a 6 1"],
-        Limit::Cost,
+        Some(Limit::Cost),
     );
     drop(run);
     drop(old);
@@ -186,4 +190,42 @@ fn where_looks_cost_too_much(rt: HostRuntime) {
     for (count, asked) in BESIDE_RINGS {
         equal(&rt, count, asked_of_rings(&rt, rt.alloc(), count), asked);
     }
+}
+
+/// A buffer whose input has a pulse at 10, and 80 points from 100 on.
+fn pulses(rt: &impl Abort, alloc: Global) -> Design {
+    let first = [
+        "input a",
+        "net y wire",
+        "gate g buf 3 3 y a",
+        "stim a 0 0",
+        "stim a 10 1",
+        "stim a 20 0",
+        "horizon 1000",
+    ];
+    let mut edits = edits(rt, alloc, &first);
+    for n in 0..40 {
+        let (up, down) = (100 + 10 * n, 105 + 10 * n);
+        let up = format!(in alloc; "stim a {up} 1").expect(rt, "a line");
+        let down = format!(in alloc; "stim a {down} 0").expect(rt, "a line");
+        let up = edit(rt, alloc, up.as_str());
+        let down = edit(rt, alloc, down.as_str());
+        edits.push(up).expect(rt, "one edit more");
+        edits.push(down).expect(rt, "one edit more");
+    }
+    made_of(rt, alloc, edits)
+}
+
+// Nothing differs from 23 to 900. Were the gate looked at meanwhile, or the input at each of its points, then there would be more
+// looks than the limit, and the whole design would be gone through.
+#[test]
+fn what_no_longer_differs(rt: HostRuntime) {
+    let old = pulses(&rt, rt.alloc());
+    let run = simulated(&rt, rt.alloc(), &old, &mut Serial::new());
+    let lines = ["unstim a 10", "stim a 900 1"];
+    let limit = Some(Limit::Looks(60));
+    let asked = asked_at(&rt, rt.alloc(), &old, &run, &lines, limit);
+    equal(&rt, "asked", asked, (2, 2, 0));
+    drop(run);
+    drop(old);
 }
