@@ -23,7 +23,7 @@ pub struct Args {
     pub design: String,
     /// The last moment of the simulation, in time units: 0 to `MAX_TIME`.
     pub horizon: u64,
-    /// How many threads may evaluate gates: 1 to `MAX_WORKERS`.
+    /// How many workers there are: 1 to `MAX_WORKERS`.
     pub workers: u32,
     /// The delay of gates that the design text writes without one, in time units: 1 to `MAX_DELAY`.
     pub delay: Option<u32>,

@@ -12,7 +12,7 @@ line, and each gets its reply on the standard output.
 
   DESIGN         the file of the design text, which is structural Verilog
   --horizon H    the last moment of a run: 0 to 1099511627776, 1000 if not given
-  --workers N    the threads that are started: 1 to 64, 1 if not given
+  --workers N    how many workers there are: 1 to 64, 1 if not given
   --delay D      the delay of gates that are written without one: 1 to 1000000
   --version      prints the version, and does nothing else
 

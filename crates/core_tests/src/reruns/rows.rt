@@ -336,19 +336,6 @@ const AND_GATES_TOUCHED: Case<'static> = Case {
     ..TWO_POINTS_MOVED
 };
 
-// With two of 21 gates touched it follows what differs.
-const AND_TWO_GATES_TOUCHED: Case<'static> = Case {
-    edits: &[
-        "unstim a 10",
-        "stim a 12 1",
-        "unstim b 20",
-        "stim b 25 1",
-        "delay h 2 2",
-        "delay g0 1 1",
-    ],
-    ..TWO_POINTS_MOVED
-};
-
 /// What the commit asks of a stepper that deals the steps of so many tasks, where all that differs is followed.
 fn check_followed(
     rt: &impl Abort,
@@ -396,13 +383,6 @@ fn check_asked(
 fn twenty_gates_at_a_moment(rt: HostRuntime) {
     for least_dealt in [0, 20, 21] {
         check_followed(&rt, rt.alloc(), &TWO_POINTS_MOVED, least_dealt, (4, 42, 0));
-        check_asked(
-            &rt,
-            rt.alloc(),
-            &AND_TWO_GATES_TOUCHED,
-            least_dealt,
-            (4, 42, 0),
-        );
     }
     for (least_dealt, asked) in [(0, (4, 42, 0)), (20, (2, 40, 2)), (21, (0, 0, 42))] {
         check_asked(&rt, rt.alloc(), &AND_GATES_TOUCHED, least_dealt, asked);
