@@ -1,3 +1,4 @@
 pub mod ListLemmas
+pub mod PartLemmas
 pub mod Rising
 pub mod WireLemmas

@@ -18,35 +18,35 @@ Rises (p ∷ ps) = AreAbove p.0 ps × Rises ps
 
 -- Tests.
 
-lt_yes : (a b : ℕ) → a < b → nat_lt a b ≡ true
+pub lt_yes : (a b : ℕ) → a < b → nat_lt a b ≡ true
 lt_yes a b h = grind (arith, nat_tests)
 
-lt_no : (a b : ℕ) → b ≤ a → nat_lt a b ≡ false
+pub lt_no : (a b : ℕ) → b ≤ a → nat_lt a b ≡ false
 lt_no a b h = grind (arith, nat_tests)
 
-le_yes : (a b : ℕ) → a ≤ b → nat_le a b ≡ true
+pub le_yes : (a b : ℕ) → a ≤ b → nat_le a b ≡ true
 le_yes a b h = grind (arith, nat_tests)
 
-le_no : (a b : ℕ) → b < a → nat_le a b ≡ false
+pub le_no : (a b : ℕ) → b < a → nat_le a b ≡ false
 le_no a b h = grind (arith, nat_tests)
 
-yes_lt : (a b : ℕ) → nat_lt a b ≡ true → a < b
+pub yes_lt : (a b : ℕ) → nat_lt a b ≡ true → a < b
 yes_lt a b h = grind (arith, nat_tests)
 
-no_lt : (a b : ℕ) → nat_lt a b ≡ false → b ≤ a
+pub no_lt : (a b : ℕ) → nat_lt a b ≡ false → b ≤ a
 no_lt a b h = grind (arith, nat_tests)
 
 -- an entry in front
 
-kept : (p : ℕ × Value → Bool) (x : ℕ × Value) (xs ws : List (ℕ × Value)) → p x ≡ true → filter p xs ≡ ws → filter p (x ∷ xs) ≡ x ∷ ws
+pub kept : (p : ℕ × Value → Bool) (x : ℕ × Value) (xs ws : List (ℕ × Value)) → p x ≡ true → filter p xs ≡ ws → filter p (x ∷ xs) ≡ x ∷ ws
 kept p x xs ws is e = rw is (ap (λ vs. x ∷ vs) e)
 
-dropped : (p : ℕ × Value → Bool) (x : ℕ × Value) (xs ws : List (ℕ × Value)) → p x ≡ false → filter p xs ≡ ws → filter p (x ∷ xs) ≡ ws
+pub dropped : (p : ℕ × Value → Bool) (x : ℕ × Value) (xs ws : List (ℕ × Value)) → p x ≡ false → filter p xs ≡ ws → filter p (x ∷ xs) ≡ ws
 dropped p x xs ws is e = rw is e
 
 -- what lies above a moment
 
-lower : (t u : ℕ) (xs : List (ℕ × Value)) → u ≤ t → AreAbove t xs → AreAbove u xs
+pub lower : (t u : ℕ) (xs : List (ℕ × Value)) → u ≤ t → AreAbove t xs → AreAbove u xs
 lower t u [] le above = tt
 lower t u (x ∷ xs) le above = (let h : t < x.0 = above.0 in omega arith, lower t u xs le above.1)
 
@@ -56,7 +56,7 @@ none_until t (x ∷ xs) above = let h = le_no x.0 t above.0 in rw h (none_until 
 
 -- The next one.
 
-next_later : (xs : List (ℕ × Value)) (t : ℕ) (e : ℕ × Value) → first_after xs t ≡ Some e → t < e.0
+pub next_later : (xs : List (ℕ × Value)) (t : ℕ) (e : ℕ × Value) → first_after xs t ≡ Some e → t < e.0
 next_later [] t e found = absurd (cc)
 next_later (x ∷ xs) t e found =
     elim (nat_lt t x.0) as (λ b. nat_lt t x.0 ≡ b → t < e.0) [

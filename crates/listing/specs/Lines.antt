@@ -1,5 +1,5 @@
 -- Lines that show one thing of a design or of a run, in the words of a session, each with its line feed (own).
-use Rattle.std.specs.Prelude.{ℕ, List, [], ◌∷◌, ◌++◌, Option, None, Some, codes, decimal}
+use Rattle.std.specs.Prelude.{Bool, true, false, ℕ, List, [], ◌∷◌, ◌++◌, Option, None, Some, codes, decimal}
 use Rattle.std.specs.List.{flat_map}
 use Rattle.fourstate.specs.declared.delay_times.DelayTimes.{DelayTimes}
 use Rattle.fourstate.specs.declared.value.Value.{Value}
@@ -11,6 +11,16 @@ use Rattle.design.specs.Netlist.{GateEntry, NetEntry}
 -- `T V`: a moment and the value from then on
 abbrev pub change_line : ℕ × Value → List ℕ
 change_line change = decimal change.0 ++ codes " " ++ (symbol_of change.1 ∷ []) ++ codes "\n"
+
+-- whether there was one change, or more
+abbrev pub count_word : Bool → List ℕ
+count_word false = codes "one"
+count_word true = codes "more"
+
+-- `T FIRST LAST one` or `T FIRST LAST more`: the moment of a part's first change, the values at the part's beginning and end, and
+-- whether it has more changes than the first
+abbrev pub part_line : ℕ → (first last : Value) → Bool → List ℕ
+part_line time first last more = decimal time ++ codes " " ++ (symbol_of first ∷ []) ++ codes " " ++ (symbol_of last ∷ []) ++ codes " " ++ count_word more ++ codes "\n"
 
 -- a name by itself
 abbrev pub name_line : List ℕ → List ℕ

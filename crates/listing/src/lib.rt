@@ -4,6 +4,7 @@
 mod gate_lines;
 mod lines;
 mod net_lines;
+mod parts;
 mod stimulus;
 mod wave_part;
 mod wires;
@@ -11,6 +12,7 @@ mod wires;
 pub use gate_lines::{gate, gates};
 pub use lines::change;
 pub use net_lines::{inputs, nets};
+pub use parts::window_parts;
 pub use stimulus::points;
 pub use wave_part::window;
 pub use wires::{drivers, readers};
