@@ -7,6 +7,7 @@ use Rattle.design.specs.Netlist.{NetEntry, Netlist, net_named}
 use Rattle.waveform.specs.Changes.{wave_at}
 use Rattle.waveform.specs.Timelines.{first_after, last_before, next_to}
 use Rattle.listing.specs.Listings.{change_lines}
+use Rattle.listing.specs.Parts.{window_parts}
 use Rattle.listing.specs.Windows.{window}
 use Rattle.scratch.specs.Run.{wave_of}
 use Rattle.session.specs.declared.commands.question.Query.{Query}
@@ -24,6 +25,7 @@ is_past horizon (query.Next t) = nat_lt horizon t
 is_past horizon (query.Prev t) = nat_lt horizon t
 is_past horizon (query.Seek t v) = nat_lt horizon t
 is_past horizon (query.Window from to) = nat_lt horizon to || nat_lt to from
+is_past horizon (query.Parts from to parts) = nat_lt horizon to || nat_lt to from
 
 -- the changes of the wave that is asked about, or why the question is refused: there must be a net of the name, and the
 -- moment must not lie after the horizon
@@ -42,3 +44,4 @@ query_lines changes (query.Next t) = change_or_none (first_after changes t)
 query_lines changes (query.Prev t) = change_or_none (last_before changes t)
 query_lines changes (query.Seek t v) = change_or_none (next_to same_value changes t v)
 query_lines changes (query.Window from to) = change_lines (window changes from to)
+query_lines changes (query.Parts from to parts) = window_parts changes from to parts

@@ -1,7 +1,7 @@
 -- The questions that tools ask beside the commands of a session (own).
-use Rattle.std.specs.Prelude.{Bool, true, ℕ, if◌then◌else◌, List, [], ◌∷◌, Option, None, Some, codes, option_map, option_and_then}
+use Rattle.std.specs.Prelude.{Bool, true, ◌&&◌, ℕ, nat_le, if◌then◌else◌, List, [], ◌∷◌, Option, None, Some, codes, option_map, option_and_then}
 use Rattle.std.specs.List.{list_all}
-use Rattle.std.specs.Option.{option_map_or}
+use Rattle.std.specs.Option.{option_map_or, option_or}
 use Rattle.session.specs.declared.commands.command.Command.{Command}
 use Rattle.session.specs.declared.commands.command.Command.TheVariants.{At, Unreadable}
 use Rattle.session.specs.declared.commands.question.Listing.{Listing as Asked}
@@ -9,12 +9,13 @@ use Rattle.session.specs.declared.commands.question.Listing.TheVariants as listi
 use Rattle.session.specs.declared.commands.question.Query.TheVariants as query
 use Rattle.session.specs.declared.commands.question.Question.{Question}
 use Rattle.session.specs.declared.commands.question.Question.TheVariants.{Listing, Net}
+use Rattle.session.specs.declared.commands.tool.TheConstants.{MAX_PARTS}
 use Rattle.session.specs.declared.commands.tool_verb.ToolVerb.{ToolVerb}
 use Rattle.session.specs.declared.commands.tool_verb.ToolVerb.TheVariants as tool
 use Rattle.session.specs.Commands.{ask_of, command_of}
 use Rattle.session.specs.Lines.{without_return}
 use Rattle.session.specs.ToolVerbs.{tool_verb_of}
-use Rattle.session.specs.Words.{is_plain, no_words, number_of, one_word, same_word, three_words, words}
+use Rattle.session.specs.Words.{four_words, is_plain, no_words, number_of, one_word, same_word, three_words, words}
 
 -- Each question from the words behind its first one, if they are readable.
 
@@ -27,10 +28,24 @@ abbrev pub listing_named : List (List ℕ) → (List ℕ → Asked) → Option Q
 listing_named ws asked = option_map (λ name. Listing (asked name)) (one_word ws)
 
 -- window N FROM TO
-abbrev pub window_question : List (List ℕ) → Option Question
-window_question ws =
+abbrev pub whole_window : List (List ℕ) → Option Question
+whole_window ws =
     option_and_then (λ w. option_and_then (λ from.
     option_map (λ to. Net (record { net = w.0; query = query.Window from to })) (number_of w.2)) (number_of w.1)) (three_words ws)
+
+-- how many parts a word asks for
+abbrev pub parts_of : List ℕ → Option ℕ
+parts_of word = option_and_then (λ parts. if nat_le 1 parts && nat_le parts MAX_PARTS then Some parts else None) (number_of word)
+
+-- window N FROM TO PARTS
+abbrev pub window_in_parts : List (List ℕ) → Option Question
+window_in_parts ws =
+    option_and_then (λ w. option_and_then (λ from. option_and_then (λ to.
+    option_map (λ parts. Net (record { net = w.0; query = query.Parts from to parts })) (parts_of w.3)) (number_of w.2)) (number_of w.1)) (four_words ws)
+
+-- window N FROM TO, or window N FROM TO PARTS
+abbrev pub window_question : List (List ℕ) → Option Question
+window_question ws = option_or (whole_window ws) (window_in_parts ws)
 
 -- the question that a verb asks with the words behind it, if they are readable
 abbrev pub tool_question_of : ToolVerb → List (List ℕ) → Option Question

@@ -52,6 +52,10 @@ abbrev pub three_words : List (List ℕ) → Option (List ℕ × List ℕ × Lis
 three_words (a ∷ b ∷ c ∷ []) = Some (a, b, c)
 three_words _ = None
 
+abbrev pub four_words : List (List ℕ) → Option (List ℕ × List ℕ × List ℕ × List ℕ)
+four_words (a ∷ b ∷ c ∷ d ∷ []) = Some (a, b, c, d)
+four_words _ = None
+
 -- Numbers.
 
 abbrev pub is_digit : ℕ → Bool

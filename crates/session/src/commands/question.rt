@@ -21,6 +21,8 @@ pub enum Query {
     Seek(u64, Value),
     /// The value at the first moment, and the changes after it up to the second one.
     Window(u64, u64),
+    /// The moments after the first one up to the second one, cut into so many parts: of each part what changes in it.
+    Parts(u64, u64, u64),
 }
 
 impl Query {
@@ -33,7 +35,7 @@ impl Query {
             Query::Value(time) | Query::Next(time) | Query::Prev(time) | Query::Seek(time, _) => {
                 time > horizon
             }
-            Query::Window(from, to) => to > horizon || from > to,
+            Query::Window(from, to) | Query::Parts(from, to, _) => to > horizon || from > to,
         }
     }
 }

@@ -1,12 +1,15 @@
 //! The questions that tools ask beside the commands of a session.
 
 ghost use Rattle.std.specs.Prelude.{◌≡◌};
-ghost use Rattle.session.specs.ToolCommands.{command_by, listing_alone, tool_at_command, tool_command, tool_command_within, tool_question_in, tool_question_of, window_question};
+ghost use Rattle.session.specs.ToolCommands.{command_by, listing_alone, parts_of, tool_at_command, tool_command, tool_command_within, tool_question_in, tool_question_of, whole_window, window_in_parts, window_question};
 
 use crate::commands::command::{Command, ask, read, return_cut};
 use crate::commands::question::{Listing, NetQuestion, Query, Question};
 use crate::commands::tool_verb::ToolVerb;
 use crate::words::{Words, number};
+
+/// Into how many parts a window is cut at most.
+pub const MAX_PARTS: u64 = 65_536;
 
 /// Reads a line, which comes without its line feed, by whether the questions of tools are known: with them some lines that are
 /// no command without them are questions. It takes no memory.
@@ -96,13 +99,45 @@ fn ask_alone<'a>(words: Words<'a>, listing: Listing<'a>) -> Option<Question<'a>>
     }
 }
 
-// `window N FROM TO`, behind its first word.
+// `window N FROM TO` or `window N FROM TO PARTS`, behind its first word.
 fn ask_window(words: Words<'_>) -> Option<Question<'_>>
     ensures { result ≡ window_question words.entry }
+{
+    match ask_whole_window(words.again()) {
+        Some(question) => Some(question),
+        None => ask_window_in_parts(words),
+    }
+}
+
+fn ask_whole_window(words: Words<'_>) -> Option<Question<'_>>
+    ensures { result ≡ whole_window words.entry }
 {
     let (net, from, to) = words.three()?;
     let from = number(from.as_bytes())?;
     let to = number(to.as_bytes())?;
     let query = Query::Window(from, to);
     Some(Question::Net(NetQuestion { net, query }))
+}
+
+fn ask_window_in_parts(words: Words<'_>) -> Option<Question<'_>>
+    ensures { result ≡ window_in_parts words.entry }
+{
+    let (net, from, to, parts) = words.four()?;
+    let from = number(from.as_bytes())?;
+    let to = number(to.as_bytes())?;
+    let parts = read_parts(parts.as_bytes())?;
+    let query = Query::Parts(from, to, parts);
+    Some(Question::Net(NetQuestion { net, query }))
+}
+
+// How many parts a word asks for.
+fn read_parts(word: &[u8]) -> Option<u64>
+    ensures { result ≡ parts_of word.now }
+{
+    let parts = number(word)?;
+    if 1 <= parts && parts <= MAX_PARTS {
+        Some(parts)
+    } else {
+        None
+    }
 }

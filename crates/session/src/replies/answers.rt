@@ -12,7 +12,7 @@ use crate::commands::Query;
 use crate::replies::lines::wave;
 use devices::{Sink, Writer};
 use fourstate::Value;
-use listing::{change, window};
+use listing::{change, window, window_parts};
 use waveform::Wave;
 
 /// The lines that answer what is asked about a wave. Its changes are found by halving; only a search for a value walks
@@ -28,6 +28,7 @@ pub fn tell<W: Sink>(writer: &mut Writer<'_, W>, changes: &Wave, query: Query)
         Query::Prev(time) => change_or_none(writer, changes.last_before(time)),
         Query::Seek(time, value) => change_or_none(writer, changes.next_value(time, value)),
         Query::Window(from, to) => window(writer, changes, from, to),
+        Query::Parts(from, to, parts) => window_parts(writer, changes, from, to, parts),
     }
 }
 

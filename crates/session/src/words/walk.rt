@@ -2,7 +2,7 @@
 
 ghost use Rattle.std.specs.Prelude.{◌≡◌, true, false, ◌∷◌, [], MatchOption};
 ghost use Rattle.std.specs.List.{list_all};
-ghost use Rattle.session.specs.Words.{is_plain, no_words, one_word, three_words, two_words, words};
+ghost use Rattle.session.specs.Words.{four_words, is_plain, no_words, one_word, three_words, two_words, words};
 
 use crate::words::scan::{are_plain, split_word, without_blanks};
 use std::marker::Model;
@@ -135,5 +135,14 @@ impl<'a> Words<'a> {
         } else {
             None
         }
+    }
+
+    /// The four words that are left, if there are exactly four.
+    pub fn four(mut self) -> Option<(WordRef<'a>, WordRef<'a>, WordRef<'a>, WordRef<'a>)>
+        ensures { result ≡ four_words self.entry }
+    {
+        let first = self.next()?;
+        let (second, third, fourth) = self.three()?;
+        Some((first, second, third, fourth))
     }
 }
