@@ -95,20 +95,33 @@ class Windows(Gatetool):
         self.check("window y 40 40", "40 1")
         self.check("window b 5 30", "5 1", "10 0", "30 1")
 
+    def test_a_part_of_a_wave_in_parts(self) -> None:
+        # A part ends with its last moment: y is 0 from 3 and 1 from 12.
+        self.check("window y 0 40 1", "3 x 1 more")
+        self.check("window y 0 40 4", "3 x 0 one", "12 0 1 one")
+        self.check("window y 0 24 2", "3 x 1 more")
+        self.check("window y 0 23 2", "3 x 0 one", "12 0 1 one")
+        self.check("window y 3 12 65536", "12 0 1 one")
+        self.check("window y 12 40 3")
+        self.check("window y 3 3 7")
+
     def test_moments_that_it_has_not(self) -> None:
         self.check_refused("window y 0 41", "11 TimeTooLarge")
         self.check_refused("window y 12 11", "11 TimeTooLarge")
         self.check_refused("window g 12 11", "1 UnknownNet")
+        self.check_refused("window y 0 41 2", "11 TimeTooLarge")
+        self.check_refused("window y 12 11 2", "11 TimeTooLarge")
+        self.check_refused("window ' 0 0 1", "1 UnknownNet")
 
 
 class Lines(Gatetool):
     def test_words_that_are_not_of_the_form(self) -> None:
-        for line in ("nets y", "gates y", "inputs 1", "gate", "drivers", "readers a b", "points", "points a 0", "window y 0", "window y 0 x", "window y 0 1 2 3", "at nets", "at k", "at k hold k", "Nets"):
+        for line in ("nets y", "gates y", "inputs 1", "gate", "drivers", "readers a b", "points", "points a 0", "window y 0", "window y 0 x", "window y 0 1 2 3", "window y 0 1 0", "window y 0 1 65537", "window y 0 1 x", "at nets", "at k", "at k hold k", "Nets"):
             self.assertEqual(self.ask(line), "no 16 BadCommand\n", line)
         self.assertEqual(self.ask("at k nets"), "no 18 UnknownHold\n")
 
     def test_gatebench_knows_none_of_them(self) -> None:
-        lines = ["nets", "inputs", "gates", "gate g", "drivers y", "readers y", "points a", "window y 0 1"]
+        lines = ["nets", "inputs", "gates", "gate g", "drivers y", "readers y", "points a", "window y 0 1", "window y 0 1 1"]
         commands = "hold k\n" + "".join(f"{line}\nat k {line}\n" for line in lines)
         self.program = self.gatebench
         self.assertEqual(self.run_with(["m.v"], commands), Ended(0, "ok 0\n" + "no 16 BadCommand\n" * (2 * len(lines)), ""))

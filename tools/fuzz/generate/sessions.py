@@ -101,13 +101,20 @@ class Lines:
         return [verb, *self.verbs[verb]()]
 
     def question(self):
-        verb = self.rng.choice([*self.session.questions, "wave", "wave", "wave"])
+        often = ["window"] * 6 if "window" in self.session.questions else []
+        verb = self.rng.choice([*self.session.questions, "wave", "wave", "wave", *often])
         if verb in ("vcd", "nets", "inputs", "gates"):
             return [verb]
         if verb in ("wave", "drivers", "readers", "points", "gate"):
             return [verb, self.words.gate() if verb == "gate" else self.words.input() if verb == "points" else self.words.net()]
-        last = {"seek": self.words.value, "window": self.words.time}.get(verb)
-        return [verb, self.words.net(), self.words.time(), *([last()] if last else [])]
+        if verb == "window":
+            return [verb, self.words.net(), *self.moments(), *self.words.parts()]
+        return [verb, self.words.net(), self.words.time(), *([self.words.value()] if verb == "seek" else [])]
+
+    def moments(self):
+        """Two moments, mostly in order."""
+        found = ["0" if self.words.often(0.4) else self.words.time(), self.words.time()]
+        return found if self.words.often(0.2) else sorted(found, key=lambda it: (len(it), it))
 
     def held(self):
         held = list(self.session.holds)

@@ -1,5 +1,5 @@
 """Words of commands over a design: mostly ones that fit it."""
-from reading.tables import GATES, MAX_DELAY, MAX_TIME, MAX_WORD, NETS, TURN_OFF
+from reading.tables import GATES, MAX_DELAY, MAX_PARTS, MAX_TIME, MAX_WORD, NETS, TURN_OFF
 
 CONSTANTS = ["1'b0", "1'b1", "1'bx", "1'bz"]
 NEW_NAMES = ["a", "b", "p", "q", "r", "u.t", "u.s", "u.v.t", "w[0]", "w[1]", "g0", "g1", "h", "k1"]
@@ -7,6 +7,7 @@ ODD_NAMES = [".", "a..b", "$end", "u.$end", "a'b", "x'", "\\a", "#", "z" * 1024,
 # Numbers near the limits of times and delays.
 LIMITS = [str(it + off) for it in (MAX_DELAY, MAX_TIME, MAX_WORD) for off in (-1, 0, 1)]
 EDGES = [*LIMITS, "0", "00", "4294967296", "99999999999999999999999", "0000000000000000000000000000005"]
+PARTS = ["1", "1", "2", "3", "4", "7", "10", "64", "0010", "1000", str(MAX_PARTS), str(MAX_PARTS + 1), "0", str(MAX_WORD + 2)]
 UNREADABLE = ["-1", "+1", "1.5", "x", "1_0", "0x1"]
 HORIZONS = ["5", "20", "40", "60", "1000", "100000", str(MAX_TIME)]
 
@@ -55,6 +56,12 @@ class Words:
         if points and self.often(0.4):
             return str(self.pick(points) + self.rng.randrange(5))
         return str(self.rng.randint(0, self.span + 2)) if self.often(0.98) else self.pick(UNREADABLE)
+
+    def parts(self):
+        """How many parts of a window, if it is cut at all."""
+        if self.often(0.3):
+            return []
+        return [self.pick(PARTS) if self.often(0.98) else self.pick(UNREADABLE)]
 
     def horizon(self):
         return self.time() if self.often(0.6) else self.pick(HORIZONS)

@@ -1,9 +1,10 @@
 """A session: of each line of commands the reply."""
 from dataclasses import replace
+from itertools import groupby
 
 from . import dump, edits
 from .run import waves
-from .tables import CAUSES, CONSTANTS, GATES, MAX_BATCH, MAX_HOLDS, MAX_LINE, MAX_WORD, NETS, VALUES, Refused
+from .tables import CAUSES, CONSTANTS, GATES, MAX_BATCH, MAX_HOLDS, MAX_LINE, MAX_PARTS, MAX_WORD, NETS, VALUES, Refused
 from .tokens import number_of
 
 
@@ -104,11 +105,25 @@ def points(snapshot, name):
     return [f"{time} {it}" for time, it in sorted(snapshot.design.nets[name].points.items())]
 
 
-def window(snapshot, name, begin, end):
+def window(snapshot, name, begin, end, count=None):
     changes = snapshot.wave(name, end)
     edits.check(begin <= end, "TimeTooLarge")
     first = [it for time, it in changes if time <= begin][-1]
-    return [f"{begin} {first}", *(f"{time} {it}" for time, it in changes if begin < time <= end)]
+    later = [it for it in changes if begin < it[0] <= end]
+    if count is not None:
+        return part_lines(first, later, lambda time: ((time - begin) * count - 1) // (end - begin))
+    return [f"{begin} {first}", *(f"{time} {it}" for time, it in later)]
+
+
+def part_lines(value, changes, part_of):
+    """The lines of the parts that these changes lie in, of a net that had this value before them."""
+    lines = []
+    for _, part in groupby(changes, lambda it: part_of(it[0])):
+        (time, last), *more = part
+        last = more[-1][1] if more else last
+        lines.append(f"{time} {value} {last} {'more' if more else 'one'}")
+        value = last
+    return lines
 
 
 # The words of commands: each reads a word or refuses it.
@@ -126,6 +141,11 @@ def name(word):
 def number(word):
     readable(word.isdigit(), word)
     return number_of(word, MAX_WORD)
+
+
+def part_count(word):
+    count = number(word)
+    return readable(1 <= count <= MAX_PARTS, count)
 
 
 def one_of(words):
@@ -174,18 +194,23 @@ TOOL_QUESTIONS = {
     "drivers": (drivers, name),
     "readers": (readers, name),
     "points": (points, name),
-    "window": (window, name, number, number),
+    "window": (window, name, number, number, (part_count,)),
 }
 
 
 def read_words(forms, words):
-    """What the words behind a command's say, read one by one as its form has them; a list at its end takes all others."""
+    """What the words behind a command's say, read one by one as its form has them; a list at its end takes all others, and what
+    stands in brackets one more, if there is one."""
     said, left = [], list(words)
     for form in forms:
         if isinstance(form, list):
             said.append(tuple(form[0](it) for it in left))
             left = []
             continue
+        if isinstance(form, tuple):
+            if not left:
+                continue
+            [form] = form
         count = 2 if form is delays else 1
         readable(len(left) >= count, "")
         said.append(form(*left[:count]))

@@ -18,6 +18,7 @@ MAX_INSTANCES = 65_536
 MAX_LINE = 4_096
 MAX_BATCH = 4_096
 MAX_HOLDS = 64
+MAX_PARTS = 65_536
 MAX_WORD = 2**64 - 1
 
 INVERTED = {"0": "1", "1": "0", "x": "x", "z": "z"}
