@@ -18,7 +18,7 @@ from .limits import MOST_TEXT
 from .lines import checked_line, line_of
 from .names import Names, read_names
 from .picture import Picture
-from .program import command_words, program_path
+from .program import command_words, program_path, tool_path
 from .questions import Questions
 from .refusal import commit_refused
 from .replies import Reply
@@ -73,7 +73,7 @@ class Session(Edits[int], Questions):
         self.design = path or "the text"
         self._names: Optional[Names] = None
         try:
-            self._channel = Channel(program_path(program), words, timeout, files)
+            self._channel = Channel(tool_path(program_path(program)), words, timeout, files)
             self.ask([HARMLESS])
         except ProgramEnded as ended:
             if path and ended.errors.endswith(READ_FAILED):

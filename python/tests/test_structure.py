@@ -1,7 +1,10 @@
 """What a session says of its nets and gates, and of a part of a wave. The answers are worked out by hand."""
-from gatebench import Change, Gate, QuestionMissing, Refused, Session
+import os
+
+from gatebench import Change, Gate, ProgramEnded, QuestionMissing, Refused, Session
 from gatebench.netlist import netlist_of
 from gatebench.netlist_edits import edited_in
+from gatebench.program import program_path, tool_path
 
 from .support import WithFolder
 
@@ -102,6 +105,15 @@ class Structures(WithFolder):
         session.begin()
         session.nets()
         self.assertEqual(session.commit(), session.ask(["value y 0"])[0].version(""))
+
+    def test_of_a_script_the_file_beside_it_is_started(self) -> None:
+        script = self.write("gatebench", "#!/bin/sh\nexit 9\n")
+        os.chmod(script, 0o755)
+        with self.assertRaises(ProgramEnded):
+            Session(text=TEXT, program=script)
+        os.symlink(os.path.abspath(tool_path(program_path())), os.path.join(self.folder, "gatetool"))
+        with Session(text=TEXT, program=script) as session:
+            self.assertEqual(session.inputs(), ["a", "b", "k"])
 
     def test_it_is_asked_once_what_a_program_knows(self) -> None:
         lines = []
