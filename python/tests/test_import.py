@@ -3,8 +3,10 @@ import os
 import shutil
 import subprocess
 import sys
+import tempfile
 import unittest
 from typing import Tuple
+from unittest import mock
 
 from gatebench import Session
 from gatebench.importing import ImportRefused, Options, Timing, import_design, unit_of
@@ -226,6 +228,21 @@ class Command(WithFolder):
         self.assertTrue(
             ran.stderr.startswith("m.v:2: g: a gate takes one bit, and not 2 at once; name the bit\n"), ran.stderr
         )
+
+    def test_folders_with_a_blank_in_their_names(self) -> None:
+        folder = os.path.join(self.folder, "my files")
+        os.mkdir(folder)
+        source = self.write("my files/m.v", '`include "width.vh"\nmodule m(input [`TOP:0] a, output y);\n  assign y = &a;\nendmodule\n')
+        self.write("my files/width.vh", "`define TOP 1\n")
+        library = shutil.copy(os.path.join(EXAMPLES, "cells.lib"), folder)
+        options = Options((source,), libraries=(library,), synthesize=True)
+        with mock.patch.object(tempfile, "tempdir", folder):
+            self.assertIn("module m(input \\a[1] , input \\a[0] , output y);", import_design(options).text)
+            self.assertEqual(sorted(os.listdir(folder)), ["cells.lib", "m.v", "width.vh"])
+            fault = self.write("my files/width.vh", "`define TOP 1\nmodule ;\n")
+            with self.assertRaises(ImportRefused) as caught:
+                import_design(options)
+        self.assertEqual([(it.file, it.line, it.word) for it in caught.exception.faults], [(fault, 2, ";")])
 
     def test_without_yosys(self) -> None:
         self.write("m.v", "module m; endmodule\n")

@@ -67,10 +67,19 @@ class Yosys:
         for number, source in enumerate(self.sources.files):
             if source.is_cells == are_cells:
                 path = self.write(f"{self.stage}{number}.v", source.text)
-                around = os.path.dirname(os.path.abspath(source.path))
-                words = f"{how}{'-sv ' * source.path.endswith('.sv')}{'' if ' ' in around else f'-I{around} '}"
+                around = self.folder_of(source, f"{self.stage}{number}.folder")
+                words = f"{how}{'-sv ' * source.path.endswith('.sv')}-I{around} "
                 lines.append(f"read_verilog -icells {words}{quoted(path)}")
         return lines
+
+    def folder_of(self, source: Source, link: str) -> str:
+        """The folder of a file, in which it may include others; a link to it where yosys would read its path as several words."""
+        folder = os.path.dirname(os.path.abspath(source.path))
+        if not has_blank(folder):
+            return folder
+        if not os.path.lexists(self.path(link)):
+            os.symlink(folder, self.path(link))
+        return self.path(link)
 
     def gate_lines(self) -> List[str]:
         """The line that reads the empty modules of gates."""
@@ -86,7 +95,8 @@ class Yosys:
     def run(self, lines: Sequence[str]) -> "subprocess.CompletedProcess[str]":
         script = self.write("script.ys", "\n".join(lines) + "\n")
         words = [self.program, "-q", "-T", "-s", script]
-        return subprocess.run(words, capture_output=True, encoding="utf-8", errors="surrogateescape")
+        environment = {**os.environ, "TMPDIR": self.folder}
+        return subprocess.run(words, capture_output=True, encoding="utf-8", errors="surrogateescape", env=environment)
 
     def netlist(self) -> Ran:
         """The netlist with all hierarchy taken apart, as JSON. ImportRefused with what yosys refuses."""
@@ -186,9 +196,11 @@ class Yosys:
         return self.sources.files[int(number[1])] if number else None
 
     def original(self, path: str) -> str:
-        """The file that a text of this run was made of."""
+        """The file that a text of this run was made of, or that it includes."""
         source = self.source(path)
-        return source.path if source else path or "the design"
+        if source:
+            return source.path
+        return os.path.realpath(path) if path.startswith(self.folder) else path or "the design"
 
 
 CURE = "yosys says more: run it over the file by itself"
@@ -226,5 +238,15 @@ def count_in(path: str) -> int:
         return sum(int(it) for it in re.findall(r"(\d+) objects", file.read()))
 
 
+# Where the files of a run go if the usual folder has a blank in its path: not all commands of yosys take such a path.
+ROOM = "/tmp"
+
+
+def has_blank(path: str) -> bool:
+    return len(path.split()) != 1
+
+
 def room() -> "tempfile.TemporaryDirectory[str]":
-    return tempfile.TemporaryDirectory(prefix="gatebench-import-")
+    """A folder for the files of a run."""
+    usual = tempfile.gettempdir()
+    return tempfile.TemporaryDirectory(prefix="gatebench-import-", dir=ROOM if has_blank(usual) else usual)
