@@ -1,6 +1,5 @@
 """The commands of `python -m gatebench`: their words, what they print and their statuses."""
 import argparse
-import difflib
 import os
 import sys
 from typing import List, Optional, Sequence
@@ -14,6 +13,7 @@ from .dump import Dump
 from .errors import GatebenchError
 from .importing import command as import_command
 from .junit import junit_of
+from .near import near, there_is
 from .picture import Picture, window
 from .progress import Line
 from .script import BadLine, BadStep, Opening, carry_out, read_script
@@ -186,9 +186,7 @@ def picture_of(
 
 def wave_of(dump: Dump, net: str) -> Wave:
     if net not in dump.waves:
-        near = difflib.get_close_matches(net, dump.waves, 3)
-        hint = f"; there is {', '.join(near)}" if near else ""
-        raise DrawError(f"no net is named {net}{hint}")
+        raise DrawError(f"no net is named {net}{there_is(near(net, list(dump.waves)))}")
     return dump.waves[net]
 
 

@@ -206,7 +206,9 @@ class Session(Edits[int], Questions):
                 raise BatchRefused(reply.code, reply.name, edits[place], place)
         [reply] = self.ask(["commit"])
         if not reply.is_ok:
-            raise commit_refused(self.ask, edits, reply)
+            refused = commit_refused(self.ask, edits, reply)
+            refused.near = tuple(self.names_like(refused.code, refused.word))
+            raise refused
         return reply.version("commit")
 
 
@@ -228,7 +230,8 @@ class Held(Questions):
         return self._session.knows(questions)
 
     def refused(self, line: str, reply: Reply) -> Refused:
-        return self._session.refused(f"{self._begin} {line}", reply)
+        whole = f"{self._begin} {line}"
+        return Refused(reply.code, reply.name, whole, self._session.word_at_fault(whole, reply))
 
     def free(self) -> int:
         """Gives the name back. Refused where it was given back before."""

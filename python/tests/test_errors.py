@@ -26,7 +26,7 @@ class Pickles(unittest.TestCase):
         no_reply.replies = [Reply((), "ok 1")]
         errors = [
             GatebenchError("something"),
-            Refused(2, "UnknownGate", "drop h"),
+            Refused(2, "UnknownGate", "drop h", near=("g",)),
             BatchRefused(5, "ZeroDelay", "delay g 0 1", 3),
             DesignRefused("m.v", 4, 2, "Syntax", "wire a"),
             DesignRefused("m.v", 4, 3, "Unsupported", "assign a = b;", FaultWord("assign", 4, 1)),

@@ -171,7 +171,7 @@ def command(view: View, line: str) -> List[str]:
         raise NotHere(f"{verb} is not for the page: each step is a batch of its own, and ctrl-C in the terminal ends it")
     else:
         [reply] = current.session.ask([line])
-        reply.version(line)
+        current.session.see_ok(line, reply)
         return list(reply.lines)
     return []
 
