@@ -138,6 +138,12 @@ class Command(WithFolder):
         places = [line.split(": ")[:2] for line in ran.stderr.splitlines()[:-1]]
         self.assertEqual(places, [["m.v:2", "ONE"], ["m.v:3", "TWO"]])
 
+    def test_a_library_with_too_few_cells_for_a_synthesis(self) -> None:
+        self.write("cells.lib", 'library (l) { cell (INV) { pin (A) { direction : input; } pin (Y) { direction : output; function : "!A"; } } }')
+        self.write("m.v", "module m(input a, b, output y); assign y = a & b; endmodule\n")
+        ran = self.run_import("m.v", "--synthesize", "--lib", "cells.lib")
+        self.assertRegex(ran.stderr, "^the design: yosys: Can't open ABC output file .*; synthesis wants more cells of the Liberty file: ")
+
     def test_connections_by_order(self) -> None:
         self.write("cells.lib", LIBRARY)
         self.write("cells.v", "module INV(output Y, input A);\n  not #3 g(Y, A);\nendmodule\n")
@@ -189,6 +195,8 @@ class Command(WithFolder):
         )
         self.write("one.v", "module one(input a, output y); INV u(.A(a), .Y(y)); endmodule\n")
         self.write("two.v", "module two(input b, output z); one u(b, z); endmodule\n")
+        ran = self.run_import("one.v", "two.v", "--lib", "cells.v", "--top", "NONE")
+        self.assertTrue(ran.stderr.startswith("the design: NONE: Module `NONE' not found; give the file that has it"), ran.stderr)
         ran = self.run_import("one.v", "two.v", "--lib", "cells.v")
         self.assertIn("module two(input b, output z);\n  one u(b, z);", ran.stdout)
         ran = self.run_import("one.v", "two.v", "--lib", "cells.v", "--top", "one")

@@ -186,9 +186,12 @@ class Yosys:
         return [self.fault(path, line, message) for path, line, message in errors]
 
     def fault(self, path: str, line: str, message: str) -> Fault:
-        word = re.search(r"unexpected '?(?:TOK_)?(\S+?)'?,?(?: |$)", message) or re.search(r"[`'\\]+([^`']+?)'", message)
+        token = re.search(r"unexpected '?(?:TOK_)?(\S+?)'?,?(?: |$)", message)
+        name = re.search(r"[`'\\]+([^`']+?)'", message)
+        is_users = name is not None and not name[1].startswith(self.folder)
+        word = spelled(token[1]) if token else name[1] if name and is_users else PROGRAM
         shown = re.sub(r"(?<=unexpected )TOK_(\w+)", lambda it: it[1].lower(), message).rstrip("!.\n")
-        return Fault(self.original(path), int(line or 0), spelled(word[1]) if word else "yosys", shown, cure(message))
+        return Fault(self.original(path), int(line or 0), word, shown, cure(message))
 
     def source(self, path: str) -> Optional[Source]:
         """What a text of this run was made of, None for another one."""
@@ -211,6 +214,7 @@ CURES = (
     ("of unknown type", "give its library by --lib, as Liberty or as Verilog"),
     ("does not have a port", "correct the name of the port, or give the file with the cell that was meant"),
     ("Re-definition", "give it once: leave one of the files out"),
+    ("ABC output file", "synthesis wants more cells of the Liberty file: an inverter, a buffer and a gate of two inputs, as a nand"),
     ("include", "give the file's folder, or write its text in its place"),
 )
 
