@@ -2,12 +2,13 @@
 from abc import ABC, abstractmethod
 from typing import Dict, FrozenSet, List, Optional, Sequence
 
+from .causes import BAD_COMMAND, FORMS
 from .command_word import command_word
 from .errors import QuestionMissing, Refused
 from .near import near
 from .replies import Reply
 
-UNKNOWN_NET, UNKNOWN_GATE, TIME_TOO_LARGE, OUT_OF_MEMORY, WORKER_LOST, BAD_COMMAND = 1, 2, 11, 14, 15, 16
+UNKNOWN_NET, UNKNOWN_GATE, TIME_TOO_LARGE, OUT_OF_MEMORY, WORKER_LOST = 1, 2, 11, 14, 15
 # Causes that lie with no word, and may be gone when the line comes again.
 NO_WORD = (OUT_OF_MEMORY, WORKER_LOST)
 
@@ -73,8 +74,10 @@ class Asked(ABC):
         return word
 
     def names_like(self, code: int, word: Optional[str]) -> List[str]:
-        """Names like a word for which a line was refused with a code that says that no net, or no gate, has this name; none where the
-        program does not list names."""
+        """Names like a word for which a line was refused with a code that says that no net, no gate or no command has this name; none where
+        the program does not list names."""
+        if code == BAD_COMMAND and word is not None:
+            return near(word, list(FORMS)) if word not in FORMS else []
         if code not in LISTS or word is None or not self.knows(TOOLS):
             return []
         return near(word, [it.partition(" ")[0] for it in self.answer(LISTS[code])])

@@ -1,7 +1,7 @@
 """What can go wrong, each as an exception of its own. All of them are a GatebenchError."""
 from typing import TYPE_CHECKING, Any, Dict, List, Optional, Sequence, Tuple, Type
 
-from .causes import of_command, of_text
+from .causes import form_for, of_command, of_text
 from .command_word import command_word
 from .near import there_is
 
@@ -30,8 +30,8 @@ class Refused(GatebenchError):
     """The program refused a command: it answered `no CODE NAME`, and nothing changed.
 
     `code` is the number and `name` the word of the refusal, as docs/commands.md lists them; `command` is the line, and `word` the
-    word of it that is at fault, None where that is not known. Where no net or gate has this name, `near` are names like it. Its
-    text says what the code means."""
+    word of it that is at fault, None where that is not known. Where no net or gate has this name, or no command, `near` are names
+    like it. Its text says what the code means, and what words a command has."""
 
     def __init__(self, code: int, name: str, command: str, word: Optional[str] = None, near: Sequence[str] = ()) -> None:
         super().__init__(code, name, command)
@@ -42,7 +42,7 @@ class Refused(GatebenchError):
         return f"no {self.code} {self.name}: {self.command}{self._means()}"
 
     def _means(self) -> str:
-        means = of_command(self.code, self.name)
+        means = of_command(self.code, self.name) + form_for(self.code, self.command)
         return f": {quoted(cut(self.word))}{means}{there_is(self.near)}" if self.word and means else means
 
 

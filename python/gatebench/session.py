@@ -203,13 +203,15 @@ class Session(Edits[int], Questions):
             if not reply.is_ok:
                 # It was not kept, so the batch would be carried out without it.
                 self.command("abort")
-                raise BatchRefused(reply.code, reply.name, edits[place], place)
+                raise self._with_near(BatchRefused(reply.code, reply.name, edits[place], place))
         [reply] = self.ask(["commit"])
         if not reply.is_ok:
-            refused = commit_refused(self.ask, edits, reply)
-            refused.near = tuple(self.names_like(refused.code, refused.word))
-            raise refused
+            raise self._with_near(commit_refused(self.ask, edits, reply))
         return reply.version("commit")
+
+    def _with_near(self, refused: Refused) -> Refused:
+        refused.near = tuple(self.names_like(refused.code, refused.word))
+        return refused
 
 
 class Held(Questions):

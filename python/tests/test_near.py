@@ -50,6 +50,9 @@ class Refusals(unittest.TestCase):
                 (lambda: session.value("enable", 0), ()),
                 (lambda: session.value("y", 21), ()),
                 (lambda: held.wave("dtaa"), ()),
+                (lambda: session.command("waev y"), ("wave",)),
+                (lambda: session.edits(["stmi sel 0 1"]), ("stim", "unstim")),
+                (lambda: session.command("stim sel 0 X"), ()),
             ):
                 with self.assertRaises(Refused) as caught:
                     ask()
