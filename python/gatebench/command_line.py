@@ -23,8 +23,9 @@ from .viewing import command as viewing
 from .wave import Wave
 from .wavedrom import wavedrom
 
-# Statuses: all is well; something failed; ended by an interrupt, as shells say it; argparse has its own for wrong words.
-WELL, FAILED, INTERRUPTED = 0, 1, 130
+# Statuses: all is well; something failed; ended by an interrupt, or since nobody reads what it prints, as shells say it; argparse
+# has its own for wrong words.
+WELL, FAILED, INTERRUPTED, UNREAD = 0, 1, 130, 141
 WRONG_WORDS = 2
 
 
@@ -35,7 +36,13 @@ def main(words: Sequence[str]) -> int:
         return WRONG_WORDS
     options = reader().parse_args(words)
     try:
-        return TASKS[options.task](options)
+        status = TASKS[options.task](options)
+        sys.stdout.flush()
+        return status
+    except BrokenPipeError:
+        # Who reads what is printed wants no more of it, and what is left goes nowhere.
+        os.dup2(os.open(os.devnull, os.O_WRONLY), sys.stdout.fileno())
+        return UNREAD
     except BadLine as bad:
         return fail(options, f"{options.commands}:{bad.number}: expected {bad.wanted}, got {bad.line.strip()}")
     except BadStep as bad:

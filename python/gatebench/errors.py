@@ -39,9 +39,10 @@ class Refused(GatebenchError):
         self.near = tuple(near)
 
     def __str__(self) -> str:
-        return f"no {self.code} {self.name}: {self.command}{self._means()}"
+        return f"no {self.code} {self.name}: {self.command}{self.means()}"
 
-    def _means(self) -> str:
+    def means(self) -> str:
+        """What stands behind the line in its text."""
         means = of_command(self.code, self.name) + form_for(self.code, self.command)
         return f": {quoted(cut(self.word))}{means}{there_is(self.near)}" if self.word and means else means
 
@@ -56,7 +57,7 @@ class BatchRefused(Refused):
         self.place = place
 
     def __str__(self) -> str:
-        return f"no {self.code} {self.name}: {self.command} (edit {self.place + 1} of the batch){self._means()}"
+        return f"no {self.code} {self.name}: {self.command} (edit {self.place + 1} of the batch){self.means()}"
 
 
 class DesignRefused(GatebenchError):

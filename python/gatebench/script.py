@@ -116,7 +116,8 @@ def carry_out(session: Questions, steps: Sequence[Step]) -> List[Reply]:
     replies = session.ask([it.line for it in steps])
     for step, reply in zip(steps, replies):
         if not step.is_met(reply):
-            raise BadStep(step.number, f"expected {step.wanted()}, got {step.got(reply)}")
+            means = "" if reply.is_ok else session.refused(step.line, reply).means()
+            raise BadStep(step.number, f"expected {step.wanted()}, got {step.got(reply)}{means}")
     return replies
 
 
