@@ -247,7 +247,7 @@ ROOM = "/tmp"
 
 
 def has_blank(path: str) -> bool:
-    return len(path.split()) != 1
+    return any(it.isspace() for it in path)
 
 
 def room() -> "tempfile.TemporaryDirectory[str]":
