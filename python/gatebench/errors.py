@@ -64,14 +64,15 @@ class DesignRefused(GatebenchError):
     """The program refused the design text at its line `line`, with `code` and `name` as docs/does-not-load.md lists them.
 
     `word` is the word at fault, at the column `column` of the line `word_line`; the three are None where the text leaves open
-    which word it is. `text` is what stands on the word's line, or on the program's. Its own text says what helps."""
+    which word it is. Of a module or a port that is not there `near` are names that may be meant. `text` is what stands on the word's line, or on the program's. Its own text says what helps."""
 
     def __init__(self, design: str, line: int, code: int, name: str, text: str = "", at: "Optional[FaultWord]" = None) -> None:
         place, word = (f"{at.line}:{at.column}", cut(at.word)) if at else (str(line), "")
-        what = f"{design}:{place}: {code} {name}{f' at {quoted(word)}' if word else ''}{of_text(code, name, word)}"
+        self.near = at.near if at else ()
+        what = f"{design}:{place}: {code} {name}{f' at {quoted(word)}' if word else ''}{of_text(code, name, word)}{there_is(self.near)}"
         super().__init__("\n".join([what, *marked(text, at)]))
         self.design, self.line, self.code, self.name, self.text = design, line, code, name, text.strip()[:SHOWN]
-        self.word, self.word_line, self.column = at if at else (None, None, None)
+        self.word, self.word_line, self.column = at[:3] if at else (None, None, None)
 
 
 # How much is shown of a word or of a line at fault, and of what stands before the word.
