@@ -15,6 +15,8 @@ mkdir "$TMPDIR/inside"
 cp '{program}' "$TMPDIR/inside/built"
 exec "$TMPDIR/inside/built" "$@"
 """
+# What it leaves in bin/.
+LEFT = "gatebench gatebench-unproved gatetool"
 
 
 class Tries(WithProgram):
@@ -50,11 +52,12 @@ class Tries(WithProgram):
 
     def test_a_program_is_left_that_says_it_is_unproved(self) -> None:
         self.assertIn("bin/gatebench is this UNPROVED build", self.says("tools/try").stdout)
-        self.assertEqual(self.left(), "gatebench gatebench-unproved")
+        self.assertEqual(self.left(), LEFT)
         self.write("m.v", "module m(input a, output y); buf #3 (y, a); endmodule\n")
-        ran = self.says("bin/gatebench", "m.v", "--horizon", "9", given="stim a 0 1\nwave y\n")
-        self.assertEqual(ran.stdout, "ok 1\n0 x\n3 1\nok 1\n")
-        self.assertRegex(ran.stderr, "^gatebench: UNPROVED, .*\n$")
+        for name, inputs in (("bin/gatebench", "no 16 BadCommand"), ("bin/gatetool", "a wire\nok 1")):
+            ran = self.says(name, "m.v", "--horizon", "9", given="stim a 0 1\nwave y\ninputs\n")
+            self.assertEqual(ran.stdout, f"ok 1\n0 x\n3 1\nok 1\n{inputs}\n")
+            self.assertRegex(ran.stderr, "^gatebench: UNPROVED, .*\n$")
 
     def test_it_is_not_installed(self) -> None:
         self.says("tools/try")
@@ -65,7 +68,7 @@ class Tries(WithProgram):
         self.write("commands", "stim a 0 1\n# nothing\nwave y\n")
         printed = self.says("tools/try", "m.v", "commands", "--delay", "4").stdout
         self.assertIn("    stim a 0 1                ok 1\n    # nothing\n    wave y                    0 x\n", printed)
-        self.assertEqual(self.left(), "gatebench gatebench-unproved")
+        self.assertEqual(self.left(), LEFT)
 
     def test_a_proved_program_stays(self) -> None:
         os.mkdir(self.path("bin"))

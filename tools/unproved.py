@@ -12,13 +12,14 @@ import subprocess
 import tempfile
 import time
 
-from workspace import ROOT, folder_of
+from workspace import ROOT, folder_of, link
 
-KEPT, WRAPPER = (os.path.join(ROOT, "bin", name) for name in ("gatebench-unproved", "gatebench"))
-# What bin/gatebench is until a demo puts the proved program there.
+KEPT, WRAPPER, TOOL = (os.path.join(ROOT, "bin", name) for name in ("gatebench-unproved", "gatebench", "gatetool"))
+# What bin/gatebench is until a demo puts the proved program there. It hands on the name by which it was started: as gatetool the
+# program knows the questions of tools.
 MARK = "#!/bin/sh\n# gatebench as `make try` leaves it, unproved\n"
 SCRIPT = MARK + """echo 'gatebench: UNPROVED, as make try left it; make demo builds the proved program' >&2
-exec "$(dirname "$(realpath "$0")")/gatebench-unproved" "$@"
+exec bash -c 'exec -a "$0" "$@"' "$0" "$(dirname "$(realpath "$0")")/gatebench-unproved" "$@"
 """
 
 
@@ -109,6 +110,7 @@ def keep(built):
         return False
     write(WRAPPER, SCRIPT)
     os.chmod(WRAPPER, 0o755)
+    link(os.path.basename(WRAPPER), TOOL)
     return True
 
 

@@ -31,6 +31,7 @@ from .errors import (
     TimedOut,
 )
 from .netlist import Gate, Netlist, netlist_of, read_netlist
+from .origins import Candidate
 from .picture import Picture, window
 from .program import program_path
 from .questions import Questions
@@ -49,6 +50,7 @@ __all__ = [
     "BatchRefused",
     "Bus",
     "BusChange",
+    "Candidate",
     "Change",
     "Closed",
     "DesignRefused",

@@ -2,11 +2,13 @@
 from abc import ABC, abstractmethod
 from typing import Dict, FrozenSet, List, Optional, Sequence
 
+from .causes import BAD_COMMAND, FORMS
 from .command_word import command_word
 from .errors import QuestionMissing, Refused
+from .near import near
 from .replies import Reply
 
-UNKNOWN_NET, TIME_TOO_LARGE, OUT_OF_MEMORY, WORKER_LOST, BAD_COMMAND = 1, 11, 14, 15, 16
+UNKNOWN_NET, UNKNOWN_GATE, TIME_TOO_LARGE, OUT_OF_MEMORY, WORKER_LOST = 1, 2, 11, 14, 15
 # Causes that lie with no word, and may be gone when the line comes again.
 NO_WORD = (OUT_OF_MEMORY, WORKER_LOST)
 
@@ -14,6 +16,9 @@ NO_WORD = (OUT_OF_MEMORY, WORKER_LOST)
 # each a line that changes nothing and that a program which knows it refuses for its name: no name has an apostrophe.
 TOOLS, PARTS, DIFF, FAULT = "nets", "window .. PARTS", "diff", "fault"
 PROBES: Dict[str, str] = {TOOLS: "drivers '", PARTS: "window ' 0 0 1", DIFF: "diff '", FAULT: "fault value ' 0"}
+
+# Of a code that says that there is no such name, the question which lists the names that there are.
+LISTS: Dict[int, str] = {UNKNOWN_NET: "nets", UNKNOWN_GATE: "gates"}
 
 
 class Asked(ABC):
@@ -55,10 +60,24 @@ class Asked(ABC):
             raise self.refused(line, reply)
 
     def refused(self, line: str, reply: Reply) -> Refused:
-        """What to raise for a line that was refused by itself. Where the line leaves open which word is at fault the program is asked:
+        """What to raise for a line that was refused by itself."""
+        word = self.word_at_fault(line, reply)
+        return Refused(reply.code, reply.name, line, word, self.names_like(reply.code, word))
+
+    def word_at_fault(self, line: str, reply: Reply) -> Optional[str]:
+        """The word for which a line was refused, None where it is not known. Where the line leaves open which it is the program is asked:
         it refuses the line once more."""
-        word = None
-        if command_word(line, reply.code) is None and reply.code not in NO_WORD and self.knows(FAULT):
+        word = command_word(line, reply.code)
+        if word is None and reply.code not in NO_WORD and self.knows(FAULT):
             [again] = self.ask([f"fault {line}"])
             word = again.end[len(reply.end) + 1 :] if again.end.startswith(f"{reply.end} ") else None
-        return Refused(reply.code, reply.name, line, word)
+        return word
+
+    def names_like(self, code: int, word: Optional[str]) -> List[str]:
+        """Names like a word for which a line was refused with a code that says that no net, no gate or no command has this name; none where
+        the program does not list names."""
+        if code == BAD_COMMAND and word is not None:
+            return near(word, list(FORMS)) if word not in FORMS else []
+        if code not in LISTS or word is None or not self.knows(TOOLS):
+            return []
+        return near(word, [it.partition(" ")[0] for it in self.answer(LISTS[code])])

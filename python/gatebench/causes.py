@@ -27,6 +27,16 @@ COMMANDS: Dict[int, Tuple[str, str]] = {
     21: ("NoTurnOff", "only `bufif1`, `bufif0`, `notif1` and `notif0` take a turn-off delay: leave `/Z` out, or give the gate delays without it before it gets another kind"),
 }
 
+BAD_COMMAND = 16
+# The words of each command, as docs/commands.md has them, and of the questions of tools that are no commands otherwise.
+EDITS_AND_MORE = (
+    "net N KIND", "input N", "dropnet N", "kind N KIND", "gate G KIND R F OUT IN..", "drop G", "delay G R F", "type G KIND",
+    "wire G OUT IN..", "stim N T V", "unstim N T", "horizon T", "begin", "commit", "abort", "hold K", "free K", "at K LINE", "quit",
+)  # fmt: skip
+QUESTIONS = ("value N T", "wave N", "next N T", "prev N T", "seek N T V", "vcd")
+OF_TOOLS = ("nets", "inputs", "gates", "drivers N", "readers N", "points N", "window N FROM TO")
+FORMS: Dict[str, str] = {it.split()[0]: it for it in EDITS_AND_MORE + QUESTIONS + OF_TOOLS}
+
 
 class TextFault(NamedTuple):
     """A way to get a text refused: the code, the name, what it may look like, and why it is refused and what helps."""
@@ -113,6 +123,14 @@ def of_command(code: int, name: str) -> str:
     """What a refused command's code means, behind a colon; nothing where this package does not know it."""
     known, means = COMMANDS.get(code, ("", ""))
     return f": {means}" if known == name else ""
+
+
+def form_for(code: int, line: str) -> str:
+    """The words that a line has to have which is no command, behind a semicolon; nothing where its first word is none either."""
+    verb, *rest = line.split() or [""]
+    asked = rest[1] if verb == "at" and len(rest) > 1 else verb
+    form = FORMS.get(asked if FORMS.get(asked) in QUESTIONS + OF_TOOLS else verb)
+    return f"; it is `{form}`" if form and code == BAD_COMMAND else ""
 
 
 def of_text(code: int, name: str, word: str = "") -> str:

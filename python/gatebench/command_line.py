@@ -1,6 +1,5 @@
 """The commands of `python -m gatebench`: their words, what they print and their statuses."""
 import argparse
-import difflib
 import os
 import sys
 from typing import List, Optional, Sequence
@@ -14,6 +13,7 @@ from .dump import Dump
 from .errors import GatebenchError
 from .importing import command as import_command
 from .junit import junit_of
+from .near import near, there_is
 from .picture import Picture, window
 from .progress import Line
 from .script import BadLine, BadStep, Opening, carry_out, read_script
@@ -23,8 +23,9 @@ from .viewing import command as viewing
 from .wave import Wave
 from .wavedrom import wavedrom
 
-# Statuses: all is well; something failed; ended by an interrupt, as shells say it; argparse has its own for wrong words.
-WELL, FAILED, INTERRUPTED = 0, 1, 130
+# Statuses: all is well; something failed; ended by an interrupt, or since nobody reads what it prints, as shells say it; argparse
+# has its own for wrong words.
+WELL, FAILED, INTERRUPTED, UNREAD = 0, 1, 130, 141
 WRONG_WORDS = 2
 
 
@@ -35,7 +36,13 @@ def main(words: Sequence[str]) -> int:
         return WRONG_WORDS
     options = reader().parse_args(words)
     try:
-        return TASKS[options.task](options)
+        status = TASKS[options.task](options)
+        sys.stdout.flush()
+        return status
+    except BrokenPipeError:
+        # Who reads what is printed wants no more of it, and what is left goes nowhere.
+        os.dup2(os.open(os.devnull, os.O_WRONLY), sys.stdout.fileno())
+        return UNREAD
     except BadLine as bad:
         return fail(options, f"{options.commands}:{bad.number}: expected {bad.wanted}, got {bad.line.strip()}")
     except BadStep as bad:
@@ -186,9 +193,7 @@ def picture_of(
 
 def wave_of(dump: Dump, net: str) -> Wave:
     if net not in dump.waves:
-        near = difflib.get_close_matches(net, dump.waves, 3)
-        hint = f"; there is {', '.join(near)}" if near else ""
-        raise DrawError(f"no net is named {net}{hint}")
+        raise DrawError(f"no net is named {net}{there_is(near(net, list(dump.waves)))}")
     return dump.waves[net]
 
 

@@ -1,6 +1,7 @@
 """Which word of a refused command is at fault, where the line and the code leave no other (docs/SPEC.md, A session)."""
 from typing import Callable, Dict, Optional
 
+from .causes import BAD_COMMAND, FORMS
 from .limits import MOST_DELAY
 
 # Of each code the place of the word at fault, by the command's first word. A gate with several nets leaves open which one is unknown.
@@ -33,6 +34,8 @@ def command_word(line: str, code: int) -> Optional[str]:
         words = words[2:]
     if not words:
         return None
+    if code == BAD_COMMAND:
+        return words[0] if words[0] not in FORMS else None
     if code in AT_FAULT and words[0] in DELAYS:
         first = DELAYS[words[0]]
         return next((it for it in words[first : first + 2] if has(it, AT_FAULT[code])), None)

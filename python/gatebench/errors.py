@@ -1,8 +1,9 @@
 """What can go wrong, each as an exception of its own. All of them are a GatebenchError."""
-from typing import TYPE_CHECKING, Any, Dict, List, Optional, Tuple, Type
+from typing import TYPE_CHECKING, Any, Dict, List, Optional, Sequence, Tuple, Type
 
-from .causes import of_command, of_text
+from .causes import form_for, of_command, of_text
 from .command_word import command_word
+from .near import there_is
 
 if TYPE_CHECKING:
     from .fault_word import FaultWord
@@ -29,15 +30,21 @@ class Refused(GatebenchError):
     """The program refused a command: it answered `no CODE NAME`, and nothing changed.
 
     `code` is the number and `name` the word of the refusal, as docs/commands.md lists them; `command` is the line, and `word` the
-    word of it that is at fault, None where that is not known. Its text says what the code means."""
+    word of it that is at fault, None where that is not known. Where no net or gate has this name, or no command, `near` are names
+    like it. Its text says what the code means, and what words a command has."""
 
-    def __init__(self, code: int, name: str, command: str, word: Optional[str] = None) -> None:
+    def __init__(self, code: int, name: str, command: str, word: Optional[str] = None, near: Sequence[str] = ()) -> None:
+        super().__init__(code, name, command)
         self.code, self.name, self.command, self.word = code, name, command, word or command_word(command, code)
-        super().__init__(f"no {code} {name}: {command}{self._means()}")
+        self.near = tuple(near)
 
-    def _means(self) -> str:
-        means = of_command(self.code, self.name)
-        return f": {quoted(cut(self.word))}{means}" if self.word and means else means
+    def __str__(self) -> str:
+        return f"no {self.code} {self.name}: {self.command}{self.means()}"
+
+    def means(self) -> str:
+        """What stands behind the line in its text."""
+        means = of_command(self.code, self.name) + form_for(self.code, self.command)
+        return f": {quoted(cut(self.word))}{means}{there_is(self.near)}" if self.word and means else means
 
 
 class BatchRefused(Refused):
@@ -50,21 +57,22 @@ class BatchRefused(Refused):
         self.place = place
 
     def __str__(self) -> str:
-        return f"no {self.code} {self.name}: {self.command} (edit {self.place + 1} of the batch){self._means()}"
+        return f"no {self.code} {self.name}: {self.command} (edit {self.place + 1} of the batch){self.means()}"
 
 
 class DesignRefused(GatebenchError):
     """The program refused the design text at its line `line`, with `code` and `name` as docs/does-not-load.md lists them.
 
     `word` is the word at fault, at the column `column` of the line `word_line`; the three are None where the text leaves open
-    which word it is. `text` is what stands on the word's line, or on the program's. Its own text says what helps."""
+    which word it is. Of a module or a port that is not there `near` are names that may be meant. `text` is what stands on the word's line, or on the program's. Its own text says what helps."""
 
     def __init__(self, design: str, line: int, code: int, name: str, text: str = "", at: "Optional[FaultWord]" = None) -> None:
         place, word = (f"{at.line}:{at.column}", cut(at.word)) if at else (str(line), "")
-        what = f"{design}:{place}: {code} {name}{f' at {quoted(word)}' if word else ''}{of_text(code, name, word)}"
+        self.near = at.near if at else ()
+        what = f"{design}:{place}: {code} {name}{f' at {quoted(word)}' if word else ''}{of_text(code, name, word)}{there_is(self.near)}"
         super().__init__("\n".join([what, *marked(text, at)]))
         self.design, self.line, self.code, self.name, self.text = design, line, code, name, text.strip()[:SHOWN]
-        self.word, self.word_line, self.column = at if at else (None, None, None)
+        self.word, self.word_line, self.column = at[:3] if at else (None, None, None)
 
 
 # How much is shown of a word or of a line at fault, and of what stands before the word.

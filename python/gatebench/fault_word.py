@@ -3,9 +3,10 @@
 A word is given only where the text leaves no other: it is shown to a person, who would look for a fault where there is none."""
 import re
 from bisect import bisect_left, bisect_right
-from typing import Callable, Dict, Iterator, List, NamedTuple, Optional
+from typing import Callable, Dict, Iterator, List, NamedTuple, Optional, Tuple
 
 from .limits import MOST_BOUND, MOST_DELAY, MOST_NAME, MOST_TEXT
+from .near import MOST, near
 from .netlist_text import GATE_KINDS, MANY_OUTPUTS
 from .verilog_grammar import NAMES, Grammar, PlacedGate, PlacedInstance, PlacedModule
 from .verilog_tokens import Token, tokens_of
@@ -17,11 +18,12 @@ WHOLE = re.compile(r"`\w+|\d+[ \t]*'[sS]?[bodhBODH][ \t]*[0-9a-zA-Z_?]+")
 
 
 class FaultWord(NamedTuple):
-    """A word as it is written, with its line and its column, both from 1."""
+    """A word as it is written, with its line and its column, both from 1. `near` are names that may be meant in its place."""
 
     word: str
     line: int
     column: int
+    near: Tuple[str, ...] = ()
 
 
 class RefusedText(NamedTuple):
@@ -52,12 +54,14 @@ def fault_word(text: str, line: int, name: str, delay: Optional[int] = None) -> 
     begin, end = lines[line - 1], [*lines, len(text) + 1][line]
     places = [it.place for it in tokens]
     of_line = range(bisect_left(places, begin), bisect_left(places, end))
-    found = find(RefusedText(tokens, Grammar(tokens), begin, end, of_line, delay))
+    of = RefusedText(tokens, Grammar(tokens), begin, end, of_line, delay)
+    found = find(of)
     if found is None or not found.text:
         return None
     at = bisect_right(lines, found.place) - 1
     whole = WHOLE.match(text, found.place)
-    return FaultWord(whole[0] if whole and found.kind in ("OTHER", "NUMBER") else found.text, at + 1, found.place - lines[at] + 1)
+    word = whole[0] if whole and found.kind in ("OTHER", "NUMBER") else found.text
+    return FaultWord(word, at + 1, found.place - lines[at] + 1, tuple(names_for(of, found)))
 
 
 def line_starts(text: str) -> List[int]:
@@ -236,6 +240,18 @@ def surplus(instance: PlacedInstance, ports: List[str]) -> Optional[Token]:
         seen.add(token.name)
     more = instance.by_order[len(ports) :]
     return next((it.token for it in more if it), instance.name) if more else None
+
+
+def names_for(of: RefusedText, token: Token) -> List[str]:
+    """The names that may be meant where a token names a module that is not there, or a port that its module has not."""
+    modules = {it.name.name: it for it in of.grammar.modules}
+    for instance in instances_named(of):
+        known = modules.get(instance.module.name)
+        if known is None and token is instance.module:
+            return near(token.name, list(modules))
+        if known is not None and any(token is it for it in instance.by_name):
+            return near(token.name, known.ports) or known.ports[:MOST]
+    return []
 
 
 # The third and the fourth pass say the line of a word `module`.

@@ -31,3 +31,11 @@ def command_words(design: str, horizon: Optional[int], delay: Optional[int], wor
     options = (("--horizon", horizon), ("--delay", delay), ("--workers", workers))
     given = [word for name, value in options if value is not None for word in (name, str(value))]
     return [TOOL, *given, "--", design]
+
+
+def tool_path(program: str) -> str:
+    """The file gatetool beside a program gatebench, where there is one, else the program itself. A script, as `make try` leaves one,
+    is not told the name that it is started by, and goes by that of its file."""
+    folder, name = os.path.split(program)
+    tool = os.path.join(folder, TOOL)
+    return tool if folder and name == "gatebench" and os.access(tool, os.X_OK) else program

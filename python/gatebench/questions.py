@@ -6,6 +6,7 @@ from .bus import Bus
 from .dump import Dump, dump_of
 from .errors import BadReply
 from .lines import Word, line_of
+from .origins import Candidate, candidates, nets_read
 from .stimulus import bits_among
 from .structure import Structure
 from .values import Change, GivenValue, change_of, value_of
@@ -58,6 +59,16 @@ class Questions(Structure):
         """The first change after a moment to a value, None where there is none."""
         return optional_change(self._answer("seek", net, time, value_of(value)))
 
+    def why(self, net: str, time: int) -> List[Candidate]:
+        """What may have made the change of a net at a moment: of each input of the gates that drive it the last change before, first
+        those that lie a delay of the gate before it. None where an input changes by its stimulus. ValueError where the net does not
+        change then. The program does not say which event made a change."""
+        change = self.next(net, time - 1) if time else None
+        if time and (change is None or change.time != time):
+            raise ValueError(f"{net} does not change at {time}")
+        gates = self.drivers(net)
+        return candidates(gates, time, changes_beside(self, "prev", nets_read(gates), time))
+
     def vcd(self) -> str:
         """The whole run as a value change dump, the text that wave viewers read."""
         return "".join(f"{line}\n" for line in self.dump_lines())
@@ -107,6 +118,13 @@ class Questions(Structure):
         if not all(it.is_ok or it.code == TIME_TOO_LARGE for it in replies):
             raise BadReply(f"the net {net!r} had a wave and has no value")
         return [it.is_ok for it in replies]
+
+
+def changes_beside(version: Questions, question: str, nets: Sequence[str], time: int) -> Dict[str, Optional[Change]]:
+    """Of each net the change behind a moment, by `next`, or the one before it, by `prev`; the value at 0 is one. None where there
+    is none."""
+    answers = version.answers([line_of(question, it, time) for it in nets])
+    return {net: optional_change(line) for net, [line] in zip(nets, answers)}
 
 
 def optional_change(line: str) -> Optional[Change]:

@@ -2,7 +2,8 @@
 
 Beside the commands of the language, blank lines and comments a file may have these lines:
 
-    design FILE OPTIONS..        first of all: the design, by its path from this file's folder, and --horizon and --delay
+    design FILE OPTIONS..        first of all: the design, by its path from this file's folder, and --horizon and --delay; a path
+                                 with a blank stands in quotes
     expect NET T VALUE           the net has this value at the moment T
     expect-wave NET T V T V ..   these are all changes of the net
     expect-no-pulse NET N        no value of the net lasts less than N time units between two changes
@@ -12,6 +13,7 @@ Beside the commands of the language, blank lines and comments a file may have th
 What is expected is asked where it stands, of the version that is the present one there."""
 import argparse
 import os
+import shlex
 from typing import List, NamedTuple, NoReturn, Optional, Sequence, Tuple
 
 from .errors import GatebenchError
@@ -114,7 +116,8 @@ def carry_out(session: Questions, steps: Sequence[Step]) -> List[Reply]:
     replies = session.ask([it.line for it in steps])
     for step, reply in zip(steps, replies):
         if not step.is_met(reply):
-            raise BadStep(step.number, f"expected {step.wanted()}, got {step.got(reply)}")
+            means = "" if reply.is_ok else session.refused(step.line, reply).means()
+            raise BadStep(step.number, f"expected {step.wanted()}, got {step.got(reply)}{means}")
     return replies
 
 
@@ -136,7 +139,7 @@ def script_of(text: str, folder: str) -> Script:
         if words[0] == "design":
             if opening is not None or steps:
                 raise BadLine(number, "the line of the design before all others", line)
-            opening = opening_of(words[1:], folder, number, line)
+            opening = opening_of(folder, number, line)
         elif words == ["quit"]:
             quit_at = number
         else:
@@ -188,9 +191,9 @@ def option_reader() -> argparse.ArgumentParser:
     return reader
 
 
-def opening_of(words: List[str], folder: str, number: int, line: str) -> Opening:
+def opening_of(folder: str, number: int, line: str) -> Opening:
     try:
-        found = option_reader().parse_args(words)
+        found = option_reader().parse_args(shlex.split(line)[1:])
     except ValueError:
         raise BadLine(number, "design FILE [--horizon H] [--delay D]", line) from None
     return Opening(os.path.join(folder, found.design), found.horizon, found.delay)

@@ -18,7 +18,7 @@ from .limits import MOST_TEXT
 from .lines import checked_line, line_of
 from .names import Names, read_names
 from .picture import Picture
-from .program import command_words, program_path
+from .program import command_words, program_path, tool_path
 from .questions import Questions
 from .refusal import commit_refused
 from .replies import Reply
@@ -73,7 +73,7 @@ class Session(Edits[int], Questions):
         self.design = path or "the text"
         self._names: Optional[Names] = None
         try:
-            self._channel = Channel(program_path(program), words, timeout, files)
+            self._channel = Channel(tool_path(program_path(program)), words, timeout, files)
             self.ask([HARMLESS])
         except ProgramEnded as ended:
             if path and ended.errors.endswith(READ_FAILED):
@@ -203,11 +203,15 @@ class Session(Edits[int], Questions):
             if not reply.is_ok:
                 # It was not kept, so the batch would be carried out without it.
                 self.command("abort")
-                raise BatchRefused(reply.code, reply.name, edits[place], place)
+                raise self._with_near(BatchRefused(reply.code, reply.name, edits[place], place))
         [reply] = self.ask(["commit"])
         if not reply.is_ok:
-            raise commit_refused(self.ask, edits, reply)
+            raise self._with_near(commit_refused(self.ask, edits, reply))
         return reply.version("commit")
+
+    def _with_near(self, refused: Refused) -> Refused:
+        refused.near = tuple(self.names_like(refused.code, refused.word))
+        return refused
 
 
 class Held(Questions):
@@ -228,7 +232,8 @@ class Held(Questions):
         return self._session.knows(questions)
 
     def refused(self, line: str, reply: Reply) -> Refused:
-        return self._session.refused(f"{self._begin} {line}", reply)
+        whole = f"{self._begin} {line}"
+        return Refused(reply.code, reply.name, whole, self._session.word_at_fault(whole, reply))
 
     def free(self) -> int:
         """Gives the name back. Refused where it was given back before."""

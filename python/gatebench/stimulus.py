@@ -2,6 +2,7 @@
 from typing import List, Optional, Sequence, Union
 
 from .lines import line_of
+from .near import near, there_is
 from .values import VALUES
 
 # What may be given to a vector: a number, or its bits from the left, as "00x1".
@@ -47,5 +48,6 @@ def bits_among(name: str, nets: Sequence[str]) -> List[str]:
     """The bits of a vector among the names of nets, in their order, which is from the left. ValueError where there is none."""
     found = [it for it in nets if it.startswith(f"{name}[") and it[len(name) + 1 : -1].isdigit() and it.endswith("]")]
     if not found:
-        raise ValueError(f"no net is a bit of {name!r}")
+        vectors = dict.fromkeys(it.rpartition("[")[0] for it in nets if it.endswith("]"))
+        raise ValueError(f"no net is a bit of {name!r}{there_is(near(name, list(vectors)))}")
     return found

@@ -109,8 +109,9 @@ class Commands(WithFolder):
         )  # fmt: skip
         self.write("commands", "drop g\n")
         self.says(
-            "faults", "m.v", "commands", status=1, errors="gatebench faults: commands:1: expected ok, got no 2 UnknownGate\n"
-        )
+            "faults", "m.v", "commands", status=1,
+            errors="gatebench faults: commands:1: expected ok, got no 2 UnknownGate: `g`: no gate has this name\n",
+        )  # fmt: skip
 
     def test_sweeps(self) -> None:
         self.write("m.v", "module m(input a, b, output y); not #4 inv(n, a); and #2 g(y, a, n); endmodule")

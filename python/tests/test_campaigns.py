@@ -123,12 +123,14 @@ class Runs(WithFolder):
 
     def test_a_refused_what_if_leaves_the_others_as_they_are(self) -> None:
         slow = WhatIf("slow", "", ("delay inv 9 9",), ("delay inv 4 4",))
-        wrong = WhatIf("wrong", "", ("delay inv 1 1", "drop h"), ())
+        wrong = WhatIf("wrong", "", ("delay inv 1 1", "drop inw"), ())
         verdicts = run_all(bench(), [slow, wrong, slow], Differs())
         self.assertEqual(verdicts[0], Verdict("differs", 27, "y", "0, not 1"))
         self.assertEqual(verdicts[2], verdicts[0])
         self.assertEqual(verdicts[1].status, "refused")
-        self.assertIn("UnknownGate: drop h", verdicts[1].note)
+        self.assertIn("UnknownGate: drop inw", verdicts[1].note)
+        # It says of no other name: which there are follows the what-ifs before.
+        self.assertTrue(verdicts[1].note.endswith("no gate has this name"), verdicts[1].note)
 
     def test_what_is_longer_than_a_batch(self) -> None:
         points = tuple(f"stim b {time} {time % 2}" for time in range(1, 5001))

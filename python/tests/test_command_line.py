@@ -60,11 +60,13 @@ class Draws(WithFolder):
         self.assertIn("no 18 UnknownHold", self.draw(*words, "--before", "late")[2])
 
     def test_a_command_that_is_refused(self) -> None:
-        self.write("commands", "stim a 0 0\n\nstim q 10 1\n")
-        self.assertEqual(
-            self.draw("m.v", "commands"),
-            (1, "", "gatebench draw: commands:3: expected ok, got no 1 UnknownNet\n"),
-        )
+        for line, said in (
+            ("stim q 10 1", "1 UnknownNet: `q`: no net has this name"),
+            ("stim A 10 1", "1 UnknownNet: `A`: no net has this name; there is a"),
+            ("commit", "19 NoBatch: there is no batch to end"),
+        ):
+            self.write("commands", f"stim a 0 0\n\n{line}\n")
+            self.assertEqual(self.draw("m.v", "commands"), (1, "", f"gatebench draw: commands:3: expected ok, got no {said}\n"))
 
     def test_what_can_t_be_drawn(self) -> None:
         wrong = {
@@ -78,6 +80,15 @@ class Draws(WithFolder):
         }
         for words, said in wrong.items():
             self.assertEqual(self.draw(*words), (1, "", f"gatebench draw: {said}\n"))
+
+    def test_nobody_reads_what_is_printed(self) -> None:
+        environment = {**os.environ, "PYTHONPATH": os.path.join(ROOT, "python")}
+        reader, writer = os.pipe()
+        os.close(reader)
+        words = [sys.executable, "-m", "gatebench", "draw", "m.v"]
+        ran = subprocess.run(words, cwd=self.folder, env=environment, stdout=writer, stderr=subprocess.PIPE, text=True, timeout=60)
+        os.close(writer)
+        self.assertEqual((ran.returncode, ran.stderr), (141, ""))
 
 
 class Words(unittest.TestCase):

@@ -8,6 +8,7 @@ import unittest
 from typing import List, Tuple
 
 from gatebench import DesignRefused, Session, causes
+from gatebench.program import TOOL, tool_path
 
 from .support import EXAMPLES, INVERTER, ROOT, WithFolder
 from .test_documents import blocks, text_of
@@ -89,6 +90,12 @@ class Sessions(WithProgram):
         self.write("m.v", INVERTER)
         self.write("commands", "wibble\nstim q 0 1\nwave zz\n")
         self.assertEqual(self.shell(lines), behind[0])
+
+    def test_questions_of_tools(self) -> None:
+        design, (commands, replies, *_) = self.after("docs/tool-questions.md", "module m(")
+        words = [TOOL, self.write("m.v", design), "--horizon", "40"]
+        ran = subprocess.run(words, executable=tool_path(self.program), input=commands, capture_output=True, encoding="utf-8", timeout=60)
+        self.assertEqual((ran.returncode, ran.stdout), (0, replies))
 
     def test_a_dump(self) -> None:
         lines, _ = self.after("docs/dumps.md", "bin/gatebench docs/examples/dump/design.v")

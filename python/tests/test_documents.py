@@ -164,6 +164,10 @@ class Documents(WithFolder):
         commands = text_of("docs/commands.md")
         codes = {int(code): (name, means) for code, name, means in re.findall(r"^\| (\d+) \| ([A-Z]\w+) \| (.*) \|$", commands, re.M)}
         self.assertEqual(codes, causes.COMMANDS)
+        forms = re.findall(r"^\| `([a-z][^`]*)` \| [^|]* \|$", commands.split("\n## ")[0], re.M)
+        self.assertEqual(sorted(forms), sorted(causes.EDITS_AND_MORE + causes.QUESTIONS))
+        tools = re.findall(r"^\| `([a-z][^`]*)` \|[^|]*\|[^|]*\|$", text_of("docs/tool-questions.md"), re.M)
+        self.assertEqual(sorted({*tools} - {"gate G", "at K LINE"}), sorted(causes.OF_TOOLS))
         rows = re.findall(r"^\| `(\d+) (\w+)` \| (.*) \| (.*) \|$", text_of("docs/does-not-load.md"), re.M)
         self.assertEqual([(int(code), *rest) for code, *rest in rows], [tuple(it) for it in causes.TEXTS])
         cures = re.findall(r"^\| (`[^`].*?`|`` .*? ``) \| `(\d+) (\w+)` \| (.*) \|$", text_of("docs/does-not-load.md"), re.M)

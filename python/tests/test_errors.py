@@ -26,7 +26,7 @@ class Pickles(unittest.TestCase):
         no_reply.replies = [Reply((), "ok 1")]
         errors = [
             GatebenchError("something"),
-            Refused(2, "UnknownGate", "drop h"),
+            Refused(2, "UnknownGate", "drop h", near=("g",)),
             BatchRefused(5, "ZeroDelay", "delay g 0 1", 3),
             DesignRefused("m.v", 4, 2, "Syntax", "wire a"),
             DesignRefused("m.v", 4, 3, "Unsupported", "assign a = b;", FaultWord("assign", 4, 1)),
@@ -48,7 +48,7 @@ class Pickles(unittest.TestCase):
 
 
 # The words that a program says where the line leaves open which is at fault.
-SAID = {"gate h and 1 1 y a q": "q", "wire g y a a": "g", "wibble": "wibble"}
+SAID = {"gate h and 1 1 y a q": "q", "wire g y a a": "g", "stim a 3 X": "X"}
 
 
 class SayingSession(Session):
@@ -95,7 +95,9 @@ class CommandWords(unittest.TestCase):
                 ("value y 21", 11, "21"),
                 ("horizon 1099511627777", 11, "1099511627777"),
                 ("unstim a 4", 12, "4"),
-                ("wibble", 16, None),
+                ("wibble", 16, "wibble"),
+                ("at k wibble", 16, "wibble"),
+                ("stim a 3 X", 16, None),
                 ("free j", 18, "j"),
                 ("at j wave y", 18, "j"),
                 ("commit", 19, None),
@@ -111,7 +113,7 @@ class CommandWords(unittest.TestCase):
         with SayingSession(text=INVERTER, horizon=20) as session:
             cases: Tuple[Tuple[Callable[[], object], Optional[str], List[str]], ...] = (
                 (lambda: session.gate("h", "and", 1, 1, "y", "a", "q"), "q", ["fault gate h and 1 1 y a q"]),
-                (lambda: session.command("wibble"), "wibble", ["fault wibble"]),
+                (lambda: session.command("stim a 3 X"), "X", ["fault stim a 3 X"]),
                 (lambda: session.commit(), None, ["fault commit"]),
                 (lambda: session.wave("q"), "q", []),
                 (lambda: session.at("j").value("y", 0), "j", []),
@@ -125,6 +127,18 @@ class CommandWords(unittest.TestCase):
     def test_it_is_said_before_what_the_code_means(self) -> None:
         self.assertEqual(str(Refused(1, "UnknownNet", "at k wave q")), "no 1 UnknownNet: at k wave q: `q`: no net has this name")
         self.assertEqual(str(Refused(19, "NoBatch", "commit")), "no 19 NoBatch: commit: there is no batch to end")
+
+    def test_what_words_a_command_has_is_said(self) -> None:
+        for line, said in (
+            ("stim a 3", "; it is `stim N T V`"),
+            ("gate h", "; it is `gate G KIND R F OUT IN..`"),
+            ("at k value y", "; it is `value N T`"),
+            ("at k stim y 3 1", "; it is `at K LINE`"),
+            ("at k", "; it is `at K LINE`"),
+            ("wibble", "can't be read"),
+        ):
+            self.assertTrue(str(Refused(16, "BadCommand", line)).endswith(said), line)
+        self.assertNotIn("it is", str(Refused(2, "UnknownGate", "drop h")))
 
 
 class Files(WithFolder):

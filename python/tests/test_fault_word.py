@@ -74,7 +74,21 @@ class Words(unittest.TestCase):
                     Session(text=f"{HEAD}{case.text}\nendmodule\n", delay=case.delay)
                 found = caught.exception
                 self.assertEqual(found.name, case.name)
-                self.assertEqual((found.word, found.word_line, found.column), case.word or (None, None, None))
+                self.assertEqual((found.word, found.word_line, found.column), case.word[:3] if case.word else (None, None, None))
+
+    def test_the_names_that_may_be_meant(self) -> None:
+        cells = "\nendmodule\nmodule NAND2(input A, B, output Y); nand #1 g(Y, A, B);"
+        for text, near in (
+            ("NADN2 u(.A(b), .B(b), .Y(y));", ("NAND2",)),
+            ("NAND2 u(.AA(b), .B(b), .Y(y));", ("A",)),
+            ("NAND2 u(.A(b), .B(b), .Q(y));", ("A", "B", "Y")),
+            ("NAND2 u(b, b, y, y);", ()),
+            ("assign y = b;", ()),
+        ):
+            with self.assertRaises(DesignRefused) as caught:
+                Session(text=f"{HEAD}{text}{cells}\nendmodule\n")
+            self.assertEqual(caught.exception.near, near, text)
+            self.assertEqual("; there is " in str(caught.exception), bool(near), text)
 
     def test_a_text_without_a_module_has_no_word(self) -> None:
         with self.assertRaises(DesignRefused) as caught:

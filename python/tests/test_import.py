@@ -3,8 +3,10 @@ import os
 import shutil
 import subprocess
 import sys
+import tempfile
 import unittest
 from typing import Tuple
+from unittest import mock
 
 from gatebench import Session
 from gatebench.importing import ImportRefused, Options, Timing, import_design, unit_of
@@ -136,6 +138,12 @@ class Command(WithFolder):
         places = [line.split(": ")[:2] for line in ran.stderr.splitlines()[:-1]]
         self.assertEqual(places, [["m.v:2", "ONE"], ["m.v:3", "TWO"]])
 
+    def test_a_library_with_too_few_cells_for_a_synthesis(self) -> None:
+        self.write("cells.lib", 'library (l) { cell (INV) { pin (A) { direction : input; } pin (Y) { direction : output; function : "!A"; } } }')
+        self.write("m.v", "module m(input a, b, output y); assign y = a & b; endmodule\n")
+        ran = self.run_import("m.v", "--synthesize", "--lib", "cells.lib")
+        self.assertRegex(ran.stderr, "^the design: yosys: Can't open ABC output file .*; synthesis wants more cells of the Liberty file: ")
+
     def test_connections_by_order(self) -> None:
         self.write("cells.lib", LIBRARY)
         self.write("cells.v", "module INV(output Y, input A);\n  not #3 g(Y, A);\nendmodule\n")
@@ -187,6 +195,8 @@ class Command(WithFolder):
         )
         self.write("one.v", "module one(input a, output y); INV u(.A(a), .Y(y)); endmodule\n")
         self.write("two.v", "module two(input b, output z); one u(b, z); endmodule\n")
+        ran = self.run_import("one.v", "two.v", "--lib", "cells.v", "--top", "NONE")
+        self.assertTrue(ran.stderr.startswith("the design: NONE: Module `NONE' not found; give the file that has it"), ran.stderr)
         ran = self.run_import("one.v", "two.v", "--lib", "cells.v")
         self.assertIn("module two(input b, output z);\n  one u(b, z);", ran.stdout)
         ran = self.run_import("one.v", "two.v", "--lib", "cells.v", "--top", "one")
@@ -226,6 +236,21 @@ class Command(WithFolder):
         self.assertTrue(
             ran.stderr.startswith("m.v:2: g: a gate takes one bit, and not 2 at once; name the bit\n"), ran.stderr
         )
+
+    def test_folders_with_a_blank_in_their_names(self) -> None:
+        folder = os.path.join(self.folder, "my files")
+        os.mkdir(folder)
+        source = self.write("my files/m.v", '`include "width.vh"\nmodule m(input [`TOP:0] a, output y);\n  assign y = &a;\nendmodule\n')
+        self.write("my files/width.vh", "`define TOP 1\n")
+        library = shutil.copy(os.path.join(EXAMPLES, "cells.lib"), folder)
+        options = Options((source,), libraries=(library,), synthesize=True)
+        with mock.patch.object(tempfile, "tempdir", folder):
+            self.assertIn("module m(input \\a[1] , input \\a[0] , output y);", import_design(options).text)
+            self.assertEqual(sorted(os.listdir(folder)), ["cells.lib", "m.v", "width.vh"])
+            fault = self.write("my files/width.vh", "`define TOP 1\nmodule ;\n")
+            with self.assertRaises(ImportRefused) as caught:
+                import_design(options)
+        self.assertEqual([(it.file, it.line, it.word) for it in caught.exception.faults], [(fault, 2, ";")])
 
     def test_without_yosys(self) -> None:
         self.write("m.v", "module m; endmodule\n")

@@ -31,7 +31,7 @@ class Replies(unittest.TestCase):
             refusal.version("wibble")
         self.assertEqual((caught.exception.code, caught.exception.name), (16, "BadCommand"))
         self.assertEqual(caught.exception.command, "wibble")
-        self.assertTrue(str(caught.exception).startswith("no 16 BadCommand: wibble: the line is no command: an unknown word"))
+        self.assertTrue(str(caught.exception).startswith("no 16 BadCommand: wibble: `wibble`: the line is no command: an unknown word"))
         self.assertEqual(str(Refused(99, "Other", "wibble")), "no 99 Other: wibble")
 
     def test_an_answer_has_a_version_and_no_code(self) -> None:

@@ -25,6 +25,8 @@ class Scripts(WithFolder):
         script = script_of("design m.v --delay 2 --horizon 40\nwave y", "")
         self.assertEqual((script.opening, len(script.steps)), (Opening("m.v", 40, 2), 1))
         self.assertEqual(script_of("design /abs/m.v", "here").opening, Opening("/abs/m.v"))
+        for path in ("'my m.v'", '"my m.v"', r"my\ m.v"):
+            self.assertEqual(script_of(f"design {path} --delay 2\r\n", "here").opening, Opening("here/my m.v", None, 2))
 
     def test_a_file_is_read_from_its_own_folder(self) -> None:
         path = self.write("commands", "design m.v\nwave y\n")
@@ -54,7 +56,7 @@ class Scripts(WithFolder):
         wrong = (
             "expect y 25", "expect y t 0", "expect y 25 2", "expect y 25 0 1", "expect", "expect-wave y", "expect-wave",
             "expect-wave y 0", "expect-wave y 1 0", "expect-wave y 0 1 0 0", "expect-refused 2", "expect-refused",
-            "at k expect y", "design", "design a b", "design m.v --depth 3", "design m.v --horizon x",
+            "at k expect y", "design", "design a b", "design m.v --depth 3", "design m.v --horizon x", "design 'm.v",
         )  # fmt: skip
         for line in wrong:
             with self.assertRaises(BadLine, msg=line) as caught:

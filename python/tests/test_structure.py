@@ -1,7 +1,10 @@
 """What a session says of its nets and gates, and of a part of a wave. The answers are worked out by hand."""
-from gatebench import Change, Gate, QuestionMissing, Refused, Session
+import os
+
+from gatebench import Candidate, Change, Gate, ProgramEnded, QuestionMissing, Refused, Session
 from gatebench.netlist import netlist_of
 from gatebench.netlist_edits import edited_in
+from gatebench.program import program_path, tool_path
 
 from .support import WithFolder
 
@@ -69,6 +72,17 @@ class Structures(WithFolder):
             with self.assertRaises(ValueError):
                 session.window("y", 5, 4)
 
+    def test_what_may_have_made_a_change(self) -> None:
+        # y rises 2 behind the fall of b, and fell 3 behind both of its inputs.
+        rise, fall = [Candidate("g", "b", 10, "0", True), Candidate("g", "a", 0, "1", False)], [Candidate("g", it, 0, "1", True) for it in "ab"]
+        for version in (self.session, self.session.hold("held")):
+            self.assertEqual((version.why("y", 12), version.why("y", 3)), (rise, fall))
+            self.assertEqual(version.why("y", 0), [Candidate("g", it, None, None, False) for it in "ab"])
+            self.assertEqual(version.why("b", 10), [])
+            for time in (11, 40):
+                with self.assertRaises(ValueError):
+                    version.why("y", time)
+
     def test_what_is_not_there_is_refused(self) -> None:
         session = self.session
         for ask, name in (
@@ -77,6 +91,8 @@ class Structures(WithFolder):
             (lambda: session.window("q", 0, 1), "UnknownNet"),
             (lambda: session.gate_named("q"), "UnknownGate"),
             (lambda: session.points("y"), "NotInput"),
+            (lambda: session.why("q", 1), "UnknownNet"),
+            (lambda: session.why("y", 42), "TimeTooLarge"),
             (lambda: session.at("never").gates(), "UnknownHold"),
         ):
             with self.assertRaises(Refused) as caught:
@@ -102,6 +118,15 @@ class Structures(WithFolder):
         session.begin()
         session.nets()
         self.assertEqual(session.commit(), session.ask(["value y 0"])[0].version(""))
+
+    def test_of_a_script_the_file_beside_it_is_started(self) -> None:
+        script = self.write("gatebench", "#!/bin/sh\nexit 9\n")
+        os.chmod(script, 0o755)
+        with self.assertRaises(ProgramEnded):
+            Session(text=TEXT, program=script)
+        os.symlink(os.path.abspath(tool_path(program_path())), os.path.join(self.folder, "gatetool"))
+        with Session(text=TEXT, program=script) as session:
+            self.assertEqual(session.inputs(), ["a", "b", "k"])
 
     def test_it_is_asked_once_what_a_program_knows(self) -> None:
         lines = []

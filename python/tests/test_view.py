@@ -237,6 +237,13 @@ class Answers(Served):
         ran = subprocess.run([sys.executable, python], env=environment, capture_output=True, text=True, timeout=60)
         self.assertIn("assert not one_hot([session.wave(it) for it in ['y', 'a']])\nAssertionError", ran.stderr)
 
+    def test_what_is_saved_names_a_design_with_a_blank_in_its_path(self) -> None:
+        self.view.opening = self.view.opening._replace(design=self.write("my m.v", INVERTER))
+        text = self.ask("save", form="expectations", nets=["y"])["text"]
+        opening = script_of(text, os.getcwd()).opening
+        assert opening is not None
+        self.assertEqual((os.path.normpath(opening.design), opening.horizon), (os.path.join(self.folder, "my m.v"), 20))
+
 
 class AnswersOfTool(Answers):
     """The same where the program knows the questions of tools, and what is known by them alone."""

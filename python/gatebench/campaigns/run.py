@@ -81,6 +81,8 @@ class Runner:
             # Some batches may have been carried out.
             self.session.kill()
             self.begin()
+            # The names that there are follow what was tried before.
+            refused.near = ()
             return Verdict(REFUSED, note=str(refused))
         self.undo = what_if.undo
         return self.judge(self.good, self.waves())

@@ -67,10 +67,19 @@ class Yosys:
         for number, source in enumerate(self.sources.files):
             if source.is_cells == are_cells:
                 path = self.write(f"{self.stage}{number}.v", source.text)
-                around = os.path.dirname(os.path.abspath(source.path))
-                words = f"{how}{'-sv ' * source.path.endswith('.sv')}{'' if ' ' in around else f'-I{around} '}"
+                around = self.folder_of(source, f"{self.stage}{number}.folder")
+                words = f"{how}{'-sv ' * source.path.endswith('.sv')}-I{around} "
                 lines.append(f"read_verilog -icells {words}{quoted(path)}")
         return lines
+
+    def folder_of(self, source: Source, link: str) -> str:
+        """The folder of a file, in which it may include others; a link to it where yosys would read its path as several words."""
+        folder = os.path.dirname(os.path.abspath(source.path))
+        if not has_blank(folder):
+            return folder
+        if not os.path.lexists(self.path(link)):
+            os.symlink(folder, self.path(link))
+        return self.path(link)
 
     def gate_lines(self) -> List[str]:
         """The line that reads the empty modules of gates."""
@@ -86,7 +95,8 @@ class Yosys:
     def run(self, lines: Sequence[str]) -> "subprocess.CompletedProcess[str]":
         script = self.write("script.ys", "\n".join(lines) + "\n")
         words = [self.program, "-q", "-T", "-s", script]
-        return subprocess.run(words, capture_output=True, encoding="utf-8", errors="surrogateescape")
+        environment = {**os.environ, "TMPDIR": self.folder}
+        return subprocess.run(words, capture_output=True, encoding="utf-8", errors="surrogateescape", env=environment)
 
     def netlist(self) -> Ran:
         """The netlist with all hierarchy taken apart, as JSON. ImportRefused with what yosys refuses."""
@@ -176,9 +186,12 @@ class Yosys:
         return [self.fault(path, line, message) for path, line, message in errors]
 
     def fault(self, path: str, line: str, message: str) -> Fault:
-        word = re.search(r"unexpected '?(?:TOK_)?(\S+?)'?,?(?: |$)", message) or re.search(r"[`'\\]+([^`']+?)'", message)
+        token = re.search(r"unexpected '?(?:TOK_)?(\S+?)'?,?(?: |$)", message)
+        name = re.search(r"[`'\\]+([^`']+?)'", message)
+        is_users = name is not None and not name[1].startswith(self.folder)
+        word = spelled(token[1]) if token else name[1] if name and is_users else PROGRAM
         shown = re.sub(r"(?<=unexpected )TOK_(\w+)", lambda it: it[1].lower(), message).rstrip("!.\n")
-        return Fault(self.original(path), int(line or 0), spelled(word[1]) if word else "yosys", shown, cure(message))
+        return Fault(self.original(path), int(line or 0), word, shown, cure(message))
 
     def source(self, path: str) -> Optional[Source]:
         """What a text of this run was made of, None for another one."""
@@ -186,9 +199,11 @@ class Yosys:
         return self.sources.files[int(number[1])] if number else None
 
     def original(self, path: str) -> str:
-        """The file that a text of this run was made of."""
+        """The file that a text of this run was made of, or that it includes."""
         source = self.source(path)
-        return source.path if source else path or "the design"
+        if source:
+            return source.path
+        return os.path.realpath(path) if path.startswith(self.folder) else path or "the design"
 
 
 CURE = "yosys says more: run it over the file by itself"
@@ -199,6 +214,7 @@ CURES = (
     ("of unknown type", "give its library by --lib, as Liberty or as Verilog"),
     ("does not have a port", "correct the name of the port, or give the file with the cell that was meant"),
     ("Re-definition", "give it once: leave one of the files out"),
+    ("ABC output file", "synthesis wants more cells of the Liberty file: an inverter, a buffer and a gate of two inputs, as a nand"),
     ("include", "give the file's folder, or write its text in its place"),
 )
 
@@ -226,5 +242,15 @@ def count_in(path: str) -> int:
         return sum(int(it) for it in re.findall(r"(\d+) objects", file.read()))
 
 
+# Where the files of a run go if the usual folder has a blank in its path: not all commands of yosys take such a path.
+ROOM = "/tmp"
+
+
+def has_blank(path: str) -> bool:
+    return any(it.isspace() for it in path)
+
+
 def room() -> "tempfile.TemporaryDirectory[str]":
-    return tempfile.TemporaryDirectory(prefix="gatebench-import-")
+    """A folder for the files of a run."""
+    usual = tempfile.gettempdir()
+    return tempfile.TemporaryDirectory(prefix="gatebench-import-", dir=ROOM if has_blank(usual) else usual)

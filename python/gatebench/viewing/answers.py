@@ -4,11 +4,12 @@ from typing import Any, Callable, Dict, List, NamedTuple, Optional, Sequence
 from ..asked import PARTS
 from ..errors import GatebenchError, Refused
 from ..netlist import Gate
+from ..origins import candidates, nets_read
+from ..questions import changes_beside
 from . import saved
 from .cuts import MOST_PARTS, Cuts
 from .edited_session import EditedSession
 from .model import EDITS
-from .origins import candidates, changes_before, changes_beside, nets_read
 from .rows import rows_of
 from .tracks import Row, Tracks
 from .view import View
@@ -145,7 +146,7 @@ def net(view: View, name: str) -> Said:
 def origins(view: View, name: str, time: int) -> Said:
     """What may have made the change of a net at a moment."""
     drivers = view.current.model.drivers(name)
-    found = candidates(drivers, time, changes_before(view.current.session, nets_read(drivers), time))
+    found = candidates(drivers, time, changes_beside(view.current.session, "prev", nets_read(drivers), time))
     reach = view.current.model.reach([name], time)
     return {**net(view, name), "time": time, "points": reach.points, "candidates": [it._asdict() for it in found]}
 
@@ -171,7 +172,7 @@ def command(view: View, line: str) -> List[str]:
         raise NotHere(f"{verb} is not for the page: each step is a batch of its own, and ctrl-C in the terminal ends it")
     else:
         [reply] = current.session.ask([line])
-        reply.version(line)
+        current.session.see_ok(line, reply)
         return list(reply.lines)
     return []
 

@@ -1,5 +1,6 @@
 """What was done on a page as files: commands with what they expect, or Python."""
 import os
+import shlex
 from typing import Dict, Iterator, List, Sequence
 
 from ..script import Step
@@ -12,7 +13,8 @@ from .view import View
 def expectations(view: View, nets: Sequence[str], folder: str) -> str:
     """A file for `check` in `folder`: what was carried out, and the waves of these nets and the rules as what is expected. Rules that
     no line of such a file says are comments."""
-    lines = [f"design {os.path.relpath(view.opening.design, folder)}{options(view, ' --horizon {}', ' --delay {}')}"]
+    design = shlex.quote(os.path.relpath(view.opening.design, folder))
+    lines = [f"design {design}{options(view, ' --horizon {}', ' --delay {}')}"]
     lines += [it.text for it in view.steps]
     for entry in view.current.log:
         lines += entry_lines(entry)

@@ -2,12 +2,10 @@
 
 The program does not say which event made a change. So these are candidates: of each input the last change before, and whether
 a delay of the gate lies between the two."""
-from typing import Dict, List, Mapping, NamedTuple, Optional, Sequence
+from typing import List, Mapping, NamedTuple, Optional, Sequence
 
-from ..lines import line_of
-from ..netlist import Gate
-from ..questions import Questions, optional_change
-from ..values import Change
+from .netlist import Gate
+from .values import Change
 
 
 class Candidate(NamedTuple):
@@ -22,19 +20,8 @@ class Candidate(NamedTuple):
 
 
 def nets_read(gates: Sequence[Gate]) -> List[str]:
-    """The nets that gates read, constants left out."""
-    return [net for gate in gates for net in gate.inputs if "'" not in net]
-
-
-def changes_beside(version: Questions, question: str, nets: Sequence[str], time: int) -> Dict[str, Optional[Change]]:
-    """Of each net the change behind a moment, by `next`, or the one before it, by `prev`; the value at 0 is one. None where there
-    is none."""
-    answers = version.answers([line_of(question, it, time) for it in nets])
-    return {net: optional_change(line) for net, [line] in zip(nets, answers)}
-
-
-def changes_before(version: Questions, nets: Sequence[str], time: int) -> Dict[str, Optional[Change]]:
-    return changes_beside(version, "prev", list(dict.fromkeys(nets)), time)
+    """The nets that gates read, each once, constants left out."""
+    return list(dict.fromkeys(net for gate in gates for net in gate.inputs if "'" not in net))
 
 
 def candidates(gates: Sequence[Gate], time: int, before: Mapping[str, Optional[Change]]) -> List[Candidate]:
@@ -43,7 +30,7 @@ def candidates(gates: Sequence[Gate], time: int, before: Mapping[str, Optional[C
     found = []
     for gate in gates:
         delays = {gate.rise, gate.fall, gate.off, min(gate.rise, gate.fall)}
-        for net in dict.fromkeys(nets_read([gate])):
+        for net in nets_read([gate]):
             at, value = before[net] or (None, None)
             found.append(Candidate(gate.name, net, at, value, at is not None and time - at in delays))
     return sorted(found, key=lambda it: (not it.fits, -1 if it.time is None else -it.time))
