@@ -1,6 +1,6 @@
 use Rattle.std.proofs.Common.{◌≤◌, ◌-◌, length, All}
 use Rattle.lexing.specs.Texts.{IsInside}
-use Rattle.core_tests.proofs.tokens.tokens.Given as goal
+use Rattle.base_tests.proofs.tokens.tokens.Given as goal
 
 -- the tokens so far, and where the next one is looked for
 abbrev pub invariant-loop-token : goal.invariant-loop-token

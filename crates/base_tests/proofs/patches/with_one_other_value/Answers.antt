@@ -5,7 +5,7 @@ use Rattle.fourstate.specs.declared.value.Value.{Value}
 use Rattle.fourstate.specs.Values.{same_value}
 use Rattle.waveform.specs.Entries.{standing}
 use Rattle.waveform.specs.Patches.{IsMended}
-use Rattle.core_tests.proofs.patches.with_one_other_value.Goals as goal
+use Rattle.base_tests.proofs.patches.with_one_other_value.Goals as goal
 
 -- what was left at s stays right while both functions have the same values
 stays : (f g : ℕ → Value) (line : List (ℕ × Value)) (since : Option ℕ) (s n : ℕ) → since ≡ Some s → s ≤ n → ((u : ℕ) → s ≤ u → u < n → f u ≡ g u) →

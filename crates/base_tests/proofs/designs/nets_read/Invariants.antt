@@ -1,6 +1,6 @@
 use Rattle.std.proofs.Common.{All}
 use Rattle.design.specs.Keys.{IsThere}
-use Rattle.core_tests.proofs.designs.nets_read.Given as goal
+use Rattle.base_tests.proofs.designs.nets_read.Given as goal
 
 -- the nets so far are there
 abbrev pub invariant-loop-text : goal.invariant-loop-text

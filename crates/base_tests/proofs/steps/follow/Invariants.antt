@@ -1,5 +1,5 @@
 use Rattle.gatestep.specs.Tasks.{PendingFrom}
-use Rattle.core_tests.proofs.steps.follow.Given as goal
+use Rattle.base_tests.proofs.steps.follow.Given as goal
 
 -- nothing pending is earlier than the moment
 abbrev pub invariant-loop-t : goal.invariant-loop-t

@@ -1,6 +1,6 @@
 use Rattle.std.proofs.Common.{◌∙◌, ap, refl}
 use Rattle.waveform.specs.Changes.{wave_at}
-use Rattle.core_tests.proofs.timelines.value_at.Goals as goal
+use Rattle.base_tests.proofs.timelines.value_at.Goals as goal
 
 pub returns : goal.returns
 returns c =
