@@ -161,6 +161,20 @@ class Runs(WithFolder):
             self.assertEqual(run_all(other, what_ifs, Differs(), executor), run_all(bench()._replace(steps=other.steps), what_ifs, Differs()))
             self.assertEqual(self.read("starts"), "\n\n")
 
+    def test_a_piece_is_small_beside_the_whole(self) -> None:
+        sizes: List[int] = []
+
+        class Counted(concurrent.futures.ThreadPoolExecutor):
+            def submit(self, task, *words):  # type: ignore
+                sizes.append(len(words[2]))
+                return super().submit(task, *words)
+
+        what_ifs = list(each_delay(GATES, range(1, 41)))
+        with Counted(1) as executor:
+            run_all(bench(), what_ifs, Differs(), executor)
+        self.assertEqual(sum(sizes), len(what_ifs))
+        self.assertLessEqual(32 * max(sizes), len(what_ifs))
+
     def test_a_session_is_not_that_of_the_process_it_was_forked_from(self) -> None:
         what_ifs = self.what_ifs()
         here = run_piece(bench(), Differs(), what_ifs)

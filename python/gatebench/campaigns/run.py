@@ -15,8 +15,9 @@ from ..wave import Wave
 from .judge import REFUSED, Judge, Verdict, Waves
 from .what_if import WhatIf
 
-# What-ifs are given away in pieces: so many pieces at least, so many what-ifs at most.
-PIECES, MOST = 16, 200
+# What-ifs are given away in pieces: so many pieces about at least, so many what-ifs at most. At the end processes wait for the one
+# with the last piece, so that a piece has to be small beside what each of them does.
+PIECES, MOST = 64, 200
 # Set in a process that works for another one when it is interrupted: what it still has to do is not done.
 interrupted = Event()
 # How many pieces are given away before one has to come back: they are in memory until then.
