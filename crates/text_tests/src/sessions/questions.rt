@@ -2,6 +2,7 @@
 
 use super::{EMPTY, add, check, check_in_pieces, opened, up_to};
 use crate::compare::equal;
+use session::Options;
 use std::alloc::Global;
 use std::process::Abort;
 use std::random::RandomSource;
@@ -97,6 +98,35 @@ const ROWS: &[(&[u8], &[u8])] = &[
     (b"wave y 0", b"no 16 BadCommand\n"),
 ];
 
+// The same where the questions of tools are known.
+const TOOL_ROWS: &[(&[u8], &[u8])] = &[
+    // y changes at 3, at 13 and at 16: a part ends with its end
+    (b"window y 0 20 1", b"3 x 0 more\nok 8\n"),
+    (b"window y 0 20 2", b"3 x 0 one\n13 0 0 more\nok 8\n"),
+    (
+        b"window y 0 20 4",
+        b"3 x 0 one\n13 0 1 one\n16 1 0 one\nok 8\n",
+    ),
+    (b"window y 0 26 2", b"3 x 1 more\n16 1 0 one\nok 8\n"),
+    // the change at the first moment is left out
+    (b"window y 3 16 1", b"13 0 0 more\nok 8\n"),
+    // parts that end at 3, 6, 9 and 13
+    (b"window y 3 13 3", b"13 0 1 one\nok 8\n"),
+    // more parts than moments
+    (b"window y 0 3 65536", b"3 x 0 one\nok 8\n"),
+    (b"window y 16 16 5", b"ok 8\n"),
+    (b"window y 17 100 9", b"ok 8\n"),
+    (b"window y 0 101 1", b"no 11 TimeTooLarge\n"),
+    (b"window y 13 12 1", b"no 11 TimeTooLarge\n"),
+    (b"window ' 0 0 1", b"no 1 UnknownNet\n"),
+    (b"window q 13 12 1", b"no 1 UnknownNet\n"),
+    (b"window y 0 20 0", b"no 16 BadCommand\n"),
+    (b"window y 0 20 65537", b"no 16 BadCommand\n"),
+    (b"window y 0 20 18446744073709551617", b"no 16 BadCommand\n"),
+    (b"window q 0 20 x", b"no 16 BadCommand\n"),
+    (b"window y 0 20 2 2", b"no 16 BadCommand\n"),
+];
+
 // The lines of the pulse, and one more.
 fn behind_the_pulse(rt: &impl Abort, alloc: Global, line: &[u8]) -> Vec<u8> {
     let mut input = Vec::new(alloc);
@@ -108,11 +138,12 @@ fn behind_the_pulse(rt: &impl Abort, alloc: Global, line: &[u8]) -> Vec<u8> {
 fn check_question(
     rt: &(impl Wait + RandomSource + Abort),
     alloc: Global,
+    options: &Options,
     line: &[u8],
     want: &[u8],
 ) {
     let input = behind_the_pulse(rt, alloc, line);
-    let (result, replies) = opened(rt, alloc, EMPTY, &up_to(100), input.as_slice());
+    let (result, replies) = opened(rt, alloc, EMPTY, options, input.as_slice());
     drop(input);
     equal(rt, "result", result, Ok(()));
     let last = replies.as_slice().strip_prefix(PULSE_REPLIES);
@@ -123,7 +154,17 @@ fn check_question(
 #[test]
 fn each_question(rt: HostRuntime) {
     for (line, want) in ROWS {
-        check_question(&rt, rt.alloc(), line, want);
+        check_question(&rt, rt.alloc(), &up_to(100), line, want);
+    }
+}
+
+#[test]
+fn a_window_in_parts(rt: HostRuntime) {
+    for (line, want) in TOOL_ROWS {
+        let mut options = up_to(100);
+        check_question(&rt, rt.alloc(), &options, line, b"no 16 BadCommand\n");
+        options.tools = true;
+        check_question(&rt, rt.alloc(), &options, line, want);
     }
 }
 
