@@ -204,8 +204,9 @@ fn pulses(rt: &impl Abort, alloc: Global) -> Design {
         "horizon 1000",
     ];
     let mut edits = edits(rt, alloc, &first);
-    for n in 0..40 {
-        let (up, down) = (100 + 10 * n, 105 + 10 * n);
+    for n in 10..50u64 {
+        let up = n.wrapping_mul(10);
+        let down = up.wrapping_add(5);
         let up = format!(in alloc; "stim a {up} 1").expect(rt, "a line");
         let down = format!(in alloc; "stim a {down} 0").expect(rt, "a line");
         let up = edit(rt, alloc, up.as_str());
