@@ -34,8 +34,10 @@ EDITS_AND_MORE = (
     "wire G OUT IN..", "stim N T V", "unstim N T", "horizon T", "begin", "commit", "abort", "hold K", "free K", "at K LINE", "quit",
 )  # fmt: skip
 QUESTIONS = ("value N T", "wave N", "next N T", "prev N T", "seek N T V", "vcd")
-OF_TOOLS = ("nets", "inputs", "gates", "drivers N", "readers N", "points N", "window N FROM TO")
-FORMS: Dict[str, str] = {it.split()[0]: it for it in EDITS_AND_MORE + QUESTIONS + OF_TOOLS}
+OF_TOOLS = ("nets", "inputs", "gates", "drivers N", "readers N", "points N", "window N FROM TO", "window N FROM TO PARTS")
+ALL_FORMS = EDITS_AND_MORE + QUESTIONS + OF_TOOLS
+# Of each first word the lines that it begins.
+FORMS: Dict[str, List[str]] = {word: [it for it in ALL_FORMS if it.split()[0] == word] for word in (it.split()[0] for it in ALL_FORMS)}
 
 
 class TextFault(NamedTuple):
@@ -129,8 +131,9 @@ def form_for(code: int, line: str) -> str:
     """The words that a line has to have which is no command, behind a semicolon; nothing where its first word is none either."""
     verb, *rest = line.split() or [""]
     asked = rest[1] if verb == "at" and len(rest) > 1 else verb
-    form = FORMS.get(asked if FORMS.get(asked) in QUESTIONS + OF_TOOLS else verb)
-    return f"; it is `{form}`" if form and code == BAD_COMMAND else ""
+    is_question = any(it in QUESTIONS + OF_TOOLS for it in FORMS.get(asked, []))
+    forms = FORMS.get(asked if is_question else verb)
+    return f"; it is {' or '.join(f'`{it}`' for it in forms)}" if forms and code == BAD_COMMAND else ""
 
 
 def of_text(code: int, name: str, word: str = "") -> str:
