@@ -1,14 +1,14 @@
 //! A race of two editors, who commit a script's edits to one design, and of viewers who look at it.
 
-ghost use Rattle.std.specs.Prelude.{◌≡◌, ◌≤◌, ◌*◌, Ok, IfErr, IfOk, vec_len};
+ghost use Rattle.std.specs.Prelude.{◌≡◌, ◌≤◌, ◌<◌, ◌+◌, ◌^◌, Ok, IfErr, IfOk, length};
 ghost use Rattle.design.specs.Keys.{netlist};
 ghost use Rattle.bench.specs.Benches.{snapshot_of};
-ghost use Rattle.racer.specs.Races.{IsDesignEnd, IsEnd, IsFaultEnd, IsStart, end_by};
+ghost use Rattle.racer.specs.Races.{AreDealt, BeginsWith, IsDesignEnd, IsEnd, IsFaultEnd, IsStart, end_by};
 ghost use Rattle.racer.specs.Scripts.{ScriptRecord, script_of};
-ghost use Rattle.racer.specs.Tallies.{Counts};
 
 use crate::arguments::Args;
 use crate::commit::Commit;
+use crate::hand::Hand;
 use crate::script::{Script, ScriptFault};
 use crate::take_turns::take_turns;
 use crate::tally::Tally;
@@ -57,12 +57,37 @@ pub fn race<R: RandomSource + Threads + Wait + Sync>(
 ) -> RaceEnd
     ensures { IsEnd design.now script.now args.now.viewers args.now.looks result }
 {
-    match read_both(rt, alloc, design, script) {
-        Ok((design, commits)) => match run(rt, alloc, design, commits, args.viewers, args.looks) {
+    match made_of(rt, alloc, design, script, args.viewers) {
+        Ok((parts, hands)) => match threads::run(rt, alloc, parts, hands, args.looks) {
             Ok(tally) => RaceEnd::Looks(tally),
             Err(_) => RaceEnd::Memory,
         },
         Err(end) => end,
+    }
+}
+
+// What the hub is made of, which begins with the design that the text spells, and the commits of the script in the hands of two
+// editors; where one has a fault, the end of the race.
+fn made_of<R: RandomSource + Wait>(
+    rt: &R,
+    alloc: Global,
+    design: &[u8],
+    script: &[u8],
+    viewers: u32,
+) -> Result<(Parts<Serial>, (Hand, Hand)), RaceEnd>
+    ensures begins { IfOk result (λ made. BeginsWith design.now made.0.origin) }
+    ensures viewers { IfOk result (λ made. (made.0.viewers ≡ viewers) × (1 ≤ viewers) × (viewers ≤ 64)) }
+    ensures hands { IfOk result (λ made. AreDealt script.now made.1.0 made.1.1) }
+    ensures room { IfOk result (λ made. length made.1.0.commits + length made.1.1.commits < 2 ^ 64) }
+    ensures fault { IfErr result (λ end. IsFaultEnd design.now script.now end) }
+{
+    let (design, commits) = read_both(rt, alloc, design, script)?;
+    let Ok(hands) = take_turns(alloc, commits) else {
+        return Err(RaceEnd::Memory);
+    };
+    match parts_of(rt, alloc, design, viewers) {
+        Ok(parts) => Ok((parts, hands)),
+        Err(_) => Err(RaceEnd::Memory),
     }
 }
 
@@ -103,24 +128,6 @@ fn design_end(fault: ReadFault) -> RaceEnd
         ReadFaultKind::Edit(EditFault::OutOfMemory) => RaceEnd::Memory,
         _ => RaceEnd::Design(fault),
     }
-}
-
-// What is counted in a race of this design, in which these commits are submitted.
-fn run<R: Threads + Wait + Sync>(
-    rt: &R,
-    alloc: Global,
-    design: Design,
-    commits: Vec<Commit>,
-    viewers: u32,
-    looks: u32,
-) -> Result<Tally, AllocError>
-    ensures counted { IfOk result (Counts viewers (viewers * looks) (vec_len commits)) }
-    ensures viewers { IfOk result (λ _. (1 ≤ viewers) × (viewers ≤ 64)) }
-    ensures wrong { IfOk result (λ tally. tally.wrong ≤ tally.looks) }
-{
-    let hands = take_turns(alloc, commits)?;
-    let parts = parts_of(rt, alloc, design, viewers)?;
-    threads::run(rt, alloc, parts, hands, looks)
 }
 
 // What the hub is made of that the design begins.
