@@ -3,9 +3,10 @@ import argparse
 import os
 import signal
 from concurrent.futures import Executor, ProcessPoolExecutor
-from contextlib import nullcontext
+from contextlib import contextmanager
 from fnmatch import fnmatchcase
-from typing import ContextManager, List, NamedTuple, Optional, Sequence, Tuple
+from types import FrameType
+from typing import Iterator, List, NamedTuple, Optional, Sequence, Tuple
 
 from ..errors import GatebenchError
 from ..names import read_names
@@ -200,10 +201,31 @@ def carried_out(
     return verdicts
 
 
-def executor_of(jobs: int) -> "ContextManager[Optional[Executor]]":
+@contextmanager
+def executor_of(jobs: int) -> Iterator[Optional[Executor]]:
+    """Who carries out what-ifs, where it is not this process alone. An interrupt waits meanwhile until no lock of the executor is
+    held, which would be held for ever; a second one does not."""
     if jobs == 1:
-        return nullcontext(None)
-    return ProcessPoolExecutor(jobs, initializer=heed_interrupts)
+        yield None
+        return
+    before = signal.signal(signal.SIGINT, note_interrupt)
+    try:
+        with ProcessPoolExecutor(jobs, initializer=heed_interrupts) as executor:
+            yield executor
+    except GatebenchError:
+        # Other processes may have been interrupted before this one looked.
+        if interrupted.is_set():
+            raise KeyboardInterrupt from None
+        raise
+    finally:
+        signal.signal(signal.SIGINT, before)
+        interrupted.clear()
+
+
+def note_interrupt(_number: int, _frame: Optional[FrameType]) -> None:
+    if interrupted.is_set():
+        raise KeyboardInterrupt
+    interrupted.set()
 
 
 def heed_interrupts() -> None:

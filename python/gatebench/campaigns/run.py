@@ -2,6 +2,7 @@
 change no verdict."""
 import os
 from concurrent.futures import FIRST_COMPLETED, Executor, Future, wait
+from contextlib import closing
 from threading import Event, local
 from typing import Any, Callable, Dict, Iterable, Iterator, List, NamedTuple, Optional, Sequence, Tuple
 
@@ -18,8 +19,10 @@ from .what_if import WhatIf
 # What-ifs are given away in pieces: so many pieces about at least, so many what-ifs at most. At the end processes wait for the one
 # with the last piece, so that a piece has to be small beside what each of them does.
 PIECES, MOST = 64, 200
-# Set in a process that works for another one when it is interrupted: what it still has to do is not done.
+# Set when a process is interrupted that works for another one, or that gives work away: what is still to be done is not done.
 interrupted = Event()
+# Seconds between two looks for an interrupt.
+LOOK = 0.2
 # How many pieces are given away before one has to come back: they are in memory until then.
 AHEAD = 64
 
@@ -96,7 +99,6 @@ class Runner:
             found[net] = Wave(net, tuple(map(change_of, reply.lines)), good.horizon) if changed else good
         return found
 
-
     def verdicts(self, what_ifs: Iterable[WhatIf]) -> Iterator[Verdict]:
         """The verdicts of some what-ifs as they come. Behind an error the session has ended."""
         try:
@@ -160,8 +162,9 @@ def run(
     def words(places: Sequence[int]) -> Tuple[Any, ...]:
         return bench, judge, [what_ifs[it] for it in places]
 
-    for places, future in finished(executor, pieces, words):
-        yield from zip(places, future.result())
+    with closing(finished(executor, pieces, words)) as found:
+        for places, future in found:
+            yield from zip(places, future.result())
 
 
 def finished(
@@ -175,11 +178,20 @@ def finished(
                 given[executor.submit(run_piece, *words(places))] = places
             if not given:
                 return
-            for future in wait(given, return_when=FIRST_COMPLETED).done:
+            for future in next_done(given):
                 yield given.pop(future), future
     finally:
         for future in given:
             future.cancel()
+
+
+def next_done(given: "Iterable[Future[List[Verdict]]]") -> "Iterable[Future[List[Verdict]]]":
+    """Those that are done, once there are some. KeyboardInterrupt where this process was interrupted."""
+    while not interrupted.is_set():
+        done = wait(given, LOOK, FIRST_COMPLETED).done
+        if done:
+            return done
+    raise KeyboardInterrupt
 
 
 def run_all(
