@@ -4,7 +4,7 @@ import os
 from concurrent.futures import FIRST_COMPLETED, Executor, Future, wait
 from contextlib import closing
 from threading import Event, local
-from typing import Any, Callable, Dict, Iterable, Iterator, List, NamedTuple, Optional, Sequence, Tuple
+from typing import Any, Callable, Dict, Generator, Iterable, Iterator, List, NamedTuple, Optional, Sequence, Tuple
 
 from ..errors import Closed, Refused
 from ..lines import line_of
@@ -169,7 +169,7 @@ def run(
 
 def finished(
     executor: Executor, pieces: Iterator[Sequence[int]], words: Callable[[Sequence[int]], Tuple[Any, ...]]
-) -> "Iterator[Tuple[Sequence[int], Future[List[Verdict]]]]":
+) -> "Generator[Tuple[Sequence[int], Future[List[Verdict]]], None, None]":
     """Each piece with what came of it, as they come. `words` are those of `run_piece`."""
     given: "Dict[Future[List[Verdict]], Sequence[int]]" = {}
     try:
