@@ -8,3 +8,6 @@ MOST_BOUND = 65_535
 
 # A delay of a gate, and a moment, in time units.
 MOST_DELAY, MOST_TIME = 1_000_000, 1_099_511_627_776
+
+# The parts that a window is cut into.
+MOST_PARTS = 65_536

@@ -3,11 +3,12 @@ from typing import Any, Callable, Dict, List, NamedTuple, Optional, Sequence
 
 from ..asked import PARTS
 from ..errors import GatebenchError, Refused
+from ..limits import MOST_PARTS
 from ..netlist import Gate
 from ..origins import candidates, nets_read
 from ..questions import changes_beside
 from . import saved
-from .cuts import MOST_PARTS, Cuts
+from .cuts import Cuts
 from .edited_session import EditedSession
 from .model import EDITS
 from .rows import rows_of

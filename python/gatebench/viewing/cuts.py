@@ -6,9 +6,6 @@ from ..lines import line_of
 from .hexadecimal import hexadecimal
 from .spans import Span, add_many
 
-# The most parts that the program cuts a window into.
-MOST_PARTS = 65_536
-
 
 class Part(NamedTuple):
     """A part in which a net changes: the moment of its first change, the value at the part's end, and whether there are more."""
