@@ -63,3 +63,34 @@ class WithProgram(unittest.TestCase):
         self.assertEqual(ended, Ended(2, "", lines + self.help_text()), words)
         self.assertLessEqual(len(ended.said.splitlines()), 24)
         self.assertLessEqual(max(len(it) for it in ended.said.splitlines()), 80)
+
+
+class WithTool(WithProgram):
+    """A test of gatetool: gatebench, started by its other name. It is asked behind what `given` says."""
+
+    variable = "GATEBENCH"
+
+    def setUp(self) -> None:
+        super().setUp()
+        self.gatebench = self.program
+        self.program = os.path.join(self.folder, "gatetool")
+        os.symlink(os.path.abspath(self.gatebench), self.program)
+
+    def given(self, design: str, *points: str, horizon: int = 40) -> None:
+        """A design, with points of its inputs as `N T V` that one commit sets."""
+        self.words: List[Union[str, bytes]] = [self.write("m.v", design), "--horizon", str(horizon)]
+        self.begun = ["begin", *(f"stim {it}" for it in points), "commit"]
+        self.behind = "ok 0\n" * (len(points) + 1) + "ok 1\n"
+
+    def ask(self, *lines: str) -> str:
+        """What these lines are answered; the version before them is 1."""
+        ended = self.run_with(self.words, "".join(f"{line}\n" for line in (*self.begun, *lines)))
+        self.assertEqual((ended.status, ended.said), (0, ""))
+        self.assertTrue(ended.printed.startswith(self.behind), ended.printed)
+        return ended.printed[len(self.behind) :]
+
+    def check(self, line: str, *answer: str) -> None:
+        """The question has this answer, of the present version and of a held one, and behind `fault` too."""
+        reply = "".join(f"{said}\n" for said in (*answer, "ok 1"))
+        printed = self.ask(line, f"fault {line}", "hold k", "horizon 0", f"at k {line}", f"fault at k {line}")
+        self.assertEqual(printed, f"{reply}{reply}ok 1\nok 2\n{reply}{reply}", line)

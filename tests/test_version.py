@@ -23,9 +23,6 @@ def version() -> str:
 
 
 class Package(unittest.TestCase):
-    def test_its_project(self) -> None:
-        self.assertIn(f'\nversion = "{version()}"\n', text_of("python", "pyproject.toml"))
-
     def test_the_module(self) -> None:
         for words, said in ((["-c", "import gatebench; print(gatebench.__version__)"], ""), (["-m", "gatebench", "--version"], "gatebench package ")):
             ran = subprocess.run([sys.executable, *words], cwd=os.path.join(ROOT, "python"), capture_output=True, text=True, check=True)

@@ -1,7 +1,8 @@
 """The definitions of specs/ and the contracts of functions, read from the sources, and what rests on what.
 
-A definition is one word of a file crates/NAME/specs/*.antt with the lines that say what it is and the comment above them.
-A word is looked for in the definitions of its own file and in what the file imports; other words are bound in the line."""
+A definition is one word of a file of crates/NAME/specs/ or its folder kept/, with the lines that say what it is and the comment
+above them. A word is looked for in the definitions of its own file and in what the file imports; other words are bound in the line.
+A file is called as in the folder specs/: `Keys`, or `kept/Keys`."""
 import os
 import re
 
@@ -11,7 +12,10 @@ from workspace import ROOT, crates, folder_of
 HEAD = re.compile(r"^(?:(?:abbrev|unfoldable|pub|record|data|opaque)\s+)*([^\s:({]+)\s*(?=[:({])")
 IMPORT = re.compile(r"\buse\s+Rattle\.([\w.]+?)(?:\.\{([^}]*)\}|\s+as\s+(\w+))?\s*;?\s*(?:--.*)?$")
 WORD = re.compile(r"[^\s(){}\[\];,\\λ→×:|=]+")
-COMMENT = re.compile(r"--.*$")
+# Two dashes within a text in quotes begin no comment.
+COMMENT = re.compile(r"(?:^|\s)--(?:\s.*)?$")
+# The folder of specs/ for definitions that proofs alone need.
+KEPT = "kept"
 
 
 # A line of a definition of data that says a value of it.
@@ -27,6 +31,10 @@ class Definition:
 
     def key(self):
         return self.crate, self.file, self.name
+
+    def is_kept(self):
+        """Whether it stands among those that proofs alone need."""
+        return self.file.startswith(KEPT + "/")
 
     def text(self):
         return "\n".join(COMMENT.sub("", it) for it in self.lines)
@@ -107,7 +115,7 @@ def read_definitions(crate, file, text):
         rest = [(at + i, line) for i, line in enumerate(group) if not imports.read(line)]
         comment = [line.strip()[2:].strip() for _, line in rest if line.strip().startswith("--")]
         body = [(number, line) for number, line in rest if not line.strip().startswith("--")]
-        body = [(number, line) for number, line in body if not line.startswith("module ") and not re.match(r"^\s*(pub )?mod ", line)]
+        body = [(number, line) for number, line in body if not re.match(r"^\s*(module|(pub )?mod) ", line)]
         if not body:
             continue
         head = HEAD.match(body[0][1].strip())
@@ -116,16 +124,23 @@ def read_definitions(crate, file, text):
     return found, imports
 
 
+def file_of(parts):
+    """The file that a module is or is part of, by what stands behind `specs` in its path."""
+    return "/".join(parts[:2]) if parts[0] == KEPT else parts[0]
+
+
 class Sources:
     """All definitions of the repository, and of each what it rests on."""
 
     def __init__(self):
         self.definitions, self.variants, self.imports = {}, {}, {}
         for crate in crates():
-            folder = os.path.join(folder_of(crate), "specs")
-            for name in sorted(os.listdir(folder)) if os.path.isdir(folder) else []:
-                if name.endswith(".antt"):
-                    self.read(crate, folder, name[: -len(".antt")])
+            top = os.path.join(folder_of(crate), "specs")
+            for inside in ("", KEPT):
+                folder = os.path.join(top, inside)
+                for name in sorted(os.listdir(folder)) if os.path.isdir(folder) else []:
+                    if name.endswith(".antt"):
+                        self.read(crate, top, os.path.join(inside, name[: -len(".antt")]))
 
     def read(self, crate, folder, file):
         with open(os.path.join(folder, file + ".antt"), encoding="utf-8") as text:
@@ -140,7 +155,7 @@ class Sources:
         parts = module.split(".")
         if len(parts) < 3 or parts[1] != "specs" or parts[2] == "declared":
             return None
-        key = parts[0], parts[2], name
+        key = parts[0], file_of(parts[2:]), name
         handed_on = self.imports[key[:2]].find(name) if key[:2] in self.imports else None
         return self.definitions.get(key) or self.variants.get(key) or (self.resolve(*handed_on) if handed_on else None)
 
@@ -280,11 +295,6 @@ def is_pinned(crate, name):
 
 def value_of(lines, owner):
     """What a type is seen as in contracts."""
-    inside = False
-    for line in lines:
-        if re.match(r"^impl\b", line):
-            inside = owner is not None and re.search(rf"\bModel for {owner}\b", line) is not None
-        found = re.match(r"^\s*ghost Value = \{(.*)\};", line)
-        if inside and found:
-            return found.group(1).strip()
-    return ""
+    head = rf"^impl\b[^{{]*\bModel\s+for {owner}\b.*\n"
+    found = re.search(head + r"(?:(?!\}).*\n)*?\s*ghost Value = \{(.*)\};", "\n".join(lines), re.M)
+    return found.group(1).strip() if owner and found else ""

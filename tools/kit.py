@@ -5,6 +5,7 @@ import os
 import shutil
 import signal
 
+import workspace
 from workspace import fail
 
 
@@ -42,7 +43,7 @@ def must_fail(crate, edit, kept):
 
 def processors():
     """How many checks the machine can do at one time, by what this process may use of it."""
-    return RT.processors() if hasattr(RT, "processors") else len(os.sched_getaffinity(0))
+    return RT.processors() if hasattr(RT, "processors") else workspace.processors()
 
 
 def memory():

@@ -45,6 +45,7 @@ LIBRARY = {
     "IfErr": "",
     "IfOk": "",
     "insert_entry": "puts an entry into a list in order of its keys, in place of one of the same key",
+    "is_ok": "says that there is an answer, and no refusal",
     "is_some": "says that something is there",
     "IsOk": "says that there is an answer, and no refusal",
     "last_or": "is the last element, or a value in place of none",

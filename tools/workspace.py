@@ -13,6 +13,11 @@ def fail(text):
     sys.exit(f"{os.path.basename(sys.argv[0])}: {text}")
 
 
+def processors():
+    """How many processors this process may use, which may be fewer than the machine has."""
+    return len(os.sched_getaffinity(0))
+
+
 def folder_of(crate, root=ROOT):
     return os.path.join(root, "crates", crate)
 

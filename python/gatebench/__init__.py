@@ -31,7 +31,7 @@ from .errors import (
     TimedOut,
 )
 from .netlist import Gate, Netlist, netlist_of, read_netlist
-from .origins import Candidate
+from .origins import Effect, Origin, Turn
 from .picture import Picture, window
 from .program import program_path
 from .questions import Questions
@@ -50,7 +50,6 @@ __all__ = [
     "BatchRefused",
     "Bus",
     "BusChange",
-    "Candidate",
     "Change",
     "Closed",
     "DesignRefused",
@@ -58,11 +57,13 @@ __all__ = [
     "Differences",
     "Dump",
     "Edge",
+    "Effect",
     "Gate",
     "GatebenchError",
     "Held",
     "Netlist",
     "NoReply",
+    "Origin",
     "Picture",
     "ProgramEnded",
     "ProgramMissing",
@@ -73,6 +74,7 @@ __all__ = [
     "Reply",
     "Session",
     "TimedOut",
+    "Turn",
     "Violation",
     "Wave",
     "__version__",

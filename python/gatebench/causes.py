@@ -27,15 +27,19 @@ COMMANDS: Dict[int, Tuple[str, str]] = {
     21: ("NoTurnOff", "only `bufif1`, `bufif0`, `notif1` and `notif0` take a turn-off delay: leave `/Z` out, or give the gate delays without it before it gets another kind"),
 }
 
-BAD_COMMAND = 16
+BAD_COMMAND, UNKNOWN_HOLD = 16, 18
 # The words of each command, as docs/commands.md has them, and of the questions of tools that are no commands otherwise.
 EDITS_AND_MORE = (
     "net N KIND", "input N", "dropnet N", "kind N KIND", "gate G KIND R F OUT IN..", "drop G", "delay G R F", "type G KIND",
     "wire G OUT IN..", "stim N T V", "unstim N T", "horizon T", "begin", "commit", "abort", "hold K", "free K", "at K LINE", "quit",
 )  # fmt: skip
 QUESTIONS = ("value N T", "wave N", "next N T", "prev N T", "seek N T V", "vcd")
-OF_TOOLS = ("nets", "inputs", "gates", "drivers N", "readers N", "points N", "window N FROM TO", "window N FROM TO PARTS")
-ALL_FORMS = EDITS_AND_MORE + QUESTIONS + OF_TOOLS
+OF_TOOLS = (
+    "nets", "inputs", "gates", "drivers N", "readers N", "points N", "window N FROM TO", "window N FROM TO PARTS", "why N T", "reach N T", "diff K",
+)  # fmt: skip
+# The prefix with which a program of tools says the word at fault.
+FAULT_PREFIX = "fault"
+ALL_FORMS = EDITS_AND_MORE + QUESTIONS + OF_TOOLS + (f"{FAULT_PREFIX} LINE",)
 # Of each first word the lines that it begins.
 FORMS: Dict[str, List[str]] = {word: [it for it in ALL_FORMS if it.split()[0] == word] for word in (it.split()[0] for it in ALL_FORMS)}
 
@@ -127,12 +131,25 @@ def of_command(code: int, name: str) -> str:
     return f": {means}" if known == name else ""
 
 
+def without_fault(line: str) -> List[str]:
+    """The words of a line without the prefix `fault`: what it does."""
+    words = line.split()
+    return words[1:] if words[:1] == [FAULT_PREFIX] and len(words) > 1 else words
+
+
+def inner_words(line: str) -> Tuple[List[str], List[str]]:
+    """The words of a line without the prefix `fault`: those of the prefix `at K`, and those of the command behind it."""
+    words = without_fault(line)
+    ahead = 2 if words[:1] == ["at"] and len(words) > 2 else 0
+    return words[:ahead], words[ahead:]
+
+
 def form_for(code: int, line: str) -> str:
     """The words that a line has to have which is no command, behind a semicolon; nothing where its first word is none either."""
-    verb, *rest = line.split() or [""]
-    asked = rest[1] if verb == "at" and len(rest) > 1 else verb
-    is_question = any(it in QUESTIONS + OF_TOOLS for it in FORMS.get(asked, []))
-    forms = FORMS.get(asked if is_question else verb)
+    prefix, words = inner_words(line)
+    verb = words[0] if words else ""
+    is_question = any(it in QUESTIONS + OF_TOOLS for it in FORMS.get(verb, []))
+    forms = FORMS.get(verb if is_question or not prefix else "at")
     return f"; it is {' or '.join(f'`{it}`' for it in forms)}" if forms and code == BAD_COMMAND else ""
 
 

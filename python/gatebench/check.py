@@ -2,13 +2,18 @@
 import time
 from concurrent.futures import ThreadPoolExecutor
 from enum import IntEnum
-from typing import Callable, Iterator, List, NamedTuple, Optional, Sequence, Tuple
+from typing import Callable, Dict, Iterator, List, NamedTuple, Optional, Sequence, Tuple
 
+from .causes import without_fault
 from .errors import DesignRefused, GatebenchError, NoReply
 from .refusal import NO_EDIT, place_at_fault
 from .replies import Reply
 from .script import BadLine, Opening, Script, Step, read_script
 from .session import Session
+
+
+# Of how many refusals of a file it is said what they mean: where its design is another one, each line may be refused.
+EXPLAINED = 50
 
 
 class Failure(NamedTuple):
@@ -130,14 +135,33 @@ def answers(session: Session, steps: List[Step]) -> Tuple[List[Reply], Optional[
 
 def cases_of(steps: List[Step], replies: List[Reply], open_session: Callable[[], Session]) -> Iterator[Case]:
     """The expectations, met or not, and the commands that were refused. `open_session` gives a session for a second look."""
+    meanings = meanings_of(steps, replies, open_session)
     for place, (step, reply) in enumerate(zip(steps, replies)):
         if not step.is_met(reply):
             wrong = f"expected {step.wanted()}, got {step.got(reply)}"
-            if step.line.split() == ["commit"] and not reply.is_ok:
+            if without_fault(step.line) == ["commit"] and not reply.is_ok:
                 wrong += edit_at_fault(steps, replies, place, open_session)
-            yield Case(step.number, step.text, Failure(step.number, wrong))
+            yield Case(step.number, step.text, Failure(step.number, wrong + meanings.get(place, "")))
         elif step.is_expectation:
             yield Case(step.number, step.text, None)
+
+
+def meanings_of(steps: List[Step], replies: List[Reply], open_session: Callable[[], Session]) -> Dict[int, str]:
+    """What refusals mean that nobody wants, by the places of their steps, with names like those that nothing has. A second session
+    carries out the steps before each, since names come and go."""
+    found: Dict[int, str] = {}
+    places = [it for it, (step, reply) in enumerate(zip(steps, replies)) if not (reply.is_ok or step.is_met(reply))][:EXPLAINED]
+    if not places:
+        return found
+    try:
+        with open_session() as session:
+            for begin, place in zip([0, *places], places):
+                session.ask([it.line for it in steps[begin:place]])
+                found[place] = session.refused(steps[place].line, replies[place]).means()
+    except GatebenchError:
+        # What the refusals are is said without it.
+        pass
+    return found
 
 
 def edit_at_fault(
@@ -147,7 +171,7 @@ def edit_at_fault(
 
     A second session goes up to the batch; questions in the batch do no harm, since no edit of a trial is carried out."""
     refusal = replies[place]
-    begins = [it for it in range(place) if steps[it].line.split() == ["begin"] and replies[it].is_ok]
+    begins = [it for it in range(place) if without_fault(steps[it].line) == ["begin"] and replies[it].is_ok]
     if refusal.code in NO_EDIT or not begins or begins[-1] + 1 == place:
         return ""
     batch = steps[begins[-1] + 1 : place]

@@ -16,8 +16,9 @@ from .junit import junit_of
 from .near import near, there_is
 from .picture import Picture, window
 from .progress import Line
-from .script import BadLine, BadStep, Opening, carry_out, read_script
+from .script import BadLine, BadStep, Opening, read_script
 from .session import TIMEOUT, Session
+from .started import started
 from .version import __version__
 from .viewing import command as viewing
 from .wave import Wave
@@ -153,15 +154,13 @@ class DrawError(Exception):
 
 
 def draw(options: argparse.Namespace) -> int:
-    with Session(
-        options.design,
-        horizon=options.horizon,
-        delay=options.delay,
-        program=options.program,
-        timeout=options.timeout,
-    ) as session:
-        if options.commands is not None:
-            carry_out(session, read_script(options.commands).steps)
+    def open_session() -> Session:
+        return Session(
+            options.design, horizon=options.horizon, delay=options.delay, program=options.program, timeout=options.timeout
+        )
+
+    session, _ = started(open_session, read_script(options.commands).steps if options.commands is not None else [])
+    with session:
         before = session.at(options.before).dump() if options.before else None
         nets = [session.names.net(it) for it in options.nets or ()]
         picture = picture_of(session.dump(), nets, options.start, options.end, before)

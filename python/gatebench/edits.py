@@ -9,6 +9,9 @@ from .values import GivenValue, value_of
 Result = TypeVar("Result")
 
 
+# The first words of edits.
+EDITS = ("net", "input", "dropnet", "kind", "gate", "drop", "delay", "type", "wire", "stim", "unstim", "horizon")
+
 # How many edits the program takes in one batch.
 MAX_BATCH = 4096
 

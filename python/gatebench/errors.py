@@ -30,8 +30,8 @@ class Refused(GatebenchError):
     """The program refused a command: it answered `no CODE NAME`, and nothing changed.
 
     `code` is the number and `name` the word of the refusal, as docs/commands.md lists them; `command` is the line, and `word` the
-    word of it that is at fault, None where that is not known. Where no net or gate has this name, or no command, `near` are names
-    like it. Its text says what the code means, and what words a command has."""
+    word of it that is at fault, None where that is not known. Where no net or gate has this name, or no command or kind, `near` are
+    names like it. Its text says what the code means, and what words a command has."""
 
     def __init__(self, code: int, name: str, command: str, word: Optional[str] = None, near: Sequence[str] = ()) -> None:
         super().__init__(code, name, command)
@@ -52,8 +52,8 @@ class BatchRefused(Refused):
 
     `place` is the place of the edit at fault in the batch, from 0, and `command` is its line."""
 
-    def __init__(self, code: int, name: str, command: str, place: int) -> None:
-        super().__init__(code, name, command)
+    def __init__(self, code: int, name: str, command: str, place: int, word: Optional[str] = None) -> None:
+        super().__init__(code, name, command, word)
         self.place = place
 
     def __str__(self) -> str:

@@ -11,3 +11,6 @@ MOST_DELAY, MOST_TIME = 1_000_000, 1_099_511_627_776
 
 # The parts that a window is cut into.
 MOST_PARTS = 65_536
+
+# A number of a command; what is above it counts as it.
+GREATEST_NUMBER = 2**64 - 1

@@ -2,6 +2,7 @@
 from typing import Dict, Iterable, List, NamedTuple, Optional, Sequence, Set
 
 from .asked import TOOLS
+from .causes import without_fault
 from .netlist import Gate, Netlist, fall_of, gate_of, netlist_of
 from .netlist_text import Unread
 from .replies import Reply
@@ -40,7 +41,7 @@ def carried_out(lines: Sequence[str], replies: Sequence[Reply]) -> Iterable[List
     """The words of the edits that changed something: outside of batches, or in one whose commit was no refusal."""
     kept: Optional[List[List[str]]] = None
     for line, reply in zip(lines, replies):
-        words = line.split()
+        words = without_fault(line)
         if not reply.is_ok:
             # A commit that is refused ends its batch too.
             kept = None if words == ["commit"] else kept

@@ -1,12 +1,13 @@
 """A method for each question about the waves of a version."""
 from typing import Dict, List, Optional, Sequence, Tuple
 
-from .asked import TIME_TOO_LARGE, TOOLS
+from . import replay
+from .asked import REACH, TIME_TOO_LARGE, TOOLS, WHY
 from .bus import Bus
 from .dump import Dump, dump_of
 from .errors import BadReply
 from .lines import Word, line_of
-from .origins import Candidate, candidates, nets_read
+from .origins import Effect, Origin, effects_of, nets_read, origin_of
 from .stimulus import bits_among
 from .structure import Structure
 from .values import Change, GivenValue, change_of, value_of
@@ -59,15 +60,15 @@ class Questions(Structure):
         """The first change after a moment to a value, None where there is none."""
         return optional_change(self._answer("seek", net, time, value_of(value)))
 
-    def why(self, net: str, time: int) -> List[Candidate]:
-        """What may have made the change of a net at a moment: of each input of the gates that drive it the last change before, first
-        those that lie a delay of the gate before it. None where an input changes by its stimulus. ValueError where the net does not
-        change then. The program does not say which event made a change."""
-        change = self.next(net, time - 1) if time else None
-        if time and (change is None or change.time != time):
-            raise ValueError(f"{net} does not change at {time}")
-        gates = self.drivers(net)
-        return candidates(gates, time, changes_beside(self, "prev", nets_read(gates), time))
+    def why(self, net: str, time: int) -> Optional[Origin]:
+        """What made the change of a net at a moment, None where it does not change then. Of a program that does not know the question
+        the whole waves of what is read are asked for, and it is worked out from them."""
+        return origin_of(self.answer(line_of("why", net, time))) if self.knows(WHY) else worked_out_origin(self, net, time)
+
+    def reach(self, net: str, time: int) -> List[Effect]:
+        """What the change of a net at a moment led to, by the gates that read it, in their order: nothing where it does not change then.
+        A program that does not know the question is asked as for `why`."""
+        return effects_of(self.answer(line_of("reach", net, time))) if self.knows(REACH) else worked_out_effects(self, net, time)
 
     def vcd(self) -> str:
         """The whole run as a value change dump, the text that wave viewers read."""
@@ -118,6 +119,21 @@ class Questions(Structure):
         if not all(it.is_ok or it.code == TIME_TOO_LARGE for it in replies):
             raise BadReply(f"the net {net!r} had a wave and has no value")
         return [it.is_ok for it in replies]
+
+
+def worked_out_origin(version: Questions, net: str, time: int) -> Optional[Origin]:
+    """What made the change of a net, by the questions about gates and waves. Refused as these are."""
+    version.value(net, time)
+    drivers = version.drivers(net)
+    points = [it.time for it in version.points(net)] if net in version.inputs() else []
+    return replay.origin(net, time, drivers, points, version.waves(net, *nets_read(drivers)))
+
+
+def worked_out_effects(version: Questions, net: str, time: int) -> List[Effect]:
+    """What the change of a net led to, likewise."""
+    version.value(net, time)
+    readers = version.readers(net)
+    return replay.effects(net, time, readers, version.waves(net, *nets_read(readers), *(it.output for it in readers)))
 
 
 def changes_beside(version: Questions, question: str, nets: Sequence[str], time: int) -> Dict[str, Optional[Change]]:

@@ -40,7 +40,7 @@ def place_at_fault(exchange: Exchange, edits: Sequence[str], refusal: Reply) -> 
         elif answer.code == PROBE_CODES[probe]:
             good = middle
         else:
-            raise Refused(refusal.code, refusal.name, "commit")
+            raise Refused(refusal.code, refusal.name, "commit", refusal.word)
     return good
 
 
@@ -53,4 +53,4 @@ def commit_refused(exchange: Exchange, edits: Sequence[str], refusal: Reply) -> 
     if refusal.code in NO_EDIT or not edits:
         return Refused(refusal.code, refusal.name, "commit")
     place = place_at_fault(exchange, edits, refusal)
-    return BatchRefused(refusal.code, refusal.name, edits[place], place)
+    return BatchRefused(refusal.code, refusal.name, edits[place], place, refusal.word)

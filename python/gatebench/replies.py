@@ -1,5 +1,6 @@
-"""The program's replies: lines of an answer, then one line `ok VERSION` or `no CODE NAME`."""
-from typing import List, NamedTuple, Tuple
+"""The program's replies: lines of an answer, then one line `ok VERSION` or `no CODE NAME`, with the word at fault behind it where that
+was asked for."""
+from typing import List, NamedTuple, Optional, Tuple
 
 from .errors import BadReply, Refused
 
@@ -24,12 +25,17 @@ class Reply(NamedTuple):
     @property
     def name(self) -> str:
         """The name of a refusal, empty where there is none."""
-        return "" if self.is_ok else " ".join(self.end.split(" ")[2:])
+        return "" if self.is_ok else "".join(self.end.split(" ")[2:3])
+
+    @property
+    def word(self) -> Optional[str]:
+        """The word at fault, where the program says one."""
+        return None if self.is_ok else next(iter(self.end.split(" ")[3:]), None)
 
     def version(self, command: str) -> int:
         """The version that was asked or made. Refused where the command, whose line is given, was refused."""
         if not self.is_ok:
-            raise Refused(self.code, self.name, command)
+            raise Refused(self.code, self.name, command, self.word)
         return self._number()
 
     def one_line(self, command: str) -> str:

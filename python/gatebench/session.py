@@ -9,6 +9,8 @@ from types import TracebackType
 from typing import IO, Iterable, Iterator, List, Optional, Sequence, Type, Union
 
 from . import html
+from .asked import FAULT
+from .causes import FAULT_PREFIX
 from .channel import Channel
 from .draw_svg import draw_svg
 from .edits import Batch, Edits, batches
@@ -22,6 +24,7 @@ from .program import command_words, program_path, tool_path
 from .questions import Questions
 from .refusal import commit_refused
 from .replies import Reply
+from .said_word import said_word
 from .stimulus import bits_among
 
 PathLike = Union[str, "os.PathLike[str]"]
@@ -37,6 +40,8 @@ READ_FAILED = "read failed\n"
 
 # A command that changes nothing, at a session's beginning: it is answered once the design is read and run.
 HARMLESS = "abort"
+
+COMMIT = "commit"
 
 
 class Session(Edits[int], Questions):
@@ -163,7 +168,14 @@ class Session(Edits[int], Questions):
     def commit(self) -> int:
         """Carries out the edits of the program's batch as one, and ends it. Refused, without the edit at fault, where
         one is refused: `batch()` tells which it was."""
-        return self.command("commit")
+        reply = self._commit_reply()
+        self.see_ok(COMMIT, reply)
+        return reply.version(COMMIT)
+
+    def _commit_reply(self) -> Reply:
+        """The reply to `commit`. A refusal ends the batch, so the word of the edit at fault is asked for with it."""
+        [reply] = self.ask([f"{FAULT_PREFIX} {COMMIT}" if self.knows(FAULT) else COMMIT])
+        return reply
 
     def abort(self) -> int:
         """Ends the program's batch; its edits are dropped."""
@@ -201,16 +213,17 @@ class Session(Edits[int], Questions):
         replies = self.ask(edits)
         for place, reply in enumerate(replies):
             if not reply.is_ok:
+                word = self.word_at_fault(edits[place], reply)
                 # It was not kept, so the batch would be carried out without it.
                 self.command("abort")
-                raise self._with_near(BatchRefused(reply.code, reply.name, edits[place], place))
-        [reply] = self.ask(["commit"])
+                raise self._with_near(BatchRefused(reply.code, reply.name, edits[place], place, word))
+        reply = self._commit_reply()
         if not reply.is_ok:
             raise self._with_near(commit_refused(self.ask, edits, reply))
-        return reply.version("commit")
+        return reply.version(COMMIT)
 
     def _with_near(self, refused: Refused) -> Refused:
-        refused.near = tuple(self.names_like(refused.code, refused.word))
+        refused.near = tuple(self.names_like(refused.command, refused.code, refused.word))
         return refused
 
 
@@ -233,7 +246,8 @@ class Held(Questions):
 
     def refused(self, line: str, reply: Reply) -> Refused:
         whole = f"{self._begin} {line}"
-        return Refused(reply.code, reply.name, whole, self._session.word_at_fault(whole, reply))
+        word = self._session.word_at_fault(whole, reply)
+        return Refused(reply.code, reply.name, whole, word, self.names_like(line, reply.code, word))
 
     def free(self) -> int:
         """Gives the name back. Refused where it was given back before."""
@@ -260,12 +274,13 @@ def text_file(text: str) -> IO[bytes]:
 def refused_design(design: str, ended: ProgramEnded, text: Optional[str], delay: Optional[int]) -> Optional[DesignRefused]:
     """The refusal of the text that a program ended with, None where it ended for another reason. `text` is the text of a design
     that is no file."""
-    found = re.search(r"^line (\d+): (\d+) (\w+)\n?$", ended.errors, re.M)
+    found = re.search(r"^line (\d+): (\d+) (\w+)$", ended.errors, re.M)
     if ended.status != 1 or not found:
         return None
     line, code, name = int(found[1]), int(found[2]), found[3]
     known = text_of(design) if text is None else text
-    at = fault_word(known, line, name, delay)
+    # Of some faults the program's word is the bracket behind it.
+    at = fault_word(known, line, name, delay) or said_word(ended.errors, known, line)
     shown = known.split("\n")[(at.line if at else line) - 1 :][:1]
     return DesignRefused(design, line, code, name, "".join(shown), at)
 

@@ -5,6 +5,7 @@ import os
 import subprocess
 import unittest
 from typing import List
+from unittest import mock
 
 from gatebench import Gate, Wave, netlist_of
 from gatebench.campaigns import (
@@ -23,7 +24,7 @@ from gatebench.campaigns import (
     spread,
     stimuli,
 )
-from gatebench.campaigns.run import run_piece
+from gatebench.campaigns.run import Runner, run_piece
 from gatebench.edits import MAX_BATCH, batches
 from gatebench.program import program_path
 from gatebench.values import changes_of
@@ -128,9 +129,16 @@ class Runs(WithFolder):
         self.assertEqual(verdicts[0], Verdict("differs", 27, "y", "0, not 1"))
         self.assertEqual(verdicts[2], verdicts[0])
         self.assertEqual(verdicts[1].status, "refused")
-        self.assertIn("UnknownGate: drop inw", verdicts[1].note)
-        # It says of no other name: which there are follows the what-ifs before.
-        self.assertTrue(verdicts[1].note.endswith("no gate has this name"), verdicts[1].note)
+        self.assertIn("UnknownGate: drop inw (edit 2 of the batch): `inw`: no gate has this name", verdicts[1].note)
+        # What is said of it does not hang on what was tried before.
+        self.assertEqual(run_all(bench(), [wrong, wrong], Differs()), [verdicts[1]] * 2)
+
+    def test_a_what_if_is_one_block(self) -> None:
+        runner = Runner(bench(), Differs())
+        self.addCleanup(runner.session.kill)
+        with mock.patch.object(runner.session, "ask", wraps=runner.session.ask) as ask:
+            verdicts = [runner.verdict(it) for it in each_delay(GATES[:1], [9, 4, 9])]
+        self.assertEqual((ask.call_count, verdicts[0] == verdicts[2]), (3, True))
 
     def test_what_is_longer_than_a_batch(self) -> None:
         points = tuple(f"stim b {time} {time % 2}" for time in range(1, 5001))

@@ -155,6 +155,14 @@ class Starts(WithFolder):
         self.assertEqual((found.line, found.code, found.name), (6, 3, "Unsupported"))
         self.assertEqual(str(found), "m.v:6: 3 Unsupported: Verilog that is left out: write gates, or import it")
 
+    def test_a_design_that_is_refused_with_a_second_line(self) -> None:
+        design = self.write("m.v", "module m;\n  reg q;\nendmodule\n")
+        program = self.stand_in("sys.stderr.write('line 2: 3 Unsupported\\n  word reg, column 3\\n')\nsys.exit(1)")
+        with self.assertRaises(DesignRefused) as caught:
+            Session(design, program=program)
+        found = caught.exception
+        self.assertEqual((found.line, found.code, found.name, found.text), (2, 3, "Unsupported", "reg q;"))
+
     def test_a_program_that_says_something_when_it_starts(self) -> None:
         design = self.write("m.v", "module m;\n  reg q;\nendmodule\n")
         notice = "sys.stderr.write('gatebench: UNPROVED\\n"

@@ -5,6 +5,9 @@ import sys
 import xml.etree.ElementTree as ElementTree
 from typing import Tuple
 
+from gatebench.causes import COMMANDS
+from gatebench.check import EXPLAINED
+
 from .support import EXAMPLES, INVERTER, ROOT, WithFolder
 
 WELL = """\
@@ -61,7 +64,8 @@ class Checks(WithFolder):
     def test_a_pulse_that_is_too_short(self) -> None:
         text = "stim a 0 0\nstim a 10 1\nexpect-no-pulse y 11\nhold k\nstim a 14 0\nexpect-no-pulse y 4\nat k expect-no-pulse y 11\nexpect-no-pulse y 3\n"
         self.assertEqual(self.failures(text), ["commands:7: expected no pulse shorter than 4, got 0 from 13 to 16"])
-        self.assertEqual(self.failures("expect-no-pulse q 4\n"), ["commands:2: expected no pulse shorter than 4, got no 1 UnknownNet"])
+        [failure] = self.failures("expect-no-pulse q 4\n")
+        self.assertEqual(failure, "commands:2: expected no pulse shorter than 4, got no 1 UnknownNet: `q`: no net has this name")
 
     def test_files_that_run_at_one_time_are_reported_in_order(self) -> None:
         names = [f"c{place}" for place in range(6)]
@@ -73,13 +77,30 @@ class Checks(WithFolder):
 
     def test_refusals_that_nobody_wants(self) -> None:
         self.assertEqual(
-            self.failures("wibble\nstim q 0 1\nexpect q 0 1\n"),
+            self.failures("wave\nstim q 0 1\nexpect q 0 1\n"),
             [
-                "commands:2: expected ok, got no 16 BadCommand",
-                "commands:3: expected ok, got no 1 UnknownNet",
-                "commands:4: expected 1, got no 1 UnknownNet",
+                f"commands:2: expected ok, got no 16 BadCommand: {COMMANDS[16][1]}; it is `wave N`",
+                "commands:3: expected ok, got no 1 UnknownNet: `q`: no net has this name",
+                "commands:4: expected 1, got no 1 UnknownNet: `q`: no net has this name",
             ],
         )
+
+    def test_names_like_one_that_is_not_there(self) -> None:
+        # Each is looked for in the version that was asked.
+        self.assertEqual(
+            self.failures("net ready wire\nexpect redy 0 z\ndropnet ready\nexpect redy 0 z\nbegin\nnet reset wire\ndrop gg\ncommit\nexpect-refused 1 drop gg\nat kk wave y\n"),
+            [
+                "commands:3: expected z, got no 1 UnknownNet: `redy`: no net has this name; there is ready",
+                "commands:5: expected z, got no 1 UnknownNet: `redy`: no net has this name",
+                "commands:9: expected ok, got no 2 UnknownGate for line 8: drop gg: `gg`: no gate has this name; there is g",
+                "commands:10: expected no 1, got no 2 UnknownGate: `gg`: no gate has this name; there is g",
+                "commands:11: expected ok, got no 18 UnknownHold: `kk`: no version is held under this name",
+            ],
+        )
+
+    def test_many_refusals(self) -> None:
+        failures = self.failures("wave q\n" * (EXPLAINED + 2))
+        self.assertEqual([it.endswith("UnknownNet") for it in failures], [False] * EXPLAINED + [True] * 2)
 
     def test_a_refusal_that_does_not_come(self) -> None:
         self.assertEqual(self.failures("expect-refused 1 wave y\n"), ["commands:2: expected no 1, got 0 x"])
@@ -87,20 +108,20 @@ class Checks(WithFolder):
     def test_a_refused_commit_names_the_line_at_fault(self) -> None:
         text = "delay g 5 5\nbegin\nstim a 0 1\n# comment\nvalue y 0\ndrop h\nstim a 5 0\ncommit\nexpect y 5 x\n"
         self.assertEqual(
-            self.failures(text), ["commands:9: expected ok, got no 2 UnknownGate for line 7: drop h"]
+            self.failures(text), ["commands:9: expected ok, got no 2 UnknownGate for line 7: drop h: `h`: no gate has this name"]
         )
 
     def test_a_begin_that_is_refused_begins_no_batch(self) -> None:
         self.assertEqual(
             self.failures("begin\ndrop h\nexpect-refused InBatch begin\nbegin\nstim a 5 0\ncommit\n"),
             [
-                "commands:5: expected ok, got no 20 InBatch",
-                "commands:7: expected ok, got no 2 UnknownGate for line 3: drop h",
+                "commands:5: expected ok, got no 20 InBatch: there is a batch already",
+                "commands:7: expected ok, got no 2 UnknownGate for line 3: drop h: `h`: no gate has this name",
             ],
         )
 
     def test_a_commit_without_a_batch_names_no_line(self) -> None:
-        self.assertEqual(self.failures("stim a 0 1\ncommit\n"), ["commands:3: expected ok, got no 19 NoBatch"])
+        self.assertEqual(self.failures("stim a 0 1\ncommit\n"), ["commands:3: expected ok, got no 19 NoBatch: there is no batch to end"])
 
     def test_a_line_that_can_t_be_read(self) -> None:
         self.assertEqual(
@@ -168,7 +189,7 @@ class Checks(WithFolder):
             self.assertEqual(len(suite.findall("testcase")), int(str(suite.get("tests"))))
         failures = [str(it.text) for it in suites[1].iter("failure")]
         self.assertEqual(
-            failures, ["bad:2: expected 1, got x", "bad:4: expected ok, got no 2 UnknownGate"]
+            failures, ["bad:2: expected 1, got x", "bad:4: expected ok, got no 2 UnknownGate: `<h>`: no gate has this name"]
         )
         last = suites[1].findall("testcase")[2]
         self.assertEqual([last.get(it) for it in ("name", "file", "line")], ["line 4: drop <h>", "bad", "4"])

@@ -17,6 +17,7 @@ GUIDE = "docs/GUIDE.md"
 COMMANDS = "docs/commands.md"
 FAULTS = "docs/does-not-load.md"
 REFERENCE = "docs/quick-reference.md"
+TOOLS = "docs/tool-questions.md"
 
 
 class WithProgram(WithFolder):
@@ -91,11 +92,32 @@ class Sessions(WithProgram):
         self.write("commands", "wibble\nstim q 0 1\nwave zz\n")
         self.assertEqual(self.shell(lines), behind[0])
 
-    def test_questions_of_tools(self) -> None:
-        design, (commands, replies, *_) = self.after("docs/tool-questions.md", "module m(")
+    def tool_replies(self, commands: str) -> str:
+        """What gatetool prints for commands over the design of its page."""
+        design, _ = self.after(TOOLS, "module m(")
         words = [TOOL, self.write("m.v", design), "--horizon", "40"]
         ran = subprocess.run(words, executable=tool_path(self.program), input=commands, capture_output=True, encoding="utf-8", timeout=60)
-        self.assertEqual((ran.returncode, ran.stdout), (0, replies))
+        self.assertEqual(ran.returncode, 0)
+        return ran.stdout
+
+    def test_questions_of_tools(self) -> None:
+        _, (commands, replies, *_) = self.after(TOOLS, "module m(")
+        self.assertEqual(self.tool_replies(commands), replies)
+
+    def test_what_made_a_change_and_what_differs(self) -> None:
+        commands, (replies, *_) = self.after(TOOLS, "stim a 0 1\nstim b 0 1\nhold before\n")
+        self.assertEqual(self.tool_replies(commands), replies)
+
+    def test_the_words_at_fault(self) -> None:
+        rows = re.findall(r"^\| `(fault .*?)` \| `(no .*?)` \|$", text_of(TOOLS), re.M)
+        self.assertGreater(len(rows), 4)
+        self.assertEqual(self.tool_replies("".join(f"{line}\n" for line, _ in rows)), "".join(f"{reply}\n" for _, reply in rows))
+
+    def test_the_second_line_of_a_refused_text(self) -> None:
+        shown, _ = self.after(FAULTS, "$ bin/gatetool m.v\n")
+        path = self.write("m.v", "module m;\n  assign y = b;\nendmodule\n")
+        ran = subprocess.run([TOOL, path], executable=tool_path(self.program), input="", capture_output=True, encoding="utf-8", timeout=60)
+        self.assertEqual((ran.returncode, ran.stderr), (1, shown.partition("\n")[2]))
 
     def test_a_dump(self) -> None:
         lines, _ = self.after("docs/dumps.md", "bin/gatebench docs/examples/dump/design.v")

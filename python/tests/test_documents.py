@@ -25,11 +25,20 @@ def blocks(name: str) -> List[str]:
     return [re.sub("^    ", "", it, flags=re.M) for it in found]
 
 
+# Folders with what was made here: by checks, and by the lines of docs/scripts.md for an installation.
+MADE = ("out", "environment")
+
+
 def documents() -> Iterator[str]:
     """Each page of the repository, by its path from the root."""
     for folder, inside, files in os.walk(ROOT):
-        inside[:] = [it for it in inside if it != "out" and not it.startswith(".")]
+        inside[:] = [it for it in inside if it not in MADE and not it.startswith(".")]
         yield from (os.path.relpath(os.path.join(folder, it), ROOT) for it in files if it.endswith(".md"))
+
+
+def section(head: str, name: str = "docs/PROOFS.md") -> str:
+    """What stands under a heading of a document."""
+    return text_of(name).split(f"\n## {head}\n")[1].split("\n## ")[0]
 
 
 def without_code(name: str) -> str:
@@ -94,21 +103,18 @@ class Crates(unittest.TestCase):
         lines = re.findall(r"^(\w+)([^:\n]*):(.*)$", re.sub("#.*", "", text_of("crates.txt")), re.M)
         self.crates = {name: (settings, libraries.split()) for name, settings, libraries in lines}
 
-    def section(self, head: str, name: str = "docs/PROOFS.md") -> str:
-        return text_of(name).split(f"\n## {head}\n")[1].split("\n## ")[0]
-
     def test_each_crate_is_on_the_map(self) -> None:
-        first = re.findall(r"^\| (`[^|]+`) \|", self.section("The crates", "docs/ARCHITECTURE.md"), re.M)
+        first = re.findall(r"^\| (`[^|]+`) \|", section("The crates", "docs/ARCHITECTURE.md"), re.M)
         self.assertEqual(sorted(re.findall(r"`(\w+)`", " ".join(first))), sorted(self.crates))
 
     def test_each_library_of_others_is_named_as_trusted(self) -> None:
         used = {it for _, libraries in self.crates.values() for it in libraries if it not in self.crates}
         self.assertGreater(len(used), 10)
-        self.assertEqual(used - set(re.findall(r"`(\w+)`", self.section("Trusted"))), set())
+        self.assertEqual(used - set(re.findall(r"`(\w+)`", section("Trusted"))), set())
 
     def test_each_crate_that_may_wait_is_named(self) -> None:
         waiting = {name for name, (settings, _) in self.crates.items() if "may_wait" in settings}
-        self.assertEqual(set(re.findall(r"^\| `(\w+)` \|", self.section("Each call returns"), re.M)), waiting)
+        self.assertEqual(set(re.findall(r"^\| `(\w+)` \|", section("Each call returns"), re.M)), waiting)
 
 
 class Decisions(unittest.TestCase):
@@ -151,7 +157,7 @@ class Documents(WithFolder):
         self.assertEqual(self.scripts_of("README.md"), 1)
 
     def test_the_scripts_of_their_page(self) -> None:
-        self.assertEqual(self.scripts_of(SCRIPTS), 5)
+        self.assertEqual(self.scripts_of(SCRIPTS), 6)
 
     def test_the_failures_of_a_check(self) -> None:
         found = blocks(SCRIPTS)
@@ -166,8 +172,11 @@ class Documents(WithFolder):
         self.assertEqual(codes, causes.COMMANDS)
         forms = re.findall(r"^\| `([a-z][^`]*)` \| [^|]* \|$", commands.split("\n## ")[0], re.M)
         self.assertEqual(sorted(forms), sorted(causes.EDITS_AND_MORE + causes.QUESTIONS))
-        tools = re.findall(r"^\| `([a-z][^`]*)` \|[^|]*\|[^|]*\|$", text_of("docs/tool-questions.md"), re.M)
-        self.assertEqual(sorted({*tools} - {"gate G", "at K LINE"}), sorted(causes.OF_TOOLS))
+        of_tools = section("Questions of tools", "docs/SPEC.md")
+        tools = re.findall(r"^\| `([a-z][^`]*)` \|[^|]*\|[^|]*\|$", of_tools, re.M)
+        self.assertEqual(sorted({*tools} - {"gate G"}), sorted((*causes.OF_TOOLS, "fault LINE")))
+        shown = re.findall(r"^\| `([a-z][^`]*)` \|[^|]*\|[^|]*\|$", text_of("docs/tool-questions.md"), re.M)
+        self.assertEqual({*shown} - {*tools, "at K LINE"}, set())
         rows = re.findall(r"^\| `(\d+) (\w+)` \| (.*) \| (.*) \|$", text_of("docs/does-not-load.md"), re.M)
         self.assertEqual([(int(code), *rest) for code, *rest in rows], [tuple(it) for it in causes.TEXTS])
         cures = re.findall(r"^\| (`[^`].*?`|`` .*? ``) \| `(\d+) (\w+)` \| (.*) \|$", text_of("docs/does-not-load.md"), re.M)
@@ -184,7 +193,7 @@ class Documents(WithFolder):
     def test_the_keys_of_the_page(self) -> None:
         keys = re.findall(r'^  \["(.)", ', text_of("python/gatebench/viewing/page/keys.js"), re.M)
         self.assertGreater(len(keys), 20)
-        table = text_of("docs/view.md").split("\n## Keys\n")[1].split("\n## ")[0]
+        table = section("Keys", "docs/view.md")
         self.assertEqual([it for it in keys if f"`{it}`" not in table], [])
 
     def test_a_check(self) -> None:

@@ -7,7 +7,7 @@ import unittest
 from typing import Callable, List, Optional, Sequence, Tuple
 
 from gatebench import BadReply, BatchRefused, Closed, DesignRefused, GatebenchError, NoReply, ProgramEnded, Refused, Session, TimedOut
-from gatebench.asked import FAULT
+from gatebench.asked import FAULT, PROBES
 from gatebench.fault_word import FaultWord
 from gatebench.replies import Reply
 
@@ -48,7 +48,9 @@ class Pickles(unittest.TestCase):
 
 
 # The words that a program says where the line leaves open which is at fault.
-SAID = {"gate h and 1 1 y a q": "q", "wire g y a a": "g", "stim a 3 X": "X"}
+SAID = {"gate h and 1 1 y a q": "q", "stim a 3 X": "X", "net n wier": "wier", "type g nort": "nort", "delay g nort 1": "nort"}
+# And that of the edit for which a commit is refused.
+OF_EDIT = {"commit": "q"}
 
 
 class SayingSession(Session):
@@ -60,11 +62,12 @@ class SayingSession(Session):
         return questions == FAULT or super().knows(questions)
 
     def ask(self, lines: Sequence[str]) -> List[Reply]:
-        if lines[:1] and lines[0].startswith("fault "):
+        if lines[:1] and lines[0].startswith("fault ") and lines[0] != PROBES[FAULT]:
             self.faults = [*self.faults, *lines]
             line = lines[0][6:]
             [reply] = super().ask([line])
-            return [reply._replace(end=f"{reply.end} {SAID[line]}" if line in SAID else reply.end)]
+            word = {**SAID, **OF_EDIT}.get(line) if reply.code not in (0, 19) else None
+            return [reply._replace(end=f"{reply.end} {word}") if word else reply]
         return super().ask(lines)
 
 
@@ -82,18 +85,20 @@ class CommandWords(unittest.TestCase):
                 ("hold k", 3, "k"),
                 ("input u..v", 4, "u..v"),
                 ("gate h not 0 1 y a", 5, "0"),
-                ("delay g 1 2/0", 5, "2/0"),
-                ("delay g 0000000000000000000000000001 00", 5, "00"),
+                ("delay g 1 2/0", 5, "0"),
+                ("delay g 0000000000000000000000000001 00", 5, "0"),
                 ("gate h not 1 1000001 y a", 6, "1000001"),
                 ("gate h not 1 1 y a a", 7, "not"),
                 ("type g bufif1", 7, "bufif1"),
-                ("wire g y a a", 7, None),
+                ("wire g y a a", 7, "g"),
                 ("wire g a y", 8, "a"),
                 ("gate h not 1 1 a y", 8, "a"),
                 ("stim y 3 1", 9, "y"),
                 ("dropnet y", 10, "y"),
                 ("value y 21", 11, "21"),
                 ("horizon 1099511627777", 11, "1099511627777"),
+                ("value y 00021", 11, "21"),
+                ("horizon 99999999999999999999", 11, "18446744073709551615"),
                 ("unstim a 4", 12, "4"),
                 ("wibble", 16, "wibble"),
                 ("at k wibble", 16, "wibble"),
@@ -101,7 +106,8 @@ class CommandWords(unittest.TestCase):
                 ("free j", 18, "j"),
                 ("at j wave y", 18, "j"),
                 ("commit", 19, None),
-                ("delay g 1 2/3", 21, "2/3"),
+                ("delay g 1 2/03", 21, "3"),
+                ("gate h not 1 1/2 y a", 21, "2"),
             ):
                 with self.assertRaises(Refused, msg=line) as caught:
                     session.command(line)
@@ -114,15 +120,35 @@ class CommandWords(unittest.TestCase):
             cases: Tuple[Tuple[Callable[[], object], Optional[str], List[str]], ...] = (
                 (lambda: session.gate("h", "and", 1, 1, "y", "a", "q"), "q", ["fault gate h and 1 1 y a q"]),
                 (lambda: session.command("stim a 3 X"), "X", ["fault stim a 3 X"]),
-                (lambda: session.commit(), None, ["fault commit"]),
-                (lambda: session.wave("q"), "q", []),
-                (lambda: session.at("j").value("y", 0), "j", []),
+                (lambda: session.command("net n wier"), "wier", ["fault net n wier"]),
+                # It is asked at once, since the batch is over then; of one that there is not it is asked twice.
+                (lambda: session.edits(["input b", "gate h and 1 1 y a q"]), "q", ["fault commit"]),
+                (lambda: session.edits(["input b", "stim a 3 X"]), "X", ["fault stim a 3 X"]),
+                (lambda: session.commit(), None, ["fault commit", "fault commit"]),
+                (lambda: session.wave("q"), "q", ["fault wave q"]),
+                (lambda: session.at("j").value("y", 0), "j", ["fault at j value y 0"]),
             )
             for ask, word, asked in cases:
                 session.faults = []
                 with self.assertRaises(Refused) as caught:
                     ask()
                 self.assertEqual((caught.exception.word, session.faults), (word, asked))
+            self.assertEqual((session.value("y", 0), session.nets()), ("x", ["a", "y"]))
+
+    def test_names_like_the_word_that_the_program_says(self) -> None:
+        with SayingSession(text=INVERTER, horizon=20) as session:
+            for line, wanted in (("net n wier", ("wire",)), ("type g nort", ("not", "nor", "xnor")), ("delay g nort 1", ()), ("stim a 3 X", ()), ("wibble wire", ("wire",)), ("qwerty", ())):
+                with self.assertRaises(Refused) as caught:
+                    session.command(line)
+                self.assertEqual(caught.exception.near, wanted, line)
+
+    def test_the_word_of_the_edit_for_which_a_batch_of_the_program_is_refused(self) -> None:
+        with SayingSession(text=INVERTER, horizon=20) as session:
+            session.begin()
+            session.gate("h", "and", 1, 1, "y", "a", "q")
+            with self.assertRaises(Refused) as caught:
+                session.commit()
+            self.assertEqual((caught.exception.command, caught.exception.word), ("commit", "q"))
 
     def test_it_is_said_before_what_the_code_means(self) -> None:
         self.assertEqual(str(Refused(1, "UnknownNet", "at k wave q")), "no 1 UnknownNet: at k wave q: `q`: no net has this name")

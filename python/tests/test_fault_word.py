@@ -5,8 +5,10 @@ import unittest
 from importlib import import_module
 from typing import NamedTuple, Optional
 
-from gatebench import DesignRefused, Session
+from gatebench import DesignRefused, ProgramEnded, Session
 from gatebench.fault_word import FaultWord, fault_word
+from gatebench.said_word import said_word
+from gatebench.session import refused_design
 
 from .support import ROOT
 
@@ -70,11 +72,30 @@ class Words(unittest.TestCase):
     def test_the_word_and_where_it_stands(self) -> None:
         for case in CASES:
             with self.subTest(case.text):
+                text = f"{HEAD}{case.text}\nendmodule\n"
                 with self.assertRaises(DesignRefused) as caught:
-                    Session(text=f"{HEAD}{case.text}\nendmodule\n", delay=case.delay)
+                    Session(text=text, delay=case.delay)
                 found = caught.exception
                 self.assertEqual(found.name, case.name)
-                self.assertEqual((found.word, found.word_line, found.column), case.word[:3] if case.word else (None, None, None))
+                self.assertEqual((fault_word(text, found.line, found.name, case.delay) or [None])[:3], case.word[:3] if case.word else [None])
+                # Of the others a newer program says the word.
+                self.assertTrue(case.word is None or case.word[:3] == (found.word, found.word_line, found.column))
+
+    def test_the_word_that_the_program_says_where_the_text_leaves_several(self) -> None:
+        text = f"{HEAD}/* \N{LATIN SMALL LETTER E WITH ACUTE} */ wire n, b, a;\nendmodule\n"
+        self.assertIsNone(fault_word(text, 2, "WidthMismatch"))
+        for errors, wanted in (
+            ("line 2: 8 WidthMismatch\n  word b, column 18\n", FaultWord("b", 2, 17)),
+            ("line 2: 8 WidthMismatch\n  word \\a,b, column 1, port p\n", FaultWord("\\a,b", 2, 1)),
+            ("line 2: 8 WidthMismatch\n  the text ends\n", None),
+            ("line 2: 8 WidthMismatch\n", None),
+        ):
+            self.assertEqual(said_word(errors, text, 2), wanted)
+        ended = ProgramEnded(1, "line 2: 8 WidthMismatch\n  word b, column 18\n")
+        refused = refused_design("m.v", ended, text, None)
+        assert refused is not None
+        self.assertEqual((refused.line, refused.name, refused.word, refused.column), (2, "WidthMismatch", "b", 17))
+        self.assertTrue(str(refused).endswith(" " * 16 + "^"), str(refused))
 
     def test_the_names_that_may_be_meant(self) -> None:
         cells = "\nendmodule\nmodule NAND2(input A, B, output Y); nand #1 g(Y, A, B);"
@@ -114,9 +135,8 @@ class Words(unittest.TestCase):
         self.assertEqual(line[marks.index("^") : len(marks)], "reg")
 
     def test_no_mark_where_it_is_not_certain(self) -> None:
-        with self.assertRaises(DesignRefused) as caught:
-            Session(text=f"{HEAD}  wire n, b, a;\nendmodule\n")
-        self.assertEqual(str(caught.exception).split("\n")[1:], ["  wire n, b, a;"])
+        refused = refused_design("m.v", ProgramEnded(1, "line 2: 8 WidthMismatch\n"), f"{HEAD}  wire n, b, a;\nendmodule\n", None)
+        self.assertEqual(str(refused).split("\n")[1:], ["  wire n, b, a;"])
 
 
 # The faults of which docs/SPEC.md names the token at which they stand; of the others the word is one that is more to the point.

@@ -144,6 +144,44 @@ class Command(WithFolder):
         ran = self.run_import("m.v", "--synthesize", "--lib", "cells.lib")
         self.assertRegex(ran.stderr, "^the design: yosys: Can't open ABC output file .*; synthesis wants more cells of the Liberty file: ")
 
+    def test_power_pins_of_cells_that_a_synthesis_leaves_as_they_are(self) -> None:
+        # RAIL stands in the library, and VSS is known by its name; a net of the design has a name of this kind too.
+        with open(os.path.join(EXAMPLES, "cells.lib"), encoding="ascii") as file:
+            text = file.read()
+        self.write("cells.lib", text.replace("cell(NAND2) {", "cell(NAND2) {\n    pg_pin (RAIL) { pg_type : primary_power; }", 1))
+        self.write("m.v", """\
+            module m(input a, b, vdd, output y, output reg z);
+              NAND2 u1(.A(a), .B(b), .Y(y), .RAIL(vdd), .VSS(1'b0));
+              always @* z = y;
+            endmodule
+        """)  # fmt: skip
+        ran = self.run_import("m.v", "--synthesize", "--lib", "cells.lib")
+        self.assertEqual(ran.returncode, 0, ran.stderr)
+        self.assertIn("  NAND2 u1(a, b, y);\n", ran.stdout)
+        self.write("m.v", "module m(input a, output y, output reg z);\n  INV u1(.A(a), .Y(y), .X(a));\n  always @* z = y;\nendmodule\n")
+        ran = self.run_import("m.v", "--synthesize", "--lib", "cells.lib")
+        self.assertEqual((ran.returncode, "X" in ran.stderr), (1, True))
+
+    def test_power_pins_of_cells_in_verilog(self) -> None:
+        self.write("cells.v", "module INV(output Y, input A);\n  not #3 g(Y, A);\nendmodule\n")
+        self.write("m.v", "module m(input a, vdd, output y, output reg z);\n  INV u1(.A(a), .Y(y), .VDD(vdd));\n  always @* z = !y;\nendmodule\n")
+        for words in ((), ("--synthesize",)):
+            ran = self.run_import("m.v", "--lib", "cells.v", *words)
+            self.assertEqual(ran.returncode, 0, ran.stderr)
+            self.assertIn("  INV u1(y, a);\n", ran.stdout)
+
+    def test_ports_that_a_module_has_not(self) -> None:
+        self.write("sub.v", "module sub #(parameter W = 0) (input a, output [W:0] y);\n  assign y = {W + 1{!a}};\nendmodule\n")
+        self.write("m.v", "module m(input a, output y);\n  sub u1(.a(a), .yy(y));\n  sub #(3) u2(.b(a), .y(y));\nendmodule\n")
+        for words in (("m.v", "sub.v"), ("m.v", "--lib", "sub.v")):
+            ran = self.run_import(*words)
+            self.assertEqual(ran.returncode, 1)
+            self.assertEqual([line.partition(";")[0] for line in ran.stderr.splitlines()[:-1]], [
+                "m.v:2: yy: the module sub has no port by this name", "m.v:3: b: the module sub has no port by this name",
+            ])  # fmt: skip
+        self.write("m.v", "module m(input a, output y);\n  sub u1(a, y, a);\nendmodule\n")
+        self.assertIn("connect as many nets as the module has ports", self.run_import("m.v", "sub.v").stderr)
+
     def test_connections_by_order(self) -> None:
         self.write("cells.lib", LIBRARY)
         self.write("cells.v", "module INV(output Y, input A);\n  not #3 g(Y, A);\nendmodule\n")

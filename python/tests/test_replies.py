@@ -34,6 +34,13 @@ class Replies(unittest.TestCase):
         self.assertTrue(str(caught.exception).startswith("no 16 BadCommand: wibble: `wibble`: the line is no command: an unknown word"))
         self.assertEqual(str(Refused(99, "Other", "wibble")), "no 99 Other: wibble")
 
+    def test_a_refusal_may_name_the_word_at_fault(self) -> None:
+        refusal = Reply((), "no 1 UnknownNet yy")
+        self.assertEqual((refusal.code, refusal.name, refusal.word, WANTED[2].word, WANTED[0].word), (1, "UnknownNet", "yy", None, None))
+        with self.assertRaises(Refused) as caught:
+            refusal.version("gate g and 1 1 y a yy")
+        self.assertEqual(caught.exception.word, "yy")
+
     def test_an_answer_has_a_version_and_no_code(self) -> None:
         self.assertEqual((WANTED[1].version("wave y"), WANTED[1].code, WANTED[1].name), (2, 0, ""))
 

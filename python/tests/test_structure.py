@@ -1,7 +1,7 @@
 """What a session says of its nets and gates, and of a part of a wave. The answers are worked out by hand."""
 import os
 
-from gatebench import Candidate, Change, Gate, ProgramEnded, QuestionMissing, Refused, Session
+from gatebench import Change, Gate, ProgramEnded, QuestionMissing, Refused, Session
 from gatebench.netlist import netlist_of
 from gatebench.netlist_edits import edited_in
 from gatebench.program import program_path, tool_path
@@ -72,17 +72,6 @@ class Structures(WithFolder):
             with self.assertRaises(ValueError):
                 session.window("y", 5, 4)
 
-    def test_what_may_have_made_a_change(self) -> None:
-        # y rises 2 behind the fall of b, and fell 3 behind both of its inputs.
-        rise, fall = [Candidate("g", "b", 10, "0", True), Candidate("g", "a", 0, "1", False)], [Candidate("g", it, 0, "1", True) for it in "ab"]
-        for version in (self.session, self.session.hold("held")):
-            self.assertEqual((version.why("y", 12), version.why("y", 3)), (rise, fall))
-            self.assertEqual(version.why("y", 0), [Candidate("g", it, None, None, False) for it in "ab"])
-            self.assertEqual(version.why("b", 10), [])
-            for time in (11, 40):
-                with self.assertRaises(ValueError):
-                    version.why("y", time)
-
     def test_what_is_not_there_is_refused(self) -> None:
         session = self.session
         for ask, name in (
@@ -91,8 +80,6 @@ class Structures(WithFolder):
             (lambda: session.window("q", 0, 1), "UnknownNet"),
             (lambda: session.gate_named("q"), "UnknownGate"),
             (lambda: session.points("y"), "NotInput"),
-            (lambda: session.why("q", 1), "UnknownNet"),
-            (lambda: session.why("y", 42), "TimeTooLarge"),
             (lambda: session.at("never").gates(), "UnknownHold"),
         ):
             with self.assertRaises(Refused) as caught:
@@ -130,6 +117,7 @@ class Structures(WithFolder):
 
     def test_it_is_asked_once_what_a_program_knows(self) -> None:
         lines = []
+        self.session._known = None
         ask = self.session.ask
         self.session.ask = lambda given: lines.extend(given) or ask(given)  # type: ignore
         for _ in range(2):

@@ -19,6 +19,8 @@ from .newer import AskedSession, NewerSession
 from .support import INVERTER, ROOT, WithFolder
 
 HAS_FLASK = importlib.util.find_spec("flask") is not None
+# p falls 3 behind its inputs and rises 3 behind one, and y follows it by 1. No net drives w.
+CHAIN = "module m(input a, b, output y, w);\n  nand #3 g(p, a, b);\n  buf #1 h(y, p);\n  or #1 k(w, 1'b0, 1'b1);\nendmodule\n"
 COMMANDS = "stim a 0 0\nexpect y 2 1\nstim a 10 1\nnext y 2\nhold k\nfree k\n"
 # The program is started by a shell that says its number; the first one is that of the session. It goes by the name of the link.
 SAYING = "#!/bin/sh\necho $$ >> '{folder}/number'\nexec '{folder}/{link}' \"$@\"\n"
@@ -88,7 +90,7 @@ class Answers(Served):
         self.assertEqual(y["now"], [[0, "x"], [2, "1"], [13, "0"]])
 
     def test_a_drag_is_one_step_beside_the_version_before(self) -> None:
-        self.assertEqual(self.ask("reach", bits=["a"], time=10), {"points": [["a", "1"]], "least": 1, "most": 20})
+        self.assertEqual(self.ask("movable", bits=["a"], time=10), {"points": [["a", "1"]], "least": 1, "most": 20})
         for time in (11, 12):
             state = self.ask("edit", edits=["unstim a 10", f"stim a {time} 1"], drag="first")
         self.assertEqual(state["log"], ["unstim a 10; stim a 12 1"])
@@ -208,10 +210,46 @@ class Answers(Served):
         self.assertEqual(self.rows(["y"], other="first")[0]["other"], [[0, "x"], [2, "1"], [13, "0"]])
         self.assertEqual(self.ask("command", line="free first")["state"]["held"], [])
 
-    def test_what_may_have_made_an_edge(self) -> None:
-        said = self.ask("origins", net="y", time=13)
-        self.assertEqual(said["candidates"], [{"gate": "g", "net": "a", "time": 10, "value": "1", "fits": True}])
-        self.assertEqual(self.ask("origins", net="a", time=10)["points"], [["a", "1"]])
+    def ways(self, *bits: str, time: int) -> Tuple[List[str], str, List[str]]:
+        """The way back from an edge, what ends it, and what it led to."""
+        said = self.ask("origins", bits=bits, time=time)
+        way = [f"{it['time']} {it['net']} {it['value']} by {it['gate']}{'' if it['followed'] else ' too'}" for it in said["way"]]
+        return way, said["end"], [f"{it['time']} {it['net']} {it['value']} by {it['gate']}" for it in said["effects"]["changes"]]
+
+    def test_what_made_an_edge_and_what_it_led_to(self) -> None:
+        self.assertEqual(self.ways("y", time=13), (["10 a 1 by g"], "stimulus", []))
+        self.assertEqual(self.ways("a", time=10), ([], "stimulus", ["13 y 0 by g"]))
+        self.assertEqual(self.ways("y", time=0), ([], "beginning", []))
+        self.assertEqual(self.ask("origins", bits=["a", "y"], time=12), {"net": None})
+        # Of the nets of a row it is the first one that changes then.
+        self.assertEqual(self.ask("origins", bits=["a", "y"], time=13)["net"], "y")
+
+    def test_a_change_that_led_to_many(self) -> None:
+        self.serve("module m(input a, output [3:0] y); buf #1 g3(y[3], a), g2(y[2], a), g1(y[1], a), g0(y[0], a); endmodule", "stim a 0 1\n")
+        with mock.patch("gatebench.viewing.answers.SHOWN", 3):
+            effects = self.ask("origins", bits=["a"], time=0)["effects"]
+        self.assertEqual((effects["count"], [it["net"] for it in effects["changes"]]), (4, ["y[3]", "y[2]", "y[1]"]))
+
+    def test_the_way_back_goes_on_to_the_stimulus(self) -> None:
+        self.serve(CHAIN, "stim a 0 1\nstim b 0 1\nstim a 10 0\n", 30)
+        # y follows p, which follows a and b.
+        self.assertEqual(self.ways("y", time=14), (["13 p 1 by h", "10 a 0 by g"], "stimulus", []))
+        self.assertEqual(self.ways("y", time=4), (["3 p 0 by h", "0 a 1 by g", "0 b 1 by g too"], "stimulus", []))
+        self.assertEqual(self.ways("a", time=10), ([], "stimulus", ["13 p 1 by g"]))
+        self.assertEqual(self.ways("w", time=1), ([], "constants", []))
+        # It is what it is in the present version.
+        self.ask("edit", edits=["delay g 5 3", "stim b 12 0"])
+        self.assertEqual(self.ways("y", time=16), (["15 p 1 by h", "10 a 0 by g"], "stimulus", []))
+
+    def test_a_long_way_back_is_cut(self) -> None:
+        self.serve("module m(input a, output y); nor #1 g(y, a, y); endmodule", "stim a 0 1\nstim a 5 0\n", 600)
+        with mock.patch("gatebench.viewing.ways.MOST", 3):
+            self.assertEqual(self.ways("y", time=600)[:2], ([f"{time} y {time % 2 ^ 1} by g" for time in (599, 598, 597)], ""))
+        with mock.patch("gatebench.viewing.ways.PATIENCE", -1):
+            self.assertEqual(len(self.ways("y", time=600)[0]), 1)
+        with mock.patch("gatebench.viewing.ways.PATIENCE", 60):
+            way, end, effects = self.ways("y", time=400)
+        self.assertEqual((way[-1], end, effects), ("5 a 0 by g", "stimulus", ["401 y 0 by g"]))
 
     def test_edges_of_a_row(self) -> None:
         self.assertEqual([self.ask("edge", bits=["y"], time=at, step=step)["time"] for at, step in ((2, 1), (13, 1), (13, -1))], [13, None, 2])

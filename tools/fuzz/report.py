@@ -31,5 +31,5 @@ def ended(answer):
 def shown(case, answer):
     """What the program is given, and its answer beside that of the reading: lines of both, of the one and of the other."""
     other = list(difflib.unified_diff(ended(case.answer()), ended(answer), lineterm="", n=3))[3:]
-    made = [f"gatebench design.v {' '.join(case.words)}", *block("design.v", lines_of(case.text))]
+    made = [f"{'gatetool' if case.tool else 'gatebench'} design.v {' '.join(case.words)}", *block("design.v", lines_of(case.text))]
     return "\n".join([*made, *block("commands", lines_of(case.commands)), *block("the reading (-), the program (+)", other)])

@@ -3,6 +3,7 @@ import glob
 import os
 import subprocess
 import sys
+import threading
 import time
 
 # The most edits of a batch.
@@ -28,20 +29,34 @@ class Session:
 
     def ask(self, *commands):
         begun = self.used()
-        self.program.stdin.write(("\n".join(commands) + "\n").encode())
-        self.program.stdin.flush()
+        self.write(commands)
         for command in commands:
             self.reply(command)
         return self.used() - begun
 
+    def flood(self, questions):
+        """The processor seconds of many questions, written while their replies are read, and the bytes of these."""
+        begun = self.used()
+        writer = threading.Thread(target=self.write, args=(questions,))
+        writer.start()
+        size = sum(self.reply(it) for it in questions)
+        writer.join()
+        return self.used() - begun, size
+
+    def write(self, commands):
+        self.program.stdin.write(("\n".join(commands) + "\n").encode())
+        self.program.stdin.flush()
+
     def reply(self, command):
-        """Reads a reply up to its last line."""
+        """Reads a reply up to its last line, and gives its bytes."""
+        size = 0
         while True:
             line = self.program.stdout.readline()
+            size += len(line)
             if not line or line.startswith(b"no "):
                 sys.exit(f"{os.path.basename(sys.argv[0])}: `{command}` gave `{line.decode().strip()}`")
             if line.startswith(b"ok "):
-                return
+                return size
 
     def close(self):
         self.program.stdin.close()
@@ -51,3 +66,8 @@ class Session:
 def batches(commands):
     for first in range(0, len(commands), BATCH):
         yield ["begin"] + commands[first:first + BATCH] + ["commit"]
+
+
+def part_of(times, tenths):
+    """Of the times of each program the one that so many tenths of them are below."""
+    return [sorted(of)[len(of) * tenths // 10] for of in zip(*times)]

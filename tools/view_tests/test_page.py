@@ -128,13 +128,35 @@ class Pages(unittest.TestCase):
         self.assertIn("delay invert 0 1 (5 ZeroDelay) `0`: a delay is 0", self.page.text("banner"))
         self.assertEqual((self.wave_of("y"), self.page.text("log")), (before, ""))
 
-    def test_what_may_have_made_an_edge(self):
+    def lines(self):
+        """The lines of the lists of what made an edge and what it led to."""
+        return [it.text for it in self.browser.find_elements("css selector", "#net tr")]
+
+    def test_what_made_an_edge_and_what_it_led_to(self):
         self.page.click("y", 23)
-        self.page.wait("document.querySelector('#net tr.fits')")
-        self.assertEqual(self.browser.find_element("css selector", "#net tr.fits").text, "22 c to 1, by invert")
-        self.browser.find_element("css selector", "#net tr.fits").click()
+        self.page.wait("document.querySelectorAll('#net tr.followed').length === 2")
+        self.assertEqual(self.lines(), ["22 c to 1, through invert", "20 a to 1, through follow"])
+        self.assertIn("a has a stimulus point at 20: here it begins.", self.page.text("net"))
+        self.assertIn("It led to nothing.", self.page.text("net"))
+        self.assertEqual([(it["net"], it["time"]) for it in self.page.ask("view.model.way")], [("y", 23), ("c", 22), ("a", 20)])
+        for row, moment in (("y", 23), ("c", 22), ("a", 20)):
+            self.page.wait(self.blue(row, moment))
+        # Back to the stimulus, and forward again.
+        self.browser.find_elements("css selector", "#net tr")[1].click()
+        self.page.wait("document.getElementById('net-name').textContent === 'a at 20'")
+        self.assertEqual((self.lines(), self.page.ask("view.model.cursors.a")), (["22 c to 1, through follow"], 20))
+        self.browser.find_element("css selector", "#net tr").click()
         self.page.wait("document.getElementById('net-name').textContent === 'c at 22'")
-        self.assertEqual(self.browser.find_element("css selector", "#net tr.fits").text, "20 a to 1, by follow")
+        self.assertEqual(self.lines(), ["20 a to 1, through follow", "23 y to 0, through invert"])
+        # Another row has no way.
+        self.page.click("b", 10)
+        self.page.wait("view.model.way.length === 0")
+
+    def test_what_made_an_edge_of_a_vector_by_a_key(self):
+        self.choose_row("e")
+        self.page.keys("nnw")
+        self.page.wait("document.getElementById('net-name').textContent === 'e[3] at 32'")
+        self.assertEqual(self.lines(), ["30 d[3] to 1, through g3"])
 
     def test_keys_move_the_cursor_and_the_point(self):
         self.page.keys("n")
@@ -174,6 +196,12 @@ class Pages(unittest.TestCase):
         x, y = self.page.ask("[view.place(arguments[1]), 30 + 30 * view.model.rows.findIndex(it => it.name === arguments[0]) + 27]", row, moment)
         pixel = f"document.getElementById('waves').getContext('2d').getImageData({round(x)}, {y}, 1, 1).data"
         return f"(([red, green]) => red > 180 && green < 90)({pixel})"
+
+    def blue(self, row, moment):
+        """Whether the point of a way stands on an edge of a row; beside the line of a cursor."""
+        x, y = self.page.ask("[view.place(arguments[1]), 30 + 30 * view.model.rows.findIndex(it => it.name === arguments[0]) + 15]", row, moment)
+        pixel = f"document.getElementById('waves').getContext('2d').getImageData({round(x) + 2}, {y}, 1, 1).data"
+        return f"(([red, green, blue]) => blue > 180 && red < 90)({pixel})"
 
     def choose_row(self, name):
         self.page.ask("void (view.model.chosen = view.model.rows.findIndex(it => it.name === arguments[0]), view.paint())", name)

@@ -6,7 +6,7 @@ use Rattle.clap.specs.declared.error.ErrorKind.{ErrorKind}
 use Rattle.clap.specs.declared.error.ErrorKind.TheVariants as kind
 use Rattle.clap.proofs.OnLiterals.{clap_on_literals}
 use Rattle.programs.specs.CommandLine as line
-use Rattle.app.specs.ArgsFaults.{fault_of_kind}
+use Rattle.app.specs.kept.ArgsFaults.{fault_of_kind}
 use Rattle.app.specs.CommandLine.{command_line, is_taken}
 use Rattle.app.specs.declared.arguments.ArgsFault.TheVariants.{Refused}
 

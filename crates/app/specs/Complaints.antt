@@ -2,13 +2,10 @@
 use Rattle.std.specs.Prelude.{◌≡◌, List, true, Option, None, Some, codes, string_bytes}
 use Rattle.clap.specs.Words.{Text, fault_of}
 use Rattle.programs.specs.Words.{IsFaultAmong}
-use Rattle.app.specs.Arguments.{asked}
 use Rattle.app.specs.CommandLine.{command_line, is_taken, value_of}
 use Rattle.app.specs.Numbers.{delay_of_text, horizon_of_text, workers_of_text}
 use Rattle.app.specs.declared.complaint.Complaint.{Complaint}
 use Rattle.app.specs.declared.complaint.Complaint.TheVariants.{Words, NoDesign, Horizon, Workers, Delay}
-use Rattle.app.specs.declared.complaint.StartFault.{StartFault}
-use Rattle.app.specs.declared.complaint.StartFault.TheVariants.{OutOfMemory, Refused}
 
 -- the fault of words that are of the form, by what they give for DESIGN, H, N and D
 abbrev pub IsValueFault : (design horizon workers delay : Option Text) → Complaint → Type 0
@@ -23,8 +20,3 @@ abbrev pub Explains : List Text → Complaint → Type 0
 Explains words (Words fault) = IsFaultAmong (fault_of command_line words) fault
 Explains words complaint = (is_taken words ≡ true)
     × IsValueFault (value_of (codes "design") words) (value_of (codes "horizon") words) (value_of (codes "workers") words) (value_of (codes "delay") words) complaint
-
--- why the program does not start with the words: they ask for nothing, by this fault of theirs, or an allocation was refused
-abbrev pub StopsBy : List Text → StartFault → Type 0
-StopsBy words (Refused complaint) = (asked words ≡ None) × Explains words complaint
-StopsBy words OutOfMemory = Unit {0}

@@ -1,9 +1,10 @@
-pub mod ArgsFaults
 pub mod Arguments
 pub mod CommandLine
 pub mod Complaints
 pub mod Endings
+pub mod FaultLines
 pub mod Numbers
 pub mod Programs
 pub mod Refusals
 pub mod Start
+pub mod kept

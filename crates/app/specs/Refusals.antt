@@ -1,8 +1,7 @@
 -- The lines that say what is wrong with the words (own, in the manner of `clap`).
-use Rattle.std.specs.Prelude.{ℕ, ◌++◌, List, None, Option, Some, codes, string_bytes}
+use Rattle.std.specs.Prelude.{ℕ, ◌++◌, List, codes, string_bytes}
 use Rattle.fourstate.specs.declared.limits.TheConstants.{MAX_DELAY, MAX_TIME}
 use Rattle.programs.specs.Refusals.{missing_lines, range_line, value_line, words_lines}
-use Rattle.programs.specs.declared.words_fault.WordsFault.{WordsFault}
 use Rattle.app.specs.declared.complaint.Complaint.{Complaint}
 use Rattle.app.specs.declared.complaint.Complaint.TheVariants.{Words, NoDesign, Horizon, Workers, Delay}
 use Rattle.app.specs.declared.help.TheConstants.{ENDING, EXPLANATION, USAGE}
@@ -23,8 +22,3 @@ help_text program = USAGE.now ++ program_name program ++ EXPLANATION.now ++ prog
 -- what is wrong with the words, and then how to use the program
 unfoldable pub refusal_text : Program → Complaint → List ℕ
 refusal_text program complaint = complaint_lines complaint ++ help_text program
-
--- the fault of the words' form, if it is that
-abbrev pub form_fault : Complaint → Option WordsFault
-form_fault (Words fault) = Some fault
-form_fault _ = None

@@ -1,19 +1,12 @@
 -- What the system gives at the start, the words of the command line and the file of the design, and how a session is opened with them.
 use Rattle.std.specs.declared.io.ErrorKind.{ErrorKind}
 use Rattle.programs.specs.Files.{breakdown_by}
-use Rattle.programs.specs.Words.{no_words_by}
 use Rattle.programs.specs.declared.fault_lines.Breakdown.{Breakdown}
 use Rattle.programs.specs.declared.fault_lines.Breakdown.TheVariants as breakdown
-use Rattle.programs.specs.declared.words.NoWords.{NoWords}
-use Rattle.programs.specs.declared.words.NoWords.TheVariants as none
-use Rattle.programs.specs.declared.words_fault.WordsFault.TheVariants.{NotText}
 use Rattle.session.specs.declared.Options.{Options}
 use Rattle.session.specs.declared.SessionFault.{SessionFault}
 use Rattle.session.specs.declared.SessionFault.TheVariants.{OutOfMemory, Read, Write}
 use Rattle.app.specs.declared.arguments.Args.{Args}
-use Rattle.app.specs.declared.complaint.Complaint.TheVariants.{Words}
-use Rattle.app.specs.declared.complaint.StartFault.{StartFault}
-use Rattle.app.specs.declared.complaint.StartFault.TheVariants as start
 use Rattle.app.specs.declared.program.Program.{Program}
 use Rattle.app.specs.Programs.{is_tool}
 
@@ -26,15 +19,6 @@ unread_by breakdown.Write = Write
 -- a file that can't be read: out of memory is itself, and all else is a failed read
 abbrev pub unread_fault : ErrorKind → SessionFault
 unread_fault kind = unread_by (breakdown_by kind)
-
--- words that there are not
-abbrev pub stop_by : NoWords → StartFault
-stop_by none.OutOfMemory = start.OutOfMemory
-stop_by none.NotText = start.Refused (Words NotText)
-
--- words that the system can't give: out of memory is itself, and all else is a word that is no text
-abbrev pub no_words_fault : ErrorKind → StartFault
-no_words_fault kind = stop_by (no_words_by kind)
 
 -- how the program opens the session
 abbrev pub options_of : Program → Args → Options

@@ -58,7 +58,7 @@ impl From<AllocError> for ArgsFault {
 impl From<clap::Error> for ArgsFault {
     ghost use Rattle.std.specs.Prelude.{◌≡◌};
     ghost use Rattle.clap.specs.Words.{kind_of};
-    ghost use Rattle.app.specs.ArgsFaults.{fault_of_kind};
+    ghost use Rattle.app.specs.kept.ArgsFaults.{fault_of_kind};
 
     ghost from_gives = { λ error fault. fault ≡ fault_of_kind (kind_of error) };
 

@@ -6,6 +6,7 @@ mod cause;
 mod command_line;
 mod complaint;
 mod ending;
+mod fault_line;
 mod help;
 mod numbers;
 mod program;
@@ -35,12 +36,13 @@ fn main(rt: HostRuntime) -> ExitCode {
             let outcome = session_run::run_session(
                 &rt,
                 program,
-                file,
+                &file,
                 &args,
                 &mut source,
                 &mut sink,
             );
-            ending::ending(&outcome, &mut errors)
+            let text = start::design_text(&file);
+            ending::ending(&rt, program, text, &args, &outcome, &mut errors)
         }
         Err(StartFault::Refused(complaint)) => {
             let refusal = Refusal { program, complaint };

@@ -1,7 +1,8 @@
 //! Which program this is: it goes by the name that it is started by.
 
 ghost use Rattle.std.specs.Prelude.{◌≡◌};
-ghost use Rattle.app.specs.Programs.{is_tool, is_tool_name, program_by, program_name};
+ghost use Rattle.app.specs.Programs.{is_tool, program_name};
+ghost use Rattle.app.specs.kept.Programs.{is_tool_name, program_by};
 
 /// The programs that this one is, by its name.
 #[derive(Clone, Copy, Debug, PartialEq, Eq)]

@@ -23,7 +23,8 @@ pub struct Refusal {
 }
 
 impl StopCause for Refusal {
-    ghost use Rattle.app.specs.Refusals.{form_fault, refusal_text};
+    ghost use Rattle.app.specs.Refusals.{refusal_text};
+    ghost use Rattle.app.specs.kept.Refusals.{form_fault};
 
     ghost form_fault = { λ r. form_fault r.complaint };
 

@@ -9,7 +9,7 @@ ghost use Rattle.app.specs.Start.{options_of, unread_fault};
 
 use crate::arguments::{Args, DEFAULT_WORKERS};
 use crate::program::Program;
-use crate::start::design_text;
+use crate::start::unread;
 use devices::{Sink, Source};
 use gatestep::Serial;
 use lexing::MAX_TEXT;
@@ -29,21 +29,23 @@ pub fn run_session<
 >(
     rt: &T,
     program: Program,
-    file: io::Result<Vec<u8>>,
+    file: &io::Result<Vec<u8>>,
     args: &Args,
     source: &mut R,
     sink: &mut W,
 ) -> Result<(), SessionFault>
     // A file that can't be read is told, and the devices are left alone.
-    ensures unread { IfErr file (λ error. (result ≡ Err (unread_fault (error_kind error))) × (source.new ≡ source.old) × (sink.new ≡ sink.old)) }
-    ensures ran { IfOk file (λ text. Ran text.items (options_of program args.now)
+    ensures unread { IfErr file.now (λ error. (result ≡ Err (unread_fault (error_kind error))) × (source.new ≡ source.old) × (sink.new ≡ sink.old)) }
+    ensures ran { IfOk file.now (λ text. Ran text.items (options_of program args.now)
         (source_traffic R.remaining R.taken R.failures source.old source.new)
         (sink_traffic W.contents W.failures sink.old sink.new) result) }
     // A session that does not open touches neither device.
-    ensures unopened { IfOk file (λ text. IfErr result (λ fault. IsOpeningFault fault → (source.new ≡ source.old) × (sink.new ≡ sink.old))) }
+    ensures unopened { IfOk file.now (λ text. IfErr result (λ fault. IsOpeningFault fault → (source.new ≡ source.old) × (sink.new ≡ sink.old))) }
 {
-    let text = design_text(file)?;
-    run_text(rt, program, text.as_slice(), args, source, sink)
+    match file {
+        Ok(text) => run_text(rt, program, text.as_slice(), args, source, sink),
+        Err(error) => Err(unread(error)),
+    }
 }
 
 // The session over the text. No worker is started for a text that is refused since it is too long: so out of memory, which

@@ -4,15 +4,16 @@ ghost use Rattle.std.specs.Prelude.{◌≡◌, None, Some, Ok, Err, IfErr, IfOk,
 ghost use Rattle.std.specs.Vec.Iter.{into_iter_items};
 ghost use Rattle.std.specs.IoError.{error_kind};
 ghost use Rattle.app.specs.Arguments.{asked};
-ghost use Rattle.app.specs.Complaints.{StopsBy};
-ghost use Rattle.app.specs.Programs.{program_by, program_of};
-ghost use Rattle.app.specs.Start.{no_words_fault, stop_by, unread_by, unread_fault};
+ghost use Rattle.app.specs.kept.Complaints.{StopsBy};
+ghost use Rattle.app.specs.kept.Programs.{program_by, program_of};
+ghost use Rattle.app.specs.Start.{unread_by, unread_fault};
+ghost use Rattle.app.specs.kept.Start.{no_words_fault, stop_by};
 
 use crate::arguments::{Args, ArgsFault, options};
 use crate::cause::complaint_of;
 use crate::complaint::{Complaint, StartFault};
 use crate::program::Program;
-use programs::{Breakdown, NoWords, WordsFault, text_of, words_after_name};
+use programs::{Breakdown, NoWords, WordsFault, breakdown_of, words_after_name};
 use session::SessionFault;
 use std::alloc::Global;
 use std::convert::AsStr;
@@ -73,18 +74,24 @@ fn stop_for(why: NoWords) -> StartFault
     }
 }
 
-/// The bytes of the design text, by what the reading of its file gave.
-pub fn design_text(file: io::Result<Vec<u8>>) -> Result<Vec<u8>, SessionFault>
-    ensures read { IfOk file (λ bytes. result ≡ Ok bytes) }
-    ensures unread { IfErr file (λ error. result ≡ Err (unread_fault (error_kind error))) }
+/// The bytes of the design text, by what the reading of its file gave; none where it can't be read.
+pub fn design_text(file: &io::Result<Vec<u8>>) -> &[u8]
+    ensures { IfOk file.now (λ bytes. result.now ≡ bytes.items) }
 {
-    match text_of(file) {
-        Ok(text) => Ok(text),
-        Err(breakdown) => Err(unread(breakdown)),
+    match file {
+        Ok(text) => text.as_slice(),
+        Err(_) => &[],
     }
 }
 
-fn unread(breakdown: Breakdown) -> SessionFault
+/// Why there is no session where the design text can't be read.
+pub fn unread(error: &io::Error) -> SessionFault
+    ensures { result ≡ unread_fault (error_kind error.now) }
+{
+    unread_by(breakdown_of(error))
+}
+
+fn unread_by(breakdown: Breakdown) -> SessionFault
     ensures { result ≡ unread_by breakdown }
 {
     match breakdown {

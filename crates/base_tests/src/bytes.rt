@@ -3,7 +3,8 @@
 ghost use Rattle.std.specs.Prelude.{◌≡◌, ◌+◌, ◌<◌, List, ℕ, ◌++◌, OnOk, IfErr, decimal, codes};
 ghost use Rattle.std.specs.Io.{StartsWith};
 ghost use Rattle.std.specs.Io.KnownBytes.{Appends};
-ghost use Rattle.devices.specs.Outgoing.{Adds, byte_count};
+ghost use Rattle.devices.specs.Outgoing.{Adds};
+ghost use Rattle.devices.specs.kept.Outgoing.{byte_count};
 
 use crate::compare::equal;
 use devices::faulty::{Failing, Pieces, Stuck};

@@ -3,7 +3,7 @@
 //! out of it, costs its proof 10 seconds and more, and a call of `drop` none.
 
 ghost use Rattle.std.specs.Prelude.{All, IsSome};
-ghost use Rattle.design.specs.Keys.{IsConnected, IsDrivable, IsThere, net_by_key};
+ghost use Rattle.design.specs.kept.Keys.{IsConnected, IsDrivable, IsThere, net_by_key};
 
 mod changes;
 mod many_points;

@@ -5,7 +5,8 @@ ghost use Rattle.std.specs.Prelude.{◌≡◌, ◌<◌, ◌≤◌, ℕ, suc, IfO
 ghost use Rattle.fourstate.specs.declared.value.Value as values;
 ghost use Rattle.std.specs.Option.{ForSome};
 ghost use Rattle.waveform.specs.Changes.{wave_changes_below};
-ghost use Rattle.waveform.specs.Timelines.{IsAlwaysSettled, changes_below, end_of};
+ghost use Rattle.waveform.specs.Timelines.{changes_below};
+ghost use Rattle.waveform.specs.kept.Timelines.{IsAlwaysSettled, end_of};
 ghost use Rattle.waveform.specs.declared.times.TheConstants.{TIME_END};
 
 use crate::compare::equal;

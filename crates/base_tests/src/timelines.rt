@@ -3,8 +3,9 @@
 ghost use Rattle.std.specs.Prelude.{◌≡◌, ◌≢◌, ◌<◌, ◌≤◌, ℕ, Some, None};
 ghost use Rattle.fourstate.specs.declared.value.Value as values;
 ghost use Rattle.gatestep.specs.Step.{State, due};
-ghost use Rattle.waveform.specs.Changes.{trace_below, wave_changes_below};
-ghost use Rattle.waveform.specs.Timelines.{IsAlwaysSettled};
+ghost use Rattle.waveform.specs.Changes.{wave_changes_below};
+ghost use Rattle.waveform.specs.kept.Changes.{trace_below};
+ghost use Rattle.waveform.specs.kept.Timelines.{IsAlwaysSettled};
 
 use crate::compare::equal;
 use fourstate::Value;

@@ -1,7 +1,7 @@
 //! Texts written out by hand.
 
 ghost use Rattle.std.specs.Prelude.{length, All};
-ghost use Rattle.lexing.specs.Texts.{IsInside};
+ghost use Rattle.lexing.specs.kept.Texts.{IsInside};
 
 use crate::compare::equal;
 use fourstate::{Magnitude, TimeUnit, Unit, Value};

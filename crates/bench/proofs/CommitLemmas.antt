@@ -1,7 +1,7 @@
 -- Refused commits.
 use Rattle.std.proofs.Common.{◌≡◌, ◌≢◌, ◌⊎◌, ◌+◌, ◌++◌, ℕ, suc, Bool, true, false, if◌then◌else◌, List, refl, sym, inl, inr, arith}
 use Rattle.std.proofs.lemmas.List.{append-nil}
-use Rattle.std.specs.Prelude.{Result, Ok, Err, IfErr}
+use Rattle.std.specs.Prelude.{Result, Ok, Err, IfErr, OnErr}
 use Rattle.gatestep.specs.Step.{Evaluation, advance}
 use Rattle.design.specs.Netlist.{Netlist}
 use Rattle.edits.specs.declared.edit.Edit.{Edit}
@@ -11,7 +11,8 @@ use Rattle.bench.specs.declared.fault.CommitFault.{CommitFault}
 use Rattle.bench.specs.declared.fault.CommitFault.TheVariants as commit
 use Rattle.bench.specs.Benches.{SnapshotRecord}
 use Rattle.bench.specs.Commits.{commit_of}
-use Rattle.bench.specs.Refusals.{IsRefusal, MayRefuse, loses_a_worker}
+use Rattle.bench.specs.Refusals.{MayRefuse, loses_a_worker}
+use Rattle.bench.specs.kept.Refusals.{IsRefusal}
 use Rattle.resim.specs.Reruns.{HasGrownInPart}
 use Rattle.bench.specs.Work.{AskedByRefused, rework_of}
 
@@ -48,3 +49,7 @@ pub refused_for : (last : Bool) (made : Result Netlist (ℕ × EditFault)) → I
     → IfErr (if last then Err (0, TooMany) else made) (λ refused. refused.1 ≢ OutOfMemory)
 refused_for true made is = λ e. cc
 refused_for false made is = is
+
+pub where_err : {A E P : Type 0} (r : Result A E) → P → OnErr r P
+where_err (Ok x) p = tt
+where_err (Err e) p = p

@@ -1,47 +1,49 @@
 -- Commits one after another, accepted and refused.
-use Rattle.std.proofs.Common.{◌≡◌, ◌+◌, ◌++◌, ℕ, suc, zero, Bool, true, false, cond, List, [], ◌∷◌, fold, length, refl, sym, ap, ◌∙◌, arith}
-use Rattle.std.proofs.lemmas.List.Sums.{fold-append}
+use Rattle.std.proofs.Common.{◌≡◌, ◌+◌, ◌++◌, ℕ, suc, zero, Bool, true, false, cond, List, [], ◌∷◌, fold, length, refl, sym, ap, subst, ◌∙◌, arith}
 use Rattle.std.specs.Prelude.{Result, Ok, Err, nat_eq}
 use Rattle.design.specs.Netlist.{Netlist}
 use Rattle.edits.specs.declared.edit.Edit.{Edit}
 use Rattle.edits.specs.declared.fault.EditFault.{EditFault}
 use Rattle.edits.specs.declared.fault.EditFault.TheVariants.{TooMany}
 use Rattle.edits.specs.Batches.{batch}
+use Rattle.bench.specs.declared.fault.CommitFault.{CommitFault}
 use Rattle.bench.specs.Benches.{SnapshotRecord}
 use Rattle.bench.specs.Commits.{after, commit_of, committed}
-use Rattle.bench.specs.Histories.{accepted_of, if_made, left_by, with_commit, with_commits}
+use Rattle.bench.specs.Histories.{LeadOn, Leads, accepted}
 
 made_is : (last : Bool) (made : Result Netlist (ℕ × EditFault)) (d new : Netlist) → cond {A = Result Netlist (ℕ × EditFault)} last (Err (0, TooMany)) made ≡ Ok new → made ≡ Ok new
 made_is true made d new e = cc
 made_is false made d new e = e
 
-design_step : (s : SnapshotRecord) (edits : List Edit) (r : Result Netlist (ℕ × EditFault)) (rest : List (List Edit)) → commit_of s.version s.design edits ≡ r
-    → after (left_by s r).design rest ≡ after s.design (if_made edits r rest)
-design_step s edits (Ok d) rest e =
-    let made : batch s.design edits ≡ Ok d = made_is _ (batch s.design edits) s.design d e in
-    let same : committed s.design edits ≡ d = rw made refl in
-    ap (λ (first : Netlist). after first rest) (sym same)
-design_step s edits (Err refused) rest e = refl
+design_step : (first next last : SnapshotRecord) (edits : List Edit) (answer : Result ℕ CommitFault) (commits : List (List Edit × Result ℕ CommitFault))
+    → Leads first edits answer next → last.design ≡ after next.design (accepted commits) → last.design ≡ after first.design (accepted ((edits, answer) ∷ commits))
+design_step first next last edits (Ok version) commits leads rest =
+    let made : batch first.design edits ≡ Ok next.design = made_is _ (batch first.design edits) first.design next.design leads.0 in
+    let same : committed first.design edits ≡ next.design = rw made refl in
+    rest ∙ ap (λ (d : Netlist). after d (accepted commits)) (sym same)
+design_step first next last edits (Err refused) commits leads rest = rest ∙ ap (λ (s : SnapshotRecord). after s.design (accepted commits)) leads
 
 -- the design is what the accepted ones make
-pub design_after : (s : SnapshotRecord) (commits : List (List Edit)) → (with_commits s commits).design ≡ after s.design (accepted_of s commits)
-design_after s [] = refl
-design_after s (edits ∷ commits) =
-    design_after (with_commit s edits) commits
-    ∙ design_step s edits (commit_of s.version s.design edits) (accepted_of (with_commit s edits) commits) refl
+pub design_after : (first last : SnapshotRecord) (commits : List (List Edit × Result ℕ CommitFault)) → LeadOn first commits last
+    → last.design ≡ after first.design (accepted commits)
+design_after first last [] is = ap (λ (s : SnapshotRecord). s.design) is
+design_after first last (commit ∷ commits) is =
+    design_step first is.0 last commit.0 commit.1 commits is.1 (design_after is.0 last commits is.2)
 
-version_step : (s : SnapshotRecord) (edits : List Edit) (r : Result Netlist (ℕ × EditFault)) (rest : List (List Edit))
-    → (left_by s r).version + length rest ≡ s.version + length (if_made edits r rest)
-version_step s edits (Ok d) rest = omega arith
-version_step s edits (Err refused) rest = refl
+version_step : (first next last : SnapshotRecord) (edits : List Edit) (answer : Result ℕ CommitFault) (commits : List (List Edit × Result ℕ CommitFault))
+    → Leads first edits answer next → last.version ≡ next.version + length (accepted commits) → last.version ≡ first.version + length (accepted ((edits, answer) ∷ commits))
+version_step first next last edits (Ok version) commits leads rest = omega arith
+version_step first next last edits (Err refused) commits leads rest = rest ∙ ap (λ (s : SnapshotRecord). s.version + length (accepted commits)) leads
 
 -- the version grows by their number
-pub version_after : (s : SnapshotRecord) (commits : List (List Edit)) → (with_commits s commits).version ≡ s.version + length (accepted_of s commits)
-version_after s [] = omega arith
-version_after s (edits ∷ commits) =
-    version_after (with_commit s edits) commits
-    ∙ version_step s edits (commit_of s.version s.design edits) (accepted_of (with_commit s edits) commits)
+pub version_after : (first last : SnapshotRecord) (commits : List (List Edit × Result ℕ CommitFault)) → LeadOn first commits last
+    → last.version ≡ first.version + length (accepted commits)
+version_after first last [] is = ap (λ (s : SnapshotRecord). s.version) is ∙ omega arith
+version_after first last (commit ∷ commits) is =
+    version_step first is.0 last commit.0 commit.1 commits is.1 (version_after is.0 last commits is.2)
 
 -- one commit more
-pub one_more : (s : SnapshotRecord) (commits : List (List Edit)) (edits : List Edit) → with_commits s (commits ++ edits ∷ []) ≡ with_commit (with_commits s commits) edits
-one_more s commits edits = fold-append with_commit s commits (edits ∷ [])
+pub one_more : (first now last : SnapshotRecord) (commits : List (List Edit × Result ℕ CommitFault)) (edits : List Edit) (answer : Result ℕ CommitFault)
+    → LeadOn first commits now → Leads now edits answer last → LeadOn first (commits ++ (edits, answer) ∷ []) last
+one_more first now last [] edits answer is leads = (last, subst (λ (s : SnapshotRecord). Leads s edits answer last) is leads, refl)
+one_more first now last (commit ∷ commits) edits answer is leads = (is.0, is.1, one_more is.0 now last commits edits answer is.2 leads)

@@ -1,30 +1,23 @@
 -- Commits one after another, accepted and refused (own).
-use Rattle.std.specs.Prelude.{ℕ, ◌+◌, fold, List, [], ◌∷◌, Result, Ok, Err}
-use Rattle.design.specs.Netlist.{Netlist}
+use Rattle.std.specs.Prelude.{◌≡◌, ℕ, ◌+◌, map, List, [], ◌∷◌, Result, Ok, Err}
+use Rattle.std.specs.List.{filter}
+use Rattle.std.specs.Result.{is_ok}
 use Rattle.edits.specs.declared.edit.Edit.{Edit}
-use Rattle.edits.specs.declared.fault.EditFault.{EditFault}
-use Rattle.bench.specs.Benches.{SnapshotRecord, snapshot_of}
+use Rattle.bench.specs.declared.fault.CommitFault.{CommitFault}
+use Rattle.bench.specs.Benches.{SnapshotRecord}
 use Rattle.bench.specs.Commits.{commit_of}
 
--- what a commit leaves, by what it makes of the design: a refused one leaves the snapshot as it is
-abbrev pub left_by : SnapshotRecord → Result Netlist (ℕ × EditFault) → SnapshotRecord
-left_by s (Ok d) = snapshot_of (s.version + 1) d
-left_by s (Err refused) = s
+-- a commit of these edits with this answer leads from one snapshot to another: accepted, to the design that the edits make, one
+-- version later; refused, for whatever cause, nowhere
+abbrev pub Leads : SnapshotRecord → List Edit → Result ℕ CommitFault → SnapshotRecord → Type 0
+Leads old edits (Ok version) new = (commit_of old.version old.design edits ≡ Ok new.design) × (new.version ≡ old.version + 1)
+Leads old edits (Err fault) new = new ≡ old
 
--- the snapshot after a commit of these edits
-abbrev pub with_commit : SnapshotRecord → List Edit → SnapshotRecord
-with_commit s edits = left_by s (commit_of s.version s.design edits)
+-- so do these commits, one after another, each with its edits and its answer
+abbrev pub LeadOn : SnapshotRecord → List (List Edit × Result ℕ CommitFault) → SnapshotRecord → Type 0
+LeadOn first [] last = last ≡ first
+LeadOn first (commit ∷ commits) last = (next : SnapshotRecord) × Leads first commit.0 commit.1 next × LeadOn next commits last
 
--- the snapshot after these commits, one after another
-abbrev pub with_commits : SnapshotRecord → List (List Edit) → SnapshotRecord
-with_commits s commits = fold with_commit s commits
-
--- these edits in front of the commits that are accepted behind them, if they make a design
-abbrev pub if_made : List Edit → Result Netlist (ℕ × EditFault) → List (List Edit) → List (List Edit)
-if_made edits (Ok d) accepted = edits ∷ accepted
-if_made edits (Err refused) accepted = accepted
-
--- those of the commits that are accepted where they stand
-abbrev pub accepted_of : SnapshotRecord → List (List Edit) → List (List Edit)
-accepted_of s [] = []
-accepted_of s (edits ∷ commits) = if_made edits (commit_of s.version s.design edits) (accepted_of (with_commit s edits) commits)
+-- the edits of those commits that were accepted
+abbrev pub accepted : List (List Edit × Result ℕ CommitFault) → List (List Edit)
+accepted commits = map (λ commit. commit.0) (filter (λ commit. is_ok commit.1) commits)

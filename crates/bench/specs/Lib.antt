@@ -4,3 +4,4 @@ pub mod Cursors
 pub mod Histories
 pub mod Refusals
 pub mod Work
+pub mod kept

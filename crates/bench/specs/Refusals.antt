@@ -1,10 +1,8 @@
 -- Why an opening or a commit may be refused.
-use Rattle.std.specs.Prelude.{◌≡◌, ◌≢◌, ◌+◌, ℕ, Bool, true, false, IsOk, List, Result, Ok, Err}
+use Rattle.std.specs.Prelude.{◌≡◌, ◌+◌, ℕ, Bool, true, false, IsOk, List, Result, Ok, Err}
 use Rattle.gatestep.specs.declared.fault.StepFault.{StepFault}
 use Rattle.gatestep.specs.declared.fault.StepFault.TheVariants as step
 use Rattle.edits.specs.declared.edit.Edit.{Edit}
-use Rattle.edits.specs.declared.fault.EditFault.{EditFault}
-use Rattle.edits.specs.declared.fault.EditFault.TheVariants as edit
 use Rattle.bench.specs.declared.fault.CommitFault.{CommitFault}
 use Rattle.bench.specs.declared.fault.CommitFault.TheVariants as commit
 use Rattle.bench.specs.Benches.{SnapshotRecord}
@@ -28,14 +26,3 @@ abbrev pub loses_a_worker : {A : Type 0} → Result A CommitFault → Bool
 loses_a_worker (Err commit.WorkerLost) = true
 loses_a_worker (Err _) = false
 loses_a_worker (Ok version) = false
-
--- the fault of a stepper as that of a commit
-abbrev pub refusal_of : StepFault → CommitFault
-refusal_of step.OutOfMemory = commit.OutOfMemory
-refusal_of step.WorkerLost = commit.WorkerLost
-
--- the fault of a commit whose edit at this place has this fault
-abbrev pub IsRefusal : ℕ → EditFault → CommitFault → Type 0
-IsRefusal place fault (commit.Edit p f) = (p ≡ place) × (f ≡ fault) × (fault ≢ edit.OutOfMemory)
-IsRefusal place fault commit.OutOfMemory = fault ≡ edit.OutOfMemory
-IsRefusal place fault commit.WorkerLost = ⊥

@@ -20,7 +20,7 @@ pub enum CommitFault {
 
 impl From<StepFault> for CommitFault {
     ghost use Rattle.std.specs.Prelude.{◌≡◌};
-    ghost use Rattle.bench.specs.Refusals.{refusal_of};
+    ghost use Rattle.bench.specs.kept.Refusals.{refusal_of};
 
     ghost from_gives = { λ step fault. fault ≡ refusal_of step };
 

@@ -1,12 +1,13 @@
 //! Laws of commits: each function does nothing, and its contract is the law.
 
-ghost use Rattle.std.specs.Prelude.{◌≡◌, ◌≢◌, ◌+◌, ◌++◌, ◌-◌, ◌^◌, ℕ, List, [], ◌∷◌, length, Ok, Err, IfErr};
+ghost use Rattle.std.specs.Prelude.{◌≡◌, ◌≢◌, ◌+◌, ◌++◌, ◌-◌, ◌^◌, ℕ, List, [], ◌∷◌, length, Result, Ok, Err, IfErr};
 ghost use Rattle.design.specs.Netlist.{Netlist};
 ghost use Rattle.edits.specs.declared.edit.Edit as declared;
 ghost use Rattle.edits.specs.Batches.{batch};
-ghost use Rattle.bench.specs.Benches.{SnapshotRecord};
+ghost use Rattle.bench.specs.Benches.{BenchRecord, IsPast, SnapshotRecord};
 ghost use Rattle.bench.specs.Commits.{after, commit_of, committed};
-ghost use Rattle.bench.specs.Histories.{accepted_of, with_commit, with_commits};
+ghost use Rattle.bench.specs.Histories.{LeadOn, Leads, accepted};
+ghost use Rattle.bench.specs.declared.fault.CommitFault.{CommitFault};
 
 use edits::EditFault;
 use edits::laws::limits_of_edits;
@@ -24,14 +25,17 @@ pub fn one_commit_more()
         → commit_of version (after d log) edits ≡ Ok new → after d (log ++ edits ∷ []) ≡ new }
 {}
 
-/// After any commits, accepted and refused, the design is what the accepted ones make of the first one, and the version has grown
-/// by their number; a commit more goes on from there. So each wave and each dump is that of this design, whatever came before.
+/// After any commits, accepted and refused for whatever cause, the design is what the accepted ones make of the first one, and the
+/// version has grown by their number; a commit more goes on from there.
 #[tactic(auto, using(crate::proofs::HistoryLemmas::design_after, crate::proofs::HistoryLemmas::version_after, crate::proofs::HistoryLemmas::one_more))]
 pub fn any_commits()
-    ensures design { (s : SnapshotRecord) (commits : List (List declared.Edit)) → (with_commits s commits).design ≡ after s.design (accepted_of s commits) }
-    ensures version { (s : SnapshotRecord) (commits : List (List declared.Edit)) → (with_commits s commits).version ≡ s.version + length (accepted_of s commits) }
-    ensures more { (s : SnapshotRecord) (commits : List (List declared.Edit)) (edits : List declared.Edit)
-        → with_commits s (commits ++ edits ∷ []) ≡ with_commit (with_commits s commits) edits }
+    ensures design { (first last : SnapshotRecord) (commits : List (List declared.Edit × Result ℕ CommitFault))
+        → LeadOn first commits last → last.design ≡ after first.design (accepted commits) }
+    ensures version { (first last : SnapshotRecord) (commits : List (List declared.Edit × Result ℕ CommitFault))
+        → LeadOn first commits last → last.version ≡ first.version + length (accepted commits) }
+    ensures more { (first now last : SnapshotRecord) (commits : List (List declared.Edit × Result ℕ CommitFault))
+        (edits : List declared.Edit) (answer : Result ℕ CommitFault)
+        → LeadOn first commits now → Leads now edits answer last → LeadOn first (commits ++ (edits, answer) ∷ []) last }
 {}
 
 /// At the greatest version each commit is refused at its first place as one too many.
@@ -46,3 +50,8 @@ pub fn faults_of_commits()
 {
     limits_of_edits();
 }
+
+/// The present snapshot of a bench is one from its past; `Bench::commit` keeps those that there are.
+pub fn present_is_past()
+    ensures { (bench : BenchRecord) → IsPast bench bench.snapshot }
+{}

@@ -5,6 +5,8 @@ mod bench;
 mod cursor;
 mod fault;
 pub mod laws;
+mod simulated;
+mod since;
 mod snapshot;
 
 pub use bench::Bench;

@@ -1,23 +1,18 @@
 //! What stands after a commit.
 
-ghost use Rattle.std.specs.Prelude.{◌≡◌, ◌<◌, ◌+◌, ◌++◌, IfOk, OnErr, OnOk, Some, if◌then◌else◌, length, option_map, slice_get};
+ghost use Rattle.std.specs.Prelude.{◌≡◌, ◌<◌, IfOk, Some, length, option_map, slice_get};
 ghost use Rattle.std.specs.Arc.{arc_value};
 ghost use Rattle.std.specs.Option.{option_copied};
 ghost use Rattle.gatestep.specs.Step.{advance};
 ghost use Rattle.design.specs.Keys.{netlist};
 ghost use Rattle.design.specs.Netlist.{net_named};
-ghost use Rattle.edits.specs.Touched.{IsTouched};
-ghost use Rattle.scratch.specs.Lost as lost;
-ghost use Rattle.scratch.specs.Run.{IsRun, wave_of};
-ghost use Rattle.resim.specs.Reruns.{HasGrownInPart};
+ghost use Rattle.scratch.specs.Run.{wave_of};
+ghost use Rattle.scratch.specs.kept.Run.{IsRun};
 ghost use Rattle.bench.specs.Benches.{snapshot_of};
-ghost use Rattle.bench.specs.Work.{rework_of, work_of};
 
+use crate::simulated::Simulated;
 use design::Design;
-use edits::Touched;
-use gatestep::{StepFault, Stepper};
-use resim::rerun_touched;
-use scratch::{simulate, wave_at, wave_named};
+use scratch::{wave_at, wave_named};
 use std::alloc::{AllocError, Global};
 use std::marker::Model;
 use std::sync::Arc;
@@ -27,80 +22,35 @@ use waveform::{Run, Wave};
 #[derive(Drop)]
 pub struct Snapshot {
     version: u64,
-    design: Design,
-    run: Run,
+    simulated: Arc<Simulated>,
 }
 
 impl Model for Snapshot {
+    ghost use Rattle.std.specs.Arc.{arc_value};
     ghost use Rattle.gatestep.specs.Step.{advance};
     ghost use Rattle.design.specs.Keys.{netlist};
-    ghost use Rattle.scratch.specs.Run.{IsRun};
+    ghost use Rattle.scratch.specs.kept.Run.{IsRun};
     ghost use Rattle.bench.specs.Benches.{SnapshotRecord};
 
     ghost Value = { SnapshotRecord };
 
-    ghost view = { λ s. record { version = s.version; design = netlist s.design } };
+    ghost view = { λ s. record { version = s.version; design = netlist (arc_value s.simulated).design } };
 
-    ghost invariant = { λ s. IsRun advance s.design s.run };
+    ghost invariant = { λ s. IsRun advance (arc_value s.simulated).design (arc_value s.simulated).run };
 }
 
 impl Snapshot {
-    /// The design at a version, with its run, which the stepper makes here.
-    pub(crate) fn open<S: Stepper>(
+    /// The design at a version with its run. It fails where memory runs out.
+    pub(crate) fn of(
         alloc: Global,
         version: u64,
-        design: Design,
-        stepper: &mut S,
-    ) -> Result<Arc<Snapshot>, StepFault>
-        requires { S.answer ≡ advance }
-        ensures snapshot { IfOk result (λ snapshot. arc_value snapshot ≡ snapshot_of version (netlist design)) }
-        ensures asked { OnOk result (S.asked stepper.new ≡ S.asked stepper.old ++ work_of (netlist design)) }
-        ensures lost { S.losses stepper.new ≡ S.losses stepper.old + (if lost.loses_a_worker result then 1 else 0) }
-    {
-        let run = simulate(alloc, &design, stepper)?;
-        Ok(Snapshot::of_run(alloc, version, design, run)?)
-    }
-
-    /// The design at a version, which edits made of an old one, with its run, which the stepper makes here from the old one's.
-    #[tactic(auto, using(crate::proofs::CommitLemmas::asked_all))]
-    pub(crate) fn open_from<S: Stepper>(
-        alloc: Global,
-        version: u64,
-        old: &Design,
-        run: &Run,
-        made: (Design, Touched),
-        stepper: &mut S,
-    ) -> Result<Arc<Snapshot>, StepFault>
-        requires answer { S.answer ≡ advance }
-        requires run { IsRun advance old.now run.now }
-        requires touched { IsTouched old.now made.0 made.1.nets.items made.1.gates.items }
-        ensures snapshot { IfOk result (λ snapshot. arc_value snapshot ≡ snapshot_of version (netlist made.0)) }
-        ensures asked { OnOk result (S.asked stepper.new ≡ S.asked stepper.old ++ rework_of (netlist old.now) (netlist made.0)) }
-        ensures part { OnErr result (HasGrownInPart advance (netlist old.now) (netlist made.0)
-            (S.asked stepper.old) (S.asked stepper.new)) }
-        ensures lost { S.losses stepper.new ≡ S.losses stepper.old + (if lost.loses_a_worker result then 1 else 0) }
-    {
-        let (new, touched) = made;
-        let run = rerun_touched(alloc, old, run, &new, &touched, stepper)?;
-        Ok(Snapshot::of_run(alloc, version, new, run)?)
-    }
-
-    // The design at a version with its run, which is finished. It fails where memory runs out.
-    fn of_run(
-        alloc: Global,
-        version: u64,
-        design: Design,
-        run: Run,
+        simulated: &Arc<Simulated>,
     ) -> Result<Arc<Snapshot>, AllocError>
-        requires { IsRun advance design run }
-        ensures { IfOk result (λ snapshot. arc_value snapshot ≡ snapshot_of version (netlist design)) }
+        requires { IsRun advance (arc_value simulated.now).design (arc_value simulated.now).run }
+        ensures { IfOk result (λ snapshot. arc_value snapshot ≡ snapshot_of version (netlist (arc_value simulated.now).design)) }
     {
-        let snapshot = Snapshot {
-            version,
-            design,
-            run,
-        };
-        match Arc::new(alloc, snapshot) {
+        let simulated = Arc::try_clone(simulated)?;
+        match Arc::new(alloc, Snapshot { version, simulated }) {
             Ok(snapshot) => Ok(snapshot),
             Err(_) => Err(AllocError),
         }
@@ -117,29 +67,29 @@ impl Snapshot {
     pub fn design(&self) -> &Design
         ensures { netlist result.now ≡ self.now.design }
     {
-        &self.design
+        &self.simulated.design
     }
 
-    /// The design and its run.
-    pub(crate) fn design_and_run(&self) -> (&Design, &Run)
+    /// The design and its run, which has the wave of each net and the trace of each gate's driver under its key.
+    pub fn design_and_run(&self) -> (&Design, &Run)
         ensures design { netlist result.0.now ≡ self.now.design }
         ensures run { IsRun advance result.0.now result.1.now }
     {
-        (&self.design, &self.run)
+        (&self.simulated.design, &self.simulated.run)
     }
 
     /// The last moment of the run, in time units.
     pub fn horizon(&self) -> u64
         ensures { result ≡ self.now.design.horizon }
     {
-        self.design.horizon()
+        self.simulated.design.horizon()
     }
 
     /// The wave of the net of this name; none where no net has the name.
     pub fn wave(&self, net: &str) -> Option<&Wave>
         ensures { option_copied result ≡ option_map (wave_of advance self.now.design) (net_named self.now.design net.now) }
     {
-        wave_named(&self.design, &self.run, net)
+        wave_named(&self.simulated.design, &self.simulated.run, net)
     }
 
     /// The wave of the net at a place in the order of the design's nets.
@@ -147,6 +97,6 @@ impl Snapshot {
         requires { place < length self.now.design.nets }
         ensures { option_map (wave_of advance self.now.design) (slice_get self.now.design.nets place) ≡ Some result.now }
     {
-        wave_at(&self.design, &self.run, place)
+        wave_at(&self.simulated.design, &self.simulated.run, place)
     }
 }

@@ -5,8 +5,8 @@ use Rattle.std.proofs.lemmas.List.{get_or-set_other, get_or-set_same, get_or_app
 use Rattle.std.proofs.lemmas.List.Elements.{filter_map-append}
 use Rattle.std.proofs.lemmas.Option.{none-some, same_Some}
 use Rattle.std.specs.List.{filter, find, position_from, slice_set}
-use Rattle.catalog.specs.Catalog.{with_record, without_key}
-use Rattle.catalog.specs.Columns.{AreApart, ArePlaced, cell_at, entries_in}
+use Rattle.catalog.specs.kept.Catalog.{with_record, without_key}
+use Rattle.catalog.specs.kept.Columns.{AreApart, ArePlaced, cell_at, entries_in}
 use Rattle.catalog.proofs.EntryLemmas.{with_none, without_none}
 
 module _ {R : Type 0} where

@@ -4,9 +4,10 @@ use Rattle.std.proofs.lemmas.Bool.{both_ways, eqb-true}
 use Rattle.std.proofs.lemmas.List.{length-map, length_push}
 use Rattle.std.proofs.lemmas.List.Elements.{All-cons, All-filter, All-tail}
 use Rattle.std.specs.List.{slice_set}
-use Rattle.catalog.specs.Catalog.{key_named, keys_of, record_at, same_name, with_record}
-use Rattle.catalog.specs.Columns.{ArePlaced, cell_at, entries_in}
-use Rattle.catalog.specs.Table.{AreFound, IsTable}
+use Rattle.catalog.specs.Catalog.{record_at, same_name}
+use Rattle.catalog.specs.kept.Catalog.{key_named, keys_of, with_record}
+use Rattle.catalog.specs.kept.Columns.{ArePlaced, cell_at, entries_in}
+use Rattle.catalog.specs.kept.Table.{AreFound, IsTable}
 use Rattle.catalog.proofs.CellLemmas.{apart_from_placed, count_clear, entries_clear, entries_push, entries_set, placed_clear, placed_push, placed_set}
 use Rattle.catalog.proofs.EntryLemmas.{name_same, named_none, record_at_place}
 use Rattle.catalog.proofs.ListLemmas.{find_none_at}

@@ -8,7 +8,8 @@ use Rattle.std.proofs.lemmas.List.Elements.{All-push, All-weaker}
 use Rattle.std.proofs.lemmas.Option.{get_or_from_slice_get, slice_get-map, slice_get_within}
 use Rattle.std.proofs.lemmas.Slice.Eq.{bytes_eq-Decides}
 use Rattle.std.specs.List.{find, position_from, remove, slice_set}
-use Rattle.catalog.specs.Catalog.{AreDistinct, key_named, keys_of, names_of, named, place_of, record_at, records_of, same_name, with_record, without_key}
+use Rattle.catalog.specs.Catalog.{record_at, records_of, same_name}
+use Rattle.catalog.specs.kept.Catalog.{AreDistinct, key_named, keys_of, names_of, named, place_of, with_record, without_key}
 use Rattle.catalog.proofs.ListLemmas.{AllPairs-tail, find_at, find_none_at, find_none_from, position_slice_get, position_within}
 
 pub name_is : (a b : List ℕ) → same_name a b ≡ true → a ≡ b

@@ -3,8 +3,8 @@ use Rattle.std.proofs.Common.{◌≡◌, ◌⊎◌, ℕ, zero, suc, ◌+◌, ◌
 use Rattle.std.proofs.lemmas.List.{length_push}
 use Rattle.std.proofs.lemmas.Option.{same_Some, slice_get_within}
 use Rattle.std.specs.List.{filter, insert, slice_set}
-use Rattle.catalog.specs.Columns.{cell_at, entries_in}
-use Rattle.catalog.specs.Gaps.{AreCounts, AreMarks, Splits, gaps_from}
+use Rattle.catalog.specs.kept.Columns.{cell_at, entries_in}
+use Rattle.catalog.specs.kept.Gaps.{AreCounts, AreMarks, Splits, gaps_from}
 use Rattle.catalog.specs.declared.ascending.TheConstants.{STRIDE}
 
 -- the numbers behind the first one

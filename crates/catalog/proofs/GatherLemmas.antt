@@ -3,9 +3,10 @@ use Rattle.std.proofs.Common.{◌≡◌, ◌≢◌, ℕ, zero, suc, ◌+◌, ◌
 use Rattle.std.proofs.lemmas.List.{append-nil, get_or-map, length-map, take_more}
 use Rattle.std.proofs.lemmas.List.Elements.{filter_map-append}
 use Rattle.std.proofs.lemmas.Option.{same_Some}
-use Rattle.catalog.specs.Catalog.{names_of, same_name}
-use Rattle.catalog.specs.Columns.{cell_at, entries_in}
-use Rattle.catalog.specs.Table.{AreFound}
+use Rattle.catalog.specs.Catalog.{same_name}
+use Rattle.catalog.specs.kept.Catalog.{names_of}
+use Rattle.catalog.specs.kept.Columns.{cell_at, entries_in}
+use Rattle.catalog.specs.kept.Table.{AreFound}
 use Rattle.catalog.proofs.CellLemmas.{cell_within, entries_push}
 use Rattle.catalog.proofs.ListLemmas.{AllPairs-tail}
 use Rattle.catalog.proofs.TableLemmas.{found_more}

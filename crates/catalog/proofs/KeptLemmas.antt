@@ -4,8 +4,9 @@ use Rattle.std.proofs.lemmas.Bool.{eqb-true}
 use Rattle.std.proofs.lemmas.List.Elements.{All-filter, All-map}
 use Rattle.std.proofs.lemmas.List.{get_or-map, length-map}
 use Rattle.std.specs.List.{position_from, remove, slice_set}
-use Rattle.catalog.specs.Catalog.{keys_of, named, record_at, with_record, without_key}
-use Rattle.catalog.specs.Kept.{AreKept}
+use Rattle.catalog.specs.Catalog.{record_at}
+use Rattle.catalog.specs.kept.Catalog.{keys_of, named, with_record, without_key}
+use Rattle.catalog.specs.kept.Kept.{AreKept}
 use Rattle.catalog.proofs.ListLemmas.{position_find, position_within}
 use Rattle.catalog.proofs.EntryLemmas.{below_push, distinct_push, distinct_with, distinct_without, record_at_above, keys_with, remove_is_without, set_is_with}
 

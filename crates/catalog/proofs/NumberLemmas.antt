@@ -2,7 +2,7 @@
 use Rattle.std.proofs.Common.{◌≡◌, ℕ, ◌<◌, List, Option, Some, None, is_some, true, sym, refl, ap, ◌∙◌}
 use Rattle.std.proofs.lemmas.Option.{same_Some}
 use Rattle.std.specs.List.{filter}
-use Rattle.catalog.specs.Columns.{AreKnown, ArePlaced, cell_at}
+use Rattle.catalog.specs.kept.Columns.{AreKnown, ArePlaced, cell_at}
 use Rattle.catalog.proofs.CellLemmas.{filtered_stands, stands_filtered}
 
 -- the keys of the entries before an index stand where they say, and the same keys are known

@@ -6,9 +6,10 @@ use Rattle.std.proofs.lemmas.List.Kept.{AllPairs-cons}
 use Rattle.std.proofs.lemmas.List.Elements.{All-push}
 use Rattle.std.proofs.lemmas.Option.{none-some, same_Some}
 use Rattle.std.specs.List.{find}
-use Rattle.catalog.specs.Catalog.{AreDistinct, key_named, keys_of, named, names_of, place_of, record_at, same_name}
-use Rattle.catalog.specs.Columns.{AreApart, ArePlaced, cell_at, entries_in}
-use Rattle.catalog.specs.Table.{AreFound, IsTable}
+use Rattle.catalog.specs.Catalog.{record_at, same_name}
+use Rattle.catalog.specs.kept.Catalog.{AreDistinct, key_named, keys_of, named, names_of, place_of}
+use Rattle.catalog.specs.kept.Columns.{AreApart, ArePlaced, cell_at, entries_in}
+use Rattle.catalog.specs.kept.Table.{AreFound, IsTable}
 use Rattle.catalog.proofs.CellLemmas.{apart_from_placed, entry_absent, entry_found, entry_stands}
 use Rattle.catalog.proofs.EntryLemmas.{name_differs, name_is, name_same, record_at_found}
 use Rattle.catalog.proofs.ListLemmas.{find_at, find_none_at, find_passes}

@@ -1,6 +1,6 @@
 -- Records, each under a key and with a name, in the order in which they were added (own).
-use Rattle.std.specs.Prelude.{◌≢◌, Bool, ℕ, ◌==◌, not, nat_eq, if◌then◌else◌, List, map, Option, option_map, AllPairs}
-use Rattle.std.specs.List.{filter, find, position_from}
+use Rattle.std.specs.Prelude.{Bool, ℕ, ◌==◌, nat_eq, List, map, Option, option_map}
+use Rattle.std.specs.List.{find}
 use Rattle.std.specs.Cmp.Lexicographic.{pointwise}
 
 -- two names are the same
@@ -8,10 +8,6 @@ abbrev pub same_name : List ℕ → List ℕ → Bool
 same_name a b = pointwise nat_eq a b
 
 module _ {R : Type 0} where
-  -- the keys, in order
-  abbrev pub keys_of : List (ℕ × R) → List ℕ
-  keys_of entries = map (λ e. e.0) entries
-
   -- the records, in order
   abbrev pub records_of : List (ℕ × R) → List R
   records_of entries = map (λ e. e.1) entries
@@ -19,33 +15,3 @@ module _ {R : Type 0} where
   -- the record under a key
   abbrev pub record_at : List (ℕ × R) → ℕ → Option R
   record_at entries key = option_map (λ e. e.1) (find (λ e. e.0 == key) entries)
-
-  -- the place of the record under a key
-  abbrev pub place_of : List (ℕ × R) → ℕ → Option ℕ
-  place_of entries key = position_from (λ e. e.0 == key) 0 entries
-
-  -- the entries with this record under the key
-  abbrev pub with_record : List (ℕ × R) → ℕ → R → List (ℕ × R)
-  with_record entries key item = map (λ e. (e.0, if e.0 == key then item else e.1)) entries
-
-  -- the entries without that of the key
-  abbrev pub without_key : List (ℕ × R) → ℕ → List (ℕ × R)
-  without_key entries key = filter (λ e. not (e.0 == key)) entries
-
-module _ {R : Type 0} (name_of : R → List ℕ) where
-  -- the names, in order
-  abbrev pub names_of : List (ℕ × R) → List (List ℕ)
-  names_of entries = map (λ e. name_of e.1) entries
-
-  -- the record of a name, with its key
-  abbrev pub named : List (ℕ × R) → List ℕ → Option (ℕ × R)
-  named entries name = find (λ e. same_name (name_of e.1) name) entries
-
-  -- the key of the record of a name
-  abbrev pub key_named : List (ℕ × R) → List ℕ → Option ℕ
-  key_named entries name = option_map (λ e. e.0) (named entries name)
-
-  -- no two records have the same key or the same name
-  pub record AreDistinct (entries : List (ℕ × R)) : Type 0 where
-    pub keys : AllPairs (λ a b. a ≢ b) (keys_of entries)
-    pub names : AllPairs (λ a b. a ≢ b) (names_of entries)

@@ -1,10 +1,2 @@
-pub mod Blocks
 pub mod Catalog
-pub mod Columns
-pub mod Found
-pub mod Gaps
-pub mod Hashers
-pub mod Kept
-pub mod Slots
-pub mod Spellings
-pub mod Table
+pub mod kept

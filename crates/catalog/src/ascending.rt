@@ -1,7 +1,7 @@
 //! Numbers that are counted up to a limit.
 
 ghost use Rattle.std.specs.Prelude.{◌≡◌, ◌≤◌, ◌<◌, ℕ, [], suc, IfOk, length, slice_get, slice_index};
-ghost use Rattle.catalog.specs.Gaps.{AreMarks, Splits};
+ghost use Rattle.catalog.specs.kept.Gaps.{AreMarks, Splits};
 
 use std::alloc::{AllocError, Global};
 

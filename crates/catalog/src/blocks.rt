@@ -3,7 +3,7 @@
 ghost use Rattle.std.specs.Prelude.{◌≡◌, ◌<◌, ◌+◌, ◌^◌, ℕ, None, Some, if◌then◌else◌, nat_lt, IfOk, IsSome, OnOk, slice_get};
 ghost use Rattle.std.specs.Arc.{arc_value};
 ghost use Rattle.slab.specs.Slab.{get, ContainsKey, Updates};
-ghost use Rattle.catalog.specs.Blocks.{Changes, HasRoom, index_in};
+ghost use Rattle.catalog.specs.kept.Blocks.{Changes, HasRoom, index_in};
 
 use crate::key::Key;
 use slab::Slab;

@@ -5,7 +5,7 @@ ghost use Rattle.std.proofs.Common.{ap};
 ghost use Rattle.std.specs.Cmp.{on_equiv, on_per, partial_equiv_from_equiv};
 ghost use Rattle.std.specs.Cmp.Lexicographic.{bytes_decides, nat_list_eq_equiv};
 ghost use Rattle.catalog.specs.Catalog.{same_name};
-ghost use Rattle.catalog.specs.Spellings.{input_of};
+ghost use Rattle.catalog.specs.kept.Spellings.{input_of};
 
 use crate::named::Named;
 use crate::spelling::Spelling;

@@ -2,7 +2,8 @@
 
 ghost use Rattle.std.specs.Prelude.{◌≡◌, ◌<◌, ◌∷◌, [], ◌++◌, length, map, slice_get, option_map, IfOk, IfSome, IsSome};
 ghost use Rattle.std.specs.Option.{option_copied};
-ghost use Rattle.catalog.specs.Catalog.{AreDistinct, key_named, keys_of, named, place_of, record_at, records_of, with_record, without_key};
+ghost use Rattle.catalog.specs.Catalog.{record_at, records_of};
+ghost use Rattle.catalog.specs.kept.Catalog.{AreDistinct, key_named, keys_of, named, place_of, with_record, without_key};
 
 use crate::enter::enter;
 use crate::gather::ready_names;
@@ -39,10 +40,10 @@ impl<R: Named> Model for Catalog<R> {
 
     ghost Value = { List (ℕ × R) };
 
-    ghost use Rattle.catalog.specs.Columns.{entries_in};
-    ghost use Rattle.catalog.specs.Slots.{slot_at};
-    ghost use Rattle.catalog.specs.Found.{found};
-    ghost use Rattle.catalog.specs.Table.{IsTable};
+    ghost use Rattle.catalog.specs.kept.Columns.{entries_in};
+    ghost use Rattle.catalog.specs.kept.Slots.{slot_at};
+    ghost use Rattle.catalog.specs.kept.Found.{found};
+    ghost use Rattle.catalog.specs.kept.Table.{IsTable};
 
     ghost view = { λ a. entries_in a.order };
 

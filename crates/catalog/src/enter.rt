@@ -2,8 +2,8 @@
 
 ghost use Rattle.std.specs.Prelude.{◌≡◌, ◌≢◌, ◌∷◌, [], ◌++◌, ℕ, List, Some, None, IfOk, length, if◌then◌else◌};
 ghost use Rattle.catalog.specs.Catalog.{same_name};
-ghost use Rattle.catalog.specs.Found.{found};
-ghost use Rattle.catalog.specs.Slots.{slot_at};
+ghost use Rattle.catalog.specs.kept.Found.{found};
+ghost use Rattle.catalog.specs.kept.Slots.{slot_at};
 
 use crate::by_name::ByName;
 use crate::hasher::NameHasher;

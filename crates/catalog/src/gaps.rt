@@ -1,7 +1,7 @@
 //! The gaps of an order.
 
 ghost use Rattle.std.specs.Prelude.{◌≡◌, ◌≤◌, ◌<◌, ℕ, [], IfOk, length, slice_index};
-ghost use Rattle.catalog.specs.Gaps.{AreCounts, Splits};
+ghost use Rattle.catalog.specs.kept.Gaps.{AreCounts, Splits};
 
 use crate::ascending::Ascending;
 use std::alloc::{AllocError, Global};

@@ -1,10 +1,10 @@
 //! The names of all records, gathered anew.
 
 ghost use Rattle.std.specs.Prelude.{◌≡◌, ◌≢◌, AllPairs, IfOk};
-ghost use Rattle.catalog.specs.Catalog.{names_of};
-ghost use Rattle.catalog.specs.Columns.{entries_in};
-ghost use Rattle.catalog.specs.Found.{found};
-ghost use Rattle.catalog.specs.Table.{AreFound};
+ghost use Rattle.catalog.specs.kept.Catalog.{names_of};
+ghost use Rattle.catalog.specs.kept.Columns.{entries_in};
+ghost use Rattle.catalog.specs.kept.Found.{found};
+ghost use Rattle.catalog.specs.kept.Table.{AreFound};
 
 use crate::by_name::ByName;
 use crate::hasher::NameHasher;

@@ -27,7 +27,7 @@ impl NameHasher {
 impl BuildHasher for NameHasher {
     type Hasher = DefaultHasher;
 
-    ghost use Rattle.catalog.specs.Hashers.{hasher_for};
+    ghost use Rattle.catalog.specs.kept.Hashers.{hasher_for};
 
     ghost build_hasher = { hasher_for };
 

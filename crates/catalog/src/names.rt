@@ -3,7 +3,7 @@
 ghost use Rattle.std.specs.Prelude.{◌≡◌, List, ℕ, None, Some, IfOk, OnOk, if◌then◌else◌};
 ghost use Rattle.std.specs.Arc.{arc_value};
 ghost use Rattle.catalog.specs.Catalog.{same_name};
-ghost use Rattle.catalog.specs.Found.{found, found_in, key_under};
+ghost use Rattle.catalog.specs.kept.Found.{found, found_in, key_under};
 
 use crate::by_name::ByName;
 use crate::hasher::NameHasher;

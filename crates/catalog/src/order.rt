@@ -2,8 +2,8 @@
 
 ghost use Rattle.std.specs.Prelude.{◌≡◌, ◌<◌, ◌∷◌, [], ◌++◌, ℕ, None, Some, IfOk, IsSome, OnErr, OnOk, length, option_map, slice_get, slice_set, take};
 ghost use Rattle.std.specs.Option.{option_copied};
-ghost use Rattle.catalog.specs.Columns.{cell_at, entries_in};
-ghost use Rattle.catalog.specs.Gaps.{gaps_from};
+ghost use Rattle.catalog.specs.kept.Columns.{cell_at, entries_in};
+ghost use Rattle.catalog.specs.kept.Gaps.{gaps_from};
 
 use crate::gaps::Gaps;
 use crate::key::Key;
@@ -26,7 +26,7 @@ pub(crate) struct Order<R: Drop> {
 
 impl<R: Drop> Model for Order<R> {
     ghost use Rattle.std.specs.Prelude.{◌≡◌, ℕ, List, Option};
-    ghost use Rattle.catalog.specs.Gaps.{gaps_from};
+    ghost use Rattle.catalog.specs.kept.Gaps.{gaps_from};
 
     ghost Value = { List (Option (ℕ × R)) };
 

@@ -1,8 +1,8 @@
 //! Where entries stand, and how gaps are closed.
 
 ghost use Rattle.std.specs.Prelude.{◌≡◌, ◌∷◌, [], ◌++◌, Some, IfOk, OnOk, filter, is_some, option_map};
-ghost use Rattle.catalog.specs.Columns.{ArePlaced, cell_at, entries_in};
-ghost use Rattle.catalog.specs.Slots.{slot_at};
+ghost use Rattle.catalog.specs.kept.Columns.{ArePlaced, cell_at, entries_in};
+ghost use Rattle.catalog.specs.kept.Slots.{slot_at};
 
 use crate::key::Key;
 use crate::order::{self, Entry, Order, entry_at};

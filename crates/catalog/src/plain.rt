@@ -3,7 +3,8 @@
 ghost use Rattle.std.specs.Prelude.{◌≡◌, ◌<◌, ◌∷◌, [], ◌++◌, length, map, slice_get, option_map, IfOk, IfSome, IsSome, ◌==◌};
 ghost use Rattle.std.specs.List.{position_from};
 ghost use Rattle.std.specs.Option.{option_copied};
-ghost use Rattle.catalog.specs.Catalog.{AreDistinct, key_named, keys_of, named, place_of, record_at, records_of, same_name, with_record, without_key};
+ghost use Rattle.catalog.specs.Catalog.{record_at, records_of, same_name};
+ghost use Rattle.catalog.specs.kept.Catalog.{AreDistinct, key_named, keys_of, named, place_of, with_record, without_key};
 
 use crate::hasher::NameHasher;
 use crate::key::Key;
@@ -22,7 +23,7 @@ pub struct PlainCatalog<R: Named> {
 
 impl<R: Named> Model for PlainCatalog<R> {
     ghost use Rattle.std.specs.Prelude.{ℕ, List};
-    ghost use Rattle.catalog.specs.Kept.{AreKept};
+    ghost use Rattle.catalog.specs.kept.Kept.{AreKept};
 
     ghost Value = { List (ℕ × R) };
 

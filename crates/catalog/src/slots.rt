@@ -1,8 +1,8 @@
 //! Where the entry under each key stands.
 
 ghost use Rattle.std.specs.Prelude.{◌≡◌, ◌≢◌, ◌<◌, ℕ, None, Some, true, IfOk, IsSome, OnOk, is_some, vec_len};
-ghost use Rattle.catalog.specs.Blocks.{Changes, index_in};
-ghost use Rattle.catalog.specs.Columns.{AreApart, AreKnown, cell_at};
+ghost use Rattle.catalog.specs.kept.Blocks.{Changes, index_in};
+ghost use Rattle.catalog.specs.kept.Columns.{AreApart, AreKnown, cell_at};
 
 use crate::blocks::{self, Block};
 use crate::key::Key;
@@ -22,7 +22,7 @@ pub(crate) struct Slots {
 }
 
 impl Slots {
-    ghost use Rattle.catalog.specs.Slots.{slot_at};
+    ghost use Rattle.catalog.specs.kept.Slots.{slot_at};
 
     /// No key. It takes no memory.
     pub(crate) fn new(alloc: Global) -> Slots

@@ -1,7 +1,7 @@
 //! What of a name is hashed.
 
 ghost use Rattle.std.specs.Prelude.{◌≡◌, ◌+◌, ◌-◌, ◌≤◌, true, length};
-ghost use Rattle.catalog.specs.Spellings.{four, is_short, packed};
+ghost use Rattle.catalog.specs.kept.Spellings.{four, is_short, packed};
 
 use std::hash::{Hash, Hasher};
 
@@ -60,7 +60,7 @@ pub fn packed(bytes: &[u8]) -> u64
 impl<'a> Hash for Spelling<'a> {
     ghost use Rattle.std.specs.Cmp.Lexicographic.{bytes_decides};
     ghost use Rattle.std.proofs.Common.{ap};
-    ghost use Rattle.catalog.specs.Spellings.{input_of};
+    ghost use Rattle.catalog.specs.kept.Spellings.{input_of};
 
     ghost hash_input = { λ a. input_of a.bytes.now };
 

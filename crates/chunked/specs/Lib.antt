@@ -1,3 +1,1 @@
-pub mod Chunks
-pub mod Exact
-pub mod Lending
+pub mod kept

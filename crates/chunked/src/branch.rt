@@ -3,8 +3,8 @@
 ghost use Rattle.std.specs.Prelude.{◌≡◌, ◌<◌, ◌≤◌, ◌+◌, ◌%◌, ◌∷◌, [], ◌++◌, IfOk, OnErr, OnOk, Some, length, slice_get, replicate, take};
 ghost use Rattle.std.specs.Option.{option_copied};
 ghost use Rattle.std.specs.Borrow.{sem};
-ghost use Rattle.chunked.specs.Chunks.{row_in};
-ghost use Rattle.chunked.specs.Lending.{lends_in_branch};
+ghost use Rattle.chunked.specs.kept.Chunks.{row_in};
+ghost use Rattle.chunked.specs.kept.Lending.{lends_in_branch};
 
 use crate::chunk::CHUNK;
 use crate::exact::ExactClone;

@@ -3,8 +3,8 @@
 ghost use Rattle.std.specs.Prelude.{◌≡◌, ◌<◌, ◌≤◌, ◌+◌, ◌∷◌, [], ◌++◌, IfOk, OnErr, OnOk, length, slice_get, Some, replicate, take};
 ghost use Rattle.std.specs.Option.{option_copied};
 ghost use Rattle.std.specs.Borrow.{sem};
-ghost use Rattle.chunked.specs.Chunks.{items_in};
-ghost use Rattle.chunked.specs.Lending.{lends_in_chunk};
+ghost use Rattle.chunked.specs.kept.Chunks.{items_in};
+ghost use Rattle.chunked.specs.kept.Lending.{lends_in_chunk};
 
 use crate::exact::ExactClone;
 use std::alloc::{AllocError, Global};

@@ -1,7 +1,7 @@
 //! Values whose clones are equal to them.
 
 ghost use Rattle.std.specs.Prelude.{◌≡◌};
-ghost use Rattle.chunked.specs.Exact.{option_exact};
+ghost use Rattle.chunked.specs.kept.Exact.{option_exact};
 
 /// What has clones that contracts cannot tell from it.
 pub trait ExactClone: Clone {

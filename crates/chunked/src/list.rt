@@ -3,7 +3,7 @@
 ghost use Rattle.std.specs.Prelude.{◌≡◌, ◌<◌, ℕ, ◌/◌, ◌∷◌, [], ◌++◌, IfOk, OnErr, OnOk, Some, length, slice_get, slice_set, replicate, take};
 ghost use Rattle.std.specs.Option.{option_copied};
 ghost use Rattle.std.specs.Borrow.{sem};
-ghost use Rattle.chunked.specs.Chunks.{AreFull, row_in, rows_of};
+ghost use Rattle.chunked.specs.kept.Chunks.{AreFull, row_in, rows_of};
 
 use crate::branch::{self, BRANCH, Branch};
 use crate::chunk::CHUNK;
@@ -24,7 +24,7 @@ pub struct Chunked<T: Drop> {
 
 impl<T: Drop> Model for Chunked<T> {
     ghost use Rattle.std.specs.Prelude.{◌≡◌, List, length};
-    ghost use Rattle.chunked.specs.Chunks.{AreFull, row_in, rows_of};
+    ghost use Rattle.chunked.specs.kept.Chunks.{AreFull, row_in, rows_of};
     ghost use Rattle.chunked.specs.declared.branch.TheConstants.{BRANCH};
 
     ghost Value = { List T };
@@ -77,7 +77,7 @@ impl<T: Drop> Chunked<T> {
 }
 
 impl<T: ExactClone> Chunked<T> {
-    ghost use Rattle.chunked.specs.Lending.{lends_in_list};
+    ghost use Rattle.chunked.specs.kept.Lending.{lends_in_list};
 
     /// The element at an index, to be written in place. It fails where memory runs out.
     pub fn get_mut(&mut self, index: usize) -> Result<&mut T, AllocError>

@@ -3,7 +3,7 @@
 ghost use Rattle.std.specs.Prelude.{◌≡◌, ◌<◌, ◌≤◌, ◌+◌, ◌%◌, ◌/◌, ◌∷◌, [], ◌++◌, IfOk, OnErr, OnOk, Some, length, slice_get, replicate, take};
 ghost use Rattle.std.specs.Option.{option_copied};
 ghost use Rattle.std.specs.Borrow.{sem};
-ghost use Rattle.chunked.specs.Chunks.{AreFull, items_in, items_of};
+ghost use Rattle.chunked.specs.kept.Chunks.{AreFull, items_in, items_of};
 
 use crate::chunk::{self, CHUNK, Chunk};
 use crate::exact::ExactClone;
@@ -19,7 +19,7 @@ pub(crate) struct Row<T: Drop> {
 
 impl<T: Drop> Model for Row<T> {
     ghost use Rattle.std.specs.Prelude.{◌≡◌, List, length};
-    ghost use Rattle.chunked.specs.Chunks.{AreFull, items_in, items_of};
+    ghost use Rattle.chunked.specs.kept.Chunks.{AreFull, items_in, items_of};
     ghost use Rattle.chunked.specs.declared.chunk.TheConstants.{CHUNK};
 
     ghost Value = { List T };
@@ -61,7 +61,7 @@ impl<T: Drop> Row<T> {
 }
 
 impl<T: ExactClone> Row<T> {
-    ghost use Rattle.chunked.specs.Lending.{lends_in_row};
+    ghost use Rattle.chunked.specs.kept.Lending.{lends_in_row};
 
     /// The element at an index, to be written in place.
     pub(crate) fn get_mut(&mut self, index: usize) -> Result<&mut T, AllocError>

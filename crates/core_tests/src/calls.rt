@@ -2,9 +2,9 @@
 //! that a call promises.
 
 ghost use Rattle.std.specs.Prelude.{IfSome};
-ghost use Rattle.edits.specs.Touched.{IsTouched};
+ghost use Rattle.edits.specs.kept.Touched.{IsTouched};
 ghost use Rattle.gatestep.specs.Step.{advance};
-ghost use Rattle.scratch.specs.Run.{IsRun};
+ghost use Rattle.scratch.specs.kept.Run.{IsRun};
 
 use crate::counting::Counting;
 use design::Design;

@@ -5,9 +5,10 @@ use Rattle.std.proofs.lemmas.List.Elements.{All-head, All-tail}
 use Rattle.std.specs.List.{filter, find, list_any, position_from, slice_get}
 use Rattle.std.specs.Option.{option_map_or}
 use Rattle.catalog.specs.Catalog.{record_at, records_of}
-use Rattle.design.specs.Keys.{Keyed, KeyedGate, drives_key, entry_in, name_of, netlist}
-use Rattle.design.specs.Kept.{IsKept}
-use Rattle.design.specs.Lawful.{IsNet}
+use Rattle.design.specs.Keys.{Keyed, KeyedGate, entry_in, name_of, netlist}
+use Rattle.design.specs.kept.Keys.{drives_key}
+use Rattle.design.specs.kept.Kept.{IsKept}
+use Rattle.design.specs.kept.Lawful.{IsNet}
 use Rattle.design.specs.Names.{is_name, same_name}
 use Rattle.design.specs.Netlist.{GateEntry, NetEntry, drivers_of, gate_named, has_gate, net_named}
 use Rattle.design.proofs.ConnectionLemmas.{drivers_by_name, named_as, named_at, records_named}

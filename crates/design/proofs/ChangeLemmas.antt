@@ -3,8 +3,9 @@ use Rattle.std.proofs.Common.{◌≡◌, ◌≢◌, ℕ, ◌+◌, Bool, true, fa
 use Rattle.std.proofs.lemmas.Bool.{eq-eqb, eqb-false, eqb-true, ne_eqb}
 use Rattle.std.proofs.lemmas.List.Sums.{sum_by-cons}
 use Rattle.std.specs.List.{filter, find, sum_by}
-use Rattle.catalog.specs.Catalog.{keys_of, record_at, records_of, with_record, without_key}
-use Rattle.design.specs.Lists as Lists
+use Rattle.catalog.specs.Catalog.{record_at, records_of}
+use Rattle.catalog.specs.kept.Catalog.{keys_of, with_record, without_key}
+use Rattle.design.specs.kept.Lists as Lists
 use Rattle.design.specs.Names.{same_name}
 use Rattle.design.proofs.EntryLemmas.{Apart, Each, alone, each_here, each_map, each_weaker, filter_map, filter_within, map_map, map_within}
 

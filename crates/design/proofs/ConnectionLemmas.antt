@@ -7,10 +7,12 @@ use Rattle.catalog.specs.Catalog.{record_at, records_of}
 use Rattle.design.specs.declared.terminal.Terminal.{Terminal}
 use Rattle.design.specs.declared.terminal.Terminal.TheVariants.{Net, Constant}
 use Rattle.design.specs.Connections.{to_net}
-use Rattle.design.specs.Keys.{IsConnected, IsDrivable, IsThere, KeyedGate, connection_in, drives_key, entry_in, is_at, name_of, named_gates, reads_key}
-use Rattle.design.specs.Lawful.{IsWired}
+use Rattle.design.specs.Keys.{KeyedGate, connection_in, entry_in, name_of, named_gates}
+use Rattle.design.specs.kept.Keys.{IsConnected, IsDrivable, IsThere, drives_key, is_at, reads_key}
+use Rattle.design.specs.kept.Lawful.{IsWired}
 use Rattle.design.specs.Names.{same_name}
-use Rattle.design.specs.Netlist.{GateEntry, NetEntry, Netlist, is_at_net, is_drivable, is_readable, reads}
+use Rattle.design.specs.Netlist.{GateEntry, NetEntry, Netlist, is_at_net, is_readable, reads}
+use Rattle.design.specs.kept.Netlist.{is_drivable}
 use Rattle.design.proofs.EntryLemmas.{Apart, Each, all_map, alone, any_map, any_none, any_within, each_both, each_from, each_map, each_to, each_weaker, filter_map, filter_within, find_within, found, map_map, map_within}
 use Rattle.design.proofs.LookLemmas.{any_found, record_named, some_is, some_of}
 

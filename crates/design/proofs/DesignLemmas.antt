@@ -4,13 +4,15 @@ use Rattle.std.proofs.lemmas.List.{length-map}
 use Rattle.std.proofs.lemmas.List.Elements.{All-nil, All-weaker}
 use Rattle.fourstate.specs.declared.limits.TheConstants.{MAX_TIME}
 use Rattle.fourstate.specs.Gates.{takes_inputs}
-use Rattle.catalog.specs.Catalog.{keys_of, records_of, with_record}
+use Rattle.catalog.specs.Catalog.{records_of}
+use Rattle.catalog.specs.kept.Catalog.{keys_of, with_record}
 use Rattle.design.specs.declared.limits.TheConstants.{MAX_GATES, MAX_NETS, MAX_POINTS}
 use Rattle.fourstate.specs.declared.unit.TimeUnit.{TimeUnit}
-use Rattle.design.specs.Keys.{IsConnected, IsKeyedGate, Keyed, KeyedGate, connection_in, drives_key, empty_design, entry_in, keys_where, named_gates, netlist, reads_key}
-use Rattle.design.specs.Kept.{IsKept}
-use Rattle.design.specs.Lawful.{IsNet, IsGate, IsWired}
-use Rattle.design.specs.Lists.{list_of}
+use Rattle.design.specs.Keys.{Keyed, KeyedGate, connection_in, entry_in, named_gates, netlist}
+use Rattle.design.specs.kept.Keys.{IsConnected, IsKeyedGate, drives_key, empty_design, keys_where, reads_key}
+use Rattle.design.specs.kept.Kept.{IsKept}
+use Rattle.design.specs.kept.Lawful.{IsNet, IsGate, IsWired}
+use Rattle.design.specs.kept.Lists.{list_of}
 use Rattle.design.specs.Names.{is_name}
 use Rattle.design.specs.Netlist.{GateEntry, NetEntry, Netlist, point_total}
 use Rattle.design.proofs.ConnectionLemmas.{IsAlike, connected_alike, gates_alike, wired_all}

@@ -4,7 +4,8 @@ use Rattle.std.proofs.lemmas.Bool.{both_ways, eqb-true, ne_eqb}
 use Rattle.std.proofs.lemmas.List.Elements.{All-cons, All-head, All-tail}
 use Rattle.std.proofs.lemmas.List.Kept.{AllPairs-cons}
 use Rattle.std.specs.List.{filter, find, list_all, list_any}
-use Rattle.catalog.specs.Catalog.{keys_of, record_at}
+use Rattle.catalog.specs.Catalog.{record_at}
+use Rattle.catalog.specs.kept.Catalog.{keys_of}
 use Rattle.design.specs.Names.{same_name}
 use Rattle.design.proofs.NameLemmas.{name_differs, name_same}
 

@@ -5,16 +5,18 @@ use Rattle.std.proofs.lemmas.List.{length-map, length_push, map_push}
 use Rattle.std.proofs.lemmas.List.Kept.{AllPairs-filter}
 use Rattle.std.proofs.lemmas.List.Quantifiers.{all_pairs_push}
 use Rattle.std.proofs.lemmas.List.Sums.{count_by-le-length, length-filter}
-use Rattle.catalog.specs.Catalog.{keys_of, record_at, records_of, with_record, without_key}
+use Rattle.catalog.specs.Catalog.{record_at, records_of}
+use Rattle.catalog.specs.kept.Catalog.{keys_of, with_record, without_key}
 use Rattle.fourstate.specs.Gates.{takes_inputs}
 use Rattle.design.specs.declared.limits.TheConstants.{MAX_GATES}
 use Rattle.design.specs.declared.terminal.Terminal.{Terminal}
-use Rattle.design.specs.Keys.{IsConnected, IsDrivable, IsKeyedGate, IsThere, Keyed, KeyedGate, drives_key, entry_in, is_among, keys_where, named_gates, netlist, reads_key, with_gate_at, with_keyed_gate, without_keyed_gate}
-use Rattle.design.specs.Kept.{IsKept}
-use Rattle.design.specs.Lists as Lists
-use Rattle.design.specs.Lists.{AreChanged, IsInOrder, list_of, with_key_in}
+use Rattle.design.specs.Keys.{Keyed, KeyedGate, entry_in, named_gates, netlist}
+use Rattle.design.specs.kept.Keys.{IsConnected, IsDrivable, IsKeyedGate, IsThere, drives_key, is_among, keys_where, reads_key, with_gate_at, with_keyed_gate, without_keyed_gate}
+use Rattle.design.specs.kept.Kept.{IsKept}
+use Rattle.design.specs.kept.Lists as Lists
+use Rattle.design.specs.kept.Lists.{AreChanged, IsInOrder, list_of, with_key_in}
 use Rattle.design.specs.Netlist.{GateEntry, has_gate, with_gate, with_gate_changed, without_gate}
-use Rattle.design.specs.Records.{IsInPlaceOf, gate_with_wiring}
+use Rattle.design.specs.kept.Records.{IsInPlaceOf, gate_with_wiring}
 use Rattle.design.proofs.ChangeLemmas.{each_with, keys_with, keys_without, record_kept, record_pushed, records_with, records_without}
 use Rattle.design.proofs.DesignLemmas.{apart_with, each_connected, each_gate, gate_count_is, gate_keys_apart, gates_apart, kept_gates}
 use Rattle.design.proofs.EntryLemmas.{Apart, Each, absent, apart_filter, apart_map, apart_push, each_filter, each_push, each_to, each_unmap, each_weaker, filter_map, found, here, keys_apart, record_map, unnamed}

@@ -3,8 +3,10 @@ use Rattle.std.proofs.Common.{◌≡◌, ◌≢◌, ℕ, suc, ◌+◌, Bool, tru
 use Rattle.std.proofs.lemmas.Bool.{eq-eqb, eqb-true, ne_eqb}
 use Rattle.std.specs.List.{filter, find, list_any, position_from}
 use Rattle.std.specs.Option.{option_map_or}
-use Rattle.catalog.specs.Catalog.{key_named, keys_of, named, place_of, record_at, records_of}
-use Rattle.design.specs.Keys.{keys_where, name_of}
+use Rattle.catalog.specs.Catalog.{record_at, records_of}
+use Rattle.catalog.specs.kept.Catalog.{key_named, keys_of, named, place_of}
+use Rattle.design.specs.Keys.{name_of}
+use Rattle.design.specs.kept.Keys.{keys_where}
 use Rattle.design.specs.Names.{same_name}
 use Rattle.design.specs.Netlist.{NetEntry}
 use Rattle.design.proofs.EntryLemmas.{Apart, Each, each_to, each_weaker}

@@ -9,15 +9,17 @@ use Rattle.std.proofs.lemmas.List.Sums.{count_by-le-length, length-filter, sum_b
 use Rattle.std.specs.List.{filter}
 use Rattle.fourstate.specs.declared.limits.TheConstants.{MAX_TIME}
 use Rattle.fourstate.specs.declared.value.Value.{Value}
-use Rattle.catalog.specs.Catalog.{keys_of, record_at, records_of, with_record, without_key}
+use Rattle.catalog.specs.Catalog.{record_at, records_of}
+use Rattle.catalog.specs.kept.Catalog.{keys_of, with_record, without_key}
 use Rattle.design.specs.declared.limits.TheConstants.{MAX_NETS, MAX_POINTS}
-use Rattle.design.specs.Keys.{IsConnected, Keyed, KeyedGate, drives_key, netlist, reads_key, with_keyed_net, with_net_at, without_keyed_net}
-use Rattle.design.specs.Kept.{IsKept}
-use Rattle.design.specs.Lawful.{IsNet}
+use Rattle.design.specs.Keys.{Keyed, KeyedGate, netlist}
+use Rattle.design.specs.kept.Keys.{IsConnected, drives_key, reads_key, with_keyed_net, with_net_at, without_keyed_net}
+use Rattle.design.specs.kept.Kept.{IsKept}
+use Rattle.design.specs.kept.Lawful.{IsNet}
 use Rattle.design.specs.Netlist.{GateEntry, NetEntry, has_net, has_point, is_used, point_total, with_net, with_net_changed, without_net}
 use Rattle.design.specs.declared.net_change.NetChange.{NetChange}
 use Rattle.design.specs.declared.net_change.NetChange.TheVariants.{Kind, Point, NoPoint}
-use Rattle.design.specs.Records.{HasRoom, IsNetChange, net_changed}
+use Rattle.design.specs.kept.Records.{HasRoom, IsNetChange, net_changed}
 use Rattle.design.proofs.ChangeLemmas.{each_with, keys_with, keys_without, record_added, record_with, record_without, records_with, records_without, sum_with, sum_without}
 use Rattle.design.proofs.ConnectionLemmas.{IsAlike, alike_there, alike_unused, gates_alike, look, seen, used_by_name}
 use Rattle.design.proofs.DesignLemmas.{apart_with, each_connected, kept_nets, net_keys_apart, nets_apart}

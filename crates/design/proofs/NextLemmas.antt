@@ -5,7 +5,7 @@ use Rattle.std.proofs.lemmas.List.Elements.{All-head, All-tail}
 use Rattle.std.specs.List.{find, flat_map}
 use Rattle.std.specs.List.Sorted.{IsPartitionPoint}
 use Rattle.fourstate.specs.declared.value.Value.{Value}
-use Rattle.design.specs.Pieces.{AreFilled, IsHome, first_in}
+use Rattle.design.specs.kept.Pieces.{AreFilled, IsHome, first_in}
 
 -- a search for the points until t ends at it
 pub next_at : (ps : List (ℕ × Value)) (t n : ℕ) → IsPartitionPoint (λ p. nat_le p.0 t ≡ true) (λ p. nat_le p.0 t ≡ false) ps n → n ≤ length ps → find (λ p. nat_lt t p.0) ps ≡ slice_get ps n

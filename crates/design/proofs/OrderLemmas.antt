@@ -4,9 +4,10 @@ use Rattle.std.proofs.lemmas.Bool.{eq-eqb, eqb-true, ne_eqb}
 use Rattle.std.proofs.lemmas.List.{append-nil, map_push}
 use Rattle.std.proofs.lemmas.List.Elements.{filter-append}
 use Rattle.std.specs.List.{filter}
-use Rattle.catalog.specs.Catalog.{keys_of, record_at}
-use Rattle.design.specs.Keys.{keys_where}
-use Rattle.design.specs.Lists.{IsInOrder, contains, with_key_in, without_key}
+use Rattle.catalog.specs.Catalog.{record_at}
+use Rattle.catalog.specs.kept.Catalog.{keys_of}
+use Rattle.design.specs.kept.Keys.{keys_where}
+use Rattle.design.specs.kept.Lists.{IsInOrder, contains, with_key_in, without_key}
 use Rattle.design.proofs.EntryLemmas.{Apart, Each, absent, each_both, each_here, each_weaker, filter_filter, filter_map, filter_within}
 
 -- Which keys a list has.

@@ -10,9 +10,9 @@ use Rattle.std.specs.List.Sorted.{IsPartitionPoint}
 use Rattle.std.specs.Option.{option_map_or}
 use Rattle.fourstate.specs.declared.value.Value.{Value}
 use Rattle.fourstate.specs.declared.value.Value.TheVariants.{Unknown}
-use Rattle.design.specs.Lawful.{AreRising}
+use Rattle.design.specs.kept.Lawful.{AreRising}
 use Rattle.design.specs.Netlist.{stimulus}
-use Rattle.design.specs.Pieces.{IsHome}
+use Rattle.design.specs.kept.Pieces.{IsHome}
 use Rattle.design.proofs.PieceLemmas.{kept_all, kept_none, last_of, nil_right, rising_right}
 use Rattle.design.proofs.PointLemmas.{rising_head, rising_tail}
 

@@ -12,9 +12,9 @@ use Rattle.std.specs.Ordering.{nat_cmp}
 use Rattle.std.specs.BTreeMap.{insert_entry}
 use Rattle.fourstate.specs.declared.value.Value.{Value}
 use Rattle.fourstate.specs.declared.value.Value.TheVariants.{Unknown}
-use Rattle.design.specs.Lawful.{AreRising}
+use Rattle.design.specs.kept.Lawful.{AreRising}
 use Rattle.design.specs.Netlist.{has_point, stimulus}
-use Rattle.design.specs.Pieces.{AreFilled, IsHome, begins_by}
+use Rattle.design.specs.kept.Pieces.{AreFilled, IsHome, begins_by}
 use Rattle.design.proofs.PointLemmas.{count_set, rising_head, rising_tail, set_equal, set_greater, set_less}
 
 -- Parts of lists in order of time.

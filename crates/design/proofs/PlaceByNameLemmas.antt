@@ -3,12 +3,14 @@ use Rattle.std.proofs.Common.{◌≡◌, ◌≢◌, ℕ, ◌+◌, Bool, true, fa
 use Rattle.std.proofs.lemmas.Bool.{eq-eqb, ne_eqb}
 use Rattle.std.specs.List.{enumerate_from, filter, position_from}
 use Rattle.std.specs.Option.{option_map_or}
-use Rattle.catalog.specs.Catalog.{place_of, record_at, records_of}
-use Rattle.design.specs.Keys.{IsConnected, Keyed, driver_keys, drives_key, entry_in, keys_where, name_of, named_gates, netlist}
-use Rattle.design.specs.Kept.{IsKept}
+use Rattle.catalog.specs.Catalog.{record_at, records_of}
+use Rattle.catalog.specs.kept.Catalog.{place_of}
+use Rattle.design.specs.Keys.{Keyed, entry_in, name_of, named_gates, netlist}
+use Rattle.design.specs.kept.Keys.{IsConnected, driver_keys, drives_key, keys_where}
+use Rattle.design.specs.kept.Kept.{IsKept}
 use Rattle.design.specs.Names.{same_name}
 use Rattle.design.specs.Netlist.{GateEntry, NetEntry}
-use Rattle.design.specs.Places.{driver_places}
+use Rattle.design.specs.kept.Places.{driver_places}
 use Rattle.design.proofs.ByNameLemmas.{position_map}
 use Rattle.design.proofs.ConnectionLemmas.{drives_by_name}
 use Rattle.design.proofs.DesignLemmas.{each_connected, gate_keys_apart, net_keys_apart, nets_apart}

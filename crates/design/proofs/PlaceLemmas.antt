@@ -4,9 +4,10 @@ use Rattle.std.proofs.lemmas.Bool.{both_ways, eq-eqb, eqb-true, le-ltb, lt-ltb, 
 use Rattle.std.specs.List.{AllWithin, filter, find, position_from}
 use Rattle.std.specs.List.Sorted.{IsPartitionPoint, IsPartitionedBy}
 use Rattle.std.specs.Option.{option_map_or}
-use Rattle.catalog.specs.Catalog.{keys_of, place_of, record_at}
-use Rattle.design.specs.Keys.{keys_where}
-use Rattle.design.specs.Lists.{IsInOrder, contains, with_key_in}
+use Rattle.catalog.specs.Catalog.{record_at}
+use Rattle.catalog.specs.kept.Catalog.{keys_of, place_of}
+use Rattle.design.specs.kept.Keys.{keys_where}
+use Rattle.design.specs.kept.Lists.{IsInOrder, contains, with_key_in}
 use Rattle.design.proofs.EntryLemmas.{Apart, Each, each_both, each_weaker, filter_map, filter_within}
 
 -- the first p keys pass, and the others don't

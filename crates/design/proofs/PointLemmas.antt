@@ -13,7 +13,7 @@ use Rattle.std.specs.declared.cmp.Ordering.TheVariants.{Less, Equal, Greater}
 use Rattle.std.specs.BTreeMap.{insert_entry}
 use Rattle.fourstate.specs.declared.value.Value.{Value}
 use Rattle.fourstate.specs.declared.value.Value.TheVariants.{Unknown}
-use Rattle.design.specs.Lawful.{AreRising}
+use Rattle.design.specs.kept.Lawful.{AreRising}
 use Rattle.design.specs.Netlist.{has_point, stimulus}
 
 -- Points in order of time.

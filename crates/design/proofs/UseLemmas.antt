@@ -3,8 +3,9 @@ use Rattle.std.proofs.Common.{◌≡◌, ◌==◌, ◌||◌, ℕ, Bool, true, fa
 use Rattle.std.proofs.lemmas.Bool.{or_left}
 use Rattle.std.specs.List.{list_any}
 use Rattle.catalog.specs.Catalog.{record_at, records_of}
-use Rattle.design.specs.Keys.{Keyed, KeyedGate, driver_keys, drives_key, netlist, reader_keys, reads_key}
-use Rattle.design.specs.Kept.{IsKept}
+use Rattle.design.specs.Keys.{Keyed, KeyedGate, netlist}
+use Rattle.design.specs.kept.Keys.{driver_keys, drives_key, reader_keys, reads_key}
+use Rattle.design.specs.kept.Kept.{IsKept}
 use Rattle.design.specs.Netlist.{NetEntry, is_used}
 use Rattle.design.proofs.ConnectionLemmas.{used_by_name}
 use Rattle.design.proofs.DesignLemmas.{net_keys_apart, nets_apart}

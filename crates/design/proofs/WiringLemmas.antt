@@ -5,11 +5,12 @@ use Rattle.std.proofs.lemmas.List.{append-nil, take_more}
 use Rattle.std.proofs.lemmas.List.Elements.{filter-append}
 use Rattle.std.proofs.lemmas.List.Folds.{list_any-append}
 use Rattle.std.specs.List.{filter}
-use Rattle.catalog.specs.Catalog.{keys_of, record_at, with_record, without_key}
+use Rattle.catalog.specs.Catalog.{record_at}
+use Rattle.catalog.specs.kept.Catalog.{keys_of, with_record, without_key}
 use Rattle.design.specs.declared.terminal.Terminal.{Terminal}
-use Rattle.design.specs.Keys.{is_among, is_at, keys_where}
-use Rattle.design.specs.Lists as Lists
-use Rattle.design.specs.Lists.{AreChanged, IsInOrder, list_of, with_key_in}
+use Rattle.design.specs.kept.Keys.{is_among, is_at, keys_where}
+use Rattle.design.specs.kept.Lists as Lists
+use Rattle.design.specs.kept.Lists.{AreChanged, IsInOrder, list_of, with_key_in}
 use Rattle.design.proofs.EntryLemmas.{Apart, Each, absent, each_here, each_weaker, filter_filter, filter_map, filter_within}
 use Rattle.design.proofs.OrderLemmas.{where_with, with_in_order, without_in_order}
 

@@ -1,15 +1,5 @@
 pub mod Connections
-pub mod Kept
-pub mod KeyLists
 pub mod Keys
-pub mod Lawful
-pub mod Lists
-pub mod NameTexts
 pub mod Names
 pub mod Netlist
-pub mod Places
-pub mod Pieces
-pub mod PointPlaces
-pub mod Records
-pub mod Shared
-pub mod Shown
+pub mod kept

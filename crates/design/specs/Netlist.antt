@@ -1,5 +1,5 @@
 -- A design as contracts see it: nets and gates in order, by name (IEEE 1364-2005, 12).
-use Rattle.std.specs.Prelude.{Bool, true, false, ℕ, ◌==◌, ◌++◌, ◌||◌, not, nat_le, nat_lt, if◌then◌else◌, List, [], ◌∷◌, length, map, Option, None, option_map}
+use Rattle.std.specs.Prelude.{Bool, true, false, ℕ, ◌==◌, ◌++◌, ◌||◌, not, nat_le, if◌then◌else◌, List, [], ◌∷◌, length, map, Option, None}
 use Rattle.std.specs.Ordering.{nat_cmp}
 use Rattle.std.specs.BTreeMap.{insert_entry}
 use Rattle.std.specs.List.{filter, find, last_or, list_any, sum_by}
@@ -36,10 +36,6 @@ pub record Netlist : Type 0 where
   pub gates : List GateEntry
   pub horizon : ℕ
 
--- a design with no nets and no gates
-abbrev pub empty_netlist : List ℕ → TimeUnit → Netlist
-empty_netlist top unit = record { top = top; unit = unit; nets = []; gates = []; horizon = 0 }
-
 -- Look-ups.
 
 -- the net of this name
@@ -57,10 +53,6 @@ has_net d name = list_any (λ n. same_name n.name name) d.nets
 -- a gate of this name is there
 abbrev pub has_gate : Netlist → List ℕ → Bool
 has_gate d name = list_any (λ g. same_name g.name name) d.gates
-
--- a net of this name that is no input is there: gates may drive it
-abbrev pub is_drivable : Netlist → List ℕ → Bool
-is_drivable d name = option_map_or (λ n. not n.is_input) (net_named d name) false
 
 -- the connection is a constant or names a net that is there
 abbrev pub is_readable : Netlist → Connection → Bool
@@ -93,10 +85,6 @@ stimulus points t = option_map_or (λ point. point.1) (last_or None (filter (λ 
 -- one of the points is at t
 abbrev pub has_point : List (ℕ × Value) → ℕ → Bool
 has_point points t = list_any (λ point. point.0 == t) points
-
--- the moment of the first point after t
-abbrev pub next_point : List (ℕ × Value) → ℕ → Option ℕ
-next_point points t = option_map (λ point. point.0) (find (λ point. nat_lt t point.0) points)
 
 -- how many points the nets have together
 abbrev pub point_total : List NetEntry → ℕ

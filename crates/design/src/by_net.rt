@@ -1,7 +1,7 @@
 //! A list of gate keys for each net.
 
 ghost use Rattle.std.specs.Prelude.{◌≡◌, ◌<◌, ◌==◌, ℕ, OnOk, length};
-ghost use Rattle.design.specs.Lists.{AreChanged, list_of, without_key};
+ghost use Rattle.design.specs.kept.Lists.{AreChanged, list_of, without_key};
 
 use crate::key::{GateKey, NetKey};
 use crate::key_list::KeyList;

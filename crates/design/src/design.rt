@@ -3,12 +3,15 @@
 ghost use Rattle.std.specs.Prelude.{◌≡◌, ◌≤◌, ◌<◌, ℕ, IsSome, length, map, slice_get, IfOk};
 ghost use Rattle.std.specs.List.{filter, position_from};
 ghost use Rattle.fourstate.specs.declared.limits.TheConstants.{MAX_TIME};
-ghost use Rattle.catalog.specs.Catalog.{keys_of, place_of, records_of};
-ghost use Rattle.design.specs.Keys.{AreKeys, KeyedGate, IsConnected, driver_keys, drives_key, empty_design, entry_in, gate_by_key, name_of, net_by_key, netlist};
-ghost use Rattle.design.specs.Lawful.{IsDesign};
+ghost use Rattle.catalog.specs.Catalog.{records_of};
+ghost use Rattle.catalog.specs.kept.Catalog.{keys_of, place_of};
+ghost use Rattle.design.specs.Keys.{KeyedGate, entry_in, name_of, netlist};
+ghost use Rattle.design.specs.kept.Keys.{AreKeys, IsConnected, driver_keys, drives_key, empty_design, gate_by_key, net_by_key};
+ghost use Rattle.design.specs.kept.Lawful.{IsDesign};
 ghost use Rattle.design.specs.Names.{same_name};
-ghost use Rattle.design.specs.Places.{driver_places};
-ghost use Rattle.design.specs.Netlist.{drivers_of, empty_netlist, gate_named, net_named, point_total};
+ghost use Rattle.design.specs.kept.Places.{driver_places};
+ghost use Rattle.design.specs.Netlist.{drivers_of, gate_named, net_named, point_total};
+ghost use Rattle.design.specs.kept.Netlist.{empty_netlist};
 
 use crate::gate::Gate;
 use crate::key::{GateKey, NetKey};
@@ -39,7 +42,7 @@ impl Model for Design {
 
     ghost Value = { Keyed };
 
-    ghost use Rattle.design.specs.Shown.{IsWhole, design_of};
+    ghost use Rattle.design.specs.kept.Shown.{IsWhole, design_of};
 
     ghost view = { design_of };
 

@@ -2,12 +2,14 @@
 
 ghost use Rattle.std.specs.Prelude.{◌≡◌, ◌<◌, ◌++◌, ◌∷◌, [], ℕ, List, false, IsTrue, IsSome, IsSomeAnd, IfSome, IfOk, OnErr, OnOk, All, length, map};
 ghost use Rattle.fourstate.specs.Gates.{takes_inputs};
-ghost use Rattle.catalog.specs.Catalog.{key_named, keys_of, record_at, with_record, without_key};
+ghost use Rattle.catalog.specs.Catalog.{record_at};
+ghost use Rattle.catalog.specs.kept.Catalog.{key_named, keys_of, with_record, without_key};
 ghost use Rattle.design.specs.declared.limits.TheConstants.{MAX_GATES};
-ghost use Rattle.design.specs.Keys.{IsConnected, IsDrivable, IsThere, connection_in, drives_key, entry_in, gate_by_key, name_of, netlist, reads_key, with_gate_at, with_keyed_gate, without_keyed_gate};
-ghost use Rattle.design.specs.Lists as Lists;
-ghost use Rattle.design.specs.Lists.{AreChanged, IsInOrder, list_of, with_key_in};
-ghost use Rattle.design.specs.Records.{IsInPlaceOf, gate_with_delays, gate_with_kind, gate_with_wiring};
+ghost use Rattle.design.specs.Keys.{connection_in, entry_in, name_of, netlist};
+ghost use Rattle.design.specs.kept.Keys.{IsConnected, IsDrivable, IsThere, drives_key, gate_by_key, reads_key, with_gate_at, with_keyed_gate, without_keyed_gate};
+ghost use Rattle.design.specs.kept.Lists as Lists;
+ghost use Rattle.design.specs.kept.Lists.{AreChanged, IsInOrder, list_of, with_key_in};
+ghost use Rattle.design.specs.kept.Records.{IsInPlaceOf, gate_with_delays, gate_with_kind, gate_with_wiring};
 ghost use Rattle.design.specs.Netlist.{GateEntry, has_gate, with_delays, with_gate, with_gate_changed, with_gate_kind, with_wiring, without_gate};
 
 use crate::design::Design;

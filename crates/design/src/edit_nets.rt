@@ -2,10 +2,12 @@
 
 ghost use Rattle.std.specs.Prelude.{◌≡◌, ◌≤◌, ◌<◌, [], true, false, IsSome, IsSomeAnd, IfSome, IfOk, OnErr, OnOk, length};
 ghost use Rattle.fourstate.specs.declared.limits.TheConstants.{MAX_TIME};
-ghost use Rattle.catalog.specs.Catalog.{record_at, with_record};
+ghost use Rattle.catalog.specs.Catalog.{record_at};
+ghost use Rattle.catalog.specs.kept.Catalog.{with_record};
 ghost use Rattle.design.specs.declared.limits.TheConstants.{MAX_NETS, MAX_POINTS};
-ghost use Rattle.design.specs.Keys.{net_by_key, netlist, with_keyed_net, with_net_at, without_keyed_net};
-ghost use Rattle.design.specs.Records.{HasRoom, IsNetChange, net_changed, net_with_kind, net_without_point};
+ghost use Rattle.design.specs.Keys.{netlist};
+ghost use Rattle.design.specs.kept.Keys.{net_by_key, with_keyed_net, with_net_at, without_keyed_net};
+ghost use Rattle.design.specs.kept.Records.{HasRoom, IsNetChange, net_changed, net_with_kind, net_without_point};
 ghost use Rattle.design.specs.Netlist.{has_net, has_point, is_used, net_with_point, new_net, point_total, with_net, with_net_changed, with_net_kind, with_point, without_net, without_point};
 
 use crate::design::Design;

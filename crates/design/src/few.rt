@@ -1,7 +1,7 @@
 //! A few gate keys, which stand in the value itself.
 
 ghost use Rattle.std.specs.Prelude.{◌≡◌, ◌≤◌, ◌<◌, [], ◌∷◌, ◌++◌, insert, length};
-ghost use Rattle.design.specs.Lists.{without_key};
+ghost use Rattle.design.specs.kept.Lists.{without_key};
 
 use crate::key::GateKey;
 use std::alloc::AllocError;

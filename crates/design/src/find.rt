@@ -2,8 +2,10 @@
 
 ghost use Rattle.std.specs.Prelude.{◌≡◌, ◌<◌, All, length, option_map, slice_get, IsSome, IfSome, IfNone, is_some};
 ghost use Rattle.std.specs.List.{position_from};
-ghost use Rattle.catalog.specs.Catalog.{place_of, records_of};
-ghost use Rattle.design.specs.Keys.{IsConnected, driver_keys, entry_in, gate_by_key, gate_key, name_of, net_by_key, net_key, netlist, reader_keys};
+ghost use Rattle.catalog.specs.Catalog.{records_of};
+ghost use Rattle.catalog.specs.kept.Catalog.{place_of};
+ghost use Rattle.design.specs.Keys.{entry_in, name_of, netlist};
+ghost use Rattle.design.specs.kept.Keys.{IsConnected, driver_keys, gate_by_key, gate_key, net_by_key, net_key, reader_keys};
 ghost use Rattle.design.specs.Names.{same_name};
 ghost use Rattle.design.specs.Netlist.{gate_named, has_gate, has_net, has_point, is_used, net_named};
 

@@ -2,8 +2,8 @@
 
 ghost use Rattle.std.specs.Prelude.{◌≡◌, IfOk, IsTrue, length};
 ghost use Rattle.fourstate.specs.Gates.{takes_inputs};
-ghost use Rattle.design.specs.Keys.{IsKeyedGate};
-ghost use Rattle.design.specs.Records.{gate_with_delays, gate_with_kind, gate_with_wiring};
+ghost use Rattle.design.specs.kept.Keys.{IsKeyedGate};
+ghost use Rattle.design.specs.kept.Records.{gate_with_delays, gate_with_kind, gate_with_wiring};
 
 use crate::key::NetKey;
 use crate::name::Name;
@@ -33,7 +33,8 @@ pub struct Gate {
 }
 
 impl Model for Gate {
-    ghost use Rattle.design.specs.Keys.{IsKeyedGate, KeyedGate};
+    ghost use Rattle.design.specs.Keys.{KeyedGate};
+    ghost use Rattle.design.specs.kept.Keys.{IsKeyedGate};
 
     ghost Value = { KeyedGate };
 

@@ -2,7 +2,7 @@
 
 ghost use Rattle.std.specs.Prelude.{◌≡◌, ◌≤◌, ◌<◌, [], insert, IfOk, OnErr, OnOk, length};
 ghost use Rattle.std.specs.Arc.{arc_value};
-ghost use Rattle.design.specs.Lists.{without_key};
+ghost use Rattle.design.specs.kept.Lists.{without_key};
 
 use crate::few::{FEW, Few};
 use crate::key::GateKey;
@@ -29,7 +29,7 @@ impl Model for KeyList {
 
     ghost Value = { List ℕ };
 
-    ghost use Rattle.design.specs.KeyLists.{keys_in};
+    ghost use Rattle.design.specs.kept.KeyLists.{keys_in};
 
     ghost view = { λ a. keys_in a.keys };
 }

@@ -26,7 +26,7 @@ impl Model for NameText {
 
     ghost Value = { List ℕ };
 
-    ghost use Rattle.design.specs.NameTexts.{bytes_in};
+    ghost use Rattle.design.specs.kept.NameTexts.{bytes_in};
 
     ghost view = { λ a. bytes_in a.text };
 }

@@ -2,9 +2,10 @@
 
 ghost use Rattle.std.specs.Prelude.{◌≡◌, ◌<◌, ◌≤◌, ℕ, true, IfOk, IfSome, length};
 ghost use Rattle.fourstate.specs.declared.limits.TheConstants.{MAX_TIME};
-ghost use Rattle.design.specs.Lawful.{IsNet};
-ghost use Rattle.design.specs.Netlist.{has_point, net_with_point, new_net, next_point, stimulus};
-ghost use Rattle.design.specs.Records.{IsNetChange, net_changed, net_with_kind, net_without_point};
+ghost use Rattle.design.specs.kept.Lawful.{IsNet};
+ghost use Rattle.design.specs.Netlist.{has_point, net_with_point, new_net, stimulus};
+ghost use Rattle.design.specs.kept.Netlist.{next_point};
+ghost use Rattle.design.specs.kept.Records.{IsNetChange, net_changed, net_with_kind, net_without_point};
 
 use crate::name::Name;
 use crate::net_change::NetChange;
@@ -25,7 +26,7 @@ pub struct Net {
 
 impl Model for Net {
     ghost use Rattle.design.specs.Netlist.{NetEntry};
-    ghost use Rattle.design.specs.Lawful.{IsNet};
+    ghost use Rattle.design.specs.kept.Lawful.{IsNet};
 
     ghost Value = { NetEntry };
 

@@ -2,8 +2,8 @@
 
 ghost use Rattle.std.specs.Prelude.{◌≡◌, ◌<◌, ◌≤◌, ◌++◌, ℕ, true, false, nat_le, nat_lt, IfSome, length, drop, take, slice_get};
 ghost use Rattle.std.specs.List.{filter};
-ghost use Rattle.design.specs.Lawful.{AreRising};
-ghost use Rattle.design.specs.Pieces.{AreFilled, points_in, points_of};
+ghost use Rattle.design.specs.kept.Lawful.{AreRising};
+ghost use Rattle.design.specs.kept.Pieces.{AreFilled, points_in, points_of};
 
 use crate::piece::Piece;
 use crate::pieces::home_of;

@@ -4,8 +4,8 @@ ghost use Rattle.std.specs.Prelude.{◌≡◌, ◌<◌, ◌==◌, ◌++◌, not,
 ghost use Rattle.std.specs.Ordering.{nat_cmp};
 ghost use Rattle.std.specs.BTreeMap.{insert_entry};
 ghost use Rattle.std.specs.List.{filter};
-ghost use Rattle.design.specs.Lawful.{AreRising};
-ghost use Rattle.design.specs.Pieces.{begins_by, points_in};
+ghost use Rattle.design.specs.kept.Lawful.{AreRising};
+ghost use Rattle.design.specs.kept.Pieces.{begins_by, points_in};
 
 use crate::points::{remove_at, set_in_order};
 use fourstate::Value;

@@ -4,8 +4,8 @@ ghost use Rattle.std.specs.Prelude.{◌≡◌, ◌<◌, ◌==◌, not, OnOk, len
 ghost use Rattle.std.specs.Ordering.{nat_cmp};
 ghost use Rattle.std.specs.BTreeMap.{insert_entry};
 ghost use Rattle.std.specs.List.{filter};
-ghost use Rattle.design.specs.Lawful.{AreRising};
-ghost use Rattle.design.specs.Pieces.{AreFilled, HasBegun, IsHome, IsLonger, first_in, points_in, points_of};
+ghost use Rattle.design.specs.kept.Lawful.{AreRising};
+ghost use Rattle.design.specs.kept.Pieces.{AreFilled, HasBegun, IsHome, IsLonger, first_in, points_in, points_of};
 
 use crate::piece::{self, MAX_PIECE, Piece};
 use fourstate::Value;

@@ -4,9 +4,10 @@ ghost use Rattle.std.specs.Prelude.{◌≡◌, ◌==◌, [], not, IfOk, length};
 ghost use Rattle.std.specs.Ordering.{nat_cmp};
 ghost use Rattle.std.specs.BTreeMap.{insert_entry};
 ghost use Rattle.std.specs.List.{filter};
-ghost use Rattle.design.specs.Lawful.{AreRising};
-ghost use Rattle.design.specs.Netlist.{has_point, next_point, stimulus};
-ghost use Rattle.design.specs.Pieces.{AreFilled, points_in, points_of};
+ghost use Rattle.design.specs.kept.Lawful.{AreRising};
+ghost use Rattle.design.specs.Netlist.{has_point, stimulus};
+ghost use Rattle.design.specs.kept.Netlist.{next_point};
+ghost use Rattle.design.specs.kept.Pieces.{AreFilled, points_in, points_of};
 
 use crate::piece::Piece;
 use crate::pieces::{self, first_at, home_of};
@@ -26,7 +27,7 @@ pub struct PointList {
 impl Model for PointList {
     ghost use Rattle.std.specs.Prelude.{◌≡◌, ℕ, List, length};
     ghost use Rattle.fourstate.specs.declared.value.Value.{Value as Level};
-    ghost use Rattle.design.specs.Pieces.{AreFilled, points_in, points_of};
+    ghost use Rattle.design.specs.kept.Pieces.{AreFilled, points_in, points_of};
 
     ghost Value = { List (ℕ × Level) };
 

@@ -5,9 +5,10 @@ ghost use Rattle.std.specs.Ordering.{nat_cmp};
 ghost use Rattle.std.specs.BTreeMap.{insert_entry};
 ghost use Rattle.std.specs.List.{filter};
 ghost use Rattle.std.specs.List.Sorted.{IsPartitionPoint};
-ghost use Rattle.design.specs.Lawful.{AreRising};
-ghost use Rattle.design.specs.PointPlaces.{IsPlaceOf, IsPlaceFor};
-ghost use Rattle.design.specs.Netlist.{has_point, next_point, stimulus};
+ghost use Rattle.design.specs.kept.Lawful.{AreRising};
+ghost use Rattle.design.specs.kept.PointPlaces.{IsPlaceOf, IsPlaceFor};
+ghost use Rattle.design.specs.Netlist.{has_point, stimulus};
+ghost use Rattle.design.specs.kept.Netlist.{next_point};
 
 use fourstate::Value;
 use std::alloc::AllocError;

@@ -4,9 +4,10 @@ ghost use Rattle.std.specs.Prelude.{◌≡◌, ◌<◌, ◌≤◌, ◌==◌, [],
 ghost use Rattle.std.specs.Ordering.{nat_cmp};
 ghost use Rattle.std.specs.BTreeMap.{insert_entry};
 ghost use Rattle.std.specs.List.{filter};
-ghost use Rattle.design.specs.Lawful.{AreRising};
-ghost use Rattle.design.specs.Netlist.{has_point, next_point, stimulus};
-ghost use Rattle.design.specs.Pieces.{AreFilled, points_in, points_of};
+ghost use Rattle.design.specs.kept.Lawful.{AreRising};
+ghost use Rattle.design.specs.Netlist.{has_point, stimulus};
+ghost use Rattle.design.specs.kept.Netlist.{next_point};
+ghost use Rattle.design.specs.kept.Pieces.{AreFilled, points_in, points_of};
 
 use crate::parting::{is_same, part_after};
 use crate::piece::Piece;
@@ -25,7 +26,7 @@ pub struct Stimulus {
 impl Model for Stimulus {
     ghost use Rattle.std.specs.Prelude.{ℕ, List};
     ghost use Rattle.fourstate.specs.declared.value.Value.{Value as Level};
-    ghost use Rattle.design.specs.Shared.{stimulus_in};
+    ghost use Rattle.design.specs.kept.Shared.{stimulus_in};
 
     ghost Value = { List (ℕ × Level) };
 

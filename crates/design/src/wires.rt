@@ -1,9 +1,10 @@
 //! Which gates read each net, and which drive it, kept as gates come and go.
 
 ghost use Rattle.std.specs.Prelude.{◌≡◌, ℕ, List, [], IsSome, OnOk};
-ghost use Rattle.catalog.specs.Catalog.{keys_of, record_at};
-ghost use Rattle.design.specs.Keys.{drives_key, reads_key};
-ghost use Rattle.design.specs.Lists.{AreChanged, IsInOrder, list_of, with_key_in, without_key};
+ghost use Rattle.catalog.specs.Catalog.{record_at};
+ghost use Rattle.catalog.specs.kept.Catalog.{keys_of};
+ghost use Rattle.design.specs.kept.Keys.{drives_key, reads_key};
+ghost use Rattle.design.specs.kept.Lists.{AreChanged, IsInOrder, list_of, with_key_in, without_key};
 
 use crate::by_net::remove;
 use crate::gate::Gate;

@@ -3,10 +3,11 @@
 ghost use Rattle.std.specs.Prelude.{◌≡◌, ◌≢◌, ◌<◌, ◌≤◌, ◌-◌, ◌==◌, ℕ, true, false, IsSome, IfSome, OnOk, length};
 ghost use Rattle.std.specs.List.{slice_index_or};
 ghost use Rattle.std.specs.List.Sorted.{IsPartitionPoint};
-ghost use Rattle.catalog.specs.Catalog.{keys_of, place_of, record_at};
-ghost use Rattle.design.specs.Keys.{is_among, is_at};
-ghost use Rattle.design.specs.Kept.{stands_before};
-ghost use Rattle.design.specs.Lists.{AreChanged, IsInOrder, list_of, with_key_in, without_key};
+ghost use Rattle.catalog.specs.Catalog.{record_at};
+ghost use Rattle.catalog.specs.kept.Catalog.{keys_of, place_of};
+ghost use Rattle.design.specs.kept.Keys.{is_among, is_at};
+ghost use Rattle.design.specs.kept.Kept.{stands_before};
+ghost use Rattle.design.specs.kept.Lists.{AreChanged, IsInOrder, list_of, with_key_in, without_key};
 
 use crate::by_net::{grow, remove};
 use crate::gate::Gate;

@@ -4,8 +4,10 @@ use Rattle.std.proofs.Math.Seq.{take-add, take-append_seam}
 use Rattle.std.proofs.lemmas.List.{take_rest, take_all, take-append-drop, length-append, length-take-le}
 use Rattle.std.proofs.lemmas.Bool.{ltb-false}
 use Rattle.std.specs.Io.{StartsWith}
-use Rattle.devices.specs.Traffic.{Sends}
-use Rattle.devices.specs.Outgoing.{Outgoing, Adds, StaysStopped, IsGoingOut}
+use Rattle.devices.specs.Traffic.{SinkState}
+use Rattle.devices.specs.kept.Traffic.{Sends}
+use Rattle.devices.specs.Outgoing.{Outgoing, Adds}
+use Rattle.devices.specs.kept.Outgoing.{StaysStopped, IsGoingOut}
 use Rattle.devices.proofs.DeviceLemmas.{appends_both}
 
 -- first n bytes are added, and then m of the rest
@@ -36,11 +38,13 @@ counts_on : (a b c n most : ℕ) → a ≡ min b most → c ≡ b + n → min (a
 counts_on a b c n most p q = omega arith
 
 -- a writer that did not stop sends what waits
-pub sends_on : {before now now' : Option (List ℕ)} {f f' f'' : ℕ} {text gone waiting : List ℕ} {sent n : ℕ}
-    → IsGoingOut before now f f' text gone waiting false sent → Sends now now' f' f'' waiting n
-    → IsGoingOut before now' f f'' text (gone ++ take n waiting) [] (nat_lt n (length waiting)) (min (sent + n) 18446744073709551615)
-sends_on {before = before} {now = now} {now' = now'} {f = f} {f'' = f''} {text = text} {gone = gone} {waiting = waiting} {sent = sent} {n = n} was sends = record {
-  out = appends_both before now now' gone (take n waiting) was.out sends.out;
+pub sends_on : {loan : ℕ} {before : Option (List ℕ)} {failures : ℕ} {text gone waiting : List ℕ} {old new : SinkState} {sent n : ℕ}
+    → IsGoingOut (record { loan = loan; before = before; failures_before = failures; text = text; gone = gone; stopped = false }) old waiting sent
+    → Sends old new waiting n
+    → IsGoingOut (record { loan = loan; before = before; failures_before = failures; text = text; gone = gone ++ take n waiting; stopped = nat_lt n (length waiting) })
+    new [] (min (sent + n) 18446744073709551615)
+sends_on {before = before} {text = text} {gone = gone} {waiting = waiting} {old = old} {new = new} {sent = sent} {n = n} was sends = record {
+  out = appends_both before old.contents new.contents gone (take n waiting) was.out sends.out;
   failed = rw (← was.failed) sends.failed;
   waits = waits_on text gone waiting n (nat_lt n (length waiting)) refl was.waits;
   counted = counts_on sent (length gone) _ n _ was.counted (length-append gone (take n waiting) ∙ ap (λ k. length gone + k) (length-take-le n waiting sends.within));

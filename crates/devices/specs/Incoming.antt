@@ -1,27 +1,7 @@
 -- A text on its way in from a device.
-use Rattle.std.specs.Prelude.{◌≡◌, ℕ, ◌+◌, ◌≤◌, List, [], ◌∷◌, ◌++◌, Option, None, Some, length, take}
-use Rattle.std.specs.List.{concat}
-
--- which reference leads to the device, what it had to give and what its takes had brought before, how often it has failed by now, and
--- the pieces that came since
-pub record Incoming : Type 0 where
-  pub loan : ℕ
-  pub before : Option (List ℕ)
-  pub taken_before : List (List ℕ)
-  pub failures : ℕ
-  pub pieces : List (List ℕ)
-
--- the text so far
-abbrev pub text_of : Incoming → List ℕ
-text_of r = concat r.pieces
+use Rattle.std.specs.Prelude.{◌≡◌, ℕ, List, Option, None, Some}
 
 -- all that the device had to give, where that is known
 abbrev pub IsAllOf : Option (List ℕ) → List ℕ → Type 0
 IsAllOf None text = Unit {0}
 IsAllOf (Some bytes) text = text ≡ bytes
-
--- The first n bytes of the buffer came as one piece, and n is 0 only where all was read. Or the device failed, and nothing came.
-abbrev pub Reads : Incoming → Incoming → List ℕ → Option ℕ → Type 0
-Reads old new buffer None = new ≡ record old { failures = old.failures + 1 }
-Reads old new buffer (Some n) =
-    (n ≤ length buffer) × (new ≡ record old { pieces = old.pieces ++ take n buffer ∷ [] }) × (n ≡ 0 → IsAllOf new.before (text_of new))

@@ -1,4 +1,4 @@
-pub mod Devices
 pub mod Incoming
 pub mod Outgoing
 pub mod Traffic
+pub mod kept

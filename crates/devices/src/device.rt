@@ -1,6 +1,6 @@
 //! std's readers and writers as devices.
 ghost use Rattle.std.specs.Prelude.{◌≡◌, ◌+◌, [], None};
-ghost use Rattle.devices.specs.Devices.{failure_count, taken_pieces};
+ghost use Rattle.devices.specs.kept.Devices.{failure_count, taken_pieces};
 
 use crate::history::History;
 use crate::sink::Sink;

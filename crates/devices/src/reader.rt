@@ -1,7 +1,7 @@
 //! The way of all text from a source.
 ghost use Rattle.std.specs.Prelude.{◌≡◌, ◌<◌, [], ◌++◌, length};
 ghost use Rattle.std.specs.Io.KnownBytes.{Consumes};
-ghost use Rattle.devices.specs.Incoming.{Reads, text_of};
+ghost use Rattle.devices.specs.kept.Incoming.{Reads, text_of};
 
 use crate::history::History;
 use crate::source::Source;
@@ -20,7 +20,7 @@ impl<'a, R: Source> Model for Reader<'a, R> {
     ghost use Rattle.std.specs.Prelude.{◌≡◌, ◌++◌};
     ghost use Rattle.std.specs.List.{concat};
     ghost use Rattle.std.specs.Io.KnownBytes.{Consumes};
-    ghost use Rattle.devices.specs.Incoming.{Incoming};
+    ghost use Rattle.devices.specs.kept.Incoming.{Incoming};
 
     ghost Value = { Incoming };
 

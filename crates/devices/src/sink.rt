@@ -14,6 +14,6 @@ pub trait Sink {
     /// device failed; then nothing went out, and the failure is counted.
     fn put(&mut self, bytes: &[u8]) -> Option<usize>
         requires { 0 < length bytes.now }
-        ensures { Puts (contents self.old) (contents self.new)
-            (failures self.old) (failures self.new) bytes.now result };
+        ensures { Puts (record { contents = contents self.old; failures = failures self.old })
+            (record { contents = contents self.new; failures = failures self.new }) bytes.now result };
 }

@@ -17,6 +17,6 @@ pub trait Source {
     /// the device failed; then nothing came, and the failure is counted.
     fn take(&mut self, buffer: &mut [u8]) -> Option<usize>
         requires { 0 < length buffer.old }
-        ensures { Takes (remaining self.old) (remaining self.new) (taken self.old) (taken self.new)
-            (failures self.old) (failures self.new) buffer.new result };
+        ensures { Takes (record { remaining = remaining self.old; taken = taken self.old; failures = failures self.old })
+            (record { remaining = remaining self.new; taken = taken self.new; failures = failures self.new }) buffer.new result };
 }

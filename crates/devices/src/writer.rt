@@ -3,7 +3,8 @@ ghost use Rattle.std.specs.Prelude.{◌≡◌, ◌+◌, ◌<◌, ◌≤◌, ◌+
 ghost use Rattle.std.specs.Io.{StartsWith};
 ghost use Rattle.std.specs.Io.KnownBytes.{Appends};
 ghost use Rattle.devices.specs.Traffic.{failures_after};
-ghost use Rattle.devices.specs.Outgoing.{Adds, MovesOn, StaysStopped, byte_count};
+ghost use Rattle.devices.specs.Outgoing.{Adds};
+ghost use Rattle.devices.specs.kept.Outgoing.{MovesOn, StaysStopped, byte_count};
 
 use crate::block::{Block, CAPACITY};
 use crate::ghost_text::GhostText;
@@ -27,7 +28,8 @@ pub struct Writer<'a, W: Sink> {
 }
 
 impl<'a, W: Sink> Model for Writer<'a, W> {
-    ghost use Rattle.devices.specs.Outgoing.{Outgoing, IsGoingOut};
+    ghost use Rattle.devices.specs.Outgoing.{Outgoing};
+    ghost use Rattle.devices.specs.kept.Outgoing.{IsGoingOut};
 
     ghost Value = { Outgoing };
 
@@ -40,9 +42,14 @@ impl<'a, W: Sink> Model for Writer<'a, W> {
       stopped = a.stopped;
     } };
 
-    ghost invariant = { λ a. IsGoingOut (W.contents a.start.value) (W.contents a.sink.now)
-        (W.failures a.start.value) (W.failures a.sink.now)
-        a.written a.gone a.waiting a.stopped a.sent };
+    ghost invariant = { λ a. IsGoingOut (record {
+      loan = a.sink.ghost_name;
+      before = W.contents a.start.value;
+      failures_before = W.failures a.start.value;
+      text = a.written;
+      gone = a.gone;
+      stopped = a.stopped;
+    }) (record { contents = W.contents a.sink.now; failures = W.failures a.sink.now }) a.waiting a.sent };
 }
 
 impl<'a, W: Sink> Writer<'a, W> {

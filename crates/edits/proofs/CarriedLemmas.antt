@@ -7,7 +7,7 @@ use Rattle.edits.specs.declared.changes.touch.Touch.TheVariants.{Nothing, Net, G
 use Rattle.edits.specs.declared.edit.Edit.{Edit}
 use Rattle.edits.specs.Batches.{batch, batch_from, refusal}
 use Rattle.edits.specs.Edits.{edited}
-use Rattle.edits.specs.Touched.{IsTouched, Touches, touched_gates, touched_nets}
+use Rattle.edits.specs.kept.Touched.{IsTouched, Touches, touched_gates, touched_nets}
 use Rattle.edits.proofs.TouchLemmas.{touched_on}
 
 -- the edits before this place of a list are carried out

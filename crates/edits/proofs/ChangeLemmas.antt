@@ -6,9 +6,10 @@ use Rattle.std.proofs.lemmas.List.{length-map}
 use Rattle.fourstate.specs.declared.gate.GateKind.{GateKind}
 use Rattle.fourstate.specs.declared.gate.GateKind.TheVariants.{Buf}
 use Rattle.fourstate.specs.Gates.{takes_inputs}
-use Rattle.design.specs.Keys.{Keyed, KeyedGate, connection_in, entry_in, gate_by_key, net_by_key, netlist}
+use Rattle.design.specs.Keys.{Keyed, KeyedGate, connection_in, entry_in, netlist}
+use Rattle.design.specs.kept.Keys.{gate_by_key, net_by_key}
 use Rattle.design.specs.Netlist.{GateEntry, NetEntry, gate_named, is_used}
-use Rattle.edits.specs.Changes.{FindsGate, FindsNet}
+use Rattle.edits.specs.kept.Changes.{FindsGate, FindsNet}
 use Rattle.edits.specs.Checks.{is_off_misplaced, keeps_off, kind_fits, kind_named}
 
 -- Nets.

@@ -4,10 +4,11 @@ use Rattle.std.specs.Prelude.{IsSome}
 use Rattle.std.specs.List.{list_any}
 use Rattle.std.specs.Option.{option_map_or}
 use Rattle.std.proofs.lemmas.Slice.Eq.{bytes_eq-Decides}
-use Rattle.design.specs.Keys.{Keyed, KeyedGate, entry_in, gate_by_key, netlist}
+use Rattle.design.specs.Keys.{Keyed, KeyedGate, entry_in, netlist}
+use Rattle.design.specs.kept.Keys.{gate_by_key}
 use Rattle.design.specs.Names.{same_name}
 use Rattle.design.specs.Netlist.{GateEntry, NetEntry, Netlist, gate_named, has_gate, has_net, net_named}
-use Rattle.edits.specs.Changes.{FindsGate}
+use Rattle.edits.specs.kept.Changes.{FindsGate}
 
 -- What is found.
 

@@ -3,7 +3,8 @@ use Rattle.std.proofs.Common.{◌≡◌, ◌≢◌, ℕ, zero, suc, Bool, true, 
 use Rattle.std.proofs.lemmas.Bool.{both_ways, eqb-true}
 use Rattle.std.proofs.lemmas.List.Elements.{All-head, All-tail}
 use Rattle.std.specs.List.{filter, find}
-use Rattle.catalog.specs.Catalog.{keys_of, record_at, records_of, with_record, without_key}
+use Rattle.catalog.specs.Catalog.{record_at, records_of}
+use Rattle.catalog.specs.kept.Catalog.{keys_of, with_record, without_key}
 
 -- Each, by recursion.
 abbrev pub Each : {X : Type 0} → (X → Type 0) → List X → Type 0

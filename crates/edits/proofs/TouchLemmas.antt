@@ -4,9 +4,10 @@ use Rattle.std.specs.Prelude.{IsSomeAnd}
 use Rattle.std.proofs.lemmas.Bool.{eq-eqb, ne_eqb, both_ways}
 use Rattle.std.proofs.lemmas.List.Folds.{list_any-append}
 use Rattle.catalog.specs.Catalog.{record_at, records_of}
-use Rattle.design.specs.Keys.{AreKeys, Keyed, KeyedGate, driver_keys, drives_key, entry_in, gate_by_key, named_gates, net_by_key, netlist, with_gate_at, with_keyed_gate, with_keyed_net, with_net_at, without_keyed_gate, without_keyed_net}
+use Rattle.design.specs.Keys.{Keyed, KeyedGate, entry_in, named_gates, netlist}
+use Rattle.design.specs.kept.Keys.{AreKeys, driver_keys, drives_key, gate_by_key, net_by_key, with_gate_at, with_keyed_gate, with_keyed_net, with_net_at, without_keyed_gate, without_keyed_net}
 use Rattle.design.specs.Netlist.{NetEntry, Netlist}
-use Rattle.edits.specs.Touched.{IsTouched, is_touched}
+use Rattle.edits.specs.kept.Touched.{IsTouched, is_touched}
 use Rattle.edits.proofs.KeyLemmas.{each_weaker, only, passing_push, passing_with, passing_without, readings_alike, record_push, record_with, record_without}
 
 -- Lists of keys.

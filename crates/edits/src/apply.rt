@@ -2,9 +2,9 @@
 
 ghost use Rattle.std.specs.Prelude.{◌≡◌, ◌<◌, ◌≤◌, ◌*◌, ◌⊎◌, None, Some, IfErr, IfOk, OnOk, MatchResult, length};
 ghost use Rattle.edits.specs.Batches.{batch, refusal};
-ghost use Rattle.edits.specs.Changes.{Changes};
+ghost use Rattle.edits.specs.kept.Changes.{Changes};
 ghost use Rattle.edits.specs.Edits.{edited};
-ghost use Rattle.edits.specs.Touched.{IsTouched, Touches};
+ghost use Rattle.edits.specs.kept.Touched.{IsTouched, Touches};
 ghost use Rattle.design.specs.Keys.{netlist};
 
 use crate::changes::{Change, Touch, carry_out, resolve};

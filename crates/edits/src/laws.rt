@@ -7,7 +7,7 @@ ghost use Rattle.edits.specs.declared.edit.Edit as edits;
 ghost use Rattle.edits.specs.Batches.{batch, batch_from};
 ghost use Rattle.edits.specs.Checks.{cause};
 ghost use Rattle.edits.specs.Edits.{edited};
-ghost use Rattle.edits.specs.Touched.{IsTouched};
+ghost use Rattle.edits.specs.kept.Touched.{IsTouched};
 
 use crate::fault::EditFault;
 use crate::limits::MAX_EDITS;

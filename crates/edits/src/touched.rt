@@ -1,7 +1,7 @@
 //! What lists of edits touched.
 
 ghost use Rattle.std.specs.Prelude.{◌≡◌, ◌++◌, [], OnOk};
-ghost use Rattle.edits.specs.Touched.{touched_gates, touched_nets};
+ghost use Rattle.edits.specs.kept.Touched.{touched_gates, touched_nets};
 
 use crate::changes::Touch;
 use design::{GateKey, NetKey};

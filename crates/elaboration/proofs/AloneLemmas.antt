@@ -6,8 +6,8 @@ use Rattle.vtext.specs.declared.gate.Terminal.{Terminal}
 use Rattle.vtext.specs.declared.gate.Terminal.TheVariants as terminals
 use Rattle.vtext.specs.Modules.{InstanceEntry, ModuleEntry}
 use Rattle.elaboration.specs.declared.node.NodeRef.{NodeRef}
-use Rattle.elaboration.specs.Elaborations.{IsScope}
-use Rattle.elaboration.specs.Numbered.{AreDistinct, PlacedScope, Start, given_of, inner_alone, inner_start, joints_from, none, placed, ref_at, top_alone, top_start}
+use Rattle.elaboration.specs.kept.Elaborations.{IsScope}
+use Rattle.elaboration.specs.kept.Numbered.{AreDistinct, PlacedScope, Start, given_of, inner_alone, inner_start, joints_from, none, placed, ref_at, top_alone, top_start}
 use Rattle.elaboration.specs.Scopes.{Scope, inner, own_nets, top_scope}
 use Rattle.elaboration.proofs.KeptLemmas.{none_given, scope_ok, start_ok}
 use Rattle.elaboration.proofs.KeptSlots.{At, IsStart}

@@ -3,9 +3,10 @@ use Rattle.std.proofs.Common.{◌≡◌, ℕ, ◌-◌, ◌^◌, ◌<◌, min, Li
 use Rattle.std.specs.List.{AllZip, slice_get}
 use Rattle.std.proofs.lemmas.Option.{slice_get-get_or}
 use Rattle.vtext.specs.Modules.{ModuleEntry, ModuleList}
-use Rattle.vtext.specs.Sound.{IsSoundModule}
-use Rattle.elaboration.specs.Elaborations.{IsElaboration, IsScope, elaboration_fault}
-use Rattle.elaboration.specs.Numbered.{AreDistinct, SoFar, kept_scopes}
+use Rattle.vtext.specs.kept.Sound.{IsSoundModule}
+use Rattle.elaboration.specs.Elaborations.{elaboration_fault}
+use Rattle.elaboration.specs.kept.Elaborations.{IsElaboration, IsScope}
+use Rattle.elaboration.specs.kept.Numbered.{AreDistinct, SoFar, kept_scopes}
 use Rattle.elaboration.specs.Scopes.{nets_of, scopes_of}
 use Rattle.elaboration.specs.Tops.{top_of}
 use Rattle.elaboration.proofs.KeptLemmas.{count_ok, kept_ok}

@@ -14,10 +14,10 @@ use Rattle.vtext.specs.Modules.{GateEntry, InstanceEntry, ModuleEntry}
 use Rattle.vtext.specs.Names.{name_at, number_of}
 use Rattle.vtext.specs.declared.range.TheConstants.{MAX_INDEX}
 use Rattle.vtext.specs.Bits.{bit_bytes, bit_of}
-use Rattle.vtext.specs.Sound.{AreApart, IsGoodNumber, IsSoundModule, IsSoundNet}
+use Rattle.vtext.specs.kept.Sound.{AreApart, IsGoodNumber, IsSoundModule, IsSoundNet}
 use Rattle.elaboration.specs.declared.limits.TheConstants.{MAX_DEPTH}
 use Rattle.elaboration.specs.Scopes.{Scope, flat_names, gates_of, inner, is_own, nets_of, own_bits, own_gate, own_gates, own_net, own_nets, scopes_below, scopes_of, top_scope}
-use Rattle.elaboration.specs.SoundScopes.{IsPath, IsSoundScope}
+use Rattle.elaboration.specs.kept.SoundScopes.{IsPath, IsSoundScope}
 use Rattle.elaboration.proofs.BelowLemmas.{HoldsInside, all_below}
 use Rattle.elaboration.proofs.NetNames.{net_name_parts, net_names_differ, nets_apart}
 use Rattle.elaboration.proofs.PairLemmas.{all_across, all_flat, flat_append, found_holds, no_pairs, pairs_append, pairs_flat, pairs_head, pairs_map, pairs_of_map, pairs_tail}

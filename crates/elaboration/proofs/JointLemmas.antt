@@ -7,8 +7,8 @@ use Rattle.std.proofs.lemmas.List.{at_drop_more}
 use Rattle.vtext.specs.declared.gate.Terminal.{Terminal}
 use Rattle.vtext.specs.declared.module_instance.PortConnection.{PortConnection}
 use Rattle.vtext.specs.declared.net.Net as nets
-use Rattle.vtext.specs.Nets.{place_of}
-use Rattle.elaboration.specs.Numbered.{AreDistinct, joints_from, place_for, with_joint}
+use Rattle.vtext.specs.kept.Nets.{place_of}
+use Rattle.elaboration.specs.kept.Numbered.{AreDistinct, joints_from, place_for, with_joint}
 use Rattle.elaboration.specs.Ports.{joined_from}
 use Rattle.elaboration.proofs.PairLemmas.{differ, pairs_head, pairs_tail, position_first}
 use Rattle.elaboration.proofs.PortLemmas.{same_swapped}

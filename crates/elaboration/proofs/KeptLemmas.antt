@@ -14,8 +14,8 @@ use Rattle.vtext.specs.Modules.{InstanceEntry, ModuleEntry}
 use Rattle.vtext.specs.Names.{name_at}
 use Rattle.elaboration.specs.declared.node.Slot.{Slot}
 use Rattle.elaboration.specs.declared.limits.TheConstants.{MAX_DEPTH}
-use Rattle.elaboration.specs.Elaborations.{IsScope, IsSlot}
-use Rattle.elaboration.specs.Numbered.{AreDistinct, PlacedScope, SoFar, Start, inner_start, joints_from, kept_scopes, none, place_after, placed, ref_at, slots_from, top_start, with_below, with_instance, with_scope}
+use Rattle.elaboration.specs.kept.Elaborations.{IsScope, IsSlot}
+use Rattle.elaboration.specs.kept.Numbered.{AreDistinct, PlacedScope, SoFar, Start, inner_start, joints_from, kept_scopes, none, place_after, placed, ref_at, slots_from, top_start, with_below, with_instance, with_scope}
 use Rattle.elaboration.specs.Ports.{joined_from, joined_to}
 use Rattle.elaboration.specs.Scopes.{Scope, inner, nets_of, node_at, own_nets, scopes_below, scopes_of, top_scope}
 use Rattle.elaboration.proofs.PairLemmas.{differ, flat_append, found_holds, pairs_head, pairs_tail, position_first}

@@ -17,8 +17,8 @@ use Rattle.vtext.specs.declared.range.Range.{Range}
 use Rattle.elaboration.specs.declared.node.NodeRef.{NodeRef}
 use Rattle.elaboration.specs.declared.node.NodeRef.TheVariants.{Nets, Tied}
 use Rattle.elaboration.specs.declared.node.Slot.{Slot}
-use Rattle.elaboration.specs.Elaborations.{IsNode, IsRun, IsScope, IsSlot}
-use Rattle.elaboration.specs.Numbered.{PlacedScope, bit_ref, run_bit, ref_at, slot_for, slot_node}
+use Rattle.elaboration.specs.kept.Elaborations.{IsNode, IsRun, IsScope, IsSlot}
+use Rattle.elaboration.specs.kept.Numbered.{PlacedScope, bit_ref, run_bit, ref_at, slot_for, slot_node}
 use Rattle.elaboration.specs.Ports.{range_of}
 use Rattle.elaboration.specs.Scopes.{Node, Scope, bit_node, node_at, node_for, node_of, tied, wired}
 use Rattle.elaboration.proofs.KeptSlots.{most}

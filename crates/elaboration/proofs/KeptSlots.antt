@@ -15,9 +15,9 @@ use Rattle.vtext.specs.Nets.{is_input, net_kind}
 use Rattle.vtext.specs.Ranges.{indexes, indexes_from, width, width_of}
 use Rattle.vtext.specs.declared.range.Range.{Range}
 use Rattle.elaboration.specs.declared.node.NodeRef.{NodeRef}
-use Rattle.elaboration.specs.Elaborations.{IsNode, IsSlot}
+use Rattle.elaboration.specs.kept.Elaborations.{IsNode, IsSlot}
 use Rattle.elaboration.specs.declared.node.NodeRef.TheVariants.{Nets, Tied}
-use Rattle.elaboration.specs.Numbered.{Start, is_own_slot, next_place, place_after, slot_node, slot_of, slots_from}
+use Rattle.elaboration.specs.kept.Numbered.{Start, is_own_slot, next_place, place_after, slot_node, slot_of, slots_from}
 use Rattle.elaboration.specs.Scopes.{Node, Scope, flat_names, is_own, own_bits, own_net, wired}
 
 -- Numbers and lists.

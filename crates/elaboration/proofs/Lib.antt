@@ -11,6 +11,7 @@ pub mod LineLemmas
 pub mod LoopLemmas
 pub mod NetNames
 pub mod PairLemmas
+pub mod PlaceLemmas
 pub mod PortLemmas
 pub mod RankLemmas
 pub mod RingLemmas

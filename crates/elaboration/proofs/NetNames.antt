@@ -16,7 +16,7 @@ use Rattle.vtext.specs.declared.range.TheConstants.{MAX_INDEX}
 use Rattle.vtext.specs.Bits.{bit_bytes, bit_of, index_bytes}
 use Rattle.vtext.specs.Names.{name_at, number_of}
 use Rattle.vtext.specs.Ranges.{has_bit, index_at, indexes, indexes_from, is_within, width}
-use Rattle.vtext.specs.Sound.{AreApart, IsGoodNumber, IsSoundNet}
+use Rattle.vtext.specs.kept.Sound.{AreApart, IsGoodNumber, IsSoundNet}
 use Rattle.elaboration.specs.Scopes.{flat_names}
 use Rattle.elaboration.proofs.PairLemmas.{all_across, no_pairs, pairs_map}
 

@@ -5,7 +5,7 @@ use Rattle.std.specs.Map.{lookup}
 use Rattle.std.specs.Option.{option_map_or}
 use Rattle.std.proofs.lemmas.Bool.Decides.{nat_tests}
 use Rattle.vtext.specs.Modules.{InstanceEntry, ModuleEntry}
-use Rattle.elaboration.specs.Ranks.{fall, is_level, is_lower, rank_of}
+use Rattle.elaboration.specs.kept.Ranks.{fall, is_level, is_lower, rank_of}
 use Rattle.elaboration.specs.Tops.{instantiates, reaches}
 use Rattle.elaboration.proofs.RingLemmas.{either, first_or, is_same}
 

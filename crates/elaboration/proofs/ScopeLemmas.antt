@@ -9,7 +9,7 @@ use Rattle.std.proofs.lemmas.List.Sums.{fold_more}
 use Rattle.vtext.specs.declared.net.Net as nets
 use Rattle.vtext.specs.Modules.{InstanceEntry, ModuleEntry}
 use Rattle.elaboration.specs.declared.node.NodeRef.{NodeRef}
-use Rattle.elaboration.specs.Numbered.{PlacedScope, SoFar, Start, inner_start, next_place, place_after, placed, with_below, with_instance, with_scope, with_scopes}
+use Rattle.elaboration.specs.kept.Numbered.{PlacedScope, SoFar, Start, inner_start, next_place, place_after, placed, with_below, with_instance, with_scope, with_scopes}
 
 -- one place of a list, after more
 get_append : {X : Type 0} (xs ys : List X) (i : ℕ) (x : X) → slice_get xs i ≡ Some x → slice_get (xs ++ ys) i ≡ Some x

@@ -13,11 +13,11 @@ use Rattle.vtext.specs.declared.net.Net as nets
 use Rattle.vtext.specs.Modules.{InstanceEntry, ModuleEntry}
 use Rattle.vtext.specs.Nets.{net_of}
 use Rattle.vtext.specs.Ranges.{width_of}
-use Rattle.vtext.specs.Sound.{IsDriven, IsSingle, IsSoundInstance, IsSoundModule}
+use Rattle.vtext.specs.kept.Sound.{IsDriven, IsSingle, IsSoundInstance, IsSoundModule}
 use Rattle.elaboration.specs.declared.limits.TheConstants.{MAX_DEPTH}
 use Rattle.elaboration.specs.Ports.{connections_fault, fault_at, first_instance_fault, has_stranger, instance_fault, is_named_twice, joined_from, ports_fault, second_pass, second_pass_from}
 use Rattle.elaboration.specs.Scopes.{Scope, inner, node_at, scopes_of, top_scope}
-use Rattle.elaboration.specs.SoundScopes.{IsSingleGate, IsSingleNode}
+use Rattle.elaboration.specs.kept.SoundScopes.{IsSingleGate, IsSingleNode}
 use Rattle.elaboration.specs.Tops.{is_top, top_of}
 use Rattle.elaboration.proofs.BelowLemmas.{HoldsInside, all_below}
 use Rattle.elaboration.proofs.PairLemmas.{found_holds}

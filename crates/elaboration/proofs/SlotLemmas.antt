@@ -4,10 +4,10 @@ use Rattle.std.specs.Prelude.{option_and_then, option_map}
 use Rattle.std.specs.List.{slice_get}
 use Rattle.std.proofs.lemmas.List.{at_drop_more}
 use Rattle.vtext.specs.declared.net.Net as nets
-use Rattle.vtext.specs.Nets.{place_of}
+use Rattle.vtext.specs.kept.Nets.{place_of}
 use Rattle.elaboration.specs.declared.node.NodeRef.{NodeRef}
 use Rattle.elaboration.specs.declared.node.Slot.{Slot}
-use Rattle.elaboration.specs.Numbered.{next_place, place_after, slot_for, slot_of, slots_from}
+use Rattle.elaboration.specs.kept.Numbered.{next_place, place_after, slot_for, slot_of, slots_from}
 use Rattle.elaboration.proofs.PairLemmas.{position_first}
 
 -- What is found by the place of a name.

@@ -16,11 +16,11 @@ use Rattle.vtext.specs.declared.range.Range.{Range}
 use Rattle.vtext.specs.Modules.{ModuleEntry}
 use Rattle.vtext.specs.Nets.{is_scalar, is_used, net_of}
 use Rattle.vtext.specs.Ranges.{has_bit, is_within, place_of_bit, width, width_of}
-use Rattle.vtext.specs.Sound.{IsJoinable, IsPortConnected, IsSingle}
+use Rattle.vtext.specs.kept.Sound.{IsJoinable, IsPortConnected, IsSingle}
 use Rattle.design.specs.Netlist.{NetEntry}
 use Rattle.elaboration.specs.Ports.{connection_fault, connections_fault, has_stranger, is_for, is_output, is_tied, is_width_wrong, joined_from, only_port, port_at, width_at}
 use Rattle.elaboration.specs.Scopes.{Node, Scope, bit_node, node_at, node_for, node_of, own_bits, tied, wired}
-use Rattle.elaboration.specs.SoundScopes.{IsSingleNode}
+use Rattle.elaboration.specs.kept.SoundScopes.{IsSingleNode}
 use Rattle.elaboration.proofs.KeptSlots.{bits_count}
 use Rattle.elaboration.proofs.PairLemmas.{position_first}
 

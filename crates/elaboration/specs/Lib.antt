@@ -1,8 +1,7 @@
 pub mod Elaborations
+pub mod FaultPlaces
 pub mod Levels
-pub mod Numbered
 pub mod Ports
-pub mod Ranks
 pub mod Scopes
-pub mod SoundScopes
 pub mod Tops
+pub mod kept

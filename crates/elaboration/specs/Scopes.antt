@@ -106,8 +106,6 @@ module _ (names : List (List ℕ)) (modules : List (ℕ × ModuleEntry)) where
   unfoldable pub scopes_of : ModuleEntry → List Scope
   scopes_of m = scopes_below MAX_DEPTH (top_scope m)
 
-  -- Gates.
-
   -- Each terminal of a gate is one net, or a constant.
 
   abbrev pub name_of_node : Node → List ℕ

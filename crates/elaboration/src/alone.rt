@@ -1,7 +1,7 @@
 //! Scopes one at a time: no others are kept beside them.
 
 ghost use Rattle.std.specs.Prelude.{◌≡◌, IfOk, length};
-ghost use Rattle.elaboration.specs.Numbered.{AreDistinct, inner_alone, placed, top_alone};
+ghost use Rattle.elaboration.specs.kept.Numbered.{AreDistinct, inner_alone, placed, top_alone};
 
 use crate::scope::Scope;
 use crate::slots::slots_of;

@@ -1,12 +1,13 @@
 //! The scopes of the design that the modules of a text make, or the modules' fault.
 
 ghost use Rattle.std.specs.Prelude.{◌≡◌, ◌⊎◌, ◌-◌, ◌^◌, ◌<◌, ◌≤◌, ℕ, List, None, Some, All, IfErr, IfOk, IfSome, length, min};
-ghost use Rattle.elaboration.specs.Elaborations.{elaboration_fault, IsElaboration};
+ghost use Rattle.elaboration.specs.Elaborations.{elaboration_fault};
+ghost use Rattle.elaboration.specs.kept.Elaborations.{IsElaboration};
 ghost use Rattle.elaboration.specs.Tops.{top_of};
-ghost use Rattle.elaboration.specs.Numbered.{AreDistinct, kept_scopes};
+ghost use Rattle.elaboration.specs.kept.Numbered.{AreDistinct, kept_scopes};
 ghost use Rattle.elaboration.specs.Scopes.{nets_of};
 ghost use Rattle.vtext.specs.ReadFaults.{out_of_memory};
-ghost use Rattle.vtext.specs.Sound.{IsSoundModule};
+ghost use Rattle.vtext.specs.kept.Sound.{IsSoundModule};
 
 use crate::counts::has_many_instances;
 use crate::limits::MAX_DEPTH;
@@ -64,7 +65,7 @@ pub struct Elaboration<'a> {
 }
 
 impl<'a> Model for Elaboration<'a> {
-    ghost use Rattle.elaboration.specs.Elaborations.{Elaborated};
+    ghost use Rattle.elaboration.specs.kept.Elaborations.{Elaborated};
 
     ghost Value = { Elaborated };
 

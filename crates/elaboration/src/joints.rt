@@ -1,7 +1,7 @@
 //! What the ports of an instance are connected to.
 
 ghost use Rattle.std.specs.Prelude.{◌≡◌, IfOk, None, replicate};
-ghost use Rattle.elaboration.specs.Numbered.{AreDistinct, joints_from, place_for, with_joint};
+ghost use Rattle.elaboration.specs.kept.Numbered.{AreDistinct, joints_from, place_for, with_joint};
 
 use std::alloc::{AllocError, Global};
 use vtext::{Module, PortConnection, Terminal};

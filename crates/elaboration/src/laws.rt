@@ -1,17 +1,21 @@
 //! Laws of elaboration: each contract is the law, and no function gives anything.
 
-ghost use Rattle.std.specs.Prelude.{◌≡◌, ◌≢◌, ◌^◌, ◌≤◌, ℕ, List, length, All, AllPairs, IsSome, IsTrue, None, Some};
+ghost use Rattle.std.specs.Prelude.{◌≡◌, ◌≢◌, ◌^◌, ◌≤◌, ℕ, List, length, All, AllPairs, IfSome, IsSome, IsTrue, None, Some};
 ghost use Rattle.design.specs.Names.{is_part};
 ghost use Rattle.design.specs.Netlist.{NetEntry};
 ghost use Rattle.vtext.specs.Modules.{InstanceEntry, ModuleEntry};
-ghost use Rattle.vtext.specs.Sound.{IsSoundModule, IsSoundNet};
+ghost use Rattle.vtext.specs.kept.Sound.{IsSoundModule, IsSoundNet};
 ghost use Rattle.vtext.specs.declared.gate.Terminal as terminals;
 ghost use Rattle.vtext.specs.declared.net.Net as nets;
-ghost use Rattle.elaboration.specs.Elaborations.{IsNode, IsScope, elaboration_fault};
-ghost use Rattle.elaboration.specs.Numbered.{AreDistinct, PlacedScope, inner_alone, ref_at, top_alone};
+ghost use Rattle.elaboration.specs.Elaborations.{elaboration_fault};
+ghost use Rattle.elaboration.specs.kept.Elaborations.{IsNode, IsScope};
+ghost use Rattle.elaboration.specs.FaultPlaces.{fault_place, top_place};
+ghost use Rattle.lexing.specs.Lines.{line_of};
+ghost use Rattle.vtext.specs.declared.fault.ReadFault as faults;
+ghost use Rattle.elaboration.specs.kept.Numbered.{AreDistinct, PlacedScope, inner_alone, ref_at, top_alone};
 ghost use Rattle.elaboration.specs.Scopes.{Scope, flat_names, gates_of, inner, nets_of, node_at, scopes_of, top_scope};
 ghost use Rattle.elaboration.specs.Tops.{top_of};
-ghost use Rattle.elaboration.specs.SoundScopes.{IsSingleGate, IsSoundScope};
+ghost use Rattle.elaboration.specs.kept.SoundScopes.{IsSingleGate, IsSoundScope};
 ghost use Rattle.elaboration.specs.Ports.{second_pass};
 
 use crate::limits::{MAX_DEPTH, MAX_INSTANCES};
@@ -77,4 +81,12 @@ pub fn gate_terminals_are_single()
     ensures { (text : List ℕ) (names : List (List ℕ)) (modules : List (ℕ × ModuleEntry)) (top : ℕ × ModuleEntry) → All (IsSoundModule names) modules →
         second_pass text modules ≡ None → top_of modules ≡ Some top →
         All (λ scope. All (IsSingleGate names modules scope) scope.entry.gates) (scopes_of names modules top.1) }
+{}
+
+/// The fault of modules lies on the line of its place; where they have none, the place is the top's word `module`.
+pub fn faults_are_at_places()
+    ensures lines { (text : List ℕ) (modules : List (ℕ × ModuleEntry)) (fault : faults.ReadFault) → elaboration_fault text modules ≡ Some fault →
+        IfSome (fault_place modules) (λ place. fault.line ≡ line_of text place.start) }
+    ensures top { (text : List ℕ) (modules : List (ℕ × ModuleEntry)) → elaboration_fault text modules ≡ None →
+        (top : ℕ × ModuleEntry) → top_of modules ≡ Some top → fault_place modules ≡ Some (top_place top) }
 {}

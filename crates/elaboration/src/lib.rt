@@ -4,6 +4,7 @@
 mod alone;
 mod counts;
 mod elaboration;
+mod fault_places;
 mod joints;
 pub mod laws;
 mod levels;
@@ -23,6 +24,7 @@ mod widths;
 
 pub use alone::{inner_alone, top_alone};
 pub use elaboration::{Elaboration, Top, design_within, find_top};
+pub use fault_places::{FaultPlace, Party, fault_place};
 pub use limits::MAX_DEPTH;
 pub use lines::fault_at;
 pub use node::{NetRun, NodeRef, Slot};

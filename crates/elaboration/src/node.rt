@@ -1,7 +1,7 @@
 //! What the nets of a module are in the design.
 
 ghost use Rattle.std.specs.Prelude.{◌≡◌};
-ghost use Rattle.elaboration.specs.Numbered.{bit_ref, is_own_slot, run_bit, slot_node};
+ghost use Rattle.elaboration.specs.kept.Numbered.{bit_ref, is_own_slot, run_bit, slot_node};
 
 use fourstate::{NetKind, Value};
 use std::mem::size_of;

@@ -15,7 +15,7 @@ use vtext::{
 };
 
 /// The port of a module that the connection at a place is for, if there is one.
-fn port_at(inner: &Module, place: usize, connection: PortConnection) -> Option<Net>
+pub fn port_at(inner: &Module, place: usize, connection: PortConnection) -> Option<Net>
     ensures { result ≡ port_at inner.now place connection }
 {
     let net = match connection.port {
@@ -87,7 +87,7 @@ fn connection_fault(outer: &Module, connection: PortConnection, port: Net) -> Op
 }
 
 /// Why the connection at a place is refused, if it is.
-fn fault_of_connection(
+pub fn fault_of_connection(
     outer: &Module,
     inner: &Module,
     place: usize,
@@ -131,7 +131,7 @@ fn ports_fault(
 }
 
 /// Why an instance in a module is refused, if it is.
-fn instance_fault(
+pub fn instance_fault(
     alloc: Global,
     modules: &Modules,
     outer: &Module,

@@ -2,7 +2,7 @@
 
 ghost use Rattle.std.specs.Prelude.{◌≡◌, [], ℕ, false, IfOk};
 ghost use Rattle.std.specs.List.{list_any};
-ghost use Rattle.elaboration.specs.Ranks.{fall, is_level, is_lower, rank_of};
+ghost use Rattle.elaboration.specs.kept.Ranks.{fall, is_level, is_lower, rank_of};
 ghost use Rattle.elaboration.specs.Tops.{reaches};
 
 use crate::rings::at;

@@ -4,7 +4,7 @@ ghost use Rattle.std.specs.Prelude.{◌≡◌, ◌<◌, ◌||◌, ◌&&◌, ℕ,
 ghost use Rattle.vtext.specs.Modules.{ModuleEntry};
 ghost use Rattle.std.specs.List.{list_any};
 ghost use Rattle.indexmap.specs.IndexSet.{contains};
-ghost use Rattle.elaboration.specs.Ranks.{fall};
+ghost use Rattle.elaboration.specs.kept.Ranks.{fall};
 ghost use Rattle.elaboration.specs.Tops.{instantiates, reaches};
 
 use crate::ranks::Ranks;

@@ -2,7 +2,7 @@
 
 ghost use Rattle.std.specs.Prelude.{◌≡◌, slice_get};
 ghost use Rattle.vtext.specs.declared.gate.Terminal.TheVariants.{Bit};
-ghost use Rattle.elaboration.specs.Numbered.{ref_at, ref_for, slot_for};
+ghost use Rattle.elaboration.specs.kept.Numbered.{ref_at, ref_for, slot_for};
 
 use crate::node::{NodeRef, Slot};
 use crate::widths::range_of;
@@ -19,7 +19,7 @@ pub struct Scope<'a> {
 }
 
 impl<'a> Model for Scope<'a> {
-    ghost use Rattle.elaboration.specs.Numbered.{PlacedScope};
+    ghost use Rattle.elaboration.specs.kept.Numbered.{PlacedScope};
 
     ghost Value = { PlacedScope };
 

@@ -2,7 +2,7 @@
 
 ghost use Rattle.std.specs.Prelude.{◌≡◌, ◌<◌, ◌≤◌, [], IfOk, IfSome, OnOk, All, length, nat_eq, option_map, slice_index_or};
 ghost use Rattle.std.specs.Map.{lookup};
-ghost use Rattle.elaboration.specs.Numbered.{AreDistinct, PlacedScope, inner_start, with_scope, with_scopes};
+ghost use Rattle.elaboration.specs.kept.Numbered.{AreDistinct, PlacedScope, inner_start, with_scope, with_scopes};
 
 use crate::scope::Scope;
 use crate::slots::slots_of;
@@ -19,7 +19,7 @@ pub struct Scopes<'a> {
 }
 
 impl<'a> Model for Scopes<'a> {
-    ghost use Rattle.elaboration.specs.Numbered.{SoFar};
+    ghost use Rattle.elaboration.specs.kept.Numbered.{SoFar};
 
     ghost Value = { SoFar };
 

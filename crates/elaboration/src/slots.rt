@@ -2,7 +2,7 @@
 
 ghost use Rattle.std.specs.Prelude.{◌≡◌, IfOk, length};
 ghost use Rattle.vtext.specs.Ranges.{width_of};
-ghost use Rattle.elaboration.specs.Numbered.{next_place, place_after, slot_of, slots_from};
+ghost use Rattle.elaboration.specs.kept.Numbered.{next_place, place_after, slot_of, slots_from};
 
 use crate::node::{NetRun, NodeRef, Slot};
 use std::alloc::{AllocError, Global};

@@ -1,7 +1,7 @@
 //! Scopes before their nets have places.
 
 ghost use Rattle.std.specs.Prelude.{◌≡◌, ◌++◌, IfOk, codes, length, map, option_map};
-ghost use Rattle.elaboration.specs.Numbered.{AreDistinct, given_of, inner_start, ref_at, top_start};
+ghost use Rattle.elaboration.specs.kept.Numbered.{AreDistinct, given_of, inner_start, ref_at, top_start};
 ghost use Rattle.vtext.specs.Names.{name_at};
 
 use crate::joints::{joints, nothing};
@@ -22,7 +22,7 @@ pub struct Start<'a> {
 }
 
 impl<'a> Model for Start<'a> {
-    ghost use Rattle.elaboration.specs.Numbered as numbered;
+    ghost use Rattle.elaboration.specs.kept.Numbered as numbered;
 
     ghost Value = { numbered.Start };
 

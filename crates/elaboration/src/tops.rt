@@ -29,7 +29,7 @@ fn no_top() -> ReadFault
 }
 
 /// The names of the modules that have instances.
-fn instantiated(alloc: Global, modules: &Modules) -> Result<IndexSet<u32>, AllocError>
+pub fn instantiated(alloc: Global, modules: &Modules) -> Result<IndexSet<u32>, AllocError>
     ensures { IfOk result (λ names. (name : ℕ) → contains nat_eq names name ≡ list_any (λ m. instantiates m.1 name) modules.now.modules) }
 {
     let mut names = IndexSet::<u32>::new(alloc);
@@ -58,7 +58,7 @@ fn first_recursive(
 }
 
 /// The first module from a place on that no module has an instance of, by its place, where a set has the names of those that do.
-fn next_top(modules: &Modules, names: &IndexSet<u32>, from: usize) -> Option<usize>
+pub fn next_top(modules: &Modules, names: &IndexSet<u32>, from: usize) -> Option<usize>
     ensures within { IfSome result (λ place. place < length modules.now.modules) }
     ensures few { IfSome result (λ place. place < 2 ^ 64 - 1) }
     ensures tops { ((name : ℕ) → contains nat_eq names.now name ≡ list_any (λ m. instantiates m.1 name) modules.now.modules) →

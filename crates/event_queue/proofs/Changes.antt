@@ -5,8 +5,8 @@ use Rattle.std.specs.Option.{option_map_or}
 use Rattle.std.specs.Ordering.{is_eq, nat_cmp}
 use Rattle.std.specs.Prelude.{nat_eq, min}
 use Rattle.std.proofs.lemmas.Bool.Decides.{nat_tests}
-use Rattle.event_queue.specs.Noted.{AreSame, IsAdded, IsTaken, noted}
-use Rattle.event_queue.specs.Lists.{IsFirst, joined}
+use Rattle.event_queue.specs.kept.Noted.{AreSame, IsAdded, IsTaken, noted}
+use Rattle.event_queue.specs.kept.Lists.{IsFirst, joined}
 use Rattle.event_queue.proofs.Moments.{not_empty, same_moment}
 
 abbrev Queue : Type 0

@@ -9,7 +9,7 @@ use Rattle.std.specs.Prelude.{nat_eq}
 use Rattle.std.specs.declared.cmp.Ordering.TheVariants.{Equal, Greater}
 use Rattle.std.proofs.lemmas.Bool.Decides.{nat_tests}
 use Rattle.std.proofs.lemmas.Map.Made.{lookup-map_values}
-use Rattle.event_queue.specs.Noted.{AreSame, IsAdded, IsFilled, IsTaken, noted}
+use Rattle.event_queue.specs.kept.Noted.{AreSame, IsAdded, IsFilled, IsTaken, noted}
 
 abbrev Numbers : Type 0
 Numbers = Vec ℕ Global

@@ -5,7 +5,7 @@ use Rattle.std.proofs.lemmas.Bool.Decides.{nat_tests}
 use Rattle.std.proofs.lemmas.Grind.{get_or-set_at}
 use Rattle.std.proofs.Math.Seq.{map-set_same}
 use Rattle.std.proofs.lemmas.List.{get_or_past, get_or-map, get_or-set_other, get_or_default, length-map, map-set}
-use Rattle.event_queue.specs.Pages.{HasItem, IsBlank, IsCleared, PageRecord, items_at}
+use Rattle.event_queue.specs.kept.Pages.{HasItem, IsBlank, IsCleared, PageRecord, items_at}
 
 module _ {T : Type 0} where
   abbrev page_of : ℕ → List (List T) → PageRecord T

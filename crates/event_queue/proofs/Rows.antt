@@ -8,8 +8,8 @@ use Rattle.std.proofs.lemmas.Bool.Decides.{nat_tests}
 use Rattle.std.proofs.lemmas.Grind.{get_or-set_at}
 use Rattle.std.proofs.Math.Seq.{map-set_same}
 use Rattle.std.proofs.lemmas.List.{get_or-drop, get_or-take, get_or-append-add, get_or_append_left, get_or_past, get_or_default, get_or-map, get_or-set_other, length-append, length-map, length-set, map-set}
-use Rattle.event_queue.specs.Noted.{AreSame, IsAdded, IsTaken, noted}
-use Rattle.event_queue.specs.Lists.{in_ring, in_row}
+use Rattle.event_queue.specs.kept.Noted.{AreSame, IsAdded, IsTaken, noted}
+use Rattle.event_queue.specs.kept.Lists.{in_ring, in_row}
 use Rattle.event_queue.proofs.Moments.{same_moment}
 
 pub either : (a b : ℕ) → (a < b) ⊎ (b ≤ a)

@@ -1,7 +1,7 @@
 //! Numbers that are noted for any moments, found by a tree.
 
 ghost use Rattle.std.specs.Prelude.{◌≡◌, ◌≢◌, ◌<◌, ◌++◌, [], ℕ, IfSome, IfNone, OnOk, OnErr};
-ghost use Rattle.event_queue.specs.Noted.{AreSame, IsAdded, IsTaken, noted};
+ghost use Rattle.event_queue.specs.kept.Noted.{AreSame, IsAdded, IsTaken, noted};
 
 use std::alloc::{AllocError, Global};
 use std::collections::BTreeMap;
@@ -17,7 +17,7 @@ pub(crate) struct FarMoments {
 
 impl Model for FarMoments {
     ghost use Rattle.std.specs.Prelude.{ℕ, List, map};
-    ghost use Rattle.event_queue.specs.Noted.{IsFilled};
+    ghost use Rattle.event_queue.specs.kept.Noted.{IsFilled};
 
     ghost Value = { List (ℕ × List ℕ) };
 

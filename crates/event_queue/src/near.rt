@@ -1,7 +1,7 @@
 //! Numbers that are noted for the next moments, of which the first one is known.
 
 ghost use Rattle.std.specs.Prelude.{◌≡◌, ◌≢◌, ◌<◌, [], ℕ, Some, IfSome, IfNone, IfOk, OnErr, true, false, min, unwrap_or};
-ghost use Rattle.event_queue.specs.Noted.{AreSame, IsAdded, IsTaken, noted};
+ghost use Rattle.event_queue.specs.kept.Noted.{AreSame, IsAdded, IsTaken, noted};
 
 use crate::row::Row;
 use std::alloc::{AllocError, Global};
@@ -17,7 +17,7 @@ pub(crate) struct NearMoments {
 
 impl Model for NearMoments {
     ghost use Rattle.std.specs.Prelude.{ℕ, List};
-    ghost use Rattle.event_queue.specs.Lists.{IsFirst};
+    ghost use Rattle.event_queue.specs.kept.Lists.{IsFirst};
 
     ghost Value = { List (ℕ × List ℕ) };
 

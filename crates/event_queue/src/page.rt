@@ -1,7 +1,7 @@
 //! Items by moment, for the moments of a page.
 
 ghost use Rattle.std.specs.Prelude.{◌≡◌, ◌<◌, ◌≤◌, ◌+◌, IfOk, OnErr, OnOk, length, All};
-ghost use Rattle.event_queue.specs.Pages.{HasItem, IsBlank, IsCleared, items_at};
+ghost use Rattle.event_queue.specs.kept.Pages.{HasItem, IsBlank, IsCleared, items_at};
 ghost use Rattle.event_queue.specs.declared.page.TheConstants.{PAGE};
 
 use std::alloc::{AllocError, Global};
@@ -21,7 +21,7 @@ pub struct Page<T: Copy> {
 
 impl<T: Copy> Model for Page<T> {
     ghost use Rattle.std.specs.Prelude.{◌≡◌, length, map};
-    ghost use Rattle.event_queue.specs.Pages.{PageRecord};
+    ghost use Rattle.event_queue.specs.kept.Pages.{PageRecord};
     ghost use Rattle.event_queue.specs.declared.page.TheConstants.{PAGE};
 
     ghost Value = { PageRecord T };

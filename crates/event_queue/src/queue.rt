@@ -1,7 +1,7 @@
 //! Numbers that are noted for moments to come.
 
 ghost use Rattle.std.specs.Prelude.{◌≡◌, ◌≢◌, ◌<◌, ◌++◌, [], ℕ, IfSome, IfNone, OnOk, OnErr};
-ghost use Rattle.event_queue.specs.Noted.{AreSame, IsAdded, IsTaken, noted};
+ghost use Rattle.event_queue.specs.kept.Noted.{AreSame, IsAdded, IsTaken, noted};
 
 use crate::appending::append_both;
 use crate::far::FarMoments;
@@ -20,7 +20,7 @@ pub struct EventQueue {
 
 impl Model for EventQueue {
     ghost use Rattle.std.specs.Prelude.{ℕ, List};
-    ghost use Rattle.event_queue.specs.Lists.{joined};
+    ghost use Rattle.event_queue.specs.kept.Lists.{joined};
 
     ghost Value = { List (ℕ × List ℕ) };
 

@@ -1,7 +1,7 @@
 //! Numbers that are noted for the next moments, each with a list at its place.
 
 ghost use Rattle.std.specs.Prelude.{◌≡◌, ◌≢◌, ◌<◌, ◌≤◌, ◌+◌, ◌↔◌, [], ℕ, IfSome, IfNone, IfOk, OnErr, IsTrue, true, false, length, All};
-ghost use Rattle.event_queue.specs.Noted.{AreSame, IsAdded, IsTaken, noted};
+ghost use Rattle.event_queue.specs.kept.Noted.{AreSame, IsAdded, IsTaken, noted};
 ghost use Rattle.event_queue.specs.declared.row.TheConstants.{COUNT, LAST};
 
 use std::alloc::{AllocError, Global};
@@ -25,7 +25,7 @@ pub(crate) struct Row {
 
 impl Model for Row {
     ghost use Rattle.std.specs.Prelude.{ℕ, List, ◌≡◌, ◌<◌, ◌≤◌, length, map};
-    ghost use Rattle.event_queue.specs.Lists.{in_ring};
+    ghost use Rattle.event_queue.specs.kept.Lists.{in_ring};
     ghost use Rattle.event_queue.specs.declared.row.TheConstants.{COUNT, LAST};
 
     ghost Value = { List (ℕ × List ℕ) };

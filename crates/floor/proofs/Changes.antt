@@ -7,8 +7,8 @@ use Rattle.std.proofs.lemmas.List.Elements.{All-weaker}
 use Rattle.std.proofs.lemmas.Option.{slice_get_within, get_or_from_slice_get, slice_get_read, slice_get_past}
 use Rattle.gatestep.specs.Step.{State}
 use Rattle.floor.proofs.Standing.{piece_at, piece_set, piece_written, none_waits}
-use Rattle.floor.specs.Pieces.{Dealing, Answered, Failed, Answer, Fail, first_task, part, first_waiting, awaited, fail_reply, answer_reply, finished, after, next_piece, all_answered}
-use Rattle.floor.specs.Held.{piece_of, pieces_from}
+use Rattle.floor.specs.kept.Pieces.{Dealing, Answered, Failed, Answer, Fail, first_task, part, first_waiting, awaited, fail_reply, answer_reply, finished, after, next_piece, all_answered}
+use Rattle.floor.specs.kept.Held.{piece_of, pieces_from}
 use Rattle.floor.specs.declared.piece.Piece.{Piece}
 use Rattle.floor.specs.declared.fault.FloorFault.TheVariants.{Stranger}
 use Rattle.floor.specs.declared.stage.Stage.{Stage}

@@ -6,7 +6,7 @@ use Rattle.std.proofs.Math.Nat.{div-mul-le_self, le-div_iff_mul-le, mul-div_righ
 use Rattle.std.proofs.Math.Seq.{drop-append_seam, take-append_seam}
 use Rattle.std.proofs.lemmas.List.{take-take, length-drop, length-append, append_assoc, drop-append-le, take-append-le, drop-take}
 use Rattle.std.proofs.lemmas.Slice.{drop-append-drop}
-use Rattle.floor.specs.Pieces.{first_task}
+use Rattle.floor.specs.kept.Pieces.{first_task}
 
 -- the cuts rise
 pub first_rises : (n p j k : ℕ) → j ≤ k → first_task n p j ≤ first_task n p k

@@ -6,8 +6,8 @@ use Rattle.gatestep.specs.Step.{State}
 use Rattle.floor.proofs.Cuts.{first_all, first_begins}
 use Rattle.floor.proofs.Standing.{joined_are, all_emptied}
 use Rattle.floor.proofs.Changes.{stage_answered}
-use Rattle.floor.specs.Pieces.{Dealing, Answered, Finish, first_task, all_answered, finished, after}
-use Rattle.floor.specs.Held.{pieces_from}
+use Rattle.floor.specs.kept.Pieces.{Dealing, Answered, Finish, first_task, all_answered, finished, after}
+use Rattle.floor.specs.kept.Held.{pieces_from}
 use Rattle.floor.specs.declared.stage.Stage.{Stage}
 use Rattle.floor.specs.declared.stage.Stage.TheVariants as stage
 

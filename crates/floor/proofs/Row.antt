@@ -1,7 +1,7 @@
 -- Five tasks in two pieces, dealt and answered event by event, with strangers and doubles: the replies, worked out by hand.
 use Rattle.std.proofs.Common.{◌≡◌, Option, Some, None, Ok, Err, List, [], ◌∷◌, refl}
 use Rattle.gatestep.specs.Step.{State}
-use Rattle.floor.specs.Pieces.{Dealing, Event, Deal, Answer, Fail, Finish, opened, next_piece, answer_reply, fail_reply, finished, after}
+use Rattle.floor.specs.kept.Pieces.{Dealing, Event, Deal, Answer, Fail, Finish, opened, next_piece, answer_reply, fail_reply, finished, after}
 use Rattle.floor.specs.declared.fault.FloorFault.TheVariants.{Stranger, Double, WrongLength}
 
 -- the state after events, in order

@@ -6,8 +6,8 @@ use Rattle.gatestep.specs.Step.{State}
 use Rattle.std.proofs.Math.Seq.{drop-length, drop-nil, take-nil}
 use Rattle.std.proofs.lemmas.List.Elements.{All-nil, All-cons, All-tail}
 use Rattle.floor.proofs.Cuts.{first_rises, first_within, part_before, part_behind, part_written}
-use Rattle.floor.specs.Pieces.{Waiting, Out, Answered, Failed, first_task, part, first_waiting, all_answered, joined, emptied}
-use Rattle.floor.specs.Held.{piece_of, pieces_from}
+use Rattle.floor.specs.kept.Pieces.{Waiting, Out, Answered, Failed, first_task, part, first_waiting, all_answered, joined, emptied}
+use Rattle.floor.specs.kept.Held.{piece_of, pieces_from}
 use Rattle.floor.specs.declared.stage.Stage.{Stage}
 use Rattle.floor.specs.declared.stage.Stage.TheVariants as stage
 

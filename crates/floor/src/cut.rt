@@ -1,7 +1,7 @@
 //! Where tasks are cut into pieces.
 
 ghost use Rattle.std.specs.Prelude.{◌≡◌, ◌<◌, ◌≤◌};
-ghost use Rattle.floor.specs.Pieces.{first_task};
+ghost use Rattle.floor.specs.kept.Pieces.{first_task};
 
 /// The place of the first task of a piece. The pieces differ in length by one at most.
 pub fn first_task(tasks: usize, pieces: u32, number: u32) -> usize

@@ -1,8 +1,8 @@
 //! The tasks of a moment, dealt in pieces, and their answers put together in order.
 
 ghost use Rattle.std.specs.Prelude.{◌≡◌, ◌<◌, ◌≤◌, ◌+◌, ◌-◌, ◌++◌, take, drop, ℕ, length, IfOk, IfErr, Ok, option_map, OnOk, Err};
-ghost use Rattle.floor.specs.Pieces.{opened, next_piece, answer_reply, fail_reply, finished, after, first_task, first_waiting, all_answered};
-ghost use Rattle.floor.specs.Pieces.{Deal, Answer, Fail, Finish};
+ghost use Rattle.floor.specs.kept.Pieces.{opened, next_piece, answer_reply, fail_reply, finished, after, first_task, first_waiting, all_answered};
+ghost use Rattle.floor.specs.kept.Pieces.{Deal, Answer, Fail, Finish};
 
 use crate::cut::first_task;
 use crate::fault::FloorFault;
@@ -24,8 +24,8 @@ pub struct Floor {
 impl Model for Floor {
     ghost use Rattle.std.specs.Prelude.{◌≡◌, ◌<◌, ◌^◌, All, length, is_none, IfSome, IfNone, []};
     ghost use Rattle.std.specs.Option.{option_map_or};
-    ghost use Rattle.floor.specs.Pieces.{Dealing};
-    ghost use Rattle.floor.specs.Held.{pieces_from};
+    ghost use Rattle.floor.specs.kept.Pieces.{Dealing};
+    ghost use Rattle.floor.specs.kept.Held.{pieces_from};
     ghost use Rattle.floor.specs.declared.stage.Stage.TheVariants as stage;
 
     ghost Value = { Dealing };

@@ -1,4 +1,5 @@
 pub mod Planes
 pub mod Readings
 pub mod Rules
+pub mod Summaries
 pub mod Tables

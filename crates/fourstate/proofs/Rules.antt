@@ -2,13 +2,15 @@
 use Rattle.std.proofs.Common.{◌≡◌, ℕ, ◌∙◌, sym, ◌||◌, ◌==◌, ◌%◌, Bool, true, false, if◌then◌else◌, List, [], ◌∷◌, map, length, count_by, refl, ap, arith, ◌<◌, ◌≢◌}
 use Rattle.std.proofs.lemmas.Grind.{common_steps}
 use Rattle.fourstate.specs.Gates.{and_of, or_of, xor_of, gate_of, single, takes_inputs}
-use Rattle.fourstate.specs.Rules.{value_by}
+use Rattle.fourstate.specs.kept.Rules.{result_of, value_by}
+use Rattle.fourstate.specs.kept.Summaries.{summary_of}
 use Rattle.fourstate.specs.Values.{same_value, occurs, reading, inverse}
 use Rattle.fourstate.specs.declared.gate.GateKind.{GateKind}
 use Rattle.fourstate.specs.declared.gate.GateKind.TheVariants.{And, Nand, Or, Nor, Xor, Xnor, Buf, Not, Bufif1, Bufif0, Notif1, Notif0}
 use Rattle.fourstate.specs.declared.value.Value.{Value}
 use Rattle.fourstate.specs.declared.value.Value.TheVariants.{Zero, One, Unknown, HighZ}
 use Rattle.fourstate.proofs.Readings.{zero_read, one_read, unknown_read, ones_read}
+use Rattle.fourstate.proofs.Summaries.{odd_in, summary_read, unknown_in}
 
 -- what `and`, `or` and `xor` give, by what is among their inputs
 abbrev and_by : (zero unknown : Bool) → Value
@@ -75,13 +77,6 @@ by_parity false false true false = (refl, refl)
 by_parity false false false true = (refl, refl)
 by_parity false false false false = (refl, refl)
 
--- a z or an x is among the inputs, or none
-abbrev unknown_in : List Value → Bool
-unknown_in inputs = occurs Unknown inputs || occurs HighZ inputs
-
-abbrev odd_in : List Value → Bool
-odd_in inputs = count_by (same_value One) inputs % 2 == 1
-
 and_read : (inputs : List Value) → and_of (map reading inputs) ≡ and_by (occurs Zero inputs) (unknown_in inputs)
 and_read inputs = rw (zero_read inputs) (rw (unknown_read inputs) refl)
 
@@ -135,7 +130,7 @@ alike Bufif0 p q r s = absurd (q refl)
 alike Notif1 p q r s = absurd (r refl)
 alike Notif0 p q r s = absurd (s refl)
 
-pub by_number : (kind : GateKind) (inputs : List Value) (z o d u : Bool) → number_of kind < 8 → takes_inputs kind (length inputs) ≡ true →
+by_number : (kind : GateKind) (inputs : List Value) (z o d u : Bool) → number_of kind < 8 → takes_inputs kind (length inputs) ≡ true →
     z ≡ occurs Zero inputs → o ≡ occurs One inputs → u ≡ unknown_in inputs → (unknown_in inputs ≡ false → d ≡ odd_in inputs) →
     value_by (number_of kind) z o d u ≡ gate_of kind inputs
 by_number And inputs z o d u alike takes zero one unknown odd = (by_zero z o d u).0 ∙ ap (λ b. and_by b u) zero ∙ ap (and_by (occurs Zero inputs)) unknown ∙ sym (and_read inputs)
@@ -156,3 +151,10 @@ by_number Bufif1 inputs z o d u alike takes zero one unknown odd = absurd (omega
 by_number Bufif0 inputs z o d u alike takes zero one unknown odd = absurd (omega arith)
 by_number Notif1 inputs z o d u alike takes zero one unknown odd = absurd (omega arith)
 by_number Notif0 inputs z o d u alike takes zero one unknown odd = absurd (omega arith)
+
+-- a gate gives for its inputs what the table has for their summary
+pub by_summary : (kind : GateKind) (inputs : List Value) → number_of kind < 8 → takes_inputs kind (length inputs) ≡ true →
+    result_of (number_of kind) (summary_of inputs) ≡ gate_of kind inputs
+by_summary kind inputs alike takes =
+    ap (result_of (number_of kind)) (summary_read inputs)
+    ∙ by_number kind inputs (occurs Zero inputs) (occurs One inputs) (odd_in inputs) (unknown_in inputs) alike takes refl refl refl (λ known. refl)

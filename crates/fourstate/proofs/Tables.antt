@@ -8,8 +8,9 @@ use Rattle.fourstate.specs.declared.delay_times.DelayTimes.{DelayTimes}
 use Rattle.fourstate.specs.Gates.{gate_of}
 use Rattle.fourstate.specs.Keywords.{gate_keyword, gate_kind_of, net_keyword, net_kind_of}
 use Rattle.fourstate.specs.Nets.{net_of, pulled_of, wire_of}
-use Rattle.fourstate.specs.ValueLaws.{is_same, same_value_decides}
-use Rattle.fourstate.specs.Values.{AreSameSet, same_value, occurs, reading, inverse, symbol_of, value_of_symbol}
+use Rattle.fourstate.specs.kept.ValueLaws.{is_same, same_value_decides}
+use Rattle.fourstate.specs.Values.{same_value, occurs, reading, inverse, symbol_of, value_of_symbol}
+use Rattle.fourstate.specs.kept.Values.{AreSameSet}
 use Rattle.fourstate.specs.declared.value.Value.{Value}
 use Rattle.fourstate.specs.declared.value.Value.TheVariants.{Zero, One, Unknown, HighZ}
 use Rattle.fourstate.specs.declared.gate.GateKind.{GateKind}

@@ -1,5 +1,5 @@
 -- How long a gate takes (IEEE 1364-2005, 7.14).
-use Rattle.std.specs.Prelude.{Bool, true, false, ℕ, ◌≤◌, ◌==◌, ◌&&◌, ◌||◌, min, nat_lt, Option, Some, None, IfSome, unwrap_or}
+use Rattle.std.specs.Prelude.{Bool, true, false, ℕ, ◌==◌, ◌&&◌, ◌||◌, min, nat_lt, Option, Some, None, unwrap_or}
 use Rattle.std.specs.Option.{option_map_or}
 use Rattle.fourstate.specs.declared.delay_times.DelayTimes.{DelayTimes}
 use Rattle.fourstate.specs.declared.limits.TheConstants.{MAX_DELAY}
@@ -41,16 +41,6 @@ has_zero delays = delays.rise == 0 || delays.fall == 0 || option_map_or (λ off.
 -- some delay is over the limit
 abbrev pub exceeds_limit : DelayTimes → Bool
 exceeds_limit delays = nat_lt MAX_DELAY delays.rise || nat_lt MAX_DELAY delays.fall || option_map_or (nat_lt MAX_DELAY) delays.off false
-
--- a delay is within the limits
-abbrev pub IsDelay : ℕ → Type 0
-IsDelay n = (1 ≤ n) × (n ≤ MAX_DELAY)
-
--- each of a gate's delays is within the limits
-pub record AreDelays (delays : DelayTimes) : Type 0 where
-  pub rise : IsDelay delays.rise
-  pub fall : IsDelay delays.fall
-  pub off : IfSome delays.off IsDelay
 
 -- both have no turn-off delay, or the same one
 abbrev pub same_off : Option ℕ → Option ℕ → Bool

@@ -1,13 +1,6 @@
-pub mod DelayLaws
 pub mod Delays
-pub mod GateLaws
 pub mod Gates
-pub mod KeptDelays
 pub mod Keywords
-pub mod NetLaws
 pub mod Nets
-pub mod PlaneLaws
-pub mod Planes
-pub mod Rules
-pub mod ValueLaws
 pub mod Values
+pub mod kept

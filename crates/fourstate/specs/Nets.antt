@@ -57,15 +57,3 @@ resolved rules.Pullup = pulled_of One
 -- what a net of this kind has from the values of its drivers
 abbrev pub net_of : NetKind → List Value → Value
 net_of kind values = resolved (rule_of kind) (occurs Zero values) (occurs One values) (occurs Unknown values)
-
--- a net of this kind always has what its driver gives, where it has one alone; what rests on that has to ask, since a proof above
--- does not see which kinds these are
-unfoldable pub passes_lone_driver : NetKind → Bool
-passes_lone_driver Wire = true
-passes_lone_driver Tri = true
-passes_lone_driver Wand = true
-passes_lone_driver Triand = true
-passes_lone_driver Wor = true
-passes_lone_driver Trior = true
-passes_lone_driver Tri0 = false
-passes_lone_driver Tri1 = false

@@ -1,5 +1,5 @@
 -- The four values (IEEE 1364-2005, 4.1).
-use Rattle.std.specs.Prelude.{Bool, true, false, ℕ, ◌==◌, if◌then◌else◌, List, Option, Some, None, Contains}
+use Rattle.std.specs.Prelude.{Bool, true, false, ℕ, ◌==◌, if◌then◌else◌, List, Option, Some, None}
 use Rattle.std.specs.List.{list_any}
 use Rattle.fourstate.specs.declared.value.Value.{Value}
 use Rattle.fourstate.specs.declared.value.Value.TheVariants.{Zero, One, Unknown, HighZ}
@@ -38,7 +38,3 @@ symbol_of HighZ = 122
 abbrev pub value_of_symbol : ℕ → Option Value
 value_of_symbol byte =
     if byte == 48 then Some Zero else (if byte == 49 then Some One else (if byte == 120 then Some Unknown else (if byte == 122 then Some HighZ else None)))
-
--- the same values are members of both lists, in whatever order and however often
-abbrev pub AreSameSet : List Value → List Value → Type 0
-AreSameSet values others = (v : Value) → (Contains values v → Contains others v) × (Contains others v → Contains values v)

@@ -1,7 +1,8 @@
 //! Gate delays (IEEE 1364-2005, 7.14).
 
 ghost use Rattle.std.specs.Prelude.{◌≡◌, ◌↔◌, IsSome, IfSome, false, is_some};
-ghost use Rattle.fourstate.specs.Delays.{AreDelays, IsDelay, delay_times, delay_to, exceeds_limit, has_zero, same_delays, with_off};
+ghost use Rattle.fourstate.specs.Delays.{delay_times, delay_to, exceeds_limit, has_zero, same_delays, with_off};
+ghost use Rattle.fourstate.specs.kept.Delays.{AreDelays, IsDelay};
 
 use crate::delay_times::DelayTimes;
 use crate::value::Value;
@@ -20,8 +21,8 @@ pub struct Delays {
 }
 
 impl Model for Delays {
-    ghost use Rattle.fourstate.specs.Delays.{AreDelays};
-    ghost use Rattle.fourstate.specs.KeptDelays.{fields_of, fields_of-kept, times_of};
+    ghost use Rattle.fourstate.specs.kept.Delays.{AreDelays};
+    ghost use Rattle.fourstate.specs.kept.KeptDelays.{fields_of, fields_of-kept, times_of};
     ghost use Rattle.fourstate.specs.declared.delay_times.DelayTimes.{DelayTimes};
 
     ghost Value = { DelayTimes };

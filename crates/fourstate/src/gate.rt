@@ -2,7 +2,7 @@
 
 ghost use Rattle.std.specs.Prelude.{◌≡◌, ◌<◌, IsTrue, length, map};
 ghost use Rattle.fourstate.specs.Gates.{controlled, gate_of, same_kind, takes_inputs, takes_off};
-ghost use Rattle.fourstate.specs.Rules.{value_by};
+ghost use Rattle.fourstate.specs.kept.Rules.{result_of};
 ghost use Rattle.fourstate.specs.Values.{reading};
 ghost use Rattle.fourstate.specs.Keywords.{gate_keyword, gate_kind_of};
 
@@ -108,54 +108,143 @@ pub fn takes_off(kind: GateKind) -> bool
     }
 }
 
-// The first kinds are those whose inputs are all alike. What such a gate gives is found by tables, without a branch for its
-// kind, since the gates of a netlist come in no order that a processor could guess: of each kind, in their order, whether a 0
-// among its inputs decides what it gives, whether a 1 does, whether an odd number of ones does, and what it gives where nothing
-// decides, where something does, where an x is among its inputs, and where both hold (IEEE 1364-2005, 7.2 and 7.3).
-static ZERO_DECIDES: [bool; 8] = [true, true, false, false, false, false, true, true];
-
-static ONE_DECIDES: [bool; 8] = [false, false, true, true, false, false, false, false];
-
-static PARITY_DECIDES: [bool; 8] = [false, false, false, false, true, true, false, false];
-
-static VALUES: [Value; 32] = [
+// The first kinds are those whose inputs are all alike. What such a gate gives is found by a table, without a branch for its
+// kind, since the gates of a netlist come in no order that a processor could guess: of each kind, in their order, what it gives
+// for inputs of each summary (IEEE 1364-2005, 7.2 and 7.3).
+static RESULTS: [Value; 128] = [
     // `and`
     Value::One,
+    Value::Zero,
+    Value::One,
+    Value::Zero,
+    Value::One,
+    Value::Zero,
+    Value::One,
+    Value::Zero,
+    Value::Unknown,
+    Value::Zero,
+    Value::Unknown,
+    Value::Zero,
+    Value::Unknown,
     Value::Zero,
     Value::Unknown,
     Value::Zero,
     // `nand`
     Value::Zero,
     Value::One,
+    Value::Zero,
+    Value::One,
+    Value::Zero,
+    Value::One,
+    Value::Zero,
+    Value::One,
+    Value::Unknown,
+    Value::One,
+    Value::Unknown,
+    Value::One,
+    Value::Unknown,
+    Value::One,
     Value::Unknown,
     Value::One,
     // `or`
     Value::Zero,
+    Value::Zero,
+    Value::One,
+    Value::One,
+    Value::Zero,
+    Value::Zero,
+    Value::One,
     Value::One,
     Value::Unknown,
+    Value::Unknown,
+    Value::One,
+    Value::One,
+    Value::Unknown,
+    Value::Unknown,
+    Value::One,
     Value::One,
     // `nor`
     Value::One,
+    Value::One,
+    Value::Zero,
+    Value::Zero,
+    Value::One,
+    Value::One,
+    Value::Zero,
     Value::Zero,
     Value::Unknown,
+    Value::Unknown,
+    Value::Zero,
+    Value::Zero,
+    Value::Unknown,
+    Value::Unknown,
+    Value::Zero,
     Value::Zero,
     // `xor`
     Value::Zero,
+    Value::Zero,
+    Value::Zero,
+    Value::Zero,
     Value::One,
+    Value::One,
+    Value::One,
+    Value::One,
+    Value::Unknown,
+    Value::Unknown,
+    Value::Unknown,
+    Value::Unknown,
+    Value::Unknown,
+    Value::Unknown,
     Value::Unknown,
     Value::Unknown,
     // `xnor`
     Value::One,
+    Value::One,
+    Value::One,
+    Value::One,
     Value::Zero,
+    Value::Zero,
+    Value::Zero,
+    Value::Zero,
+    Value::Unknown,
+    Value::Unknown,
+    Value::Unknown,
+    Value::Unknown,
+    Value::Unknown,
+    Value::Unknown,
     Value::Unknown,
     Value::Unknown,
     // `buf`
     Value::One,
     Value::Zero,
+    Value::One,
+    Value::Zero,
+    Value::One,
+    Value::Zero,
+    Value::One,
+    Value::Zero,
+    Value::Unknown,
+    Value::Zero,
+    Value::Unknown,
+    Value::Zero,
+    Value::Unknown,
+    Value::Zero,
     Value::Unknown,
     Value::Zero,
     // `not`
     Value::Zero,
+    Value::One,
+    Value::Zero,
+    Value::One,
+    Value::Zero,
+    Value::One,
+    Value::Zero,
+    Value::One,
+    Value::Unknown,
+    Value::One,
+    Value::Unknown,
+    Value::One,
+    Value::Unknown,
     Value::One,
     Value::Unknown,
     Value::One,
@@ -170,31 +259,38 @@ pub fn gate_value(kind: GateKind, inputs: &Inputs) -> Value
     ensures { result ≡ gate_of kind inputs.now }
 {
     match kind {
-        GateKind::Bufif1 => controlled_value(Value::One, inputs.get(0).as_input(), inputs.get(1)),
-        GateKind::Bufif0 => controlled_value(Value::Zero, inputs.get(0).as_input(), inputs.get(1)),
-        GateKind::Notif1 => controlled_value(Value::One, inputs.get(0).inverted(), inputs.get(1)),
-        GateKind::Notif0 => controlled_value(Value::Zero, inputs.get(0).inverted(), inputs.get(1)),
-        _ => value_by(
-            kind as usize,
-            inputs.has_zero(),
-            inputs.has_one(),
-            inputs.has_odd_ones(),
-            inputs.has_unknown(),
+        GateKind::Bufif1 => controlled_value(
+            Value::One,
+            inputs.first().as_input(),
+            inputs.second(),
         ),
+        GateKind::Bufif0 => controlled_value(
+            Value::Zero,
+            inputs.first().as_input(),
+            inputs.second(),
+        ),
+        GateKind::Notif1 => controlled_value(
+            Value::One,
+            inputs.first().inverted(),
+            inputs.second(),
+        ),
+        GateKind::Notif0 => controlled_value(
+            Value::Zero,
+            inputs.first().inverted(),
+            inputs.second(),
+        ),
+        _ => result_of(kind as usize, inputs.summary()),
     }
 }
 
-/// What a gate of the kind of this number gives, by whether a 0 is among its inputs, a 1, an odd number of ones, and an x.
+/// What a gate of the kind of this number gives for inputs of this summary.
 #[inline(always)]
-fn value_by(kind: usize, zero: bool, one: bool, odd: bool, unknown: bool) -> Value
-    requires { kind < 8 }
-    ensures { result ≡ value_by kind zero one odd unknown }
+fn result_of(kind: usize, summary: u8) -> Value
+    requires alike { kind < 8 }
+    requires low { summary < 16 }
+    ensures { result ≡ result_of kind summary }
 {
-    let is_decided = zero & ZERO_DECIDES[kind]
-        | one & ONE_DECIDES[kind]
-        | odd & PARITY_DECIDES[kind];
-    let first = if unknown { 4 * kind + 2 } else { 4 * kind };
-    VALUES[if is_decided { first + 1 } else { first }]
+    RESULTS[16 * kind + summary as usize]
 }
 
 /// What a three-state gate gives that would pass this value under this control, which is 0 or 1 where it is active.

@@ -1,29 +1,40 @@
 //! The values of a gate's inputs.
 
-ghost use Rattle.std.specs.Prelude.{◌≡◌, ◌<◌, ◌≤◌, ◌==◌, ◌%◌, ◌||◌, false, [], ◌∷◌, Some, length, slice_get, count_by};
+ghost use Rattle.std.specs.Prelude.{◌≡◌, ◌<◌, ◌≤◌, [], ◌∷◌, Some, length, slice_get};
 ghost use Rattle.std.specs.Cmp.Lexicographic.{pointwise};
-ghost use Rattle.fourstate.specs.Planes.{high_bit, low_bit, value_of_bits};
-ghost use Rattle.fourstate.specs.Values.{occurs, same_value};
+ghost use Rattle.fourstate.specs.kept.Planes.{high_bit, low_bit};
+ghost use Rattle.fourstate.specs.kept.Summaries.{next_summary, summary_of};
+ghost use Rattle.fourstate.specs.Values.{same_value};
 
 use crate::limits::MAX_INPUTS;
 use crate::value::Value;
 use std::marker::Model;
 use std::mem::size_of;
 
-/// The bits of a word.
-const BITS: usize = 64;
-
-const _: () = prove!(MAX_INPUTS <= BITS);
+const _: () = prove!(MAX_INPUTS <= 64);
 
 const _: () = prove!(size_of::<Inputs>() == 24);
 
+// What is known of some values in four bits: whether a 0 is among them, a 1, an odd number of ones, and an x or a z. For each
+// such number, in their order, the one that it becomes where a 0 is added, a 1, an x and a z.
+static SUMMARIES: [u8; 64] = [
+    1, 6, 8, 8, 1, 7, 9, 9, 3, 6, 10, 10, 3, 7, 11, 11, 5, 2, 12, 12, 5, 3, 13, 13, 7, 2, 14, 14,
+    7, 3, 15, 15, 9, 14, 8, 8, 9, 15, 9, 9, 11, 14, 10, 10, 11, 15, 11, 11, 13, 10, 12, 12, 13, 11,
+    13, 13, 15, 10, 14, 14, 15, 11, 15, 15,
+];
+
 /// The values of a gate's inputs, at most `MAX_INPUTS` (own). Contracts see the list of them, the first input first. Each is
-/// written by one bit of either word, that of the first input the lowest, so a gate looks at all of them at once.
+/// written by one bit of either word, that of the first input the lowest; beside these stands what a gate has to know of them.
 #[derive(Clone, Copy, Debug)]
 pub struct Inputs {
     low: u64,
     high: u64,
-    len: usize,
+    len: u32,
+    // What a gate of inputs that are all alike has to know of them.
+    summary: u8,
+    // The first two inputs, those of a three-state gate, x where there is none.
+    first: Value,
+    second: Value,
 }
 
 impl Model for Inputs {
@@ -32,8 +43,8 @@ impl Model for Inputs {
 
     ghost Value = { List values.Value };
 
-    ghost use Rattle.fourstate.specs.Planes.{inputs_of, fields_of, AreInputs};
-    ghost use Rattle.fourstate.specs.PlaneLaws.{fields_of-kept};
+    ghost use Rattle.fourstate.specs.kept.Planes.{inputs_of, fields_of, AreInputs};
+    ghost use Rattle.fourstate.specs.kept.PlaneLaws.{fields_of-kept};
 
     ghost view = { inputs_of };
 
@@ -54,6 +65,9 @@ impl Inputs {
             low: 0,
             high: 0,
             len: 0,
+            summary: 0,
+            first: Value::Unknown,
+            second: Value::Unknown,
         }
     }
 
@@ -73,78 +87,65 @@ impl Inputs {
 
     /// Adds the value of an input before all others.
     #[inline(always)]
+    #[tactic(auto, using(crate::specs::kept::PlaneLaws::values_counted))]
     pub fn put_first(&mut self, value: Value)
         requires { length self.old < MAX_INPUTS }
         ensures { self.new ≡ value ∷ self.old }
     {
+        let summary = next_summary(self.summary(), value);
         self.low = self.low * 2 + low_bit(value);
         self.high = self.high * 2 + high_bit(value);
         self.len += 1;
+        self.summary = summary;
+        self.second = self.first;
+        self.first = value;
     }
 
     /// How many inputs there are.
     #[inline(always)]
-    #[tactic(auto, using(crate::specs::PlaneLaws::values_counted))]
+    #[tactic(auto, using(crate::specs::kept::PlaneLaws::values_counted))]
     pub fn len(&self) -> usize
         ensures { result ≡ length self.now }
     {
-        self.len
-    }
-
-    /// The value of the input at this place, from 0.
-    #[inline(always)]
-    #[tactic(auto, using(crate::proofs::Planes::value_at, crate::specs::PlaneLaws::values_counted))]
-    pub(crate) fn get(&self, place: usize) -> Value
-        requires { place < length self.now }
-        ensures { slice_get self.now place ≡ Some result }
-    {
-        value_of_bits((self.low >> place) % 2, (self.high >> place) % 2)
+        self.len as usize
     }
 
     /// Whether the values are the same, in the same order.
     #[inline(always)]
-    #[tactic(auto, using(crate::proofs::Planes::same_fields))]
     pub fn is_same(self, other: Inputs) -> bool
         ensures { result ≡ pointwise same_value self other }
     {
         (self.low, self.high, self.len) == (other.low, other.high, other.len)
     }
 
-    /// Whether a 0 is among the values.
+    /// What a gate of inputs that are all alike has to know of them.
     #[inline(always)]
-    #[tactic(auto, using(crate::proofs::Planes::zero_among, crate::specs::PlaneLaws::values_counted))]
-    pub(crate) fn has_zero(&self) -> bool
+    #[tactic(auto, using(crate::proofs::Summaries::summary_low))]
+    pub(crate) fn summary(&self) -> u8
+        ensures value { result ≡ summary_of self.now }
+        ensures low { result < 16 }
+    {
+        self.summary
+    }
+
+    /// The first input, the data of a three-state gate.
+    #[inline(always)]
+    #[tactic(auto, using(crate::proofs::Summaries::first_there))]
+    pub(crate) fn first(&self) -> Value
         requires { 0 < length self.now }
-        ensures { result ≡ occurs Value.Zero self.now }
+        ensures { slice_get self.now 0 ≡ Some result }
     {
-        self.low | self.high != u64::MAX >> (BITS - self.len)
+        self.first
     }
 
-    /// Whether a 1 is among the values.
+    /// The second input, the control of a three-state gate.
     #[inline(always)]
-    #[tactic(auto, using(crate::proofs::Planes::one_among, crate::specs::PlaneLaws::values_counted))]
-    pub(crate) fn has_one(&self) -> bool
-        ensures { result ≡ occurs Value.One self.now }
+    #[tactic(auto, using(crate::proofs::Summaries::second_there))]
+    pub(crate) fn second(&self) -> Value
+        requires { 1 < length self.now }
+        ensures { slice_get self.now 1 ≡ Some result }
     {
-        self.low | self.high != self.high
-    }
-
-    /// Whether an x or a z is among the values.
-    #[inline(always)]
-    #[tactic(auto, using(crate::proofs::Planes::unknown_among, crate::specs::PlaneLaws::values_counted))]
-    pub(crate) fn has_unknown(&self) -> bool
-        ensures { result ≡ (occurs Value.Unknown self.now || occurs Value.HighZ self.now) }
-    {
-        self.high != 0
-    }
-
-    /// Whether the number of ones is odd, if each value is 0 or 1.
-    #[inline(always)]
-    #[tactic(auto, using(crate::proofs::Planes::ones_counted, crate::specs::PlaneLaws::values_counted))]
-    pub(crate) fn has_odd_ones(&self) -> bool
-        ensures { (occurs Value.Unknown self.now || occurs Value.HighZ self.now) ≡ false → result ≡ (count_by (same_value Value.One) self.now % 2 == 1) }
-    {
-        self.low.count_ones() % 2 == 1
+        self.second
     }
 }
 
@@ -165,15 +166,11 @@ fn high_bit(value: Value) -> u64
     (value as u64) / 2
 }
 
-/// The value that a bit of each word writes.
+/// The summary once this value is among them too.
 #[inline(always)]
-fn value_of_bits(low: u64, high: u64) -> Value
-    ensures { result ≡ value_of_bits low high }
+fn next_summary(summary: u8, value: Value) -> u8
+    requires { summary < 16 }
+    ensures { result ≡ next_summary summary value }
 {
-    match (high != 0, low != 0) {
-        (false, false) => Value::Zero,
-        (false, true) => Value::One,
-        (true, false) => Value::Unknown,
-        (true, true) => Value::HighZ,
-    }
+    SUMMARIES[4 * summary as usize + value as usize]
 }

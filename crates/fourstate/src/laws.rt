@@ -1,11 +1,14 @@
 //! Laws of the tables of gates, nets, delays and words: each function does nothing, and its contract is the law.
 
 ghost use Rattle.std.specs.Prelude.{◌≡◌, ◌≤◌, [], ◌∷◌, if◌then◌else◌, IsTrue, map, Some};
-ghost use Rattle.fourstate.specs.Delays.{AreDelays, IsDelay, delay_to};
+ghost use Rattle.fourstate.specs.Delays.{delay_to};
+ghost use Rattle.fourstate.specs.kept.Delays.{AreDelays, IsDelay};
 ghost use Rattle.fourstate.specs.Gates.{gate_of};
 ghost use Rattle.fourstate.specs.Keywords.{gate_keyword, gate_kind_of, net_keyword, net_kind_of};
-ghost use Rattle.fourstate.specs.Nets.{net_of, passes_lone_driver};
-ghost use Rattle.fourstate.specs.Values.{AreSameSet, inverse, reading, same_value, symbol_of, value_of_symbol};
+ghost use Rattle.fourstate.specs.Nets.{net_of};
+ghost use Rattle.fourstate.specs.kept.Nets.{passes_lone_driver};
+ghost use Rattle.fourstate.specs.Values.{inverse, reading, same_value, symbol_of, value_of_symbol};
+ghost use Rattle.fourstate.specs.kept.Values.{AreSameSet};
 ghost use Rattle.fourstate.specs.declared.value.Value as values;
 
 use crate::delays::Delays;
@@ -23,7 +26,7 @@ pub fn resolution_reads_a_set(kind: NetKind, values: &[Value], others: &[Value])
 {}
 
 /// One driver alone gives a net what it drives, where the net's kind passes it.
-#[tactic(auto, using(crate::specs::NetLaws::lone_driver_passes))]
+#[tactic(auto, using(crate::specs::kept::NetLaws::lone_driver_passes))]
 pub fn lone_driver_passes(kind: NetKind, value: Value)
     requires { IsTrue (passes_lone_driver kind) }
     ensures { net_of kind (value ∷ []) ≡ value }
@@ -58,7 +61,7 @@ pub fn inverting_three_state_gates(data: Value, control: Value)
 {}
 
 /// The delay to each value is within the limits, and to x it is the least.
-#[tactic(auto, using(crate::specs::DelayLaws::delay_in_range, crate::proofs::Tables::least_delay))]
+#[tactic(auto, using(crate::specs::kept::DelayLaws::delay_in_range, crate::proofs::Tables::least_delay))]
 pub fn delays_in_range(delays: &Delays)
     ensures each { AreDelays delays.now }
     ensures to_each { (to : values.Value) → IsDelay (delay_to delays.now to) }

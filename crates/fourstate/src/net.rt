@@ -1,7 +1,8 @@
 //! Nets (IEEE 1364-2005, 4.6).
 
 ghost use Rattle.std.specs.Prelude.{◌≡◌};
-ghost use Rattle.fourstate.specs.Nets.{net_of, passes_lone_driver, pulled_of, rule_of, wand_of, wire_of, wor_of};
+ghost use Rattle.fourstate.specs.Nets.{net_of, pulled_of, rule_of, wand_of, wire_of, wor_of};
+ghost use Rattle.fourstate.specs.kept.Nets.{passes_lone_driver};
 ghost use Rattle.fourstate.specs.Keywords.{net_keyword, net_kind_of};
 
 use crate::survey::Survey;
@@ -74,7 +75,7 @@ impl NetKind {
     }
 
     /// Whether a net of this kind always has what its driver gives, where it has one alone.
-    #[tactic(auto, unfolding(crate::specs::Nets::passes_lone_driver))]
+    #[tactic(auto, unfolding(crate::specs::kept::Nets::passes_lone_driver))]
     pub fn passes_lone_driver(self) -> bool
         ensures { result ≡ passes_lone_driver self }
     {

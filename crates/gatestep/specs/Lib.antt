@@ -1,6 +1,5 @@
-pub mod Drivers
 pub mod Faults
 pub mod Record
 pub mod Step
-pub mod StepLaws
 pub mod Tasks
+pub mod kept

@@ -25,7 +25,7 @@ impl Model for Driver {
 
     ghost Value = { State };
 
-    ghost use Rattle.gatestep.specs.Drivers.{state_of, fields_of, IsDriver, fields_of-kept};
+    ghost use Rattle.gatestep.specs.kept.Drivers.{state_of, fields_of, IsDriver, fields_of-kept};
 
     ghost view = { state_of };
 

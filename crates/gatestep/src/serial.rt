@@ -5,7 +5,7 @@ ghost use Rattle.fourstate.specs.declared.limits.TheConstants.{MAX_TIME};
 ghost use Rattle.gatestep.specs.Faults.{is_lost};
 ghost use Rattle.gatestep.specs.Record.{at_moment};
 ghost use Rattle.gatestep.specs.Step.{advance};
-ghost use Rattle.gatestep.specs.StepLaws.{advance_current, advance_later, advance_near, advance_stays};
+ghost use Rattle.gatestep.specs.kept.StepLaws.{advance_current, advance_later, advance_near, advance_stays};
 ghost use Rattle.gatestep.specs.Tasks.{IsReady, PendingFrom};
 
 use crate::driver::Driver;

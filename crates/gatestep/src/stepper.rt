@@ -6,7 +6,8 @@ ghost use Rattle.fourstate.specs.declared.limits.TheConstants.{MAX_DELAY, MAX_TI
 ghost use Rattle.gatestep.specs.Faults.{is_lost};
 ghost use Rattle.gatestep.specs.Record.{at_moment};
 ghost use Rattle.gatestep.specs.Step.{State, Evaluation, due};
-ghost use Rattle.gatestep.specs.Tasks.{IsTask, IsReady, PendingBefore, PendingFrom, NothingDue, again};
+ghost use Rattle.gatestep.specs.Tasks.{IsReady, PendingFrom};
+ghost use Rattle.gatestep.specs.kept.Tasks.{IsTask, PendingBefore, NothingDue, again};
 
 use crate::driver::Driver;
 use crate::fault::StepFault;

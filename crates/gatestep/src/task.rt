@@ -4,7 +4,8 @@ ghost use Rattle.std.specs.Prelude.{◌≡◌, ◌≤◌, ◌+◌, IsTrue, lengt
 ghost use Rattle.fourstate.specs.Gates.{takes_inputs};
 ghost use Rattle.fourstate.specs.declared.limits.TheConstants.{MAX_DELAY, MAX_TIME};
 ghost use Rattle.gatestep.specs.Step.{advance};
-ghost use Rattle.gatestep.specs.Tasks.{IsTask, IsReady, PendingBefore, PendingFrom};
+ghost use Rattle.gatestep.specs.Tasks.{IsReady, PendingFrom};
+ghost use Rattle.gatestep.specs.kept.Tasks.{IsTask, PendingBefore};
 
 use crate::driver::Driver;
 use fourstate::{Delays, GateKind, Inputs, delay, gate_value, laws};
@@ -25,7 +26,7 @@ pub struct Task {
 
 impl Model for Task {
     ghost use Rattle.gatestep.specs.Step.{Evaluation};
-    ghost use Rattle.gatestep.specs.Tasks.{IsTask};
+    ghost use Rattle.gatestep.specs.kept.Tasks.{IsTask};
 
     ghost Value = { Evaluation };
 

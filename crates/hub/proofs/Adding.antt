@@ -6,7 +6,7 @@ use mathlib.Core.List.{IsPrefix}
 use prog.Atomic.{either}
 use Rattle.logbook.specs.Pages.{Cell, Goes, Moves, cell, keeps, no_nib, step}
 use Rattle.hubcore.specs.Lists.{EntryRecord}
-use Rattle.hub.specs.Histories.{Adds, IsCounted}
+use Rattle.hub.specs.kept.Histories.{Adds, IsCounted}
 use Rattle.hub.proofs.Beginnings.{as_long}
 
 -- nobody else keeps anything beside the book

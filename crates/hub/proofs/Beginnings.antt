@@ -5,8 +5,9 @@ use Rattle.std.proofs.Math.Seq.{take-append_seam}
 use Rattle.std.proofs.lemmas.Bool.Decides.{nat_tests}
 use Rattle.std.proofs.lemmas.List.{append-nil, take-append-drop, take-take}
 use Rattle.hubcore.specs.Lists.{EntryRecord, StartsWith}
-use Rattle.hub.specs.Desks.{AreToldWithin, GoesOn}
-use Rattle.hub.specs.Issues.{IssueRecord, last_of}
+use Rattle.hub.specs.Desks.{GoesOn}
+use Rattle.hub.specs.kept.Desks.{AreToldWithin}
+use Rattle.hub.specs.kept.Issues.{IssueRecord, last_of}
 
 pub starts_same : (log : List EntryRecord) → StartsWith log log
 starts_same log = ([], sym (append-nil log))

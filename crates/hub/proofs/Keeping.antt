@@ -7,8 +7,8 @@ use Rattle.atomic_table.proofs.Lists.{at_set, at_snoc}
 use Rattle.logbook.specs.Pages.{Book}
 use Rattle.bench.specs.Benches.{SnapshotRecord}
 use Rattle.hubcore.specs.Lists.{EntryRecord, StartsWith}
-use Rattle.hub.specs.Issues.{IssueRecord, issue_of}
-use Rattle.hub.specs.Rules.{Fits, Follows, Keeps, Saw, informed}
+use Rattle.hub.specs.kept.Issues.{IssueRecord, issue_of}
+use Rattle.hub.specs.kept.Rules.{Fits, Follows, Keeps, Saw, informed}
 use Rattle.hub.proofs.Beginnings.{starts_on, starts_same}
 
 pub follows_same : (now : IssueRecord) → Follows now now

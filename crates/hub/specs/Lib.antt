@@ -1,5 +1,3 @@
 pub mod Commits
-pub mod Histories
-pub mod Issues
-pub mod Rules
 pub mod Desks
+pub mod kept

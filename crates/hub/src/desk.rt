@@ -6,8 +6,9 @@ ghost use Rattle.left_right.specs.Sides.{view};
 ghost use Rattle.bench.specs.Refusals.{loses_a_worker};
 ghost use Rattle.hubcore.specs.Lists.{StartsWith};
 ghost use Rattle.hub.specs.Commits.{AskedByCommit, IsReply, count_of, logged, snapshot_after};
-ghost use Rattle.hub.specs.Desks.{GoesOn, answered, desk_of, editor_of};
-ghost use Rattle.hub.specs.Issues.{issue_of};
+ghost use Rattle.hub.specs.Desks.{GoesOn, answered, editor_of};
+ghost use Rattle.hub.specs.kept.Desks.{desk_of};
+ghost use Rattle.hub.specs.kept.Issues.{issue_of};
 
 use crate::editor::Editor;
 use crate::entry::{Entry, copies_of};
@@ -52,7 +53,8 @@ impl<J: HubName, L: Ledger, M: Ledger, S: Stepper + Drop, R: Wait + Drop> Model
     ghost use Rattle.std.specs.Prelude.{◌≡◌};
     ghost use Rattle.std.specs.Arc.{arc_value};
     ghost use Rattle.hubcore.specs.Lists.{StartsWith};
-    ghost use Rattle.hub.specs.Desks.{AreToldWithin, DeskRecord, IsKept, desk_of};
+    ghost use Rattle.hub.specs.Desks.{DeskRecord};
+    ghost use Rattle.hub.specs.kept.Desks.{AreToldWithin, IsKept, desk_of};
 
     ghost Value = { DeskRecord };
 

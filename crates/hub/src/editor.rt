@@ -2,7 +2,8 @@
 
 ghost use Rattle.std.specs.Prelude.{◌≡◌, ◌+◌, ◌<◌, ◌≤◌, ◌^◌, [], length};
 ghost use Rattle.hubcore.specs.Lists.{StartsWith};
-ghost use Rattle.hub.specs.Desks.{editor_of, of_number};
+ghost use Rattle.hub.specs.Desks.{editor_of};
+ghost use Rattle.hub.specs.kept.Desks.{of_number};
 
 use crate::history::Beginning;
 use crate::name::HubName;
@@ -25,7 +26,8 @@ pub struct Editor<J: HubName, L: Ledger, M: Ledger> {
 
 impl<J: HubName, L: Ledger, M: Ledger> Model for Editor<J, L, M> {
     ghost use Rattle.std.specs.Prelude.{◌≡◌, ◌<◌, length};
-    ghost use Rattle.hub.specs.Desks.{EditorRecord, Owns, editor_of};
+    ghost use Rattle.hub.specs.Desks.{EditorRecord, editor_of};
+    ghost use Rattle.hub.specs.kept.Desks.{Owns};
 
     ghost Value = { EditorRecord };
 

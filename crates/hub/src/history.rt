@@ -4,7 +4,7 @@
 ghost use Rattle.std.specs.Prelude.{◌≡◌, ◌↔◌, ◌⊎◌, ◌+◌, ◌<◌, ◌≤◌, ◌^◌, ◌++◌, ◌∷◌, [], IsTrue, length, MatchBool};
 ghost use Rattle.std.specs.Bool.{OnTrue};
 ghost use Rattle.hubcore.specs.Lists.{StartsWith};
-ghost use Rattle.hub.specs.Histories.{count_word};
+ghost use Rattle.hub.specs.kept.Histories.{count_word};
 
 use crate::entry::Entry;
 use crate::name::HubName;
@@ -17,7 +17,7 @@ pub struct Counted;
 impl Rule<Entry, u64> for Counted {
     ghost use Rattle.std.specs.Prelude.{[]};
     ghost use base.Fml.{ftrue};
-    ghost use Rattle.hub.specs.Histories.{IsCounted};
+    ghost use Rattle.hub.specs.kept.Histories.{IsCounted};
 
     ghost holds = { λ cells log. IsCounted cells log };
 
@@ -45,7 +45,7 @@ impl Gain<Entry, u64> for NoGain {
 pub struct Adding;
 
 impl Play<Entry, u64> for Adding {
-    ghost use Rattle.hub.specs.Histories.{Adds};
+    ghost use Rattle.hub.specs.kept.Histories.{Adds};
 
     ghost then = { Adds };
 }
@@ -217,7 +217,7 @@ pub struct History<J: HubName> {
 impl<J: HubName> Model for History<J> {
     ghost use Rattle.std.specs.Prelude.{◌≡◌, List};
     ghost use Rattle.hubcore.specs.Lists.{EntryRecord};
-    ghost use Rattle.hub.specs.Histories.{count_word};
+    ghost use Rattle.hub.specs.kept.Histories.{count_word};
 
     ghost Value = { List EntryRecord };
 

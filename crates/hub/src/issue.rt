@@ -3,7 +3,7 @@
 ghost use Rattle.std.specs.Prelude.{◌≡◌, length, IfOk};
 ghost use Rattle.std.specs.Arc.{arc_value};
 ghost use Rattle.hub.specs.Commits.{snapshot_after};
-ghost use Rattle.hub.specs.Issues.{issue_of, published};
+ghost use Rattle.hub.specs.kept.Issues.{issue_of, published};
 
 use crate::history::{Beginning, Reached};
 use crate::name::HubName;
@@ -26,7 +26,7 @@ impl Model for Issue {
     ghost use Rattle.std.specs.Prelude.{◌≡◌, length};
     ghost use Rattle.std.specs.Arc.{arc_value};
     ghost use Rattle.hub.specs.Commits.{snapshot_after};
-    ghost use Rattle.hub.specs.Issues.{IssueRecord, issue_of};
+    ghost use Rattle.hub.specs.kept.Issues.{IssueRecord, issue_of};
 
     ghost Value = { IssueRecord };
 

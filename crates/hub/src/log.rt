@@ -18,7 +18,7 @@ pub struct Log<J: HubName> {
 }
 
 impl<J: HubName> Model for Log<J> {
-    ghost use Rattle.hub.specs.Desks.{LogRecord};
+    ghost use Rattle.hub.specs.kept.Desks.{LogRecord};
 
     ghost Value = { LogRecord };
 

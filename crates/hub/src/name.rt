@@ -6,7 +6,7 @@ use std::marker::Brand;
 /// contracts alone: a program opens a hub in a function that is generic in the name, and picks them where it calls that function.
 pub trait HubName {
     ghost use Rattle.bench.specs.Benches.{SnapshotRecord};
-    ghost use Rattle.hub.specs.Histories.{HubBooks};
+    ghost use Rattle.hub.specs.kept.Histories.{HubBooks};
 
     ghost origin: { SnapshotRecord };
 
@@ -14,7 +14,7 @@ pub trait HubName {
 }
 
 impl HubName for Brand {
-    ghost use Rattle.hub.specs.Desks.{any_book, any_snapshot};
+    ghost use Rattle.hub.specs.kept.Desks.{any_book, any_snapshot};
 
     ghost origin = { any_snapshot };
 

@@ -4,7 +4,7 @@ ghost use Rattle.std.specs.Prelude.{◌≡◌, IfErr, IfOk, IfSome};
 ghost use Rattle.std.specs.Arc.{arc_value};
 ghost use Rattle.hubcore.specs.Lists.{StartsWith};
 ghost use Rattle.hub.specs.Commits.{snapshot_after};
-ghost use Rattle.hub.specs.Issues.{issue_of};
+ghost use Rattle.hub.specs.kept.Issues.{issue_of};
 
 use crate::fault::LookFault;
 use crate::history::Beginning;
@@ -25,7 +25,7 @@ pub struct Note<J: HubName> {
 impl<J: HubName> Model for Note<J> {
     ghost use Rattle.std.specs.Prelude.{◌≡◌, List, IfSome};
     ghost use Rattle.hubcore.specs.Lists.{EntryRecord};
-    ghost use Rattle.hub.specs.Issues.{issue_of};
+    ghost use Rattle.hub.specs.kept.Issues.{issue_of};
 
     ghost Value = { List EntryRecord };
 

@@ -3,7 +3,7 @@
 ghost use Rattle.std.specs.Prelude.{◌≡◌, ◌≢◌, ◌⊎◌, ◌<◌, ◌≤◌, ◌↔◌, [], IfOk, IfErr, IfSome, Some, Err, All, drop, length};
 ghost use Rattle.std.specs.Arc.{arc_value};
 ghost use Rattle.left_right.specs.Sides.{view};
-ghost use Rattle.hub.specs.Issues.{issue_of};
+ghost use Rattle.hub.specs.kept.Issues.{issue_of};
 
 use crate::fault::HubFault;
 use crate::history::{NewHistory, Reached};
@@ -39,8 +39,8 @@ impl<S: Stepper + Drop> Model for Parts<S> {
     ghost use Rattle.std.specs.Prelude.{◌≡◌, ◌<◌, [], Some, All, length};
     ghost use Rattle.std.specs.Arc.{arc_value};
     ghost use Rattle.left_right.specs.Sides.{view as known_by};
-    ghost use Rattle.hub.specs.Issues.{issue_of};
-    ghost use Rattle.hub.specs.Desks.{PartsRecord};
+    ghost use Rattle.hub.specs.kept.Issues.{issue_of};
+    ghost use Rattle.hub.specs.kept.Desks.{PartsRecord};
 
     ghost Value = { PartsRecord };
 

@@ -3,8 +3,8 @@
 ghost use Rattle.std.specs.Prelude.{◌≡◌, Some, length, drop, MatchBool, OnOk, OnErr};
 ghost use Rattle.left_right.specs.Sides.{view};
 ghost use Rattle.hubcore.specs.Lists.{StartsWith};
-ghost use Rattle.hub.specs.Issues.{issue_of, last_of};
-ghost use Rattle.hub.specs.Rules.{Follows};
+ghost use Rattle.hub.specs.kept.Issues.{issue_of, last_of};
+ghost use Rattle.hub.specs.kept.Rules.{Follows};
 
 use crate::history::Beginning;
 use crate::issue::Issue;
@@ -27,7 +27,7 @@ pub(crate) struct Publisher<J: HubName, R: Wait + Drop> {
 impl<J: HubName, R: Wait + Drop> Model for Publisher<J, R> {
     ghost use Rattle.std.specs.Prelude.{◌≡◌, List};
     ghost use Rattle.hubcore.specs.Lists.{EntryRecord};
-    ghost use Rattle.hub.specs.Issues.{issue_of};
+    ghost use Rattle.hub.specs.kept.Issues.{issue_of};
 
     ghost Value = { List EntryRecord };
 

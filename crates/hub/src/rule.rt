@@ -13,7 +13,7 @@ pub struct Published;
 
 impl Protocol<Issue, Known> for Published {
     ghost use Rattle.std.specs.Prelude.{None};
-    ghost use Rattle.hub.specs.Rules.{Keeps};
+    ghost use Rattle.hub.specs.kept.Rules.{Keeps};
 
     ghost holds = { Keeps };
 
@@ -24,7 +24,7 @@ impl Protocol<Issue, Known> for Published {
 pub struct Sees;
 
 impl Outcome<Issue, Known> for Sees {
-    ghost use Rattle.hub.specs.Rules.{Saw};
+    ghost use Rattle.hub.specs.kept.Rules.{Saw};
 
     ghost then = { Saw };
 }
@@ -40,7 +40,7 @@ impl Split<Known> for Telling {
 
 impl Join<Known> for Telling {
     ghost use Rattle.std.specs.Prelude.{None};
-    ghost use Rattle.hub.specs.Rules.{informed};
+    ghost use Rattle.hub.specs.kept.Rules.{informed};
 
     ghost both = { informed };
 

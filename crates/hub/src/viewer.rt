@@ -5,8 +5,8 @@ ghost use Rattle.std.specs.Arc.{arc_value};
 ghost use Rattle.left_right.specs.Sides.{view};
 ghost use Rattle.hubcore.specs.Lists.{StartsWith, longer};
 ghost use Rattle.hub.specs.Commits.{snapshot_after};
-ghost use Rattle.hub.specs.Issues.{issue_of};
-ghost use Rattle.hub.specs.Rules.{IsOf};
+ghost use Rattle.hub.specs.kept.Issues.{issue_of};
+ghost use Rattle.hub.specs.kept.Rules.{IsOf};
 
 use crate::fault::LookFault;
 use crate::history::Beginning;
@@ -31,7 +31,7 @@ impl<J: HubName> Model for Viewer<J> {
     ghost use Rattle.std.specs.Prelude.{List};
     ghost use Rattle.left_right.specs.Sides.{view as known_by};
     ghost use Rattle.hubcore.specs.Lists.{EntryRecord};
-    ghost use Rattle.hub.specs.Rules.{IsOf};
+    ghost use Rattle.hub.specs.kept.Rules.{IsOf};
 
     ghost Value = { List EntryRecord };
 

@@ -12,9 +12,11 @@ use Rattle.hubcore.specs.declared.event.Event.TheVariants.{Submit, Show, Look, L
 use Rattle.hubcore.specs.declared.fault.CoreFault.{CoreFault}
 use Rattle.hubcore.specs.declared.fault.CoreFault.TheVariants.{AheadOfLog}
 use Rattle.hubcore.specs.declared.reply.Reply.TheVariants.{Done}
-use Rattle.hubcore.specs.States.{ViewerRecord, CoreRecord, Follows, IsSound, opened}
-use Rattle.hubcore.specs.Steps.{GivesAtLeast, looked, learned, released, looks, learns, releases, step, taken, state_after, with_viewer}
-use Rattle.hubcore.specs.Snapshots.{Accepts, AreLegal, IsLegal, snapshot_at}
+use Rattle.hubcore.specs.States.{ViewerRecord, CoreRecord, opened}
+use Rattle.hubcore.specs.kept.States.{Follows, IsSound}
+use Rattle.hubcore.specs.Steps.{looked, learned, released, looks, learns, releases, step, with_viewer}
+use Rattle.hubcore.specs.kept.Steps.{GivesAtLeast, taken, state_after}
+use Rattle.hubcore.specs.kept.Snapshots.{Accepts, AreLegal, IsLegal, snapshot_at}
 use Rattle.hubcore.proofs.Sound.{step_sound, taken_sound, viewer_within}
 
 -- One event.

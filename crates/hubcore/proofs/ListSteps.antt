@@ -17,8 +17,9 @@ use Rattle.hubcore.specs.declared.fault.CoreFault.{CoreFault}
 use Rattle.hubcore.specs.declared.fault.CoreFault.TheVariants.{AheadOfLog}
 use Rattle.hubcore.specs.declared.reply.Reply.{Reply}
 use Rattle.hubcore.specs.declared.reply.Reply.TheVariants.{Done}
-use Rattle.hubcore.specs.Lists.{EntryRecord, HasLengths, IsKnown, Known, Stands, StartsWith, commits_of, entry, known, known_after, lists_of, longer}
-use Rattle.hubcore.specs.Snapshots.{snapshot_at}
+use Rattle.hubcore.specs.Lists.{EntryRecord, StartsWith, commits_of, entry, lists_of, longer}
+use Rattle.hubcore.specs.kept.Lists.{HasLengths, IsKnown, Known, Stands, known, known_after}
+use Rattle.hubcore.specs.kept.Snapshots.{snapshot_at}
 use Rattle.hubcore.specs.States.{ViewerRecord, CoreRecord, viewer}
 use Rattle.hubcore.specs.Steps.{learned, learns, looked, looks, released_at, releases, step, with_viewer}
 use Rattle.hubcore.proofs.Beginnings.{length_of_longer, longer_begins, starts_more, starts_on, starts_same, starts_take}

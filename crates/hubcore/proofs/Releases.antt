@@ -5,7 +5,8 @@ use Rattle.std.specs.Result.{IfOk, result_map_both}
 use Rattle.std.proofs.lemmas.List.Elements.{All-append, All-take, All-drop}
 use Rattle.hubcore.specs.declared.fault.CoreFault.{CoreFault}
 use Rattle.hubcore.specs.declared.reply.Reply.TheVariants.{Done}
-use Rattle.hubcore.specs.States.{ViewerRecord, CoreRecord, IsWithin}
+use Rattle.hubcore.specs.States.{ViewerRecord, CoreRecord}
+use Rattle.hubcore.specs.kept.States.{IsWithin}
 use Rattle.hubcore.specs.Steps.{released_at, released, releases, with_viewer}
 
 -- what holds of all that is held holds without one

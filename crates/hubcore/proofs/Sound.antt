@@ -12,8 +12,10 @@ use Rattle.hubcore.specs.declared.fault.CoreFault.{CoreFault}
 use Rattle.hubcore.specs.declared.fault.CoreFault.TheVariants.{AheadOfLog}
 use Rattle.hubcore.specs.declared.reply.Reply.{Reply}
 use Rattle.hubcore.specs.declared.reply.Reply.TheVariants.{Done}
-use Rattle.hubcore.specs.States.{ViewerRecord, CoreRecord, IsWithin, IsSound, opened, viewer}
-use Rattle.hubcore.specs.Steps.{looked, learned, released, looks, learns, releases, step, taken, state_after, with_viewer}
+use Rattle.hubcore.specs.States.{ViewerRecord, CoreRecord, opened, viewer}
+use Rattle.hubcore.specs.kept.States.{IsWithin, IsSound}
+use Rattle.hubcore.specs.Steps.{looked, learned, released, looks, learns, releases, step, with_viewer}
+use Rattle.hubcore.specs.kept.Steps.{taken, state_after}
 use Rattle.hubcore.proofs.Releases.{released_within}
 
 -- What one viewer knows.

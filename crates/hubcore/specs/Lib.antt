@@ -1,4 +1,4 @@
 pub mod Lists
-pub mod Snapshots
 pub mod States
 pub mod Steps
+pub mod kept

@@ -1,5 +1,5 @@
 -- What an event makes of editors and viewers (own).
-use Rattle.std.specs.Prelude.{◌≡◌, Bool, true, false, IsTrue, ℕ, ◌==◌, ◌≤◌, max, nat_lt, if◌then◌else◌, List, [], ◌∷◌, ◌++◌, fold, length, position, remove, slice_get, slice_set, Option, Some, None, Result, Ok, Err, IsOk}
+use Rattle.std.specs.Prelude.{◌≡◌, Bool, true, false, IsTrue, ℕ, ◌==◌, max, nat_lt, if◌then◌else◌, List, [], ◌∷◌, ◌++◌, length, position, remove, slice_get, slice_set, Option, Some, None, Result, Ok, Err, IsOk}
 use Rattle.std.specs.Result.{result_map_both}
 use Rattle.edits.specs.declared.edit.Edit.{Edit}
 use Rattle.bench.specs.declared.fault.CommitFault.{CommitFault}
@@ -61,20 +61,6 @@ step s Show = Ok (state s.log (length s.log) s.viewers, Done)
 step s (Look number) = looks s number (slice_get s.viewers number)
 step s (Learn number length) = learns s number length (slice_get s.viewers number)
 step s (Release number length) = releases s number length (slice_get s.viewers number)
-
--- a refused event changes nothing
-abbrev pub taken : CoreRecord → Result (CoreRecord × Reply) CoreFault → CoreRecord
-taken s (Ok done) = done.0
-taken s (Err fault) = s
-
--- the state after these events, one after another
-abbrev pub state_after : CoreRecord → List Event → CoreRecord
-state_after s events = fold (λ s event. taken s (step s event)) s events
-
--- a look gives a snapshot of this length or a greater one
-abbrev pub GivesAtLeast : ℕ → Reply → Type 0
-GivesAtLeast length (At given) = length ≤ given
-GivesAtLeast length Done = ⊥
 
 -- What a refusal may be.
 

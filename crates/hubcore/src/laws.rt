@@ -7,10 +7,13 @@ ghost use Rattle.bench.specs.Benches.{SnapshotRecord, snapshot_of};
 ghost use Rattle.bench.specs.Commits.{after};
 ghost use Rattle.hubcore.specs.declared.event.Event as declared;
 ghost use Rattle.hubcore.specs.declared.event.Event.TheVariants.{Look};
-ghost use Rattle.hubcore.specs.Lists.{EntryRecord, Known, Stands, StartsWith, commits_of, entry, known_after, lists_of, longer};
-ghost use Rattle.hubcore.specs.Snapshots.{Accepts, AreLegal, snapshot_at};
-ghost use Rattle.hubcore.specs.States.{CoreRecord, Follows, IsSound, ViewerRecord, opened};
-ghost use Rattle.hubcore.specs.Steps.{GivesAtLeast, state_after, step};
+ghost use Rattle.hubcore.specs.Lists.{EntryRecord, StartsWith, commits_of, entry, lists_of, longer};
+ghost use Rattle.hubcore.specs.kept.Lists.{Known, Stands, known_after};
+ghost use Rattle.hubcore.specs.kept.Snapshots.{Accepts, AreLegal, snapshot_at};
+ghost use Rattle.hubcore.specs.States.{CoreRecord, ViewerRecord, opened};
+ghost use Rattle.hubcore.specs.kept.States.{Follows, IsSound};
+ghost use Rattle.hubcore.specs.Steps.{step};
+ghost use Rattle.hubcore.specs.kept.Steps.{GivesAtLeast, state_after};
 
 /// After any events only accepted commits are shown, and viewers saw, were told of and hold nothing else than what is shown.
 #[tactic(auto, using(crate::proofs::Sound::states_sound, crate::proofs::Sound::after_sound))]

@@ -1,7 +1,8 @@
 //! The state of editors and viewers, and its steps.
 
 ghost use Rattle.std.specs.Prelude.{◌≡◌, ◌≤◌, ◌<◌, [], Ok, Err, IfOk, IfErr, OnErr, length, replicate};
-ghost use Rattle.hubcore.specs.States.{IsSound, opened, viewer};
+ghost use Rattle.hubcore.specs.States.{opened, viewer};
+ghost use Rattle.hubcore.specs.kept.States.{IsSound};
 ghost use Rattle.hubcore.specs.Steps.{MayRefuse, step};
 ghost use Rattle.hubcore.specs.declared.event.Event.TheVariants.{Submit, Show, Look, Learn, Release};
 
@@ -25,7 +26,8 @@ pub struct Core {
 
 impl Model for Core {
     ghost use Rattle.std.specs.Prelude.{◌≤◌, length, map, All};
-    ghost use Rattle.hubcore.specs.States.{CoreRecord, IsWithin, state};
+    ghost use Rattle.hubcore.specs.States.{CoreRecord, state};
+    ghost use Rattle.hubcore.specs.kept.States.{IsWithin};
 
     ghost Value = { CoreRecord };
 

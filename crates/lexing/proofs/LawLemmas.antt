@@ -5,7 +5,8 @@ use Rattle.std.proofs.lemmas.List.{drop_all}
 use Rattle.lexing.proofs.ShapeLemmas.{one_longest}
 use Rattle.lexing.specs.Lexemes.{spells, IsLongest, IsNoToken}
 use Rattle.lexing.specs.Spaces.{white_space, opening_of}
-use Rattle.lexing.specs.Texts.{Spells, at_end, at_white, at_unending, at_stray, at_token, token_at, is_fault}
+use Rattle.lexing.specs.Texts.{Spells, at_end, at_white, at_unending, at_stray, at_token, token_at}
+use Rattle.lexing.specs.kept.Texts.{is_fault}
 use Rattle.lexing.specs.declared.spaces.White.{White}
 use Rattle.lexing.specs.declared.spaces.White.TheVariants as piece
 use Rattle.lexing.specs.declared.token.Shape.{Shape}

@@ -9,7 +9,8 @@ use Rattle.std.proofs.lemmas.List.Sums.{prefix_len-le-length}
 use Rattle.lexing.proofs.TestLemmas.{false_from, and_false, not_equal}
 use Rattle.lexing.proofs.WholeLemmas.{directive_local}
 use Rattle.lexing.proofs.WordLemmas.{rest_or}
-use Rattle.lexing.specs.Classes.{is_letter, is_digit, is_name_byte, is_number_byte, is_printed, is_mark}
+use Rattle.lexing.specs.Classes.{is_letter, is_digit, is_name_byte, is_number_byte, is_printed}
+use Rattle.lexing.specs.kept.Classes.{is_mark}
 use Rattle.lexing.specs.Constants.{begins_constant}
 use Rattle.std.specs.Option.{option_map}
 use Rattle.lexing.specs.Directives.{Reading, directive, is_whole, timescale_of}

@@ -7,10 +7,13 @@ use Rattle.std.proofs.lemmas.Grind.{common_steps}
 use Rattle.lexing.proofs.LawLemmas.{no_fault}
 use Rattle.lexing.proofs.LexemeLemmas.{mark_found}
 use Rattle.lexing.proofs.TestLemmas.{not_equal}
-use Rattle.lexing.specs.Classes.{is_space, is_letter, is_mark, is_printed}
-use Rattle.lexing.specs.Lexemes.{IsLongest, IsLexeme}
+use Rattle.lexing.specs.Classes.{is_space, is_letter, is_printed}
+use Rattle.lexing.specs.kept.Classes.{is_mark}
+use Rattle.lexing.specs.Lexemes.{IsLongest}
+use Rattle.lexing.specs.kept.Lexemes.{IsLexeme}
 use Rattle.lexing.specs.Spaces.{white_space, opening_of}
-use Rattle.lexing.specs.Texts.{Spells, at_end, at_white, at_unending, at_stray, at_token, token_at, IsInside, IsNext}
+use Rattle.lexing.specs.Texts.{Spells, at_end, at_white, at_unending, at_stray, at_token, token_at}
+use Rattle.lexing.specs.kept.Texts.{IsInside, IsNext}
 use Rattle.lexing.specs.declared.spaces.White.TheVariants as piece
 use Rattle.lexing.specs.declared.token.Shape.{Shape}
 use Rattle.lexing.specs.declared.token.Shape.TheVariants as shape

@@ -1,5 +1,5 @@
 -- Classes of bytes (IEEE 1364-2005, 3.2, 3.5, 3.7).
-use Rattle.std.specs.Prelude.{ℕ, Bool, ◌==◌, ◌&&◌, ◌||◌, not, nat_le}
+use Rattle.std.specs.Prelude.{ℕ, Bool, ◌==◌, ◌&&◌, ◌||◌, nat_le}
 
 -- from this byte up to that one
 abbrev pub is_between : ℕ → ℕ → ℕ → Bool
@@ -28,10 +28,6 @@ is_number_byte b = is_digit b || b == 95
 -- one of the bytes that print, save the blank
 unfoldable pub is_printed : ℕ → Bool
 is_printed b = is_between 33 126 b
-
--- a byte that prints, no letter and no digit, and none of ( / \ and the grave accent: it begins neither white space nor a longer token
-unfoldable pub is_mark : ℕ → Bool
-is_mark b = is_printed b && not (is_letter b || is_digit b || b == 40 || b == 47 || b == 92 || b == 96)
 
 -- 0, 1, x, X, z or Z
 unfoldable pub is_value_digit : ℕ → Bool

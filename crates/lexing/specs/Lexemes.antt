@@ -56,8 +56,3 @@ pub record IsLongest (bytes : List ℕ) (kind : Shape) (n : ℕ) : Type 0 where
 -- no token stands in front of the bytes
 pub record IsNoToken (bytes : List ℕ) : Type 0 where
   pub none : (other : Shape) (m : ℕ) → spells other (take m bytes) ≡ false
-
--- what stands in front of bytes that begin with no white space: the longest token, or a byte that begins none
-abbrev pub IsLexeme : List ℕ → Shape → ℕ → Type 0
-IsLexeme bytes shape.Stray n = (n ≡ 1) × IsNoToken bytes
-IsLexeme bytes kind n = IsLongest bytes kind n

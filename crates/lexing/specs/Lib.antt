@@ -1,8 +1,11 @@
 pub mod Classes
+pub mod Columns
 pub mod Constants
 pub mod Directives
 pub mod Lexemes
 pub mod Lines
 pub mod Numbers
+pub mod Shown
 pub mod Spaces
 pub mod Texts
+pub mod kept

@@ -1,5 +1,5 @@
 -- White space: blanks, comments and attributes (IEEE 1364-2005, 3.2, 3.3, 3.8). That attributes are skipped is own.
-use Rattle.std.specs.Prelude.{ℕ, zero, suc, ◌+◌, ◌-◌, ◌<◌, ◌==◌, ◌&&◌, if◌then◌else◌, List, [], ◌∷◌, Option, None, Some, drop}
+use Rattle.std.specs.Prelude.{ℕ, zero, suc, ◌+◌, ◌-◌, ◌==◌, ◌&&◌, if◌then◌else◌, List, [], ◌∷◌, Option, None, Some, drop}
 use Rattle.std.specs.List.{position_or_len}
 use Rattle.memchr.specs.Find.{matches, first_of}
 use Rattle.lexing.specs.Classes.{is_space}
@@ -58,19 +58,3 @@ behind zero (b ∷ bs) = elim (white_space (b ∷ bs)) [ piece.Nothing ↦ b ∷
 -- what follows all white space in front of the bytes; a comment or an attribute that doesn't end is none
 abbrev pub behind_white : List ℕ → List ℕ
 behind_white bytes = behind 0 bytes
-
--- how many bytes an opening looks at
-abbrev pub opening_length : Opening → ℕ
-opening_length opens.Nothing = 0
-opening_length opens.Space = 1
-opening_length _ = 2
-
--- how many bytes the piece has
-abbrev pub white_length : White → ℕ
-white_length (piece.Takes n) = n
-white_length _ = 0
-
--- a piece has at least one byte
-abbrev pub IsSomeWhite : White → Type 0
-IsSomeWhite (piece.Takes n) = 0 < n
-IsSomeWhite _ = Unit {0}

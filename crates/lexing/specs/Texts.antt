@@ -1,5 +1,5 @@
 -- Which tokens a text spells.
-use Rattle.std.specs.Prelude.{ℕ, Bool, true, false, ◌≡◌, ◌+◌, ◌<◌, ◌≤◌, List, [], ◌∷◌, length, drop, slice_range}
+use Rattle.std.specs.Prelude.{ℕ, ◌≡◌, ◌+◌, ◌<◌, List, [], ◌∷◌, length, drop, slice_range}
 use Rattle.lexing.specs.Lexemes.{IsLongest, IsNoToken}
 use Rattle.lexing.specs.Spaces.{white_space}
 use Rattle.lexing.specs.declared.spaces.White.TheVariants as piece
@@ -23,24 +23,6 @@ pub data Spells (text : List ℕ) : ℕ → List Token → Type 0 where
   at_token : {from : ℕ} {kind : Shape} (n : ℕ) {tokens : List Token} → white_space (drop from text) ≡ piece.Nothing →
       IsLongest (drop from text) kind n → Spells text (from + n) tokens →
       Spells text from (token_at kind from (from + n) ∷ tokens)
-
--- the shape tells of bytes that spell no token
-abbrev pub is_fault : Shape → Bool
-is_fault shape.Unending = true
-is_fault shape.Stray = true
-is_fault kind = false
-
--- the token has a byte and lies within a text of this length
-pub record IsInside (size : ℕ) (token : Token) : Type 0 where
-  pub some : token.start < token.end
-  pub within : token.end ≤ size
-
--- the token is the first one that the text spells from the place on: with what it spells behind the token, if that isn't the last
-pub record IsNext (text : List ℕ) (from : ℕ) (token : Token) : Type 0 where
-  pub inside : IsInside (length text) token
-  pub start : from ≤ token.start
-  pub last : is_fault token.shape ≡ true → Spells text from (token ∷ [])
-  pub first : is_fault token.shape ≡ false → (rest : List Token) → Spells text token.end rest → Spells text from (token ∷ rest)
 
 abbrev pub bytes_of : List ℕ → Token → List ℕ
 bytes_of text token = slice_range text token.start token.end

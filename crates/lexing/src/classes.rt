@@ -3,7 +3,8 @@
 #![tactic(auto, using(std::proofs::lemmas::Bool::Decides::nat_tests), unfolding(crate::specs::Classes::is_space, crate::specs::Classes::is_letter, crate::specs::Classes::is_digit, crate::specs::Classes::is_name_byte, crate::specs::Classes::is_number_byte, crate::specs::Classes::is_printed, crate::specs::Classes::is_value_digit))]
 
 ghost use Rattle.std.specs.Prelude.{◌≡◌};
-ghost use Rattle.lexing.specs.Classes.{is_digit, is_letter, is_mark, is_name_byte, is_number_byte, is_printed, is_space, is_value_digit};
+ghost use Rattle.lexing.specs.Classes.{is_digit, is_letter, is_name_byte, is_number_byte, is_printed, is_space, is_value_digit};
+ghost use Rattle.lexing.specs.kept.Classes.{is_mark};
 
 // What each byte is: `s` is white space, `a` a letter or `_`, `0` a digit, `.` any other byte that prints, and `?` one that
 // does not. `(`, `/`, `\` and the grave accent, with which several things begin, stand for themselves.

@@ -3,7 +3,8 @@
 ghost use Rattle.std.specs.Prelude.{◌≡◌, ◌<◌, ◌++◌, ◌∷◌, [], ℕ, List, true, length, take};
 ghost use Rattle.lexing.specs.Lexemes.{IsLongest, spells};
 ghost use Rattle.lexing.specs.Directives.{timescale_of};
-ghost use Rattle.lexing.specs.Texts.{Spells, is_fault};
+ghost use Rattle.lexing.specs.Texts.{Spells};
+ghost use Rattle.lexing.specs.kept.Texts.{is_fault};
 ghost use Rattle.lexing.specs.declared.token.Shape as shapes;
 ghost use Rattle.lexing.specs.declared.token.Token.{Token};
 

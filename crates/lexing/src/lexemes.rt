@@ -3,7 +3,7 @@
 ghost use Rattle.std.specs.Prelude.{◌≡◌, ◌<◌, ◌≤◌, true, length, slice_index};
 ghost use Rattle.std.specs.List.{prefix_len};
 ghost use Rattle.lexing.specs.Classes.{is_digit, is_letter, is_name_byte, is_number_byte, is_printed};
-ghost use Rattle.lexing.specs.Lexemes.{IsLexeme};
+ghost use Rattle.lexing.specs.kept.Lexemes.{IsLexeme};
 
 use crate::classes::{is_digit, is_letter, is_name_byte, is_number_byte, is_printed};
 use crate::constants::begins_constant;

@@ -1,7 +1,8 @@
 //! The tokens of a text.
 
 ghost use Rattle.std.specs.Prelude.{◌≡◌, ◌≤◌, [], length, IfSome, IsNone};
-ghost use Rattle.lexing.specs.Texts.{IsNext, Spells, token_at};
+ghost use Rattle.lexing.specs.Texts.{Spells, token_at};
+ghost use Rattle.lexing.specs.kept.Texts.{IsNext};
 ghost use Rattle.lexing.specs.declared.limits.TheConstants.{MAX_TEXT};
 
 use crate::classes::{is_letter, is_mark, is_space};

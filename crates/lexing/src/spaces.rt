@@ -1,7 +1,8 @@
 //! White space: blanks, comments and attributes (IEEE 1364-2005, 3.2, 3.3, 3.8).
 
 ghost use Rattle.std.specs.Prelude.{◌≡◌, ◌+◌, ◌≤◌, length};
-ghost use Rattle.lexing.specs.Spaces.{white_space, opening_of, opening_length, white_length, IsSomeWhite, line_length, enclosed, behind_white};
+ghost use Rattle.lexing.specs.Spaces.{white_space, opening_of, line_length, enclosed, behind_white};
+ghost use Rattle.lexing.specs.kept.Spaces.{opening_length, white_length, IsSomeWhite};
 
 use crate::classes::is_space;
 use memchr::{memchr, memmem};

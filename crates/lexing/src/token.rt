@@ -1,7 +1,8 @@
 //! Tokens as places in a text.
 
 ghost use Rattle.std.specs.Prelude.{◌≡◌, ◌+◌, ◌<◌, ◌≤◌, length, slice_range};
-ghost use Rattle.lexing.specs.Texts.{IsInside, is_fault, name_bytes};
+ghost use Rattle.lexing.specs.Texts.{name_bytes};
+ghost use Rattle.lexing.specs.kept.Texts.{IsInside, is_fault};
 
 use std::mem::size_of;
 

@@ -7,7 +7,8 @@ use Rattle.fourstate.specs.declared.value.Value.{Value}
 use Rattle.fourstate.specs.Values.{same_value}
 use Rattle.waveform.specs.Changes.{wave_at}
 use Rattle.waveform.specs.Entries.{standing}
-use Rattle.waveform.specs.Timelines.{IsTimeline, entries_after, entries_until, first_after}
+use Rattle.waveform.specs.Timelines.{entries_after, entries_until, first_after}
+use Rattle.waveform.specs.kept.Timelines.{IsTimeline}
 use Rattle.listing.specs.Lines.{part_line}
 use Rattle.listing.specs.Parts.{first_parts, has_changes, line_of_part, lines_between, part_start}
 use Rattle.listing.specs.Windows.{changes_between}

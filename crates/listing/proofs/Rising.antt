@@ -4,8 +4,10 @@ use Rattle.std.proofs.lemmas.Bool.Decides.{nat_tests}
 use Rattle.std.proofs.lemmas.List.Elements.{filter-append, recursion_from_All}
 use Rattle.std.specs.List.{AllByRecursion, filter, last_or, slice_index_or}
 use Rattle.fourstate.specs.declared.value.Value.{Value}
-use Rattle.design.specs.Netlist.{has_point, next_point, stimulus}
-use Rattle.waveform.specs.Timelines.{AreInTurn, IsTimeline, entries_after, entries_until, first_after}
+use Rattle.design.specs.Netlist.{has_point, stimulus}
+use Rattle.design.specs.kept.Netlist.{next_point}
+use Rattle.waveform.specs.Timelines.{entries_after, entries_until, first_after}
+use Rattle.waveform.specs.kept.Timelines.{AreInTurn, IsTimeline}
 use Rattle.listing.specs.Windows.{changes_between}
 
 abbrev pub AreAbove : ℕ → List (ℕ × Value) → Type 0

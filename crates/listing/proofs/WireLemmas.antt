@@ -5,13 +5,16 @@ use Rattle.std.specs.Option.{option_map_or}
 use Rattle.std.proofs.lemmas.Bool.{eqb-true, eq-eqb, false_from_ne_true}
 use Rattle.std.proofs.lemmas.List.Elements.{recursion_from_All}
 use Rattle.std.proofs.lemmas.Slice.Eq.{bytes_eq-Decides}
-use Rattle.catalog.specs.Catalog.{keys_of, place_of, record_at, records_of, same_name}
+use Rattle.catalog.specs.Catalog.{record_at, records_of, same_name}
+use Rattle.catalog.specs.kept.Catalog.{keys_of, place_of}
 use Rattle.design.specs.declared.terminal.Terminal.{Terminal}
 use Rattle.design.specs.declared.terminal.Terminal.TheVariants.{Net, Constant}
-use Rattle.design.specs.Keys.{IsConnected, IsThere, KeyedGate, connection_in, drives_key, entry_in, is_at, keys_where, name_of, named_gates, reads_key}
+use Rattle.design.specs.Keys.{KeyedGate, connection_in, entry_in, name_of, named_gates}
+use Rattle.design.specs.kept.Keys.{IsConnected, IsThere, drives_key, is_at, keys_where, reads_key}
 use Rattle.design.specs.Netlist.{NetEntry, is_at_net, reads}
 use Rattle.listing.specs.Lines.{name_line}
-use Rattle.listing.specs.Listings.{gate_names, names_at}
+use Rattle.listing.specs.Listings.{gate_names}
+use Rattle.listing.specs.kept.Listings.{names_at}
 
 -- Gates by their keys.
 

@@ -1,10 +1,7 @@
 -- What a design has, a line for each thing, in order (own).
-use Rattle.std.specs.Prelude.{ℕ, List, []}
+use Rattle.std.specs.Prelude.{ℕ, List}
 use Rattle.std.specs.List.{filter, flat_map}
-use Rattle.std.specs.Option.{option_map_or}
 use Rattle.fourstate.specs.declared.value.Value.{Value}
-use Rattle.catalog.specs.Catalog.{record_at}
-use Rattle.design.specs.Keys.{KeyedGate}
 use Rattle.design.specs.Netlist.{GateEntry, NetEntry, Netlist, reads}
 use Rattle.listing.specs.Lines.{change_line, gate_line, name_line, net_line}
 
@@ -29,7 +26,3 @@ gate_names gates = flat_map (λ g. name_line g.name) gates
 -- moments with the values from then on: points of a stimulus, or changes of a wave
 abbrev pub change_lines : List (ℕ × Value) → List ℕ
 change_lines changes = flat_map change_line changes
-
--- the names of the gates of these keys
-abbrev pub names_at : List (ℕ × KeyedGate) → List ℕ → List ℕ
-names_at gates keys = flat_map (λ key. name_line (option_map_or (λ g. g.name) (record_at gates key) [])) keys

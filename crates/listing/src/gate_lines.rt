@@ -2,7 +2,8 @@
 
 ghost use Rattle.std.specs.Prelude.{◌≡◌, ◌<◌, All, IfSome, length, map, slice_get};
 ghost use Rattle.devices.specs.Outgoing.{Adds};
-ghost use Rattle.design.specs.Keys.{IsConnected, IsThere, connection_in, entry_in, netlist};
+ghost use Rattle.design.specs.Keys.{connection_in, entry_in, netlist};
+ghost use Rattle.design.specs.kept.Keys.{IsConnected, IsThere};
 ghost use Rattle.listing.specs.Lines.{delay_words, gate_line, kind_words, off_word, pin_word, pin_words, wire_words};
 ghost use Rattle.listing.specs.Listings.{gate_lines};
 

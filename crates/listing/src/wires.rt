@@ -2,9 +2,11 @@
 
 ghost use Rattle.std.specs.Prelude.{◌≡◌, All, IsSome};
 ghost use Rattle.devices.specs.Outgoing.{Adds};
-ghost use Rattle.design.specs.Keys.{gate_by_key, name_of, net_by_key, netlist};
+ghost use Rattle.design.specs.Keys.{name_of, netlist};
+ghost use Rattle.design.specs.kept.Keys.{gate_by_key, net_by_key};
 ghost use Rattle.design.specs.Netlist.{drivers_of};
-ghost use Rattle.listing.specs.Listings.{gate_names, names_at, readers_of};
+ghost use Rattle.listing.specs.Listings.{gate_names, readers_of};
+ghost use Rattle.listing.specs.kept.Listings.{names_at};
 
 use crate::lines::name_line;
 use design::{Design, GateKey, NetKey};

@@ -8,8 +8,8 @@ use Rattle.std.specs.Option.{unwrap_or, option_map}
 use Rattle.floor.proofs.Cuts.{first_rises, first_within}
 use Rattle.floor.specs.declared.piece.Piece.{Piece}
 use Rattle.gatestep.specs.Step.{State}
-use Rattle.parstep.specs.Dealt.{dealing, answered}
-use Rattle.floor.specs.Pieces.{PieceState, Waiting, Out, Answered, Failed, Deal, first_task, part, first_waiting, all_answered, after, next_piece}
+use Rattle.parstep.specs.kept.Dealt.{dealing, answered}
+use Rattle.floor.specs.kept.Pieces.{PieceState, Waiting, Out, Answered, Failed, Deal, first_task, part, first_waiting, all_answered, after, next_piece}
 
 pub first_of_dealing : (k m : ℕ) → first_waiting (replicate k Out ++ replicate m Waiting) ≡ k
 first_of_dealing zero zero = refl

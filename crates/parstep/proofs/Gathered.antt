@@ -6,10 +6,10 @@ use Rattle.std.proofs.Math.Seq.{take-length}
 use Rattle.std.proofs.lemmas.List.Elements.{All-append}
 use Rattle.floor.proofs.Cuts.{first_rises, first_within, first_ends, first_begins}
 use Rattle.floor.proofs.Changes.{answer_fits, after_answer}
-use Rattle.floor.specs.Pieces.{PieceState, Out, Answered, Answer, first_task, part, awaited, answer_reply, finished, joined, kept, after}
+use Rattle.floor.specs.kept.Pieces.{PieceState, Out, Answered, Answer, first_task, part, awaited, answer_reply, finished, joined, kept, after}
 use Rattle.gatestep.specs.Step.{State, Evaluation}
 use Rattle.parstep.proofs.Dealt.{next_out, next_answered, length_answered, all_are, length_range}
-use Rattle.parstep.specs.Dealt.{answered, gathering}
+use Rattle.parstep.specs.kept.Dealt.{answered, gathering}
 
 -- the answers to a piece are the piece of the answers
 pub map_part : (f : Evaluation → State) (tasks : List Evaluation) (a b : ℕ) → map f (slice_range tasks a b) ≡ slice_range (map f tasks) a b

@@ -1,4 +1,1 @@
-pub mod Dealt
-pub mod Sends
-pub mod Shares
-pub mod Workers
+pub mod kept

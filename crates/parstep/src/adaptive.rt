@@ -5,7 +5,7 @@ ghost use Rattle.fourstate.specs.declared.limits.TheConstants.{MAX_TIME};
 ghost use Rattle.gatestep.specs.Faults.{is_lost};
 ghost use Rattle.gatestep.specs.Record.{at_moment};
 ghost use Rattle.gatestep.specs.Step.{advance};
-ghost use Rattle.gatestep.specs.StepLaws.{advance_current, advance_later, advance_near, advance_stays};
+ghost use Rattle.gatestep.specs.kept.StepLaws.{advance_current, advance_later, advance_near, advance_stays};
 ghost use Rattle.gatestep.specs.Tasks.{IsReady, PendingFrom};
 ghost use Rattle.parstep.specs.declared.adaptive.TheConstants.{LEAST_DEALT};
 ghost use Rattle.parstep.specs.declared.limits.TheConstants.{MAX_WORKERS};
@@ -37,7 +37,7 @@ impl<
     P: Probe + Send + Sync + Drop + 'static,
     R: Threads + Wait + Copy + Drop + Send + 'static,
 > Adaptive<P, R> {
-    ghost use Rattle.parstep.specs.Workers.{workers_behind};
+    ghost use Rattle.parstep.specs.kept.Workers.{workers_behind};
 
     /// Starts so many workers, whose pieces pass the probe. A thread that can't be started is answered as an allocation
     /// that is refused; the workers that were started by then end.
@@ -60,7 +60,7 @@ impl<
 }
 
 impl<P: Probe, R: Wait + Drop> Stepper for Adaptive<P, R> {
-    ghost use Rattle.parstep.specs.Workers.{workers_behind};
+    ghost use Rattle.parstep.specs.kept.Workers.{workers_behind};
 
     ghost answer = { advance };
 

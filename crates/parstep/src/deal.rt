@@ -2,10 +2,10 @@
 
 ghost use Rattle.std.specs.Prelude.{◌≡◌, ◌<◌, ◌≤◌, ◌+◌, length, map, take, All, IfOk, IfErr, OnOk, slice_range};
 ghost use Rattle.fourstate.specs.declared.limits.TheConstants.{MAX_TIME};
-ghost use Rattle.floor.specs.Pieces.{opened, first_task};
+ghost use Rattle.floor.specs.kept.Pieces.{opened, first_task};
 ghost use Rattle.gatestep.specs.Step.{advance};
 ghost use Rattle.gatestep.specs.Tasks.{IsReady, PendingFrom};
-ghost use Rattle.parstep.specs.Dealt.{dealing, gathering};
+ghost use Rattle.parstep.specs.kept.Dealt.{dealing, gathering};
 
 use crate::seat::Seat;
 use floor::Floor;

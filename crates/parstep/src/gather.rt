@@ -2,10 +2,10 @@
 
 ghost use Rattle.std.specs.Prelude.{[], ◌≡◌, ◌<◌, ◌≤◌, ◌+◌, length, map, All, OnOk, OnErr, IfOk, Some};
 ghost use Rattle.fourstate.specs.declared.limits.TheConstants.{MAX_TIME};
-ghost use Rattle.floor.specs.Pieces.{opened, finished};
+ghost use Rattle.floor.specs.kept.Pieces.{opened, finished};
 ghost use Rattle.gatestep.specs.Step.{advance};
 ghost use Rattle.gatestep.specs.Tasks.{IsReady, PendingFrom};
-ghost use Rattle.parstep.specs.Dealt.{dealing, gathering};
+ghost use Rattle.parstep.specs.kept.Dealt.{dealing, gathering};
 ghost use Rattle.parstep.specs.declared.limits.TheConstants.{MAX_WORKERS};
 
 use crate::deal::{deal, part_of};

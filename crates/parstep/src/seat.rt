@@ -4,7 +4,7 @@ ghost use Rattle.std.specs.Prelude.{◌≡◌, ◌<◌, ◌≤◌, ◌+◌, leng
 ghost use Rattle.fourstate.specs.declared.limits.TheConstants.{MAX_TIME};
 ghost use Rattle.gatestep.specs.Step.{advance};
 ghost use Rattle.gatestep.specs.Tasks.{IsReady, PendingFrom};
-ghost use Rattle.parstep.specs.Sends.{send_fault};
+ghost use Rattle.parstep.specs.kept.Sends.{send_fault};
 
 use crate::compare::same_tasks;
 use crate::message::{Answered, Errand, errand_of};

@@ -13,7 +13,7 @@ pub struct Shareable<R> {
 
 impl<R> Model for Shareable<R> {
     ghost use base.Fml.{fex, ftrue};
-    ghost use Rattle.parstep.specs.Shares.{Shares};
+    ghost use Rattle.parstep.specs.kept.Shares.{Shares};
 
     ghost also_owns = { λ _. fex (Shares R.row) (λ _. ftrue) };
 }

@@ -3,7 +3,7 @@ use Rattle.std.proofs.Common.{◌≡◌, ◌∙◌, ◌+◌, ◌++◌, ◌≤◌
 use Rattle.std.proofs.Math.Seq.{take-append_seam}
 use Rattle.std.proofs.lemmas.List.{append-nil, length-take, take_all}
 use Rattle.std.specs.Io.KnownBytes.{Consumes, IsAtEnd}
-use Rattle.programs.specs.Files.{TakesIn}
+use Rattle.programs.specs.kept.Files.{TakesIn}
 
 pub consumes_none : (known : Option (List ℕ)) → Consumes known known []
 consumes_none None = tt

@@ -1,8 +1,7 @@
-pub mod CommandLaws
 pub mod CommandLine
 pub mod Endings
 pub mod Files
 pub mod Numbers
 pub mod Refusals
-pub mod TextLaws
 pub mod Words
+pub mod kept

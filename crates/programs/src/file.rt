@@ -3,7 +3,8 @@
 ghost use Rattle.std.specs.Prelude.{◌≡◌, ◌+◌, ◌<◌, ◌≤◌, Err, IfErr, IfOk, IfSome, Ok, length, take};
 ghost use Rattle.std.specs.Io.KnownBytes.{Consumes};
 ghost use Rattle.std.specs.IoError.{error_kind};
-ghost use Rattle.programs.specs.Files.{TakesIn, breakdown_by};
+ghost use Rattle.programs.specs.Files.{breakdown_by};
+ghost use Rattle.programs.specs.kept.Files.{TakesIn};
 
 use crate::fault_lines::Breakdown;
 use std::alloc::Global;
@@ -76,7 +77,8 @@ pub fn text_of(file: io::Result<Vec<u8>>) -> Result<Vec<u8>, Breakdown>
     }
 }
 
-fn breakdown_of(error: &io::Error) -> Breakdown
+/// Why the program can't go on without a file that can't be read.
+pub fn breakdown_of(error: &io::Error) -> Breakdown
     ensures { result ≡ breakdown_by (error_kind error.now) }
 {
     match error.kind() {

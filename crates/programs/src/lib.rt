@@ -14,7 +14,7 @@ mod words_fault;
 
 pub use command_line::{option_of, parse, positional, program};
 pub use fault_lines::{Breakdown, break_off, say_breakdown, say_design};
-pub use file::{all_bytes_of, first_bytes_of, text_of};
+pub use file::{all_bytes_of, breakdown_of, first_bytes_of, text_of};
 pub use not_started::{StopCause, stop};
 pub use numbers::number_of;
 pub use refusal::{say_missing, say_range, say_value, say_words_fault};

@@ -2,7 +2,8 @@
 
 ghost use Rattle.std.specs.Prelude.{◌≡◌, MatchBool};
 ghost use Rattle.devices.specs.Outgoing.{Adds};
-ghost use Rattle.programs.specs.Endings.{Prints, Says, breakdown_line, version_line};
+ghost use Rattle.programs.specs.Endings.{Says, breakdown_line, version_line};
+ghost use Rattle.programs.specs.kept.Endings.{Prints};
 
 use crate::fault_lines::{Breakdown, break_off};
 use crate::status::ENDED;

@@ -8,7 +8,8 @@ use Rattle.programs.specs.CommandLine as line
 use Rattle.programs.specs.declared.words_fault.WordsFault.TheVariants.{Help, Version, NotText, Form}
 use Rattle.racer.specs.Arguments.{Arguments, arguments_by, asked}
 use Rattle.racer.specs.CommandLine.{command_line, is_taken, value_of}
-use Rattle.racer.specs.Complaints.{IsRefusedAmong, StopsBy, StopsValues}
+use Rattle.racer.specs.Complaints.{StopsBy}
+use Rattle.racer.specs.kept.Complaints.{IsRefusedAmong, StopsValues}
 use Rattle.racer.specs.declared.arguments.Args.{Args}
 use Rattle.racer.specs.declared.complaint.Complaint.TheVariants.{Words, Missing, Viewers, Looks}
 use Rattle.racer.specs.declared.complaint.StartFault.{StartFault}

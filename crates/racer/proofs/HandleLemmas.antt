@@ -4,7 +4,8 @@ use Rattle.std.proofs.Math.Seq.{get_or-append_seam}
 use Rattle.std.proofs.lemmas.List.{get_or_append_left}
 use Rattle.std.proofs.lemmas.List.Elements.{All-append, All-cons, All-nil}
 use native.Mathlib.Nat.{suc-mul}
-use Rattle.racer.specs.Tallies.{Counts, TallyRecord, added}
+use Rattle.racer.specs.Tallies.{Counts, TallyRecord}
+use Rattle.racer.specs.kept.Tallies.{added}
 
 -- the new thread keeps the same promise as the others
 pub more_handles : {H : Type 0} (P : H → Type 0) (old : List H) (child : H) (new : List H) → new ≡ old ++ child ∷ [] → All P old → P child → All P new

@@ -6,7 +6,8 @@ use Rattle.vtext.specs.ReadFaults.{out_of_memory}
 use Rattle.vtext.specs.declared.fault.ReadFault.{ReadFault}
 use Rattle.vtext.specs.declared.fault.ReadFaultKind.{ReadFaultKind}
 use Rattle.vtext.specs.declared.fault.ReadFaultKind.TheVariants as read
-use Rattle.racer.specs.Races.{IsDesignEnd, end_by}
+use Rattle.racer.specs.Races.{IsDesignEnd}
+use Rattle.racer.specs.kept.Races.{end_by}
 
 of_kind : (text : List ℕ) (kind : ReadFaultKind) (f : ReadFault) → IsReadFault None text f → IsDesignEnd text (end_by kind f)
 of_kind text (read.Edit edit.OutOfMemory) f is = tt

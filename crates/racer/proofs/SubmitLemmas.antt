@@ -4,7 +4,7 @@ use Rattle.std.proofs.lemmas.List.{take_more}
 use Rattle.edits.specs.declared.edit.Edit.{Edit}
 use Rattle.bench.specs.Benches.{SnapshotRecord}
 use Rattle.hub.specs.Desks.{EditorRecord, answered}
-use Rattle.racer.specs.Submits.{HasSubmitted}
+use Rattle.racer.specs.kept.Submits.{HasSubmitted}
 
 joined : (from : SnapshotRecord) (editor middle now : EditorRecord) (xs : List (List Edit)) (x : List Edit) → HasSubmitted from editor xs middle
     → HasSubmitted from middle (x ∷ []) now → HasSubmitted from editor (xs ++ x ∷ []) now

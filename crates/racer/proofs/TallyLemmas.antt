@@ -3,10 +3,11 @@ use Rattle.std.proofs.Common.{◌≡◌, ◌∙◌, ◌↔◌, ℕ, Bool, false,
 use Rattle.gatestep.specs.Step.{Evaluation, State}
 use Rattle.gatestep.specs.declared.fault.StepFault.{StepFault}
 use Rattle.design.specs.Keys.{Keyed, netlist}
-use Rattle.scratch.specs.Run.{IsRun}
-use Rattle.waveform.specs.Runs.{RunRecord}
-use Rattle.racer.specs.Looks.{IsCounted, SameWaves}
-use Rattle.racer.specs.Tallies.{TallyRecord, with_look}
+use Rattle.scratch.specs.kept.Run.{IsRun}
+use Rattle.waveform.specs.kept.Runs.{RunRecord}
+use Rattle.racer.specs.kept.Looks.{IsCounted, SameWaves}
+use Rattle.racer.specs.Tallies.{TallyRecord}
+use Rattle.racer.specs.kept.Tallies.{with_look}
 
 pub counted_by : (d : Keyed) (found : Result RunRecord StepFault) (right : Bool) (before now : TallyRecord) → now ≡ with_look right before
     → IfErr found (λ _. right ≡ false)

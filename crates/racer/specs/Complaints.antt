@@ -1,11 +1,8 @@
 -- Why the words are refused: the fault that the form of the command line, or a range of its numbers, finds in them.
 use Rattle.std.specs.Prelude.{◌≡◌, List, true, Option, None, Some, codes, string_bytes}
-use Rattle.clap.specs.Words.{Kinds, Text, fault_of}
+use Rattle.clap.specs.Words.{Text, fault_of}
 use Rattle.programs.specs.Words.{IsFaultAmong}
-use Rattle.programs.specs.declared.words.NoWords.{NoWords}
-use Rattle.programs.specs.declared.words.NoWords.TheVariants as none
-use Rattle.programs.specs.declared.words_fault.WordsFault.TheVariants.{NotText}
-use Rattle.racer.specs.Arguments.{arguments_by, asked}
+use Rattle.racer.specs.Arguments.{asked}
 use Rattle.racer.specs.CommandLine.{command_line, is_taken, value_of}
 use Rattle.racer.specs.Numbers.{looks_of_text, viewers_of_text}
 use Rattle.racer.specs.declared.complaint.Complaint.{Complaint}
@@ -35,23 +32,7 @@ Explains words (Words fault) = IsFaultAmong (fault_of command_line words) fault
 Explains words complaint = (is_taken words ≡ true)
     × IsValueFault (value_of (codes "design") words) (value_of (codes "script") words) (value_of (codes "viewers") words) (value_of (codes "looks") words) complaint
 
--- why four words ask for nothing: by this fault of theirs, or an allocation was refused
-abbrev pub StopsValues : (design script viewers looks : Option Text) → StartFault → Type 0
-StopsValues design script viewers looks (Refused complaint) = (arguments_by design script viewers looks ≡ None) × IsValueFault design script viewers looks complaint
-StopsValues design script viewers looks OutOfMemory = Unit {0}
-
--- words that `clap` refuses by one of these kinds do not start the program
-abbrev pub IsRefusedAmong : Kinds → StartFault → Type 0
-IsRefusedAmong kinds (Refused (Words fault)) = IsFaultAmong kinds fault
-IsRefusedAmong kinds (Refused _) = ⊥
-IsRefusedAmong kinds OutOfMemory = Unit {0}
-
 -- why the program does not start with the words: they ask for nothing, by this fault of theirs, or an allocation was refused
 abbrev pub StopsBy : List Text → StartFault → Type 0
 StopsBy words (Refused complaint) = (asked words ≡ None) × Explains words complaint
 StopsBy words OutOfMemory = Unit {0}
-
--- words that there are not
-abbrev pub stop_by : NoWords → StartFault
-stop_by none.OutOfMemory = OutOfMemory
-stop_by none.NotText = Refused (Words NotText)

@@ -2,12 +2,11 @@ pub mod Arguments
 pub mod CommandLine
 pub mod Complaints
 pub mod Endings
-pub mod Looks
 pub mod Numbers
 pub mod Races
 pub mod Refusals
 pub mod Scripts
 pub mod Submits
 pub mod Tallies
-pub mod Threads
 pub mod Turns
+pub mod kept

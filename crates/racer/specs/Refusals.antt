@@ -1,7 +1,6 @@
 -- The lines that say what is wrong with the words (own, in the manner of `clap`).
-use Rattle.std.specs.Prelude.{ℕ, ◌++◌, List, None, Option, Some, codes, string_bytes}
+use Rattle.std.specs.Prelude.{ℕ, ◌++◌, List, codes, string_bytes}
 use Rattle.programs.specs.Refusals.{missing_lines, range_line, value_line, words_lines}
-use Rattle.programs.specs.declared.words_fault.WordsFault.{WordsFault}
 use Rattle.racer.specs.declared.complaint.Complaint.{Complaint}
 use Rattle.racer.specs.declared.complaint.Complaint.TheVariants.{Words, Missing, Viewers, Looks}
 use Rattle.racer.specs.declared.complaint.Place.{Place}
@@ -24,8 +23,3 @@ complaint_lines (Looks value) = value_line (string_bytes value) (codes "<LOOKS>"
 -- what is wrong with the words, and then how to use the program
 unfoldable pub refusal_text : Complaint → List ℕ
 refusal_text complaint = complaint_lines complaint ++ HELP.now
-
--- the fault of the words' form, if it is that
-abbrev pub form_fault : Complaint → Option WordsFault
-form_fault (Words fault) = Some fault
-form_fault _ = None

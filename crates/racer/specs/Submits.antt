@@ -1,8 +1,6 @@
 -- What editors submit.
-use Rattle.std.specs.Prelude.{◌≡◌, ℕ, List, [], ◌∷◌}
+use Rattle.std.specs.Prelude.{ℕ, List}
 use Rattle.edits.specs.declared.edit.Edit.{Edit}
-use Rattle.bench.specs.Benches.{SnapshotRecord}
-use Rattle.hub.specs.Desks.{EditorRecord, FoundSomeLog, ReceiptRecord, answered}
 
 -- an editor, by its number, and its commits, in order
 pub record HandRecord : Type 0 where
@@ -11,9 +9,3 @@ pub record HandRecord : Type 0 where
 
 abbrev pub hand_of : ℕ → List (List Edit) → HandRecord
 hand_of number commits = record { number = number; commits = commits }
-
--- an editor of a hub that began with a snapshot has submitted these commits, in order, and is this one then
-abbrev pub HasSubmitted : SnapshotRecord → EditorRecord → List (List Edit) → EditorRecord → Type 0
-HasSubmitted from editor [] now = now ≡ editor
-HasSubmitted from editor (edits ∷ rest) now =
-    (receipt : ReceiptRecord) × FoundSomeLog from editor edits receipt × HasSubmitted from (answered editor receipt.reply receipt.told) rest now

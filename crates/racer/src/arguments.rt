@@ -3,7 +3,8 @@
 ghost use Rattle.std.specs.Prelude.{◌≡◌, IfErr, IfOk, Some, map, option_map, string_bytes};
 ghost use Rattle.racer.specs.Arguments.{arguments_by, asked};
 ghost use Rattle.clap.specs.Words.{HasKind, Kinds};
-ghost use Rattle.racer.specs.Complaints.{IsRefusedAmong, StopsBy, StopsValues};
+ghost use Rattle.racer.specs.Complaints.{StopsBy};
+ghost use Rattle.racer.specs.kept.Complaints.{IsRefusedAmong, StopsValues};
 ghost use Rattle.racer.specs.Numbers.{looks_of_text, viewers_of_text};
 
 use crate::command_line::parse;

@@ -2,7 +2,8 @@
 
 ghost use Rattle.std.specs.Prelude.{◌≡◌};
 ghost use Rattle.devices.specs.Outgoing.{Adds};
-ghost use Rattle.programs.specs.Endings.{Prints, Says};
+ghost use Rattle.programs.specs.Endings.{Says};
+ghost use Rattle.programs.specs.kept.Endings.{Prints};
 ghost use Rattle.racer.specs.Endings.{end_status, fault_text, last_words, looks_line, output_text, script_line, status_by};
 
 use crate::race::RaceEnd;

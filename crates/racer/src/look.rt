@@ -3,7 +3,8 @@
 ghost use Rattle.std.specs.Prelude.{◌≡◌, ◌+◌, ◌<◌, ◌^◌, IfErr, IfOk, false};
 ghost use Rattle.std.specs.Arc.{arc_value};
 ghost use Rattle.hub.specs.Commits.{snapshot_after};
-ghost use Rattle.racer.specs.Tallies.{Counts, HasLooked, with_look};
+ghost use Rattle.racer.specs.Tallies.{Counts};
+ghost use Rattle.racer.specs.kept.Tallies.{HasLooked, with_look};
 
 use crate::tally::Tally;
 use bench::Snapshot;

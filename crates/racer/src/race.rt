@@ -3,7 +3,8 @@
 ghost use Rattle.std.specs.Prelude.{◌≡◌, ◌≤◌, ◌<◌, ◌+◌, ◌^◌, Ok, IfErr, IfOk, length};
 ghost use Rattle.design.specs.Keys.{netlist};
 ghost use Rattle.bench.specs.Benches.{snapshot_of};
-ghost use Rattle.racer.specs.Races.{AreDealt, BeginsWith, IsDesignEnd, IsEnd, IsFaultEnd, IsStart, end_by};
+ghost use Rattle.racer.specs.Races.{IsDesignEnd, IsEnd, IsFaultEnd};
+ghost use Rattle.racer.specs.kept.Races.{AreDealt, BeginsWith, IsStart, end_by};
 ghost use Rattle.racer.specs.Scripts.{ScriptRecord, script_of};
 
 use crate::arguments::Args;

@@ -15,7 +15,8 @@ use programs::{
 };
 
 impl StopCause for Complaint {
-    ghost use Rattle.racer.specs.Refusals.{form_fault, refusal_text};
+    ghost use Rattle.racer.specs.Refusals.{refusal_text};
+    ghost use Rattle.racer.specs.kept.Refusals.{form_fault};
 
     ghost form_fault = { form_fault };
 

@@ -2,7 +2,7 @@
 
 ghost use Rattle.std.specs.Prelude.{◌≡◌, length, max};
 ghost use Rattle.hubcore.specs.Lists.{StartsWith};
-ghost use Rattle.racer.specs.Looks.{IsAccount};
+ghost use Rattle.racer.specs.kept.Looks.{IsAccount};
 
 use gatestep::Serial;
 use hub::{Editor, Hub, HubName, Log, Viewer};
@@ -18,7 +18,7 @@ pub struct Settled<J: HubName> {
 }
 
 impl<J: HubName> Model for Settled<J> {
-    ghost use Rattle.racer.specs.Looks.{SettledRecord};
+    ghost use Rattle.racer.specs.kept.Looks.{SettledRecord};
 
     ghost Value = { SettledRecord };
 

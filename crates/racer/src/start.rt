@@ -5,7 +5,8 @@ ghost use Rattle.std.specs.Vec.Iter.{into_iter_items};
 ghost use Rattle.std.specs.IoError.{error_kind};
 ghost use Rattle.programs.specs.Words.{no_words_by};
 ghost use Rattle.racer.specs.Arguments.{asked};
-ghost use Rattle.racer.specs.Complaints.{StopsBy, stop_by};
+ghost use Rattle.racer.specs.Complaints.{StopsBy};
+ghost use Rattle.racer.specs.kept.Complaints.{stop_by};
 
 use crate::arguments::{Args, arguments};
 use crate::complaint::{Complaint, StartFault};

@@ -1,7 +1,7 @@
 //! What an editor does in a race.
 
 ghost use Rattle.std.specs.Prelude.{◌≡◌, ◌+◌, ◌<◌, ◌^◌, ◌∷◌, [], length};
-ghost use Rattle.racer.specs.Submits.{HasSubmitted};
+ghost use Rattle.racer.specs.kept.Submits.{HasSubmitted};
 ghost use Rattle.racer.specs.Tallies.{tally_of};
 
 use crate::commit::Commit;

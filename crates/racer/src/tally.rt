@@ -3,9 +3,10 @@
 ghost use Rattle.std.specs.Prelude.{◌≡◌, ◌↔◌, ◌+◌, ◌<◌, ◌^◌, ℕ, IsTrue, IfErr, IfOk, false};
 ghost use Rattle.gatestep.specs.Step.{Evaluation, State};
 ghost use Rattle.design.specs.Keys.{netlist};
-ghost use Rattle.scratch.specs.Run.{IsRun, IsSomeRun};
-ghost use Rattle.racer.specs.Looks.{HasEnded, IsCounted, SameWaves};
-ghost use Rattle.racer.specs.Tallies.{HasLooked, added, tally_of, with_look};
+ghost use Rattle.scratch.specs.kept.Run.{IsRun, IsSomeRun};
+ghost use Rattle.racer.specs.kept.Looks.{HasEnded, IsCounted, SameWaves};
+ghost use Rattle.racer.specs.Tallies.{tally_of};
+ghost use Rattle.racer.specs.kept.Tallies.{HasLooked, added, with_look};
 
 use crate::settled::Settled;
 use bench::Snapshot;

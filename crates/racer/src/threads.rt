@@ -2,7 +2,7 @@
 
 ghost use Rattle.std.specs.Prelude.{◌≡◌, ◌≤◌, ◌*◌, ◌+◌, ◌<◌, ◌^◌, All, IfOk, length, vec_len};
 ghost use Rattle.racer.specs.Tallies.{Counts, tally_of};
-ghost use Rattle.racer.specs.Threads.{looking, submitting};
+ghost use Rattle.racer.specs.kept.Threads.{looking, submitting};
 
 use crate::hand::Hand;
 use crate::look::{Watched, watch};

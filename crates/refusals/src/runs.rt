@@ -1,7 +1,7 @@
 //! A pulse that one of two buffers lets through: the run from scratch, and that from the run of the design without it.
 
 ghost use Rattle.std.specs.Prelude.{IfOk};
-ghost use Rattle.scratch.specs.Run.{IsRun};
+ghost use Rattle.scratch.specs.kept.Run.{IsRun};
 
 use crate::report::{Report, Stop, TRIES};
 use crate::show::show_run;

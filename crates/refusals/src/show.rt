@@ -1,6 +1,6 @@
 //! What is written.
 
-ghost use Rattle.scratch.specs.Run.{IsSomeRun};
+ghost use Rattle.scratch.specs.kept.Run.{IsSomeRun};
 
 use bench::Snapshot;
 use design::Design;

@@ -1,19 +1,21 @@
 -- What a run beside an old one has asked of its stepper, and what it promises where it ends.
-use Rattle.std.proofs.Common.{◌≡◌, ◌≤◌, ◌∙◌, ap, sym, subst, refl, ℕ, suc, List, [], ◌∷◌, ◌+◌, ◌++◌, append_assoc, map, Result, Ok, Err, IfOk, OnErr, OnOk, if◌then◌else◌, inl, inr, arith}
+use Rattle.std.proofs.Common.{◌≡◌, ◌≤◌, ◌∙◌, ap, sym, subst, refl, ℕ, suc, List, [], ◌∷◌, ◌+◌, ◌++◌, append_assoc, map, Result, Ok, Err, IfOk, OnErr, if◌then◌else◌, inl, inr, arith}
 use Rattle.std.specs.Result.{IsErrAnd}
 use Rattle.gatestep.specs.Step.{State, Evaluation}
 use Rattle.gatestep.specs.declared.fault.StepFault.{StepFault}
 use Rattle.gatestep.specs.declared.fault.StepFault.TheVariants.{OutOfMemory, WorkerLost}
 use Rattle.design.specs.Keys.{Keyed, netlist}
 use Rattle.design.specs.Netlist.{GateEntry, Netlist}
-use Rattle.waveform.specs.Runs.{RunRecord}
-use Rattle.scratch.specs.Lost.{loses_a_worker}
+use Rattle.waveform.specs.kept.Runs.{RunRecord}
+use Rattle.scratch.specs.kept.Lost.{loses_a_worker}
 use Rattle.scratch.specs.Run.{state_after}
-use Rattle.scratch.specs.Work.{HasGrownOrNot, task_at}
+use Rattle.scratch.specs.Work.{task_at}
+use Rattle.scratch.specs.kept.Work.{HasGrownOrNot}
 use Rattle.rundiff.specs.Dirty.{rework_at, rework_below}
-use Rattle.rundiff.specs.Fronts.{IsFront}
+use Rattle.rundiff.specs.kept.Fronts.{IsFront}
 use Rattle.rundiff.specs.declared.front.Front.{Front}
-use Rattle.resim.specs.Reruns.{HasGrownInPart, Reruns}
+use Rattle.resim.specs.Reruns.{HasGrownInPart}
+use Rattle.resim.specs.kept.Reruns.{Reruns}
 
 module _ (answer : Evaluation → ℕ → State) (d : Netlist) (t : ℕ) where
   states_are : (gates : List GateEntry) → map (λ task. answer task t) (map (λ g. task_at answer d g t) gates) ≡ map (λ g. state_after answer d g t) gates

@@ -6,12 +6,12 @@ use Rattle.gatestep.specs.declared.fault.StepFault.{StepFault}
 use Rattle.gatestep.specs.declared.fault.StepFault.TheVariants.{OutOfMemory}
 use Rattle.design.specs.Keys.{Keyed, netlist}
 use Rattle.design.specs.Netlist.{Netlist, with_horizon}
-use Rattle.edits.specs.Touched.{IsTouched}
-use Rattle.rundiff.specs.Fronts.{IsFront}
+use Rattle.edits.specs.kept.Touched.{IsTouched}
+use Rattle.rundiff.specs.kept.Fronts.{IsFront}
 use Rattle.rundiff.specs.declared.front.Front.{Front}
-use Rattle.waveform.specs.Runs.{RunRecord}
+use Rattle.waveform.specs.kept.Runs.{RunRecord}
 use Rattle.rundiff.specs.Dirty.{rework_below}
-use Rattle.resim.specs.Reruns.{Reruns}
+use Rattle.resim.specs.kept.Reruns.{Reruns}
 use Rattle.resim.proofs.Asked.{refused}
 use Rattle.resim.proofs.Fronts.{new_front, old_front}
 use Rattle.resim.proofs.Levels.{levelled}

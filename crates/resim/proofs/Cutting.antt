@@ -10,15 +10,17 @@ use Rattle.std.proofs.lemmas.List.{length-map}
 use Rattle.gatestep.specs.Step.{Evaluation, State}
 use Rattle.fourstate.specs.Values.{same_value}
 use Rattle.gatestep.specs.Step.{due}
-use Rattle.catalog.specs.Catalog.{keys_of, record_at}
+use Rattle.catalog.specs.Catalog.{record_at}
+use Rattle.catalog.specs.kept.Catalog.{keys_of}
 use Rattle.design.specs.Keys.{Keyed, entry_in, netlist}
 use Rattle.waveform.specs.Entries.{same_state, standing}
-use Rattle.waveform.specs.Runs.{RunRecord}
-use Rattle.waveform.specs.Tables.{IsChangedAt, line_at}
+use Rattle.waveform.specs.kept.Runs.{RunRecord}
+use Rattle.waveform.specs.kept.Tables.{IsChangedAt, line_at}
 use Rattle.waveform.specs.Timelines.{entries_until}
-use Rattle.scratch.specs.Run.{IsRun, trace_of, wave_of}
-use Rattle.resim.specs.Cuts.{AreCut, cut_at}
-use Rattle.scratch.specs.HorizonLaws.{CutsChanges, trace_cut, wave_cut}
+use Rattle.scratch.specs.Run.{wave_of}
+use Rattle.scratch.specs.kept.Run.{IsRun, trace_of}
+use Rattle.resim.specs.kept.Cuts.{AreCut, cut_at}
+use Rattle.scratch.specs.kept.HorizonLaws.{CutsChanges, trace_cut, wave_cut}
 
 -- nothing lies after the moment
 pub whole_until : {A : Type 0} (h last : ℕ) (xs : List (ℕ × A)) → last ≤ h → All (λ e. e.0 ≤ last) xs → entries_until xs h ≡ xs

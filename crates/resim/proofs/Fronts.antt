@@ -8,19 +8,19 @@ use Rattle.std.proofs.lemmas.List.Elements.{All-weaker}
 use Rattle.fourstate.specs.Values.{same_value}
 use Rattle.gatestep.specs.Step.{Evaluation, State, due, initial}
 use Rattle.design.specs.Connections.{Connection, to_net, to_constant}
-use Rattle.design.specs.Netlist.{NetEntry, Netlist, gate_named, has_point, with_horizon}
-use Rattle.event_queue.specs.Noted.{noted}
+use Rattle.design.specs.Netlist.{Netlist, gate_named, has_point, with_horizon}
+use Rattle.event_queue.specs.kept.Noted.{noted}
 use Rattle.fourstate.specs.declared.value.Value.{Value}
 use Rattle.waveform.specs.Entries.{same_state, standing}
-use Rattle.waveform.specs.Patches.{Keeps, PatchRecord}
-use Rattle.scratch.specs.HorizonLaws.{after_same, before_same, read_same, value_same}
-use Rattle.scratch.specs.Places.{Announces, Covers}
+use Rattle.waveform.specs.kept.Patches.{Keeps, PatchRecord}
+use Rattle.scratch.specs.kept.HorizonLaws.{after_same, before_same, read_same, value_same}
+use Rattle.scratch.specs.kept.Places.{Announces, Covers}
 use Rattle.scratch.specs.Run.{state_after, state_before, terminal_at, value}
-use Rattle.rundiff.specs.Fronts.{AreDrivers, AreTraces, AreWaves, IsFront, fixed_in, held_in, live_in, named_state}
-use Rattle.rundiff.specs.Kept.{Agrees, IsClosed, IsSameNet, SameBefore, read_at}
-use Rattle.rundiff.specs.Noting.{IsNoted, input_moves, is_at_live, net_moves, old_moves, pends, wants_gate, wants_net}
-use Rattle.rundiff.specs.PlaceMaps.{kept_at}
-use Rattle.rundiff.specs.Places.{gate_at, is_live, net_at}
+use Rattle.rundiff.specs.kept.Fronts.{AreDrivers, AreTraces, AreWaves, IsFront, fixed_in, held_in, live_in, named_state}
+use Rattle.rundiff.specs.kept.Kept.{Agrees, IsClosed, IsSameNet, SameBefore, read_at}
+use Rattle.rundiff.specs.kept.Noting.{IsNoted, input_moves, is_at_live, net_moves, old_moves, pends, wants_gate, wants_net}
+use Rattle.rundiff.specs.kept.PlaceMaps.{kept_at}
+use Rattle.rundiff.specs.kept.Places.{gate_at, is_live, net_at}
 use Rattle.rundiff.specs.declared.front.Front.{Front}
 use Rattle.rundiff.specs.declared.place_map.PlaceMap.{PlaceMap}
 

@@ -4,14 +4,15 @@ use Rattle.gatestep.specs.Step.{State, Evaluation}
 use Rattle.gatestep.specs.declared.fault.StepFault.{StepFault}
 use Rattle.design.specs.Keys.{Keyed, netlist}
 use Rattle.design.specs.Netlist.{Netlist, with_horizon}
-use Rattle.edits.specs.Touched.{IsTouched}
+use Rattle.edits.specs.kept.Touched.{IsTouched}
 use Rattle.edits.specs.declared.touched.Touched.{Touched}
-use Rattle.waveform.specs.Runs.{RunRecord}
-use Rattle.scratch.specs.Lost.{loses_a_worker}
-use Rattle.scratch.specs.Run.{IsRun}
-use Rattle.scratch.specs.Work.{work_from}
+use Rattle.waveform.specs.kept.Runs.{RunRecord}
+use Rattle.scratch.specs.kept.Lost.{loses_a_worker}
+use Rattle.scratch.specs.kept.Run.{IsRun}
+use Rattle.scratch.specs.kept.Work.{work_from}
 use Rattle.rundiff.specs.Dirty.{rework_below}
-use Rattle.resim.specs.Reruns.{HasGrownInPart, IsTouchedIfKnown, Reruns}
+use Rattle.resim.specs.Reruns.{HasGrownInPart}
+use Rattle.resim.specs.kept.Reruns.{IsTouchedIfKnown, Reruns}
 use Rattle.resim.proofs.Reworks.{new_alike, old_alike, past, reached}
 
 on_ok : {A E P Q : Type 0} (r : Result A E) → (P → Q) → OnOk r P → OnOk r Q

@@ -5,3 +5,4 @@ pub mod Levels
 pub mod Reworks
 pub mod Weaving
 pub mod Behind
+pub mod Changes

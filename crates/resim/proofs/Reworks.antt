@@ -8,9 +8,10 @@ use Rattle.gatestep.specs.Record.{at_moment}
 use Rattle.gatestep.specs.Step.{State, Evaluation}
 use Rattle.design.specs.Netlist.{GateEntry, Netlist, with_horizon}
 use Rattle.scratch.specs.Run.{evaluation_at, state_before}
-use Rattle.scratch.specs.Work.{is_due, is_stirred, same_values, task_at, work_at, work_from}
+use Rattle.scratch.specs.Work.{is_due, is_stirred, same_values, task_at, work_at}
+use Rattle.scratch.specs.kept.Work.{work_from}
 use Rattle.rundiff.specs.Dirty.{is_dirty, is_new, rework_at, rework_below, same_task}
-use Rattle.scratch.specs.HorizonLaws.{before_same, task_same}
+use Rattle.scratch.specs.kept.HorizonLaws.{before_same, task_same}
 
 module _ (answer : Evaluation → ℕ → State) (d : Netlist) (h : ℕ) where
   states_alike : state_before answer (with_horizon d h) ≡ state_before answer d

@@ -9,13 +9,13 @@ use Rattle.std.specs.Slice.{IsItemAt}
 use Rattle.gatestep.specs.Record.{at_moment}
 use Rattle.gatestep.specs.Step.{State, Evaluation, initial}
 use Rattle.design.specs.Netlist.{GateEntry, Netlist}
-use Rattle.scratch.specs.Places.{passing}
+use Rattle.scratch.specs.kept.Places.{passing}
 use Rattle.scratch.specs.Run.{state_after}
 use Rattle.scratch.specs.Work.{is_stirred, stirred_at, task_at}
 use Rattle.rundiff.specs.Dirty.{is_dirty, rework_at, rework_below, working_at}
-use Rattle.rundiff.specs.OldLines.{known_at}
-use Rattle.rundiff.specs.Places.{blank_gate, gate_at}
-use Rattle.resim.specs.Asking.{dirty_task, woven}
+use Rattle.rundiff.specs.kept.OldLines.{known_at}
+use Rattle.rundiff.specs.kept.Places.{blank_gate, gate_at}
+use Rattle.resim.specs.kept.Asking.{dirty_task, woven}
 
 pub there : {X : Type 0} (xs : List X) (k : ℕ) (d : X) → k < length xs → slice_get xs k ≡ Some (slice_index_or xs k d)
 there [] k d low = absurd (omega arith)

@@ -1,3 +1,2 @@
-pub mod Asking
-pub mod Cuts
 pub mod Reruns
+pub mod kept

@@ -3,8 +3,8 @@
 ghost use Rattle.std.specs.Prelude.{◌≡◌, ◌≤◌, ℕ, IfNone, IfOk, IfSome, OnOk};
 ghost use Rattle.gatestep.specs.Step.{Evaluation, State};
 ghost use Rattle.waveform.specs.Timelines.{entries_until};
-ghost use Rattle.scratch.specs.Run.{IsRun};
-ghost use Rattle.resim.specs.Cuts.{AreCut};
+ghost use Rattle.scratch.specs.kept.Run.{IsRun};
+ghost use Rattle.resim.specs.kept.Cuts.{AreCut};
 
 use design::Design;
 use fourstate::Value;

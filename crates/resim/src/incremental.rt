@@ -1,9 +1,14 @@
 //! The run of a design from the run of a former one.
 
-ghost use Rattle.edits.specs.Touched.{IsTouched};
-ghost use Rattle.scratch.specs.Run.{IsRun};
-ghost use Rattle.resim.specs.Reruns.{IsTouchedIfKnown, Reruns};
+ghost use Rattle.std.specs.Prelude.{◌≡◌, OnOk};
+ghost use Rattle.design.specs.Keys.{netlist};
+ghost use Rattle.edits.specs.kept.Touched.{IsTouched};
+ghost use Rattle.scratch.specs.kept.Run.{IsRun};
+ghost use Rattle.rundiff.specs.kept.Changed.{AreChanged};
+ghost use Rattle.resim.specs.kept.Changes.{has_changed};
+ghost use Rattle.resim.specs.kept.Reruns.{IsTouchedIfKnown, Reruns};
 
+use crate::changed::Changed;
 use crate::level::rerun_level;
 use crate::other_horizon::{rerun_longer, rerun_shorter};
 use design::Design;
@@ -47,6 +52,30 @@ pub fn rerun_touched<S: Stepper>(
     rerun_with(alloc, old, run, new, Some(touched), stepper)
 }
 
+/// As `rerun_touched`; `changed` becomes the nets whose waves may have changed. Where the horizon is another, or it goes through the
+/// whole design, these are all.
+pub fn rerun_changed<S: Stepper>(
+    alloc: Global,
+    old: &Design,
+    run: &Run,
+    new: &Design,
+    touched: &Touched,
+    changed: &mut Changed,
+    stepper: &mut S,
+) -> Result<Run, StepFault>
+    requires run { IsRun S.answer old.now run.now }
+    requires touched { IsTouched old.now new.now touched.now.nets.items touched.now.gates.items }
+    ensures reruns { Reruns S.answer old.now new.now (S.asked stepper.old) (S.asked stepper.new)
+        (S.losses stepper.old) (S.losses stepper.new) result }
+    ensures changed { OnOk result (AreChanged S.answer old.now new.now (has_changed changed.new)) }
+{
+    if new.horizon() == old.horizon() {
+        return rerun_level(alloc, old, run, new, Some(touched), changed, stepper);
+    }
+    *changed = Changed::All;
+    rerun_with(alloc, old, run, new, Some(touched), stepper)
+}
+
 /// The run of the new design, with what edits touched where that is known.
 fn rerun_with<S: Stepper>(
     alloc: Global,
@@ -68,6 +97,7 @@ fn rerun_with<S: Stepper>(
     } else if to > from {
         rerun_longer(alloc, old, run, new, touched, stepper)
     } else {
-        rerun_level(alloc, old, run, new, touched, stepper)
+        let mut changed = Changed::All;
+        rerun_level(alloc, old, run, new, touched, &mut changed, stepper)
     }
 }

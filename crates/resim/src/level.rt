@@ -6,14 +6,18 @@ ghost use Rattle.gatestep.specs.Faults.{is_lost};
 ghost use Rattle.gatestep.specs.Record.{at_moment};
 ghost use Rattle.gatestep.specs.Tasks.{IsReady};
 ghost use Rattle.design.specs.Keys.{netlist};
-ghost use Rattle.edits.specs.Touched.{IsTouched};
-ghost use Rattle.scratch.specs.Lost.{CountsLoss};
-ghost use Rattle.scratch.specs.Run.{IsRun};
-ghost use Rattle.scratch.specs.Work.{HasGrownOrNot};
+ghost use Rattle.edits.specs.kept.Touched.{IsTouched};
+ghost use Rattle.scratch.specs.kept.Lost.{CountsLoss};
+ghost use Rattle.scratch.specs.kept.Run.{IsRun};
+ghost use Rattle.scratch.specs.kept.Work.{HasGrownOrNot};
+ghost use Rattle.rundiff.specs.kept.Changed.{AreChanged};
 ghost use Rattle.rundiff.specs.Dirty.{rework_at, rework_below};
-ghost use Rattle.rundiff.specs.Fronts.{IsFront};
-ghost use Rattle.resim.specs.Reruns.{HasGrownInPart, IsTouchedIfKnown, Reruns};
+ghost use Rattle.rundiff.specs.kept.Fronts.{IsFront};
+ghost use Rattle.resim.specs.kept.Changes.{has_changed};
+ghost use Rattle.resim.specs.Reruns.{HasGrownInPart};
+ghost use Rattle.resim.specs.kept.Reruns.{IsTouchedIfKnown, Reruns};
 
+use crate::changed::Changed;
 use crate::spending::{Limit, Spending};
 use crate::sweep::sweep;
 use crate::wide::is_wide;
@@ -25,14 +29,15 @@ use rundiff::{Blanks, Former, Front};
 use std::alloc::{AllocError, Global};
 use waveform::Run;
 
-/// The run of the new design, which has the horizon of the old one. Where what edits touched is not known or too much, it goes
-/// through the whole design.
+/// The run of the new design, which has the horizon of the old one, and the nets that it changed. Where what edits touched is not
+/// known or too much, it goes through the whole design.
 pub fn rerun_level<S: Stepper>(
     alloc: Global,
     old: &Design,
     run: &Run,
     new: &Design,
     touched: Option<&Touched>,
+    changed: &mut Changed,
     stepper: &mut S,
 ) -> Result<Run, StepFault>
     requires run { IsRun S.answer old.now run.now }
@@ -40,10 +45,19 @@ pub fn rerun_level<S: Stepper>(
     requires horizon { (netlist new.now).horizon ≡ (netlist old.now).horizon }
     ensures reruns { Reruns S.answer old.now new.now (S.asked stepper.old) (S.asked stepper.new)
         (S.losses stepper.old) (S.losses stepper.new) result }
+    ensures changed { OnOk result (AreChanged S.answer old.now new.now (has_changed changed.new)) }
 {
+    *changed = Changed::All;
     if let Some(touched) = touched {
         if !is_wide(alloc, old, run, new, touched)? {
-            return follow(alloc, old, run, new, touched, Limit::Cost, stepper);
+            let blanks = Blanks::new(alloc)?;
+            let former = Former {
+                old,
+                run,
+                new,
+                blanks: &blanks,
+            };
+            return follow_beside(alloc, &former, touched, Limit::Cost, changed, stepper);
         }
     }
     sweep(alloc, old, run, new, stepper)
@@ -73,12 +87,54 @@ pub fn follow<S: Stepper>(
         new,
         blanks: &blanks,
     };
-    let mut front = open::<S>(alloc, &former, touched)?;
-    let next = follow_until(&mut front, alloc, &former, limit, stepper)?;
-    if next > new.horizon() {
-        return Ok(front.finish::<S>(alloc, &former, touched)?);
+    let mut changed = Changed::All;
+    follow_beside(alloc, &former, touched, limit, &mut changed, stepper)
+}
+
+/// As `follow`, and the nets that it changed: all, once it goes through the whole design.
+fn follow_beside<S: Stepper>(
+    alloc: Global,
+    former: &Former,
+    touched: &Touched,
+    limit: Limit,
+    changed: &mut Changed,
+    stepper: &mut S,
+) -> Result<Run, StepFault>
+    requires run { IsRun S.answer former.now.old.now former.now.run.now }
+    requires touched { IsTouched former.now.old.now former.now.new.now touched.now.nets.items touched.now.gates.items }
+    requires horizon { (netlist former.now.new.now).horizon ≡ (netlist former.now.old.now).horizon }
+    ensures reruns { Reruns S.answer former.now.old.now former.now.new.now (S.asked stepper.old) (S.asked stepper.new)
+        (S.losses stepper.old) (S.losses stepper.new) result }
+    ensures changed { OnOk result (AreChanged S.answer former.now.old.now former.now.new.now (has_changed changed.new)) }
+{
+    *changed = Changed::All;
+    let mut front = open::<S>(alloc, former, touched)?;
+    let next = follow_until(&mut front, alloc, former, limit, stepper)?;
+    if next > former.new.horizon() {
+        return Ok(finish::<S>(alloc, front, former, touched, changed)?);
     }
-    widen(alloc, front, &former, touched, next - 1, stepper)
+    widen(alloc, front, former, touched, next - 1, stepper)
+}
+
+/// The run of the new design and the nets that it changed, from a front at which all moments are done.
+fn finish<S: Stepper>(
+    alloc: Global,
+    front: Front,
+    former: &Former,
+    touched: &Touched,
+    changed: &mut Changed,
+) -> Result<Run, AllocError>
+    requires run { IsRun S.answer former.now.old.now former.now.run.now }
+    requires touched { IsTouched former.now.old.now former.now.new.now touched.now.nets.items touched.now.gates.items }
+    requires horizon { (netlist former.now.new.now).horizon ≡ (netlist former.now.old.now).horizon }
+    requires front { IsFront S.answer (netlist former.now.old.now) (netlist former.now.new.now) front (suc (netlist former.now.new.now).horizon) }
+    ensures run { IfOk result (λ made. IsRun S.answer former.now.new.now made) }
+    ensures changed { OnOk result (AreChanged S.answer former.now.old.now former.now.new.now (has_changed changed.new)) }
+{
+    let keys = front.changed_nets::<S>(alloc, former, touched)?;
+    let run = front.finish::<S>(alloc, former, touched)?;
+    *changed = Changed::Nets(keys);
+    Ok(run)
 }
 
 /// The front at the first moment at which something may differ. It fails where memory runs out.

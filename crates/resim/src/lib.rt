@@ -2,6 +2,7 @@
 #![tactic(auto)]
 
 mod asking;
+mod changed;
 mod cut;
 mod incremental;
 mod level;
@@ -11,7 +12,8 @@ mod sweep;
 mod wide;
 mod widening;
 
+pub use changed::Changed;
 pub use cut::shorten;
-pub use incremental::{rerun, rerun_touched};
+pub use incremental::{rerun, rerun_changed, rerun_touched};
 pub use level::follow;
 pub use spending::{LOOK_COST, Limit, RUN_SHARE};

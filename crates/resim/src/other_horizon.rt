@@ -3,9 +3,10 @@
 ghost use Rattle.std.specs.Prelude.{◌≡◌, ◌≤◌, IfOk};
 ghost use Rattle.fourstate.specs.declared.limits.TheConstants.{MAX_TIME};
 ghost use Rattle.design.specs.Keys.{netlist};
-ghost use Rattle.scratch.specs.Run.{IsRun};
-ghost use Rattle.resim.specs.Reruns.{IsTouchedIfKnown, Reruns};
+ghost use Rattle.scratch.specs.kept.Run.{IsRun};
+ghost use Rattle.resim.specs.kept.Reruns.{IsTouchedIfKnown, Reruns};
 
+use crate::changed::Changed;
 use crate::cut::shorten;
 use crate::level::rerun_level;
 use design::Design;
@@ -33,7 +34,8 @@ pub fn rerun_shorter<S: Stepper>(
     new.lawful();
     let short = shorten(alloc, old, run, new.horizon())?;
     let former = with_horizon(old, new.horizon())?;
-    rerun_level(alloc, &former, &short, new, touched, stepper)
+    let mut changed = Changed::All;
+    rerun_level(alloc, &former, &short, new, touched, &mut changed, stepper)
 }
 
 /// The run of the new design, whose horizon is a later one: past the old horizon each gate that is stirred is evaluated.
@@ -73,7 +75,8 @@ fn rerun_past<S: Stepper>(
     ensures reruns { Reruns S.answer old.now new.now (S.asked stepper.old) (S.asked stepper.new)
         (S.losses stepper.old) (S.losses stepper.new) result }
 {
-    let made = rerun_level(alloc, old, run, level, touched, stepper)?;
+    let mut changed = Changed::All;
+    let made = rerun_level(alloc, old, run, level, touched, &mut changed, stepper)?;
     extend(alloc, level, &made, new, stepper)
 }
 

@@ -4,14 +4,14 @@
 ghost use Rattle.std.specs.Prelude.{◌≡◌, ◌≤◌, ◌+◌, ◌++◌, ℕ, suc, List, IfOk, OnErr, OnOk};
 ghost use Rattle.gatestep.specs.Step.{Evaluation};
 ghost use Rattle.design.specs.Keys.{netlist};
-ghost use Rattle.scratch.specs.Kept.{IsWiring};
-ghost use Rattle.scratch.specs.Lost.{CountsLoss};
-ghost use Rattle.scratch.specs.Run.{IsRun};
-ghost use Rattle.scratch.specs.Stands.{Stands};
-ghost use Rattle.scratch.specs.Work.{HasGrownOrNot};
+ghost use Rattle.scratch.specs.kept.Kept.{IsWiring};
+ghost use Rattle.scratch.specs.kept.Lost.{CountsLoss};
+ghost use Rattle.scratch.specs.kept.Run.{IsRun};
+ghost use Rattle.scratch.specs.kept.Stands.{Stands};
+ghost use Rattle.scratch.specs.kept.Work.{HasGrownOrNot};
 ghost use Rattle.rundiff.specs.Dirty.{rework_at, rework_below};
-ghost use Rattle.rundiff.specs.OldLines.{AreOldLines, traces_done, waves_done};
-ghost use Rattle.resim.specs.Reruns.{Reruns};
+ghost use Rattle.rundiff.specs.kept.OldLines.{AreOldLines, traces_done, waves_done};
+ghost use Rattle.resim.specs.kept.Reruns.{Reruns};
 
 use crate::asking::{Beside, Present, ask_dirty};
 use design::Design;

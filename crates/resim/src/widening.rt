@@ -3,11 +3,11 @@
 ghost use Rattle.std.specs.Prelude.{◌≡◌, ◌<◌, ◌≤◌, ◌++◌, ℕ, suc, List, IfOk};
 ghost use Rattle.gatestep.specs.Step.{Evaluation};
 ghost use Rattle.design.specs.Keys.{netlist};
-ghost use Rattle.edits.specs.Touched.{IsTouched};
-ghost use Rattle.scratch.specs.Run.{IsRun};
+ghost use Rattle.edits.specs.kept.Touched.{IsTouched};
+ghost use Rattle.scratch.specs.kept.Run.{IsRun};
 ghost use Rattle.rundiff.specs.Dirty.{rework_below};
-ghost use Rattle.rundiff.specs.Fronts.{IsFront};
-ghost use Rattle.resim.specs.Reruns.{Reruns};
+ghost use Rattle.rundiff.specs.kept.Fronts.{IsFront};
+ghost use Rattle.resim.specs.kept.Reruns.{Reruns};
 
 use crate::asking::Beside;
 use crate::cut::shorten;

@@ -6,8 +6,8 @@ use Rattle.std.specs.Option.{option_map_or}
 use Rattle.gatestep.specs.Step.{State, Evaluation}
 use Rattle.design.specs.Names.{same_name}
 use Rattle.design.specs.Netlist.{Netlist}
-use Rattle.rundiff.specs.Fronts.{IsAlike}
-use Rattle.rundiff.specs.Places.{gate_at, is_live}
+use Rattle.rundiff.specs.kept.Fronts.{IsAlike}
+use Rattle.rundiff.specs.kept.Places.{gate_at, is_live}
 use Rattle.rundiff.proofs.Sets.{or_first}
 
 live_by : (f g : ℕ → Bool) → ((p : ℕ) → f p ≡ true → g p ≡ true) → (o : Option ℕ) → option_map_or f o false ≡ true → option_map_or g o false ≡ true

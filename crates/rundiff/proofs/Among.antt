@@ -11,9 +11,9 @@ use Rattle.std.proofs.lemmas.Map.Keys.{below_from_sorted}
 use Rattle.std.proofs.lemmas.Map.Views.{Contains-from_any, list_any-from_Contains, exact_unsigned_eq}
 use Rattle.design.specs.Names.{same_name}
 use Rattle.design.specs.Netlist.{Netlist}
-use Rattle.scratch.specs.Places.{has}
-use Rattle.rundiff.specs.Fronts.{ArePlaces}
-use Rattle.rundiff.specs.Places.{blank_net, is_among, is_live, net_at}
+use Rattle.scratch.specs.kept.Places.{has}
+use Rattle.rundiff.specs.kept.Fronts.{ArePlaces}
+use Rattle.rundiff.specs.kept.Places.{blank_net, is_among, is_live, net_at}
 use Rattle.rundiff.proofs.Lists.{same_name_equal}
 use Rattle.rundiff.proofs.Readers.{position_found}
 

@@ -4,11 +4,11 @@ use Rattle.std.specs.Prelude.{◌&&◌, ◌||◌, ◌==◌}
 use Rattle.std.proofs.lemmas.Bool.Decides.{nat_tests}
 use Rattle.gatestep.specs.Step.{State, Evaluation}
 use Rattle.design.specs.Netlist.{Netlist}
-use Rattle.scratch.specs.Places.{Announces, Covers, IsNotedWithin, Keeps, has}
+use Rattle.scratch.specs.kept.Places.{Announces, Covers, IsNotedWithin, Keeps, has}
 use Rattle.scratch.specs.Run.{state_after, state_before}
-use Rattle.rundiff.specs.Fronts.{is_working}
-use Rattle.rundiff.specs.Noting.{IsNoted, input_moves, net_moves, pends, wants_event, wants_gate}
-use Rattle.rundiff.specs.Places.{gate_at, is_among}
+use Rattle.rundiff.specs.kept.Fronts.{is_working}
+use Rattle.rundiff.specs.kept.Noting.{IsNoted, input_moves, net_moves, pends, wants_event, wants_gate}
+use Rattle.rundiff.specs.kept.Places.{gate_at, is_among}
 use Rattle.rundiff.proofs.NotedMore.{within_on}
 use Rattle.rundiff.proofs.Resting.{rests_on}
 use Rattle.rundiff.proofs.Still.{both}

@@ -4,13 +4,13 @@ use Rattle.std.specs.Prelude.{nat_eq, ◌&&◌, ◌||◌, ◌==◌}
 use Rattle.std.specs.List.{list_any}
 use Rattle.std.proofs.lemmas.Bool.Decides.{nat_tests}
 use Rattle.gatestep.specs.Step.{State, Evaluation}
-use Rattle.event_queue.specs.Noted.{IsTaken, noted}
+use Rattle.event_queue.specs.kept.Noted.{IsTaken, noted}
 use Rattle.design.specs.Connections.{Connection, to_net, to_constant}
 use Rattle.design.specs.Netlist.{Netlist}
-use Rattle.scratch.specs.Places.{IsNotedWithin, Keeps, has}
+use Rattle.scratch.specs.kept.Places.{IsNotedWithin, Keeps, has}
 use Rattle.scratch.specs.Run.{state_before}
-use Rattle.rundiff.specs.Noting.{IsNoted, input_moves, is_at_live, net_moves, old_moves, pends}
-use Rattle.rundiff.specs.Places.{gate_at}
+use Rattle.rundiff.specs.kept.Noting.{IsNoted, input_moves, is_at_live, net_moves, old_moves, pends}
+use Rattle.rundiff.specs.kept.Places.{gate_at}
 use Rattle.rundiff.proofs.Alike.{live_grows}
 use Rattle.rundiff.proofs.Quiet.{both_on}
 use Rattle.rundiff.proofs.Sets.{or_second}

@@ -4,10 +4,12 @@ use Rattle.std.specs.Prelude.{◌==◌, IsSome, slice_get}
 use Rattle.std.specs.List.{find, position_from}
 use Rattle.std.specs.Option.{option_map}
 use Rattle.std.proofs.lemmas.Option.{slice_get-map, slice_get_within}
-use Rattle.catalog.specs.Catalog.{keys_of, place_of, records_of}
-use Rattle.design.specs.Keys.{AreKeys, IsConnected, Keyed, KeyedGate, entry_in, gate_by_key, net_by_key, netlist}
+use Rattle.catalog.specs.Catalog.{records_of}
+use Rattle.catalog.specs.kept.Catalog.{keys_of, place_of}
+use Rattle.design.specs.Keys.{Keyed, KeyedGate, entry_in, netlist}
+use Rattle.design.specs.kept.Keys.{AreKeys, IsConnected, gate_by_key, net_by_key}
 use Rattle.design.specs.Netlist.{GateEntry, NetEntry}
-use Rattle.rundiff.specs.Places.{blank_gate, blank_net, gate_at, net_at}
+use Rattle.rundiff.specs.kept.Places.{blank_gate, blank_net, gate_at, net_at}
 use Rattle.rundiff.proofs.ByPlace.{at_place}
 use Rattle.rundiff.proofs.ReaderKeys.{same_number, some_of}
 

@@ -8,10 +8,10 @@ use Rattle.gatestep.specs.Step.{State, Evaluation}
 use Rattle.design.specs.Connections.{to_net}
 use Rattle.design.specs.Names.{same_name}
 use Rattle.design.specs.Netlist.{GateEntry, NetEntry, Netlist, net_named}
-use Rattle.design.specs.Places.{driver_places}
+use Rattle.design.specs.kept.Places.{driver_places}
 use Rattle.scratch.specs.Run.{value}
-use Rattle.rundiff.specs.Places.{blank_net, blank_gate, gate_at, is_live, net_at}
-use Rattle.rundiff.specs.Kept.{read_at}
+use Rattle.rundiff.specs.kept.Places.{blank_net, blank_gate, gate_at, is_live, net_at}
+use Rattle.rundiff.specs.kept.Kept.{read_at}
 use Rattle.rundiff.proofs.Lists.{name_itself, same_name_equal}
 
 -- an element that is there, by its place

@@ -3,17 +3,17 @@ use Rattle.std.proofs.Common.{◌≡◌, ℕ, suc, ◌-◌, ◌<◌, ◌≤◌, 
 use Rattle.std.specs.Prelude.{slice_index_or, ◌&&◌, ◌||◌, ◌==◌}
 use Rattle.std.specs.List.{list_any}
 use Rattle.gatestep.specs.Step.{State, Evaluation, due}
-use Rattle.gatestep.specs.Tasks.{IsTask, NothingDue}
+use Rattle.gatestep.specs.kept.Tasks.{IsTask, NothingDue}
 use Rattle.design.specs.Connections.{Connection, to_net, to_constant}
-use Rattle.design.specs.Lawful.{IsDesign}
+use Rattle.design.specs.kept.Lawful.{IsDesign}
 use Rattle.design.specs.Netlist.{NetEntry, Netlist, is_at_net, net_named, reads}
-use Rattle.scratch.specs.Places.{has}
+use Rattle.scratch.specs.kept.Places.{has}
 use Rattle.scratch.specs.Run.{value}
 use Rattle.scratch.specs.Work.{is_stirred}
-use Rattle.rundiff.specs.Kept.{read_at}
-use Rattle.rundiff.specs.Noting.{input_moves, is_at_live, old_moves}
-use Rattle.rundiff.specs.Places.{blank_gate, blank_net, gate_at, is_live, net_at}
-use Rattle.rundiff.specs.Steady.{IsSteady}
+use Rattle.rundiff.specs.kept.Kept.{read_at}
+use Rattle.rundiff.specs.kept.Noting.{input_moves, is_at_live, old_moves}
+use Rattle.rundiff.specs.kept.Places.{blank_gate, blank_net, gate_at, is_live, net_at}
+use Rattle.rundiff.specs.kept.Steady.{IsSteady}
 use Rattle.rundiff.proofs.ByPlace.{live_at}
 use Rattle.rundiff.proofs.Lists.{any_at, name_itself}
 use Rattle.rundiff.proofs.NetsDone.{same_default}

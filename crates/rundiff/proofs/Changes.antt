@@ -5,11 +5,12 @@ use Rattle.std.specs.List.{find}
 use Rattle.std.proofs.lemmas.Bool.{cases_lt}
 use Rattle.std.proofs.lemmas.Bool.Decides.{nat_tests}
 use Rattle.fourstate.specs.declared.value.Value.{Value}
-use Rattle.fourstate.specs.ValueLaws.{same_self}
+use Rattle.fourstate.specs.kept.ValueLaws.{same_self}
 use Rattle.fourstate.specs.Values.{same_value}
 use Rattle.waveform.specs.Changes.{wave_changes_below}
 use Rattle.waveform.specs.Entries.{standing}
-use Rattle.waveform.specs.Timelines.{IsAlwaysSettled, first_after}
+use Rattle.waveform.specs.Timelines.{first_after}
+use Rattle.waveform.specs.kept.Timelines.{IsAlwaysSettled}
 use Rattle.rundiff.proofs.Still.{both}
 
 -- `waveform::laws::drift_between`

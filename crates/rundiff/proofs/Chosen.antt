@@ -3,16 +3,16 @@ use Rattle.std.proofs.Common.{◌≡◌, ℕ, zero, suc, ◌<◌, ◌∙◌, ap,
 use Rattle.std.specs.Prelude.{◌&&◌, AllPairs}
 use Rattle.std.specs.List.{filter}
 use Rattle.gatestep.specs.Step.{State, Evaluation, due}
-use Rattle.gatestep.specs.Tasks.{NothingDue, again}
+use Rattle.gatestep.specs.kept.Tasks.{NothingDue, again}
 use Rattle.design.specs.Netlist.{GateEntry, Netlist}
 use Rattle.waveform.specs.Entries.{same_state}
-use Rattle.waveform.specs.Patches.{IsMended, Keeps, PatchRecord}
+use Rattle.waveform.specs.kept.Patches.{IsMended, Keeps, PatchRecord}
 use Rattle.waveform.specs.Timelines.{changes_below}
 use Rattle.scratch.specs.Run.{state_after, state_before}
 use Rattle.scratch.specs.Work.{is_stirred}
 use Rattle.rundiff.specs.Dirty.{is_dirty, working_at}
-use Rattle.rundiff.specs.Fronts.{IsOwn, is_working, named_state}
-use Rattle.rundiff.specs.Places.{blank_gate, gate_at, is_among}
+use Rattle.rundiff.specs.kept.Fronts.{IsOwn, is_working, named_state}
+use Rattle.rundiff.specs.kept.Places.{blank_gate, gate_at, is_among}
 use Rattle.rundiff.proofs.Filtering.{passing}
 use Rattle.rundiff.proofs.OneGate.{and_false, rests}
 use Rattle.rundiff.proofs.Resting.{rests_on}

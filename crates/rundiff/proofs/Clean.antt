@@ -7,7 +7,7 @@ use Rattle.fourstate.specs.declared.value.Value.{Value}
 use Rattle.gatestep.specs.Step.{State, Evaluation, due}
 use Rattle.design.specs.Netlist.{NetEntry, GateEntry, Netlist, drivers_of, stimulus}
 use Rattle.waveform.specs.Entries.{same_state}
-use Rattle.waveform.specs.SampleLaws.{is_same_state, same_state_self}
+use Rattle.waveform.specs.kept.SampleLaws.{is_same_state, same_state_self}
 use Rattle.scratch.specs.Run.{state_before, value}
 use Rattle.rundiff.specs.Dirty.{same_task, is_new, is_dirty}
 use Rattle.scratch.specs.Work.{same_values, task_at}

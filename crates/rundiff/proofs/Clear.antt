@@ -5,22 +5,23 @@ use Rattle.std.specs.List.{list_any}
 use Rattle.std.specs.Option.{ForSome, option_map_or}
 use Rattle.std.proofs.lemmas.Bool.{cases_lt}
 use Rattle.std.proofs.lemmas.Bool.Decides.{nat_tests}
-use Rattle.event_queue.specs.Noted.{noted}
+use Rattle.event_queue.specs.kept.Noted.{noted}
 use Rattle.fourstate.specs.declared.value.Value.{Value}
-use Rattle.fourstate.specs.ValueLaws.{is_same}
+use Rattle.fourstate.specs.kept.ValueLaws.{is_same}
 use Rattle.fourstate.specs.Values.{same_value}
 use Rattle.gatestep.specs.Step.{State, Evaluation}
-use Rattle.gatestep.specs.Tasks.{IsTask, NothingDue, PendingFrom}
+use Rattle.gatestep.specs.Tasks.{PendingFrom}
+use Rattle.gatestep.specs.kept.Tasks.{IsTask, NothingDue}
 use Rattle.design.specs.Connections.{Connection, to_net, to_constant}
-use Rattle.design.specs.Lawful.{IsDesign}
+use Rattle.design.specs.kept.Lawful.{IsDesign}
 use Rattle.design.specs.Netlist.{NetEntry, Netlist, has_point}
 use Rattle.scratch.specs.Run.{evaluation_at, state_before}
 use Rattle.scratch.specs.Work.{is_due}
 use Rattle.rundiff.specs.declared.front.Front.{Front}
-use Rattle.rundiff.specs.Fronts.{IsFront, held_in, live_in}
-use Rattle.rundiff.specs.Kept.{Between, IsClear, read_at}
-use Rattle.rundiff.specs.Noting.{input_moves, is_at_live, net_moves, old_moves, pends, wants_event, wants_gate, wants_net}
-use Rattle.rundiff.specs.Places.{blank_gate, blank_net, gate_at, is_live, net_at}
+use Rattle.rundiff.specs.kept.Fronts.{IsFront, held_in, live_in}
+use Rattle.rundiff.specs.kept.Kept.{Between, IsClear, read_at}
+use Rattle.rundiff.specs.kept.Noting.{input_moves, is_at_live, net_moves, old_moves, pends, wants_event, wants_gate, wants_net}
+use Rattle.rundiff.specs.kept.Places.{blank_gate, blank_net, gate_at, is_live, net_at}
 use Rattle.rundiff.proofs.ByPlace.{at_place, get_at, live_at}
 use Rattle.rundiff.proofs.Noted.{NoneBefore, unannounced, unwanted}
 use Rattle.rundiff.proofs.Still.{neither, not_false}

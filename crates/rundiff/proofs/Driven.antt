@@ -6,12 +6,13 @@ use Rattle.std.specs.Option.{option_map, option_map_or}
 use Rattle.fourstate.specs.declared.value.Value.{Value}
 use Rattle.fourstate.specs.Nets.{net_of}
 use Rattle.gatestep.specs.Step.{State, Evaluation, due}
-use Rattle.catalog.specs.Catalog.{place_of}
-use Rattle.design.specs.Keys.{Keyed, driver_keys, name_of, net_by_key, netlist}
+use Rattle.catalog.specs.kept.Catalog.{place_of}
+use Rattle.design.specs.Keys.{Keyed, name_of, netlist}
+use Rattle.design.specs.kept.Keys.{driver_keys, net_by_key}
 use Rattle.design.specs.Netlist.{GateEntry, NetEntry, drivers_of, stimulus}
-use Rattle.design.specs.Places.{driver_places}
+use Rattle.design.specs.kept.Places.{driver_places}
 use Rattle.scratch.specs.Run.{state_before, value}
-use Rattle.rundiff.specs.Places.{blank_net, gate_at, net_at}
+use Rattle.rundiff.specs.kept.Places.{blank_net, gate_at, net_at}
 use Rattle.rundiff.proofs.ByPlace.{at_place, drivers_at, map_twice, same_put}
 
 -- an element that was read

@@ -1,7 +1,7 @@
 -- Lines of the old run by the places of the new design.
 use Rattle.std.proofs.Common.{◌≡◌, ◌<◌, ◌∙◌, ap, sym, subst, refl, ℕ, zero, suc, ◌+◌, List, [], ◌∷◌, ◌++◌, Some, length, arith}
 use Rattle.std.specs.Prelude.{IfSome, slice_get, slice_index_or}
-use Rattle.rundiff.specs.OldLines.{HoldsEach}
+use Rattle.rundiff.specs.kept.OldLines.{HoldsEach}
 
 pub holds_more : {X : Type 0} (P : ℕ → X → Type 0) (xs : List X) (x : X) → HoldsEach xs P → P (length xs) x → HoldsEach (xs ++ x ∷ []) P
 holds_more P [] x each here zero = here

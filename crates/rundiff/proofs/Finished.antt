@@ -7,23 +7,26 @@ use Rattle.fourstate.specs.declared.value.Value.{Value}
 use Rattle.fourstate.specs.declared.value.Value.TheVariants.{Unknown}
 use Rattle.fourstate.specs.Values.{same_value}
 use Rattle.gatestep.specs.Step.{State, Evaluation, due, initial}
-use Rattle.catalog.specs.Catalog.{keys_of, place_of}
+use Rattle.catalog.specs.kept.Catalog.{keys_of, place_of}
 use Rattle.design.specs.Connections.{to_net}
-use Rattle.design.specs.Keys.{AreKeys, Keyed, KeyedGate, entry_in, gate_by_key, name_of, net_by_key, netlist}
-use Rattle.design.specs.Lawful.{IsDesign}
+use Rattle.design.specs.Keys.{Keyed, KeyedGate, entry_in, name_of, netlist}
+use Rattle.design.specs.kept.Keys.{AreKeys, gate_by_key, net_by_key}
+use Rattle.design.specs.kept.Lawful.{IsDesign}
 use Rattle.design.specs.Names.{same_name}
 use Rattle.design.specs.Netlist.{GateEntry, NetEntry}
-use Rattle.edits.specs.Touched.{IsTouched, is_touched}
-use Rattle.waveform.specs.Changes.{trace_below, wave_changes_below}
+use Rattle.edits.specs.kept.Touched.{IsTouched, is_touched}
+use Rattle.waveform.specs.Changes.{wave_changes_below}
+use Rattle.waveform.specs.kept.Changes.{trace_below}
 use Rattle.waveform.specs.Entries.{same_state, standing}
-use Rattle.waveform.specs.Tables.{line_at}
+use Rattle.waveform.specs.kept.Tables.{line_at}
 use Rattle.waveform.specs.Timelines.{changes_below}
-use Rattle.scratch.specs.Run.{state_after, trace_of, value, wave_of}
-use Rattle.rundiff.specs.Finishing.{AreCleared, ArePut, new_trace, new_wave}
-use Rattle.rundiff.specs.Fronts.{AreDrivers, AreTouched, IsFront, live_in, named_state}
-use Rattle.rundiff.specs.PlaceMaps.{kept_at}
-use Rattle.rundiff.specs.Kept.{IsSameNet, read_at}
-use Rattle.rundiff.specs.Places.{blank_gate, blank_net, gate_at, is_among, is_live, net_at}
+use Rattle.scratch.specs.Run.{state_after, value, wave_of}
+use Rattle.scratch.specs.kept.Run.{trace_of}
+use Rattle.rundiff.specs.kept.Finishing.{AreCleared, ArePut, new_trace, new_wave}
+use Rattle.rundiff.specs.kept.Fronts.{AreDrivers, AreTouched, IsFront, live_in, named_state}
+use Rattle.rundiff.specs.kept.PlaceMaps.{kept_at}
+use Rattle.rundiff.specs.kept.Kept.{IsSameNet, read_at}
+use Rattle.rundiff.specs.kept.Places.{blank_gate, blank_net, gate_at, is_among, is_live, net_at}
 use Rattle.rundiff.specs.declared.front.Front.{Front}
 use Rattle.rundiff.proofs.Alike.{off_shrinks}
 use Rattle.rundiff.proofs.ByKey.{IsGateAt, IsNetAt, gate_placed, net_placed}

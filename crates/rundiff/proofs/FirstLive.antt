@@ -5,19 +5,21 @@ use Rattle.std.specs.Cmp.Lexicographic.{pointwise}
 use Rattle.std.specs.List.{filter, find, list_any, position_from}
 use Rattle.std.specs.Option.{option_map, option_map_or}
 use Rattle.std.proofs.lemmas.List.Elements.{All-filter}
-use Rattle.fourstate.specs.DelayLaws.{delays_itself}
-use Rattle.fourstate.specs.GateLaws.{kind_itself}
-use Rattle.fourstate.specs.ValueLaws.{same_self}
-use Rattle.catalog.specs.Catalog.{keys_of, place_of, record_at, records_of}
+use Rattle.fourstate.specs.kept.DelayLaws.{delays_itself}
+use Rattle.fourstate.specs.kept.GateLaws.{kind_itself}
+use Rattle.fourstate.specs.kept.ValueLaws.{same_self}
+use Rattle.catalog.specs.Catalog.{record_at, records_of}
+use Rattle.catalog.specs.kept.Catalog.{keys_of, place_of}
 use Rattle.design.specs.Connections.{Connection, to_net, to_constant}
-use Rattle.design.specs.Keys.{AreKeys, Keyed, KeyedGate, driver_keys, drives_key, entry_in, gate_by_key, name_of, net_by_key, netlist}
+use Rattle.design.specs.Keys.{Keyed, KeyedGate, entry_in, name_of, netlist}
+use Rattle.design.specs.kept.Keys.{AreKeys, driver_keys, drives_key, gate_by_key, net_by_key}
 use Rattle.design.specs.Names.{same_name}
 use Rattle.design.specs.Netlist.{GateEntry, NetEntry, drivers_of, net_named}
-use Rattle.edits.specs.Touched.{IsTouched, is_touched}
+use Rattle.edits.specs.kept.Touched.{IsTouched, is_touched}
 use Rattle.rundiff.specs.Dirty.{is_new, same_connection, same_gate}
-use Rattle.rundiff.specs.Fronts.{AreTouched}
-use Rattle.rundiff.specs.Places.{blank_gate, blank_net, is_among, is_live, net_at}
-use Rattle.rundiff.specs.Kept.{IsClosed, IsSameNet}
+use Rattle.rundiff.specs.kept.Fronts.{AreTouched}
+use Rattle.rundiff.specs.kept.Places.{blank_gate, blank_net, is_among, is_live, net_at}
+use Rattle.rundiff.specs.kept.Kept.{IsClosed, IsSameNet}
 use Rattle.rundiff.proofs.ByPlace.{live_at, map_twice, position_at, same_put}
 use Rattle.rundiff.proofs.Filtering.{map_filter}
 use Rattle.rundiff.proofs.Lists.{filter_where, name_itself}

@@ -4,8 +4,8 @@ use Rattle.std.specs.Prelude.{IfSome, nat_lt, slice_get, ◌==◌, ◌||◌}
 use Rattle.std.proofs.lemmas.Bool.Decides.{nat_tests}
 use Rattle.std.proofs.lemmas.List.Elements.{All-head, All-tail}
 use Rattle.std.proofs.lemmas.Option.{slice_get_within}
-use Rattle.rundiff.specs.PlaceMaps.{item_at, owned}
-use Rattle.rundiff.specs.Places.{is_among}
+use Rattle.rundiff.specs.kept.PlaceMaps.{item_at, owned}
+use Rattle.rundiff.specs.kept.Places.{is_among}
 use Rattle.rundiff.proofs.Steps.{same_place}
 
 itself : (p : ℕ) → (p == p) ≡ true

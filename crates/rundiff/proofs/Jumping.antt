@@ -1,28 +1,29 @@
 -- What a front keeps is right as it is after moments at which nothing happens to what is live.
 use Rattle.std.proofs.Common.{◌≡◌, ℕ, zero, suc, ◌<◌, ◌≤◌, ◌∙◌, ap, sym, refl, subst, Bool, true, false, not, length, Option, Some, None, inl, inr, arith, ⊎_elim}
-use Rattle.rundiff.specs.PlaceMaps.{kept_at}
+use Rattle.rundiff.specs.kept.PlaceMaps.{kept_at}
 use Rattle.std.specs.Option.{option_map_or}
 use Rattle.std.specs.Prelude.{◌&&◌}
-use Rattle.event_queue.specs.Noted.{noted}
+use Rattle.event_queue.specs.kept.Noted.{noted}
 use Rattle.fourstate.specs.declared.value.Value.{Value}
 use Rattle.fourstate.specs.Values.{same_value}
 use Rattle.gatestep.specs.Step.{State, Evaluation, due, initial}
-use Rattle.gatestep.specs.Tasks.{NothingDue, again}
+use Rattle.gatestep.specs.kept.Tasks.{NothingDue, again}
 use Rattle.design.specs.Connections.{to_net}
-use Rattle.design.specs.Lawful.{IsDesign}
+use Rattle.design.specs.kept.Lawful.{IsDesign}
 use Rattle.design.specs.Netlist.{GateEntry, Netlist}
-use Rattle.waveform.specs.Changes.{trace_below, wave_changes_below}
+use Rattle.waveform.specs.Changes.{wave_changes_below}
+use Rattle.waveform.specs.kept.Changes.{trace_below}
 use Rattle.waveform.specs.Entries.{same_state, standing}
-use Rattle.waveform.specs.Patches.{IsMended, Keeps, PatchRecord}
-use Rattle.fourstate.specs.ValueLaws.{same_self}
-use Rattle.waveform.specs.SampleLaws.{same_state_self}
+use Rattle.waveform.specs.kept.Patches.{IsMended, Keeps, PatchRecord}
+use Rattle.fourstate.specs.kept.ValueLaws.{same_self}
+use Rattle.waveform.specs.kept.SampleLaws.{same_state_self}
 use Rattle.waveform.specs.Timelines.{changes_below, is_change}
 use Rattle.scratch.specs.Run.{state_after, state_before, value}
 use Rattle.rundiff.specs.Dirty.{rework_below}
-use Rattle.rundiff.specs.Noting.{IsNoted, pends, wants_gate, wants_net}
-use Rattle.rundiff.specs.Fronts.{IsFree, IsFront, IsOwn, held_in, live_in, named_state}
-use Rattle.rundiff.specs.Places.{blank_gate, blank_net, gate_at, is_live, net_at}
-use Rattle.rundiff.specs.Kept.{IsClear, read_at}
+use Rattle.rundiff.specs.kept.Noting.{IsNoted, pends, wants_gate, wants_net}
+use Rattle.rundiff.specs.kept.Fronts.{IsFree, IsFront, IsOwn, held_in, live_in, named_state}
+use Rattle.rundiff.specs.kept.Places.{blank_gate, blank_net, gate_at, is_live, net_at}
+use Rattle.rundiff.specs.kept.Kept.{IsClear, read_at}
 use Rattle.rundiff.specs.declared.front.Front.{Front}
 use Rattle.rundiff.proofs.ByPlace.{live_at}
 use Rattle.rundiff.proofs.Known.{known_gate}

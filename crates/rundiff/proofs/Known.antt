@@ -5,13 +5,13 @@ use Rattle.std.specs.Cmp.Lexicographic.{pointwise}
 use Rattle.std.specs.List.{find, list_any}
 use Rattle.std.specs.Option.{option_map}
 use Rattle.std.proofs.lemmas.List.Elements.{All-head, All-tail}
-use Rattle.fourstate.specs.DelayLaws.{same_delays_equal}
+use Rattle.fourstate.specs.kept.DelayLaws.{same_delays_equal}
 use Rattle.fourstate.specs.Delays.{same_delays}
-use Rattle.fourstate.specs.GateLaws.{same_kind_equal}
+use Rattle.fourstate.specs.kept.GateLaws.{same_kind_equal}
 use Rattle.fourstate.specs.Gates.{same_kind}
-use Rattle.fourstate.specs.ValueLaws.{is_same}
+use Rattle.fourstate.specs.kept.ValueLaws.{is_same}
 use Rattle.design.specs.Connections.{Connection, to_net, to_constant}
-use Rattle.design.specs.Lawful.{IsDesign}
+use Rattle.design.specs.kept.Lawful.{IsDesign}
 use Rattle.design.specs.Names.{same_name}
 use Rattle.design.specs.Netlist.{GateEntry, Netlist, gate_named, has_gate}
 use Rattle.rundiff.specs.Dirty.{is_new, same_connection, same_gate}

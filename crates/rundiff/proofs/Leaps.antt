@@ -7,20 +7,20 @@ use Rattle.fourstate.specs.Values.{same_value}
 use Rattle.gatestep.specs.Record.{at_moment}
 use Rattle.gatestep.specs.Step.{State, Evaluation, due}
 use Rattle.design.specs.Connections.{to_net}
-use Rattle.design.specs.Lawful.{IsDesign}
+use Rattle.design.specs.kept.Lawful.{IsDesign}
 use Rattle.design.specs.Netlist.{GateEntry, NetEntry, Netlist, drivers_of, reads, stimulus}
 use Rattle.waveform.specs.Entries.{same_state, standing}
-use Rattle.waveform.specs.Patches.{Keeps, PatchRecord}
-use Rattle.scratch.specs.Places.{has}
+use Rattle.waveform.specs.kept.Patches.{Keeps, PatchRecord}
+use Rattle.scratch.specs.kept.Places.{has}
 use Rattle.scratch.specs.Run.{state_after, state_before, value}
 use Rattle.scratch.specs.Work.{is_stirred, task_at}
 use Rattle.rundiff.specs.Dirty.{is_dirty, rework_below, working_at}
-use Rattle.rundiff.specs.Fronts.{GoesAlong, IsFree, IsFront, IsTrace, IsWave, held_in, live_in, named_state}
-use Rattle.rundiff.specs.Inputs.{IsSameInput}
-use Rattle.rundiff.specs.Kept.{Agrees, read_at}
-use Rattle.rundiff.specs.Noting.{IsNoted, input_moves, net_moves, pends}
-use Rattle.rundiff.specs.PlaceMaps.{kept_at}
-use Rattle.rundiff.specs.Places.{blank_gate, blank_net, gate_at, is_live, net_at}
+use Rattle.rundiff.specs.kept.Fronts.{GoesAlong, IsFree, IsFront, IsTrace, IsWave, held_in, live_in, named_state}
+use Rattle.rundiff.specs.kept.Inputs.{IsSameInput}
+use Rattle.rundiff.specs.kept.Kept.{Agrees, read_at}
+use Rattle.rundiff.specs.kept.Noting.{IsNoted, input_moves, net_moves, pends}
+use Rattle.rundiff.specs.kept.PlaceMaps.{kept_at}
+use Rattle.rundiff.specs.kept.Places.{blank_gate, blank_net, gate_at, is_live, net_at}
 use Rattle.rundiff.specs.declared.front.Front.{Front}
 use Rattle.rundiff.specs.declared.place_map.PlaceMap.{PlaceMap}
 use Rattle.rundiff.proofs.ByPlace.{live_at}

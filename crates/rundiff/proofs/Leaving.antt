@@ -7,19 +7,19 @@ use Rattle.std.proofs.lemmas.List.Elements.{All-cons, All-nil}
 use Rattle.fourstate.specs.declared.value.Value.{Value}
 use Rattle.gatestep.specs.Step.{State, Evaluation}
 use Rattle.design.specs.Connections.{Connection, to_net, to_constant}
-use Rattle.design.specs.Lawful.{IsDesign}
+use Rattle.design.specs.kept.Lawful.{IsDesign}
 use Rattle.design.specs.Names.{same_name}
 use Rattle.design.specs.Netlist.{GateEntry, NetEntry, Netlist, is_at_net, reads}
-use Rattle.design.specs.Places.{driver_places}
-use Rattle.waveform.specs.Patches.{PatchRecord}
-use Rattle.scratch.specs.Places.{IsNotedWithin, Keeps}
+use Rattle.design.specs.kept.Places.{driver_places}
+use Rattle.waveform.specs.kept.Patches.{PatchRecord}
+use Rattle.scratch.specs.kept.Places.{IsNotedWithin, Keeps}
 use Rattle.scratch.specs.Run.{state_before, value}
 use Rattle.rundiff.specs.Dirty.{is_dirty}
-use Rattle.rundiff.specs.Fronts.{AreDrivers, AreLive}
-use Rattle.rundiff.specs.Kept.{Agrees, IsClosed, IsSameNet, read_at}
-use Rattle.rundiff.specs.Noting.{IsNoted, input_moves, is_at_live, net_moves, old_moves, pends}
+use Rattle.rundiff.specs.kept.Fronts.{AreDrivers, AreLive}
+use Rattle.rundiff.specs.kept.Kept.{Agrees, IsClosed, IsSameNet, read_at}
+use Rattle.rundiff.specs.kept.Noting.{IsNoted, input_moves, is_at_live, net_moves, old_moves, pends}
 use Rattle.rundiff.specs.declared.place_map.PlaceMap.{PlaceMap}
-use Rattle.rundiff.specs.Places.{blank_gate, blank_net, gate_at, is_among, is_live, net_at}
+use Rattle.rundiff.specs.kept.Places.{blank_gate, blank_net, gate_at, is_among, is_live, net_at}
 use Rattle.rundiff.proofs.Alike.{off_shrinks}
 use Rattle.rundiff.proofs.ByPlace.{live_at}
 use Rattle.rundiff.proofs.Clean.{clean_after, clean_task, same_net}

@@ -44,4 +44,5 @@ pub mod Standing
 pub mod Steps
 pub mod Still
 pub mod Tasks
+pub mod Unchanged
 pub mod Wired

@@ -4,19 +4,19 @@ use Rattle.std.specs.Prelude.{◌&&◌}
 use Rattle.fourstate.specs.declared.value.Value.{Value}
 use Rattle.fourstate.specs.Values.{same_value}
 use Rattle.gatestep.specs.Step.{State, Evaluation, due}
-use Rattle.gatestep.specs.Tasks.{IsTask, NothingDue}
+use Rattle.gatestep.specs.kept.Tasks.{IsTask, NothingDue}
 use Rattle.design.specs.Connections.{to_net}
-use Rattle.design.specs.Lawful.{IsDesign}
+use Rattle.design.specs.kept.Lawful.{IsDesign}
 use Rattle.design.specs.Netlist.{Netlist}
 use Rattle.waveform.specs.Entries.{standing}
-use Rattle.waveform.specs.Patches.{Keeps, PatchRecord}
-use Rattle.scratch.specs.Places.{has}
+use Rattle.waveform.specs.kept.Patches.{Keeps, PatchRecord}
+use Rattle.scratch.specs.kept.Places.{has}
 use Rattle.scratch.specs.Run.{value}
 use Rattle.scratch.specs.Work.{is_stirred}
-use Rattle.rundiff.specs.Fronts.{GoesAlong, IsAlike, IsOwn}
-use Rattle.rundiff.specs.Kept.{read_at}
-use Rattle.rundiff.specs.Places.{gate_at, net_at}
-use Rattle.rundiff.specs.Steady.{IsSteady}
+use Rattle.rundiff.specs.kept.Fronts.{GoesAlong, IsAlike, IsOwn}
+use Rattle.rundiff.specs.kept.Kept.{read_at}
+use Rattle.rundiff.specs.kept.Places.{gate_at, net_at}
+use Rattle.rundiff.specs.kept.Steady.{IsSteady}
 use Rattle.rundiff.proofs.Alike.{alike_grows}
 use Rattle.rundiff.proofs.Calm.{all_noted, calm}
 use Rattle.rundiff.proofs.NamedLines.{NoChange}

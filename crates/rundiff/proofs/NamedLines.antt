@@ -8,13 +8,15 @@ use Rattle.gatestep.specs.Step.{State, Evaluation, due, initial}
 use Rattle.design.specs.Connections.{to_net}
 use Rattle.design.specs.Keys.{KeyedGate}
 use Rattle.design.specs.Netlist.{GateEntry, NetEntry, Netlist, gate_named, net_named}
-use Rattle.waveform.specs.Changes.{trace_below, wave_changes_below}
+use Rattle.waveform.specs.Changes.{wave_changes_below}
+use Rattle.waveform.specs.kept.Changes.{trace_below}
 use Rattle.waveform.specs.Entries.{same_state, standing}
-use Rattle.waveform.specs.Patches.{IsMended, Keeps, PatchRecord}
+use Rattle.waveform.specs.kept.Patches.{IsMended, Keeps, PatchRecord}
 use Rattle.waveform.specs.Timelines.{changes_below, is_change}
-use Rattle.scratch.specs.Run.{state_after, trace_of, value, wave_of}
-use Rattle.rundiff.specs.Fronts.{IsOwn, named_state}
-use Rattle.rundiff.specs.Kept.{read_at}
+use Rattle.scratch.specs.Run.{state_after, value, wave_of}
+use Rattle.scratch.specs.kept.Run.{trace_of}
+use Rattle.rundiff.specs.kept.Fronts.{IsOwn, named_state}
+use Rattle.rundiff.specs.kept.Kept.{read_at}
 
 -- `waveform::laws::no_change`
 abbrev pub NoChange : {A : Type 0} → (A → A → Bool) → (A → ℕ → A) → Type 0

@@ -5,15 +5,15 @@ use Rattle.fourstate.specs.declared.value.Value.{Value}
 use Rattle.fourstate.specs.Values.{same_value}
 use Rattle.gatestep.specs.Step.{State, Evaluation}
 use Rattle.design.specs.Connections.{to_net}
-use Rattle.design.specs.Lawful.{IsDesign}
+use Rattle.design.specs.kept.Lawful.{IsDesign}
 use Rattle.design.specs.Netlist.{GateEntry, NetEntry, Netlist, reads}
 use Rattle.waveform.specs.Entries.{standing}
-use Rattle.waveform.specs.Patches.{Keeps, PatchRecord}
+use Rattle.waveform.specs.kept.Patches.{Keeps, PatchRecord}
 use Rattle.scratch.specs.Run.{value}
 use Rattle.rundiff.specs.Dirty.{is_dirty}
-use Rattle.rundiff.specs.Fronts.{AreDrivers, IsAlike, IsFree}
-use Rattle.rundiff.specs.Places.{blank_gate, blank_net, gate_at, is_live, net_at}
-use Rattle.rundiff.specs.Kept.{Agrees, IsClosed, read_at}
+use Rattle.rundiff.specs.kept.Fronts.{AreDrivers, IsAlike, IsFree}
+use Rattle.rundiff.specs.kept.Places.{blank_gate, blank_net, gate_at, is_live, net_at}
+use Rattle.rundiff.specs.kept.Kept.{Agrees, IsClosed, read_at}
 use Rattle.rundiff.proofs.Alike.{live_grows, off_shrinks}
 use Rattle.rundiff.proofs.ByPlace.{live_at}
 use Rattle.rundiff.proofs.Resting.{free_more}

@@ -2,8 +2,8 @@
 use Rattle.std.proofs.Common.{◌≡◌, ◌≢◌, ◌<◌, ◌≤◌, ◌∙◌, sym, ap, refl, Bool, true, false, ℕ, List, [], ◌⊎◌, inl, inr, arith, ⊎_elim}
 use Rattle.std.specs.Prelude.{◌||◌}
 use Rattle.std.proofs.lemmas.Bool.{cases_lt}
-use Rattle.event_queue.specs.Noted.{noted}
-use Rattle.scratch.specs.Places.{Announces, Covers, has}
+use Rattle.event_queue.specs.kept.Noted.{noted}
+use Rattle.scratch.specs.kept.Places.{Announces, Covers, has}
 use Rattle.rundiff.specs.declared.front.Front.{Front}
 
 -- of two tests that do not both fail one passes

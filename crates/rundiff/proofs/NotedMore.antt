@@ -2,9 +2,9 @@
 use Rattle.std.proofs.Common.{◌≡◌, ℕ, zero, suc, ◌+◌, ◌<◌, ◌∙◌, ap, sym, refl, subst, List, [], ◌∷◌, ◌++◌, Bool, true, false, cond, map, take, Some, arith}
 use Rattle.std.specs.Prelude.{nat_eq, slice_get, ◌||◌}
 use Rattle.std.proofs.lemmas.Bool.Decides.{nat_tests}
-use Rattle.event_queue.specs.Noted.{IsAdded, noted}
-use Rattle.rundiff.specs.Places.{is_among}
-use Rattle.scratch.specs.Places.{IsNotedWithin, Keeps, has}
+use Rattle.event_queue.specs.kept.Noted.{IsAdded, noted}
+use Rattle.rundiff.specs.kept.Places.{is_among}
+use Rattle.scratch.specs.kept.Places.{IsNotedWithin, Keeps, has}
 use Rattle.rundiff.proofs.Sets.{or_assoc, or_first, or_second}
 use Rattle.rundiff.proofs.Steps.{among_more, or_splits, same_place}
 

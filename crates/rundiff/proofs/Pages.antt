@@ -6,7 +6,7 @@ use Rattle.std.proofs.lemmas.List.{get_or-set_same, get_or-set_other, length-map
 use Rattle.std.proofs.lemmas.Bool.Decides.{nat_tests}
 use Rattle.std.specs.Prelude.{nat_eq, Vec}
 use Rattle.std.specs.Global.{Global}
-use Rattle.rundiff.specs.PlaceMaps.{number_at, page_at}
+use Rattle.rundiff.specs.kept.PlaceMaps.{number_at, page_at}
 use Rattle.rundiff.specs.declared.place_map.TheConstants.{PAGE}
 use Rattle.rundiff.proofs.Items.{number_itself}
 

@@ -5,8 +5,9 @@ use Rattle.std.specs.List.{find}
 use Rattle.std.specs.Option.{IsSomeAnd, option_map}
 use Rattle.std.proofs.lemmas.Bool.Decides.{nat_tests}
 use Rattle.fourstate.specs.declared.value.Value.{Value}
-use Rattle.design.specs.Lawful.{AreRising}
-use Rattle.design.specs.Netlist.{has_point, next_point}
+use Rattle.design.specs.kept.Lawful.{AreRising}
+use Rattle.design.specs.Netlist.{has_point}
+use Rattle.design.specs.kept.Netlist.{next_point}
 
 abbrev Points : Type 0
 Points = List (ℕ × Value)

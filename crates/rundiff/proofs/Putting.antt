@@ -3,10 +3,10 @@ use Rattle.std.proofs.Common.{◌≡◌, ◌≤◌, ◌∙◌, ap, sym, refl, su
 use Rattle.std.specs.Prelude.{◌⊎◌, ◌==◌, ◌||◌, nat_eq, slice_get}
 use Rattle.std.proofs.lemmas.Bool.{eqb-true}
 use Rattle.std.proofs.lemmas.Bool.Decides.{nat_tests}
-use Rattle.edits.specs.Touched.{is_touched}
-use Rattle.waveform.specs.Tables.{IsChangedAt, line_at}
-use Rattle.rundiff.specs.Finishing.{AreCleared, ArePut}
-use Rattle.rundiff.specs.Places.{is_among}
+use Rattle.edits.specs.kept.Touched.{is_touched}
+use Rattle.waveform.specs.kept.Tables.{IsChangedAt, line_at}
+use Rattle.rundiff.specs.kept.Finishing.{AreCleared, ArePut}
+use Rattle.rundiff.specs.kept.Places.{is_among}
 use Rattle.rundiff.proofs.Driven.{take_whole}
 use Rattle.rundiff.proofs.Sets.{any_more, flips}
 use Rattle.rundiff.proofs.Steps.{among_more, or_splits, same_place}

@@ -6,24 +6,25 @@ use Rattle.std.specs.Option.{option_map_or, ForSome}
 use Rattle.std.proofs.lemmas.Bool.Decides.{nat_tests}
 use Rattle.std.proofs.lemmas.List.Elements.{All-head, All-tail}
 use Rattle.fourstate.specs.declared.value.Value.{Value}
-use Rattle.fourstate.specs.ValueLaws.{is_same, same_self}
+use Rattle.fourstate.specs.kept.ValueLaws.{is_same, same_self}
 use Rattle.fourstate.specs.Values.{same_value}
 use Rattle.gatestep.specs.Step.{State, Evaluation, due}
-use Rattle.gatestep.specs.Tasks.{IsTask, NothingDue, PendingFrom}
+use Rattle.gatestep.specs.Tasks.{PendingFrom}
+use Rattle.gatestep.specs.kept.Tasks.{IsTask, NothingDue}
 use Rattle.design.specs.Connections.{Connection, to_net, to_constant}
-use Rattle.design.specs.Lawful.{IsDesign}
+use Rattle.design.specs.kept.Lawful.{IsDesign}
 use Rattle.design.specs.Names.{same_name}
 use Rattle.design.specs.Netlist.{GateEntry, NetEntry, Netlist, has_point, is_at_net}
 use Rattle.waveform.specs.Entries.{standing}
-use Rattle.waveform.specs.Patches.{IsMended, Keeps, PatchRecord}
+use Rattle.waveform.specs.kept.Patches.{IsMended, Keeps, PatchRecord}
 use Rattle.waveform.specs.Timelines.{changes_below, is_change}
-use Rattle.scratch.specs.Places.{has}
+use Rattle.scratch.specs.kept.Places.{has}
 use Rattle.scratch.specs.Run.{evaluation_at, state_before, value}
 use Rattle.scratch.specs.Work.{is_due}
-use Rattle.rundiff.specs.Fronts.{AreDrivers, GoesAlong, IsAlike, IsOwn}
-use Rattle.rundiff.specs.Kept.{Agrees, IsClosed, read_at}
-use Rattle.rundiff.specs.Noting.{IsNoted, net_moves, old_moves, pends}
-use Rattle.rundiff.specs.Places.{blank_gate, blank_net, gate_at, is_live, net_at}
+use Rattle.rundiff.specs.kept.Fronts.{AreDrivers, GoesAlong, IsAlike, IsOwn}
+use Rattle.rundiff.specs.kept.Kept.{Agrees, IsClosed, read_at}
+use Rattle.rundiff.specs.kept.Noting.{IsNoted, net_moves, old_moves, pends}
+use Rattle.rundiff.specs.kept.Places.{blank_gate, blank_net, gate_at, is_live, net_at}
 use Rattle.rundiff.proofs.ByPlace.{live_at}
 use Rattle.rundiff.proofs.Lists.{filter_where, name_itself, same_name_equal}
 use Rattle.rundiff.proofs.NetsDone.{same_default}

@@ -1,15 +1,15 @@
 -- What a front keeps is right as it is before the first moment for which something is noted.
 use Rattle.std.proofs.Common.{◌≡◌, ◌<◌, ◌≤◌, ℕ, zero, suc, arith}
 use Rattle.fourstate.specs.Values.{same_value}
-use Rattle.event_queue.specs.Noted.{noted}
+use Rattle.event_queue.specs.kept.Noted.{noted}
 use Rattle.gatestep.specs.Step.{State, Evaluation, due}
-use Rattle.gatestep.specs.Tasks.{IsTask, NothingDue, again}
-use Rattle.design.specs.Lawful.{IsDesign}
+use Rattle.gatestep.specs.kept.Tasks.{IsTask, NothingDue, again}
+use Rattle.design.specs.kept.Lawful.{IsDesign}
 use Rattle.design.specs.Netlist.{Netlist}
 use Rattle.waveform.specs.Entries.{same_state, standing}
 use Rattle.rundiff.specs.declared.front.Front.{Front}
 use Rattle.rundiff.specs.Dirty.{rework_below}
-use Rattle.rundiff.specs.Fronts.{IsFront}
+use Rattle.rundiff.specs.kept.Fronts.{IsFront}
 use Rattle.rundiff.proofs.Clear.{is_clear}
 use Rattle.rundiff.proofs.Jumping.{front_on, idle_on}
 use Rattle.rundiff.proofs.Noted.{IsFirst, NoneBefore, first_late}

@@ -7,22 +7,23 @@ use Rattle.std.proofs.lemmas.List.Elements.{All-cons, All-nil, All-head, All-tai
 use Rattle.fourstate.specs.declared.value.Value.{Value}
 use Rattle.fourstate.specs.declared.value.Value.TheVariants.{Unknown}
 use Rattle.gatestep.specs.Step.{State, Evaluation, due, initial}
-use Rattle.gatestep.specs.Tasks.{IsTask, NothingDue}
+use Rattle.gatestep.specs.kept.Tasks.{IsTask, NothingDue}
 use Rattle.design.specs.Connections.{Connection, to_net, to_constant}
-use Rattle.design.specs.Lawful.{IsDesign}
+use Rattle.design.specs.kept.Lawful.{IsDesign}
 use Rattle.design.specs.Names.{same_name}
 use Rattle.design.specs.Netlist.{Netlist, is_readable}
-use Rattle.waveform.specs.Changes.{state_at, trace_below, wave_at, wave_changes_below}
+use Rattle.waveform.specs.Changes.{wave_at, wave_changes_below}
+use Rattle.waveform.specs.kept.Changes.{state_at, trace_below}
 use Rattle.waveform.specs.Entries.{standing}
-use Rattle.waveform.specs.Timelines.{IsAlwaysSettled}
-use Rattle.scratch.specs.Kept.{input_of}
+use Rattle.waveform.specs.kept.Timelines.{IsAlwaysSettled}
+use Rattle.scratch.specs.kept.Kept.{input_of}
 use Rattle.scratch.specs.Run.{state_after, state_before}
 use Rattle.scratch.specs.declared.wiring.Input.TheVariants.{At, Fixed}
 use Rattle.rundiff.specs.Dirty.{is_new}
-use Rattle.rundiff.specs.Fronts.{named_state}
-use Rattle.rundiff.specs.Kept.{read_at}
-use Rattle.rundiff.specs.OldLines.{AreOldLines, HasWave, former_state, former_value}
-use Rattle.rundiff.specs.Places.{blank_net, gate_at, net_at}
+use Rattle.rundiff.specs.kept.Fronts.{named_state}
+use Rattle.rundiff.specs.kept.Kept.{read_at}
+use Rattle.rundiff.specs.kept.OldLines.{AreOldLines, HasWave, former_state, former_value}
+use Rattle.rundiff.specs.kept.Places.{blank_net, gate_at, net_at}
 use Rattle.rundiff.specs.declared.old_lines.OldLines.{OldLines}
 use Rattle.rundiff.proofs.EachPlace.{holds_index}
 use Rattle.rundiff.proofs.Known.{known_gate}

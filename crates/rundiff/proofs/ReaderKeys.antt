@@ -8,13 +8,15 @@ use Rattle.std.proofs.lemmas.List.{length-map}
 use Rattle.std.proofs.lemmas.List.Elements.{All-head, All-tail}
 use Rattle.fourstate.specs.Delays.{uniform_delays}
 use Rattle.fourstate.specs.declared.gate.GateKind.TheVariants.{Buf}
-use Rattle.catalog.specs.Catalog.{keys_of, place_of, record_at, records_of}
+use Rattle.catalog.specs.Catalog.{record_at, records_of}
+use Rattle.catalog.specs.kept.Catalog.{keys_of, place_of}
 use Rattle.design.specs.declared.terminal.Terminal.{Terminal}
 use Rattle.design.specs.declared.terminal.Terminal.TheVariants.{Net, Constant}
-use Rattle.design.specs.Keys.{AreKeys, IsConnected, IsThere, Keyed, KeyedGate, connection_in, entry_in, gate_by_key, is_at, name_of, net_by_key, netlist, reader_keys, reads_key}
+use Rattle.design.specs.Keys.{Keyed, KeyedGate, connection_in, entry_in, name_of, netlist}
+use Rattle.design.specs.kept.Keys.{AreKeys, IsConnected, IsThere, gate_by_key, is_at, net_by_key, reader_keys, reads_key}
 use Rattle.design.specs.Names.{same_name}
 use Rattle.design.specs.Netlist.{GateEntry, NetEntry, is_at_net, reads}
-use Rattle.rundiff.specs.Places.{blank_gate, blank_net, gate_at, is_among, net_at}
+use Rattle.rundiff.specs.kept.Places.{blank_gate, blank_net, gate_at, is_among, net_at}
 use Rattle.rundiff.proofs.Lists.{same_name_equal}
 use Rattle.rundiff.proofs.Readers.{position_found}
 

@@ -6,9 +6,9 @@ use Rattle.std.specs.Option.{option_map_or}
 use Rattle.std.proofs.lemmas.Bool.Decides.{nat_tests}
 use Rattle.design.specs.Names.{same_name}
 use Rattle.design.specs.Netlist.{Netlist}
-use Rattle.design.specs.Places.{driver_places}
-use Rattle.rundiff.specs.Fronts.{AreDrivers}
-use Rattle.rundiff.specs.Places.{blank_gate, blank_net, gate_at, is_among, is_live, net_at}
+use Rattle.design.specs.kept.Places.{driver_places}
+use Rattle.rundiff.specs.kept.Fronts.{AreDrivers}
+use Rattle.rundiff.specs.kept.Places.{blank_gate, blank_net, gate_at, is_among, is_live, net_at}
 use Rattle.rundiff.proofs.ByPlace.{live_at}
 use Rattle.rundiff.proofs.Lists.{name_itself, same_name_equal}
 

@@ -5,19 +5,20 @@ use Rattle.std.specs.List.{filter}
 use Rattle.std.proofs.lemmas.Bool.{cases_lt}
 use Rattle.std.proofs.lemmas.List.Elements.{All-map}
 use Rattle.fourstate.specs.declared.limits.TheConstants.{MAX_DELAY}
-use Rattle.gatestep.specs.Tasks.{IsTask, NothingDue, PendingBefore, PendingFrom}
-use Rattle.waveform.specs.Entries.{CanStore}
+use Rattle.gatestep.specs.Tasks.{PendingFrom}
+use Rattle.gatestep.specs.kept.Tasks.{IsTask, NothingDue, PendingBefore}
+use Rattle.waveform.specs.kept.Entries.{CanStore}
 use Rattle.waveform.specs.declared.times.TheConstants.{TIME_END}
 use Rattle.std.specs.Option.{option_map_or}
 use Rattle.gatestep.specs.Step.{State, Evaluation, initial}
-use Rattle.design.specs.Lawful.{IsDesign}
+use Rattle.design.specs.kept.Lawful.{IsDesign}
 use Rattle.design.specs.Netlist.{GateEntry, Netlist}
-use Rattle.waveform.specs.Patches.{IsMended, Keeps, PatchRecord}
+use Rattle.waveform.specs.kept.Patches.{IsMended, Keeps, PatchRecord}
 use Rattle.waveform.specs.Timelines.{changes_below}
 use Rattle.scratch.specs.Run.{state_after}
-use Rattle.rundiff.specs.Fronts.{ArePlaces, GoesAlong, IsFree, named_state}
-use Rattle.rundiff.specs.Places.{blank_gate, gate_at, is_among}
-use Rattle.rundiff.specs.Kept.{Agrees, IsClosed}
+use Rattle.rundiff.specs.kept.Fronts.{ArePlaces, GoesAlong, IsFree, named_state}
+use Rattle.rundiff.specs.kept.Places.{blank_gate, gate_at, is_among}
+use Rattle.rundiff.specs.kept.Kept.{Agrees, IsClosed}
 use Rattle.rundiff.proofs.Filtering.{filter_places}
 use Rattle.rundiff.proofs.Known.{known_gate}
 use Rattle.rundiff.proofs.ByPlace.{get_at}

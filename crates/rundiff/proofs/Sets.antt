@@ -10,8 +10,8 @@ use Rattle.std.specs.declared.cmp.Ordering.TheVariants.{Less, Equal, Greater}
 use Rattle.std.proofs.lemmas.Bool.{cases_lt}
 use Rattle.std.proofs.lemmas.Bool.Decides.{nat_tests}
 use Rattle.std.proofs.lemmas.Map.Keys.{below_from_sorted}
-use Rattle.rundiff.specs.Fronts.{ArePlaces}
-use Rattle.rundiff.specs.Places.{is_among}
+use Rattle.rundiff.specs.kept.Fronts.{ArePlaces}
+use Rattle.rundiff.specs.kept.Places.{is_among}
 
 less_off : (p q : ℕ) → p < q → (q == p) ≡ false
 less_off p q low = grind (arith, nat_tests)

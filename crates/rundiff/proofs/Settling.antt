@@ -7,7 +7,7 @@ use Rattle.design.specs.Names.{same_name}
 use Rattle.design.specs.Netlist.{GateEntry, NetEntry, Netlist, is_at_net, net_named, reads}
 use Rattle.scratch.specs.Run.{state_before, value}
 use Rattle.rundiff.specs.Dirty.{is_dirty}
-use Rattle.rundiff.specs.Kept.{Agrees, IsClosed, IsSameNet, read_at}
+use Rattle.rundiff.specs.kept.Kept.{Agrees, IsClosed, IsSameNet, read_at}
 use Rattle.rundiff.proofs.Clean.{clean_after, is_clean, same_net}
 use Rattle.rundiff.proofs.Lists.{any_at, filter_where, name_itself, same_name_equal}
 use Rattle.rundiff.proofs.Still.{map_all}

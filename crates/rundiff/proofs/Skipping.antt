@@ -5,13 +5,13 @@ use Rattle.std.proofs.lemmas.Bool.{cases_lt}
 use Rattle.fourstate.specs.declared.value.Value.{Value}
 use Rattle.gatestep.specs.Record.{at_moment}
 use Rattle.gatestep.specs.Step.{State, Evaluation, due}
-use Rattle.gatestep.specs.Tasks.{NothingDue, again}
+use Rattle.gatestep.specs.kept.Tasks.{NothingDue, again}
 use Rattle.design.specs.Connections.{Connection, to_net, to_constant}
 use Rattle.design.specs.Names.{same_name}
 use Rattle.design.specs.Netlist.{GateEntry, NetEntry, Netlist, net_named}
 use Rattle.scratch.specs.Run.{state_before, value}
 use Rattle.rundiff.specs.Dirty.{is_dirty, rework_below, working_at}
-use Rattle.rundiff.specs.Kept.{Agrees, Between, IsClear, IsClosed, IsStill, read_at}
+use Rattle.rundiff.specs.kept.Kept.{Agrees, Between, IsClear, IsClosed, IsStill, read_at}
 use Rattle.scratch.specs.Work.{is_due, is_stirred, task_at}
 use Rattle.rundiff.proofs.Clean.{clean_after, is_clean}
 use Rattle.rundiff.proofs.Lists.{filter_where, same_name_equal}

@@ -4,8 +4,9 @@ use Rattle.std.specs.Prelude.{IfSome}
 use Rattle.std.specs.Option.{IsSomeAnd}
 use Rattle.std.proofs.lemmas.Bool.Decides.{nat_tests}
 use Rattle.fourstate.specs.declared.value.Value.{Value}
-use Rattle.design.specs.Lawful.{AreRising}
-use Rattle.design.specs.Netlist.{has_point, next_point, stimulus}
+use Rattle.design.specs.kept.Lawful.{AreRising}
+use Rattle.design.specs.Netlist.{has_point, stimulus}
+use Rattle.design.specs.kept.Netlist.{next_point}
 use Rattle.rundiff.proofs.Points.{point_first}
 use Rattle.rundiff.proofs.Still.{same_stimulus}
 

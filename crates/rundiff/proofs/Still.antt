@@ -10,9 +10,9 @@ use Rattle.fourstate.specs.declared.value.Value.TheVariants.{Unknown}
 use Rattle.fourstate.specs.Nets.{net_of}
 use Rattle.fourstate.specs.Values.{same_value}
 use Rattle.gatestep.specs.Step.{State, Evaluation, due, due_of}
-use Rattle.gatestep.specs.Tasks.{NothingDue, again}
+use Rattle.gatestep.specs.kept.Tasks.{NothingDue, again}
 use Rattle.design.specs.Netlist.{NetEntry, GateEntry, Netlist, drivers_of, stimulus, has_point}
-use Rattle.fourstate.specs.ValueLaws.{is_same, same_self}
+use Rattle.fourstate.specs.kept.ValueLaws.{is_same, same_self}
 use Rattle.scratch.specs.Run.{state_before, value}
 use Rattle.scratch.specs.Work.{is_due, is_stirred, same_values, task_at}
 

@@ -4,16 +4,17 @@ use Rattle.std.specs.Option.{option_map_or}
 use Rattle.std.proofs.lemmas.List.{length-map}
 use Rattle.fourstate.specs.declared.limits.TheConstants.{MAX_DELAY}
 use Rattle.gatestep.specs.Step.{State, Evaluation, due, initial}
-use Rattle.gatestep.specs.StepLaws.{not_due}
-use Rattle.gatestep.specs.Tasks.{IsTask, NothingDue, PendingBefore, PendingFrom}
-use Rattle.design.specs.Lawful.{IsGate}
+use Rattle.gatestep.specs.kept.StepLaws.{not_due}
+use Rattle.gatestep.specs.Tasks.{PendingFrom}
+use Rattle.gatestep.specs.kept.Tasks.{IsTask, NothingDue, PendingBefore}
+use Rattle.design.specs.kept.Lawful.{IsGate}
 use Rattle.design.specs.Names.{same_name}
 use Rattle.design.specs.Netlist.{GateEntry, Netlist, gate_named}
-use Rattle.waveform.specs.Entries.{CanStore}
-use Rattle.waveform.specs.Timelines.{IsAlwaysSettled}
+use Rattle.waveform.specs.kept.Entries.{CanStore}
+use Rattle.waveform.specs.kept.Timelines.{IsAlwaysSettled}
 use Rattle.waveform.specs.declared.times.TheConstants.{TIME_END}
 use Rattle.scratch.specs.Run.{evaluation_at, state_after, state_before}
-use Rattle.rundiff.specs.Fronts.{named_state}
+use Rattle.rundiff.specs.kept.Fronts.{named_state}
 use Rattle.rundiff.proofs.Lists.{found_in}
 
 module _ (answer : Evaluation → ℕ → State) (d : Netlist) (pending : (e : Evaluation) (t : ℕ) → IsTask e → NothingDue t (answer e t)) where

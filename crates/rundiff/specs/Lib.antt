@@ -1,10 +1,2 @@
 pub mod Dirty
-pub mod Finishing
-pub mod Fronts
-pub mod Inputs
-pub mod Kept
-pub mod Noting
-pub mod OldLines
-pub mod PlaceMaps
-pub mod Places
-pub mod Steady
+pub mod kept

@@ -3,11 +3,11 @@
 ghost use Rattle.std.specs.Prelude.{◌≡◌, ◌<◌, ◌&&◌, ℕ, true, All, AllPairs, OnOk, length};
 ghost use Rattle.std.specs.BTreeSet.{contains};
 ghost use Rattle.std.specs.Ordering.{nat_cmp};
-ghost use Rattle.event_queue.specs.Noted.{IsTaken, noted};
+ghost use Rattle.event_queue.specs.kept.Noted.{IsTaken, noted};
 ghost use Rattle.design.specs.Keys.{netlist};
-ghost use Rattle.rundiff.specs.Fronts.{ArePlaces};
-ghost use Rattle.rundiff.specs.Places.{gate_at, is_among, is_live};
-ghost use Rattle.scratch.specs.Places.{has};
+ghost use Rattle.rundiff.specs.kept.Fronts.{ArePlaces};
+ghost use Rattle.rundiff.specs.kept.Places.{gate_at, is_among, is_live};
+ghost use Rattle.scratch.specs.kept.Places.{has};
 
 use crate::place_set::PlaceSet;
 use design::Design;

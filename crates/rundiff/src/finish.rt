@@ -3,14 +3,14 @@
 ghost use Rattle.std.specs.Prelude.{◌≡◌, ◌<◌, ℕ, List, All, None, true, false, suc, IfOk, OnOk, length};
 ghost use Rattle.std.specs.BTreeSet.{contains};
 ghost use Rattle.std.specs.Ordering.{nat_cmp};
-ghost use Rattle.catalog.specs.Catalog.{keys_of};
+ghost use Rattle.catalog.specs.kept.Catalog.{keys_of};
 ghost use Rattle.design.specs.Keys.{netlist};
-ghost use Rattle.edits.specs.Touched.{IsTouched};
-ghost use Rattle.scratch.specs.Run.{IsRun};
-ghost use Rattle.rundiff.specs.Finishing.{ArePut, AreCleared, new_trace, new_wave};
-ghost use Rattle.rundiff.specs.Fronts.{AreDrivers, ArePlaces, AreTouched, AreTraces, AreWaves, EndBy, IsFront};
-ghost use Rattle.rundiff.specs.PlaceMaps.{kept_at};
-ghost use Rattle.rundiff.specs.Places.{gate_at, is_among, is_live};
+ghost use Rattle.edits.specs.kept.Touched.{IsTouched};
+ghost use Rattle.scratch.specs.kept.Run.{IsRun};
+ghost use Rattle.rundiff.specs.kept.Finishing.{ArePut, AreCleared, new_trace, new_wave};
+ghost use Rattle.rundiff.specs.kept.Fronts.{AreDrivers, ArePlaces, AreTouched, AreTraces, AreWaves, EndBy, IsFront};
+ghost use Rattle.rundiff.specs.kept.PlaceMaps.{kept_at};
+ghost use Rattle.rundiff.specs.kept.Places.{gate_at, is_among, is_live};
 
 use crate::choosing::add_outputs;
 use crate::finishing::{clear_touched, put_traces, put_waves};

@@ -2,16 +2,17 @@
 
 ghost use Rattle.std.specs.Prelude.{◌≡◌, ◌<◌, ◌≤◌, ℕ, suc, true, false, nat_eq, [], ◌∷◌, AllPairs, IfOk, OnOk, length};
 ghost use Rattle.std.specs.Option.{ForSome};
-ghost use Rattle.rundiff.specs.PlaceMaps.{kept_at};
+ghost use Rattle.rundiff.specs.kept.PlaceMaps.{kept_at};
 ghost use Rattle.design.specs.Keys.{netlist};
-ghost use Rattle.catalog.specs.Catalog.{keys_of};
-ghost use Rattle.waveform.specs.Patches.{Keeps};
-ghost use Rattle.waveform.specs.Timelines.{IsAlwaysSettled, changes_below, end_of};
+ghost use Rattle.catalog.specs.kept.Catalog.{keys_of};
+ghost use Rattle.waveform.specs.kept.Patches.{Keeps};
+ghost use Rattle.waveform.specs.Timelines.{changes_below};
+ghost use Rattle.waveform.specs.kept.Timelines.{IsAlwaysSettled, end_of};
 ghost use Rattle.waveform.specs.declared.times.TheConstants.{TIME_END};
-ghost use Rattle.scratch.specs.Run.{IsRun};
-ghost use Rattle.rundiff.specs.Finishing.{ArePut, AreCleared, new_trace, new_wave};
-ghost use Rattle.rundiff.specs.Fronts.{AreTraces, AreWaves, EndBy, IsTrace, IsWave};
-ghost use Rattle.rundiff.specs.Places.{is_among};
+ghost use Rattle.scratch.specs.kept.Run.{IsRun};
+ghost use Rattle.rundiff.specs.kept.Finishing.{ArePut, AreCleared, new_trace, new_wave};
+ghost use Rattle.rundiff.specs.kept.Fronts.{AreTraces, AreWaves, EndBy, IsTrace, IsWave};
+ghost use Rattle.rundiff.specs.kept.Places.{is_among};
 
 use crate::former::Former;
 use crate::old::{old_trace, old_wave};

@@ -5,12 +5,13 @@ ghost use Rattle.std.specs.Prelude.{◌≡◌, ◌<◌, ◌⊎◌, ℕ, suc, len
 ghost use Rattle.gatestep.specs.Step.{Evaluation, State};
 ghost use Rattle.design.specs.Connections.{to_net};
 ghost use Rattle.design.specs.Keys.{netlist};
-ghost use Rattle.waveform.specs.Changes.{trace_below, wave_changes_below};
-ghost use Rattle.scratch.specs.Run.{IsRun};
-ghost use Rattle.rundiff.specs.Fronts.{IsOwn, named_state};
-ghost use Rattle.rundiff.specs.Kept.{read_at};
-ghost use Rattle.rundiff.specs.PlaceMaps.{kept_at};
-ghost use Rattle.rundiff.specs.Places.{gate_at, net_at};
+ghost use Rattle.waveform.specs.Changes.{wave_changes_below};
+ghost use Rattle.waveform.specs.kept.Changes.{trace_below};
+ghost use Rattle.scratch.specs.kept.Run.{IsRun};
+ghost use Rattle.rundiff.specs.kept.Fronts.{IsOwn, named_state};
+ghost use Rattle.rundiff.specs.kept.Kept.{read_at};
+ghost use Rattle.rundiff.specs.kept.PlaceMaps.{kept_at};
+ghost use Rattle.rundiff.specs.kept.Places.{gate_at, net_at};
 
 use crate::blanks::Blanks;
 use crate::old::{old_trace, old_wave};

@@ -3,9 +3,10 @@
 ghost use Rattle.std.specs.Prelude.{◌≡◌, ◌≤◌, ◌+◌, suc, All, OnOk, map};
 ghost use Rattle.gatestep.specs.Tasks.{IsReady};
 ghost use Rattle.design.specs.Keys.{netlist};
-ghost use Rattle.scratch.specs.Run.{IsRun, state_after};
+ghost use Rattle.scratch.specs.Run.{state_after};
+ghost use Rattle.scratch.specs.kept.Run.{IsRun};
 ghost use Rattle.rundiff.specs.Dirty.{working_at};
-ghost use Rattle.rundiff.specs.Fronts.{IsClean, IsFront, IsWaiting, tasks_in};
+ghost use Rattle.rundiff.specs.kept.Fronts.{IsClean, IsFront, IsWaiting, tasks_in};
 ghost use Rattle.scratch.specs.Work.{task_at};
 
 use crate::former::Former;

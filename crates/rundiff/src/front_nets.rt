@@ -1,13 +1,13 @@
 //! The nets at one moment: which are looked at, what they have, and what follows.
 
 ghost use Rattle.std.specs.Prelude.{◌≡◌, ◌<◌, ◌≤◌, ℕ, suc, true, OnOk, length};
-ghost use Rattle.event_queue.specs.Noted.{noted};
+ghost use Rattle.event_queue.specs.kept.Noted.{noted};
 ghost use Rattle.design.specs.Keys.{netlist};
-ghost use Rattle.scratch.specs.Places.{IsNotedWithin, Keeps};
-ghost use Rattle.scratch.specs.Run.{IsRun};
-ghost use Rattle.rundiff.specs.Fronts.{AreNetsDone, IsFront};
-ghost use Rattle.rundiff.specs.Noting.{net_moves};
-ghost use Rattle.rundiff.specs.Places.{is_among};
+ghost use Rattle.scratch.specs.kept.Places.{IsNotedWithin, Keeps};
+ghost use Rattle.scratch.specs.kept.Run.{IsRun};
+ghost use Rattle.rundiff.specs.kept.Fronts.{AreNetsDone, IsFront};
+ghost use Rattle.rundiff.specs.kept.Noting.{net_moves};
+ghost use Rattle.rundiff.specs.kept.Places.{is_among};
 
 use crate::choosing::{choose_gates, choose_nets};
 use crate::former::Former;

@@ -3,14 +3,14 @@
 ghost use Rattle.std.specs.Prelude.{◌≡◌, ◌<◌, ◌≤◌, ℕ, suc, true, All, OnOk, length, map};
 ghost use Rattle.std.specs.BTreeSet.{contains};
 ghost use Rattle.std.specs.Ordering.{nat_cmp};
-ghost use Rattle.event_queue.specs.Noted.{noted};
+ghost use Rattle.event_queue.specs.kept.Noted.{noted};
 ghost use Rattle.gatestep.specs.Step.{State};
 ghost use Rattle.gatestep.specs.Tasks.{PendingFrom};
 ghost use Rattle.design.specs.Keys.{netlist};
-ghost use Rattle.rundiff.specs.Noting.{input_moves, pends};
-ghost use Rattle.rundiff.specs.Places.{is_among};
-ghost use Rattle.scratch.specs.Places.{IsNotedWithin, Keeps, has};
-ghost use Rattle.scratch.specs.Run.{IsRun};
+ghost use Rattle.rundiff.specs.kept.Noting.{input_moves, pends};
+ghost use Rattle.rundiff.specs.kept.Places.{is_among};
+ghost use Rattle.scratch.specs.kept.Places.{IsNotedWithin, Keeps, has};
+ghost use Rattle.scratch.specs.kept.Run.{IsRun};
 
 use crate::former::Former;
 use crate::noting::{note_event, note_inputs};

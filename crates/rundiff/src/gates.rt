@@ -4,17 +4,18 @@ ghost use Rattle.std.specs.Prelude.{◌≡◌, ◌<◌, ◌≤◌, ◌++◌, ℕ
 ghost use Rattle.std.specs.BTreeSet.{contains};
 ghost use Rattle.std.specs.Option.{ForSome};
 ghost use Rattle.std.specs.Ordering.{nat_cmp};
-ghost use Rattle.rundiff.specs.PlaceMaps.{kept_at};
+ghost use Rattle.rundiff.specs.kept.PlaceMaps.{kept_at};
 ghost use Rattle.gatestep.specs.Step.{Evaluation, State};
 ghost use Rattle.gatestep.specs.Tasks.{IsReady};
 ghost use Rattle.design.specs.Keys.{netlist};
 ghost use Rattle.design.specs.Netlist.{Netlist};
-ghost use Rattle.waveform.specs.Entries.{CanStore};
-ghost use Rattle.waveform.specs.Timelines.{end_of};
-ghost use Rattle.scratch.specs.Run.{IsRun, state_after};
-ghost use Rattle.rundiff.specs.Fronts.{AreOutcomes, AreTraces, AreWaves, IsClean, IsOutcome, IsOwn, IsTrace, is_working};
-ghost use Rattle.rundiff.specs.Kept.{IsClosed};
-ghost use Rattle.rundiff.specs.Places.{gate_at, is_among, is_live};
+ghost use Rattle.waveform.specs.kept.Entries.{CanStore};
+ghost use Rattle.waveform.specs.kept.Timelines.{end_of};
+ghost use Rattle.scratch.specs.Run.{state_after};
+ghost use Rattle.scratch.specs.kept.Run.{IsRun};
+ghost use Rattle.rundiff.specs.kept.Fronts.{AreOutcomes, AreTraces, AreWaves, IsClean, IsOutcome, IsOwn, IsTrace, is_working};
+ghost use Rattle.rundiff.specs.kept.Kept.{IsClosed};
+ghost use Rattle.rundiff.specs.kept.Places.{gate_at, is_among, is_live};
 ghost use Rattle.scratch.specs.Work.{task_at};
 
 use crate::former::{Former, former_trace};

@@ -4,9 +4,9 @@ ghost use Rattle.std.specs.Prelude.{◌≡◌, ◌<◌, ◌==◌, ◌||◌, ℕ,
 ghost use Rattle.std.specs.BTreeSet.{contains};
 ghost use Rattle.std.specs.Ordering.{nat_cmp};
 ghost use Rattle.design.specs.Keys.{netlist};
-ghost use Rattle.design.specs.Places.{driver_places};
-ghost use Rattle.rundiff.specs.Fronts.{AreDrivers};
-ghost use Rattle.rundiff.specs.Places.{is_among, net_at};
+ghost use Rattle.design.specs.kept.Places.{driver_places};
+ghost use Rattle.rundiff.specs.kept.Fronts.{AreDrivers};
+ghost use Rattle.rundiff.specs.kept.Places.{is_among, net_at};
 
 use crate::place_set::PlaceSet;
 use design::Design;

@@ -6,12 +6,12 @@ ghost use Rattle.fourstate.specs.Values.{same_value};
 ghost use Rattle.design.specs.Keys.{netlist};
 ghost use Rattle.design.specs.Netlist.{stimulus};
 ghost use Rattle.waveform.specs.Entries.{standing};
-ghost use Rattle.waveform.specs.Patches.{Keeps};
+ghost use Rattle.waveform.specs.kept.Patches.{Keeps};
 ghost use Rattle.rundiff.specs.Dirty.{rework_below};
-ghost use Rattle.rundiff.specs.Fronts.{EndBy, IsFree, IsFront};
-ghost use Rattle.rundiff.specs.Inputs.{IsSameInput};
-ghost use Rattle.rundiff.specs.PlaceMaps.{kept_at};
-ghost use Rattle.rundiff.specs.Places.{is_among};
+ghost use Rattle.rundiff.specs.kept.Fronts.{EndBy, IsFree, IsFront};
+ghost use Rattle.rundiff.specs.kept.Inputs.{IsSameInput};
+ghost use Rattle.rundiff.specs.kept.PlaceMaps.{kept_at};
+ghost use Rattle.rundiff.specs.kept.Places.{is_among};
 
 use crate::former::Former;
 use crate::front::Front;

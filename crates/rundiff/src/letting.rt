@@ -1,17 +1,17 @@
 //! Nets and gates that go along with the old run again leave what is live.
 
 ghost use Rattle.std.specs.Prelude.{◌≡◌, ◌<◌, ◌≤◌, ℕ, suc, true, false, All, IfSome, OnOk, length};
-ghost use Rattle.event_queue.specs.Noted.{noted};
+ghost use Rattle.event_queue.specs.kept.Noted.{noted};
 ghost use Rattle.design.specs.Connections.{to_net};
 ghost use Rattle.design.specs.Keys.{netlist};
 ghost use Rattle.design.specs.Netlist.{reads};
-ghost use Rattle.design.specs.Places.{driver_places};
-ghost use Rattle.scratch.specs.Places.{IsNotedWithin, Keeps};
-ghost use Rattle.scratch.specs.Run.{IsRun};
+ghost use Rattle.design.specs.kept.Places.{driver_places};
+ghost use Rattle.scratch.specs.kept.Places.{IsNotedWithin, Keeps};
+ghost use Rattle.scratch.specs.kept.Run.{IsRun};
 ghost use Rattle.rundiff.specs.Dirty.{is_dirty};
-ghost use Rattle.rundiff.specs.Fronts.{IsClean, IsFront};
-ghost use Rattle.rundiff.specs.Noting.{old_moves};
-ghost use Rattle.rundiff.specs.Places.{gate_at, net_at};
+ghost use Rattle.rundiff.specs.kept.Fronts.{IsClean, IsFront};
+ghost use Rattle.rundiff.specs.kept.Noting.{old_moves};
+ghost use Rattle.rundiff.specs.kept.Places.{gate_at, net_at};
 
 use crate::former::Former;
 use crate::front::Front;

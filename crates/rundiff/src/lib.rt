@@ -2,6 +2,7 @@
 #![tactic(auto)]
 
 mod blanks;
+mod changed;
 mod choosing;
 mod finish;
 mod finishing;

@@ -4,14 +4,16 @@ ghost use Rattle.std.specs.Prelude.{◌≡◌, ◌<◌, ◌≤◌, ℕ, suc, fal
 ghost use Rattle.std.specs.BTreeSet.{contains};
 ghost use Rattle.std.specs.Ordering.{nat_cmp};
 ghost use Rattle.gatestep.specs.Tasks.{PendingFrom};
-ghost use Rattle.design.specs.Keys.{IsConnected, entry_in, netlist};
+ghost use Rattle.design.specs.Keys.{entry_in, netlist};
+ghost use Rattle.design.specs.kept.Keys.{IsConnected};
 ghost use Rattle.design.specs.Netlist.{GateEntry, gate_named};
-ghost use Rattle.waveform.specs.Entries.{CanStore};
-ghost use Rattle.scratch.specs.Run.{IsRun, state_after, state_before};
+ghost use Rattle.waveform.specs.kept.Entries.{CanStore};
+ghost use Rattle.scratch.specs.Run.{state_after, state_before};
+ghost use Rattle.scratch.specs.kept.Run.{IsRun};
 ghost use Rattle.rundiff.specs.Dirty.{is_dirty, is_new};
-ghost use Rattle.rundiff.specs.Fronts.{AreTraces, AreWaves, IsOutcome};
-ghost use Rattle.rundiff.specs.Kept.{IsClosed};
-ghost use Rattle.rundiff.specs.Places.{gate_at, is_live};
+ghost use Rattle.rundiff.specs.kept.Fronts.{AreTraces, AreWaves, IsOutcome};
+ghost use Rattle.rundiff.specs.kept.Kept.{IsClosed};
+ghost use Rattle.rundiff.specs.kept.Places.{gate_at, is_live};
 ghost use Rattle.scratch.specs.Work.{is_due, is_stirred, task_at};
 
 use crate::former::Former;

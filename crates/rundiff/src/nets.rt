@@ -4,15 +4,16 @@ ghost use Rattle.std.specs.Prelude.{◌≡◌, ◌<◌, ◌≤◌, ◌||◌, ℕ
 ghost use Rattle.std.specs.BTreeSet.{contains};
 ghost use Rattle.std.specs.Option.{ForSome};
 ghost use Rattle.std.specs.Ordering.{nat_cmp};
-ghost use Rattle.rundiff.specs.PlaceMaps.{kept_at};
+ghost use Rattle.rundiff.specs.kept.PlaceMaps.{kept_at};
 ghost use Rattle.design.specs.Connections.{to_net};
 ghost use Rattle.design.specs.Keys.{netlist};
 ghost use Rattle.design.specs.Netlist.{reads};
-ghost use Rattle.waveform.specs.Timelines.{end_of};
-ghost use Rattle.scratch.specs.Run.{IsRun, value};
-ghost use Rattle.rundiff.specs.Fronts.{AreTraces, AreWaves, EndBy, IsAlike, IsOwn, IsWave};
-ghost use Rattle.rundiff.specs.Places.{gate_at, is_among, is_live, net_at};
-ghost use Rattle.rundiff.specs.Kept.{read_at};
+ghost use Rattle.waveform.specs.kept.Timelines.{end_of};
+ghost use Rattle.scratch.specs.Run.{value};
+ghost use Rattle.scratch.specs.kept.Run.{IsRun};
+ghost use Rattle.rundiff.specs.kept.Fronts.{AreTraces, AreWaves, EndBy, IsAlike, IsOwn, IsWave};
+ghost use Rattle.rundiff.specs.kept.Places.{gate_at, is_among, is_live, net_at};
+ghost use Rattle.rundiff.specs.kept.Kept.{read_at};
 
 use crate::former::{Former, former_wave};
 use crate::old::old_wave;

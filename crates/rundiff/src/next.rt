@@ -1,10 +1,10 @@
 //! The next moment at which something may happen to what differs.
 
 ghost use Rattle.std.specs.Prelude.{◌≡◌, ◌≢◌, ◌<◌, ◌≤◌, ◌⊎◌, ℕ, suc, []};
-ghost use Rattle.event_queue.specs.Noted.{noted};
+ghost use Rattle.event_queue.specs.kept.Noted.{noted};
 ghost use Rattle.design.specs.Keys.{netlist};
 ghost use Rattle.rundiff.specs.Dirty.{rework_below};
-ghost use Rattle.rundiff.specs.Fronts.{IsFront};
+ghost use Rattle.rundiff.specs.kept.Fronts.{IsFront};
 
 use crate::former::Former;
 use crate::front::Front;

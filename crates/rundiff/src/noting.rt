@@ -4,14 +4,15 @@ ghost use Rattle.std.specs.Prelude.{◌≡◌, ◌<◌, ◌≤◌, ◌&&◌, ℕ
 ghost use Rattle.std.specs.Option.{IsSomeAnd};
 ghost use Rattle.std.specs.BTreeSet.{contains};
 ghost use Rattle.std.specs.Ordering.{nat_cmp};
-ghost use Rattle.event_queue.specs.Noted.{noted};
+ghost use Rattle.event_queue.specs.kept.Noted.{noted};
 ghost use Rattle.gatestep.specs.Tasks.{PendingFrom};
 ghost use Rattle.design.specs.Connections.{to_net};
-ghost use Rattle.design.specs.Keys.{IsThere, connection_in, netlist};
+ghost use Rattle.design.specs.Keys.{connection_in, netlist};
+ghost use Rattle.design.specs.kept.Keys.{IsThere};
 ghost use Rattle.design.specs.Netlist.{Netlist};
-ghost use Rattle.rundiff.specs.Noting.{input_moves, is_at_live, net_moves, old_moves, pends};
-ghost use Rattle.scratch.specs.Places.{IsNotedWithin, Keeps, has};
-ghost use Rattle.scratch.specs.Run.{IsRun};
+ghost use Rattle.rundiff.specs.kept.Noting.{input_moves, is_at_live, net_moves, old_moves, pends};
+ghost use Rattle.scratch.specs.kept.Places.{IsNotedWithin, Keeps, has};
+ghost use Rattle.scratch.specs.kept.Run.{IsRun};
 
 use crate::former::Former;
 use crate::old::old_wave;

@@ -5,12 +5,14 @@ ghost use Rattle.std.specs.Prelude.{◌≡◌, ℕ, suc, None, IfNone, IfSome, I
 ghost use Rattle.std.specs.Option.{option_map};
 ghost use Rattle.gatestep.specs.Step.{Evaluation, State};
 ghost use Rattle.design.specs.Connections.{to_net};
-ghost use Rattle.design.specs.Keys.{entry_in, gate_by_key, net_by_key, netlist};
+ghost use Rattle.design.specs.Keys.{entry_in, netlist};
+ghost use Rattle.design.specs.kept.Keys.{gate_by_key, net_by_key};
 ghost use Rattle.design.specs.Netlist.{gate_named, net_named};
-ghost use Rattle.waveform.specs.Changes.{trace_below, wave_changes_below};
-ghost use Rattle.scratch.specs.Run.{IsRun};
-ghost use Rattle.rundiff.specs.Fronts.{named_state};
-ghost use Rattle.rundiff.specs.Kept.{read_at};
+ghost use Rattle.waveform.specs.Changes.{wave_changes_below};
+ghost use Rattle.waveform.specs.kept.Changes.{trace_below};
+ghost use Rattle.scratch.specs.kept.Run.{IsRun};
+ghost use Rattle.rundiff.specs.kept.Fronts.{named_state};
+ghost use Rattle.rundiff.specs.kept.Kept.{read_at};
 
 use crate::former::Former;
 use design::{Design, GateKey, NetKey};

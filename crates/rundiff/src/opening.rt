@@ -3,14 +3,15 @@
 ghost use Rattle.std.specs.Prelude.{◌≡◌, ◌<◌, ℕ, [], All, IfOk, OnOk, Some, length, true};
 ghost use Rattle.std.specs.BTreeSet.{contains};
 ghost use Rattle.std.specs.Ordering.{nat_cmp};
-ghost use Rattle.catalog.specs.Catalog.{place_of};
-ghost use Rattle.event_queue.specs.Noted.{noted};
+ghost use Rattle.catalog.specs.kept.Catalog.{place_of};
+ghost use Rattle.event_queue.specs.kept.Noted.{noted};
 ghost use Rattle.gatestep.specs.Step.{Evaluation, State};
-ghost use Rattle.design.specs.Keys.{KeyedGate, gate_by_key, netlist};
-ghost use Rattle.edits.specs.Touched.{IsTouched};
-ghost use Rattle.rundiff.specs.Fronts.{AreTouched, IsFront};
-ghost use Rattle.rundiff.specs.Places.{is_among};
-ghost use Rattle.scratch.specs.Places.{has};
+ghost use Rattle.design.specs.Keys.{KeyedGate, netlist};
+ghost use Rattle.design.specs.kept.Keys.{gate_by_key};
+ghost use Rattle.edits.specs.kept.Touched.{IsTouched};
+ghost use Rattle.rundiff.specs.kept.Fronts.{AreTouched, IsFront};
+ghost use Rattle.rundiff.specs.kept.Places.{is_among};
+ghost use Rattle.scratch.specs.kept.Places.{has};
 
 use crate::former::Former;
 use crate::front::Front;

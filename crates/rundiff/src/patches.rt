@@ -2,10 +2,11 @@
 
 ghost use Rattle.std.specs.Prelude.{◌≡◌, ◌<◌, ◌≤◌, ◌⊎◌, ℕ, suc, true, false, nat_eq, OnOk};
 ghost use Rattle.std.specs.Option.{ForSome};
-ghost use Rattle.rundiff.specs.PlaceMaps.{kept_at};
-ghost use Rattle.waveform.specs.Timelines.{IsAlwaysSettled, changes_below, end_of};
-ghost use Rattle.rundiff.specs.Fronts.{IsFree, IsOwn};
-ghost use Rattle.waveform.specs.Patches.{Keeps};
+ghost use Rattle.rundiff.specs.kept.PlaceMaps.{kept_at};
+ghost use Rattle.waveform.specs.Timelines.{changes_below};
+ghost use Rattle.waveform.specs.kept.Timelines.{IsAlwaysSettled, end_of};
+ghost use Rattle.rundiff.specs.kept.Fronts.{IsFree, IsOwn};
+ghost use Rattle.waveform.specs.kept.Patches.{Keeps};
 ghost use Rattle.waveform.specs.declared.times.TheConstants.{TIME_END};
 
 use crate::place_map::PlaceMap;

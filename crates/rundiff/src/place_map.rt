@@ -2,9 +2,9 @@
 
 ghost use Rattle.std.specs.Prelude.{◌≡◌, ◌<◌, ◌≤◌, ◌/◌, ◌%◌, ℕ, Some, None, true, false, nat_eq, length, All, IfSome, OnOk, slice_get, slice_index_or};
 ghost use Rattle.std.specs.Option.{option_copied};
-ghost use Rattle.rundiff.specs.PlaceMaps.{kept_at, number_at, page_at};
+ghost use Rattle.rundiff.specs.kept.PlaceMaps.{kept_at, number_at, page_at};
 ghost use Rattle.rundiff.specs.declared.place_map.TheConstants.{PAGE};
-ghost use Rattle.rundiff.specs.Places.{is_among};
+ghost use Rattle.rundiff.specs.kept.Places.{is_among};
 
 use std::alloc::{AllocError, Global};
 

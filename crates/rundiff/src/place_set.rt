@@ -22,7 +22,7 @@ impl Model for PlaceSet {
     ghost use Rattle.std.specs.Prelude.{◌≡◌, ℕ, nat_lt};
     ghost use Rattle.std.specs.BTreeSet.{BTreeSet, contains};
     ghost use Rattle.std.specs.Ordering.{nat_cmp};
-    ghost use Rattle.rundiff.specs.PlaceMaps.{number_at};
+    ghost use Rattle.rundiff.specs.kept.PlaceMaps.{number_at};
 
     ghost Value = { BTreeSet ℕ };
 

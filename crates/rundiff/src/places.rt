@@ -3,7 +3,7 @@
 ghost use Rattle.std.specs.Prelude.{◌≡◌, IfOk};
 ghost use Rattle.std.specs.BTreeSet.{contains};
 ghost use Rattle.std.specs.Ordering.{nat_cmp};
-ghost use Rattle.rundiff.specs.Fronts.{ArePlaces};
+ghost use Rattle.rundiff.specs.kept.Fronts.{ArePlaces};
 
 use crate::place_set::PlaceSet;
 use std::alloc::{AllocError, Global};

@@ -4,11 +4,13 @@ ghost use Rattle.std.specs.Prelude.{◌≡◌, ◌<◌, ◌≤◌, ℕ, suc, map
 ghost use Rattle.gatestep.specs.Step.{Evaluation, State};
 ghost use Rattle.gatestep.specs.Tasks.{PendingFrom};
 ghost use Rattle.design.specs.Connections.{to_net};
-ghost use Rattle.design.specs.Keys.{IsConnected, IsThere, connection_in, netlist};
-ghost use Rattle.scratch.specs.Run.{IsRun, state_before, value};
-ghost use Rattle.rundiff.specs.Fronts.{AreTraces, AreWaves};
-ghost use Rattle.rundiff.specs.Places.{gate_at, net_at};
-ghost use Rattle.rundiff.specs.Kept.{read_at};
+ghost use Rattle.design.specs.Keys.{connection_in, netlist};
+ghost use Rattle.design.specs.kept.Keys.{IsConnected, IsThere};
+ghost use Rattle.scratch.specs.Run.{state_before, value};
+ghost use Rattle.scratch.specs.kept.Run.{IsRun};
+ghost use Rattle.rundiff.specs.kept.Fronts.{AreTraces, AreWaves};
+ghost use Rattle.rundiff.specs.kept.Places.{gate_at, net_at};
+ghost use Rattle.rundiff.specs.kept.Kept.{read_at};
 
 use crate::former::{Former, former_trace, former_wave};
 use crate::old::old_wave;

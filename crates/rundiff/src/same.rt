@@ -2,7 +2,8 @@
 
 ghost use Rattle.std.specs.Prelude.{◌≡◌, map};
 ghost use Rattle.std.specs.Cmp.Lexicographic.{pointwise};
-ghost use Rattle.design.specs.Keys.{IsConnected, IsThere, connection_in, entry_in, netlist};
+ghost use Rattle.design.specs.Keys.{connection_in, entry_in, netlist};
+ghost use Rattle.design.specs.kept.Keys.{IsConnected, IsThere};
 ghost use Rattle.rundiff.specs.Dirty.{is_new, same_connection, same_gate};
 
 use crate::old::old_gate;

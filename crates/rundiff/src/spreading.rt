@@ -6,11 +6,12 @@ ghost use Rattle.std.specs.BTreeSet.{contains};
 ghost use Rattle.std.specs.Ordering.{nat_cmp};
 ghost use Rattle.design.specs.Keys.{netlist};
 ghost use Rattle.design.specs.Netlist.{reads};
-ghost use Rattle.design.specs.Places.{driver_places};
-ghost use Rattle.scratch.specs.Run.{IsRun, value};
-ghost use Rattle.rundiff.specs.Fronts.{AreDrivers, IsWave};
-ghost use Rattle.rundiff.specs.Places.{gate_at, is_among, is_live, net_at};
-ghost use Rattle.rundiff.specs.Steady.{IsSteady};
+ghost use Rattle.design.specs.kept.Places.{driver_places};
+ghost use Rattle.scratch.specs.Run.{value};
+ghost use Rattle.scratch.specs.kept.Run.{IsRun};
+ghost use Rattle.rundiff.specs.kept.Fronts.{AreDrivers, IsWave};
+ghost use Rattle.rundiff.specs.kept.Places.{gate_at, is_among, is_live, net_at};
+ghost use Rattle.rundiff.specs.kept.Steady.{IsSteady};
 
 use crate::choosing::put_in_order;
 use crate::former::{Former, former_wave};

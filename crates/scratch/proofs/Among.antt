@@ -6,7 +6,7 @@ use Rattle.std.specs.Prelude.{nat_eq, ◌||◌, ◌&&◌}
 use Rattle.std.proofs.lemmas.Bool.Decides.{nat_tests}
 use Rattle.std.proofs.lemmas.List.Folds.{list_any-append}
 use Rattle.std.proofs.lemmas.Map.Views.{All-from_any, Contains-from_any, list_any-from_Contains, exact_unsigned_eq}
-use Rattle.scratch.specs.Places.{AreRising, has}
+use Rattle.scratch.specs.kept.Places.{AreRising, has}
 use Rattle.scratch.proofs.Lists.{take_next}
 
 pub nat_itself : (k : ℕ) → nat_eq k k ≡ true

@@ -6,7 +6,8 @@ use Rattle.std.proofs.lemmas.Bool.Decides.{nat_tests}
 use Rattle.std.proofs.lemmas.List.{append_cancel_left}
 use Rattle.gatestep.specs.Step.{State, Evaluation}
 use Rattle.design.specs.Netlist.{Netlist}
-use Rattle.scratch.specs.Work.{HasGrownOrNot, work_at, work_below, work_from}
+use Rattle.scratch.specs.Work.{work_at, work_below}
+use Rattle.scratch.specs.kept.Work.{HasGrownOrNot, work_from}
 
 -- what follows from what an answer says
 pub ok_on : {A E : Type 0} {P Q : Type 0} (r : Result A E) → (P → Q) → OnOk r P → OnOk r Q

@@ -3,7 +3,7 @@ use Rattle.std.proofs.Common.{◌≡◌, ◌<◌, ◌∙◌, sym, ap, refl, Bool
 use Rattle.std.specs.Prelude.{nat_eq, ◌||◌}
 use Rattle.std.proofs.Math.ListN.{set}
 use Rattle.std.proofs.lemmas.Bool.Decides.{nat_tests}
-use Rattle.scratch.specs.Places.{has}
+use Rattle.scratch.specs.kept.Places.{has}
 use Rattle.scratch.proofs.Among.{has_more, nat_itself, nat_same, or_false, or_true}
 
 -- at the places `done` it is new, elsewhere as it was

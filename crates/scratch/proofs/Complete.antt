@@ -11,17 +11,19 @@ use Rattle.std.proofs.lemmas.Option.{slice_get-map, slice_get_past, slice_get_re
 use Rattle.fourstate.specs.declared.value.Value.{Value}
 use Rattle.fourstate.specs.declared.value.Value.TheVariants.{Unknown}
 use Rattle.gatestep.specs.Step.{State, Evaluation, due, initial}
-use Rattle.gatestep.specs.Tasks.{IsTask, NothingDue}
-use Rattle.design.specs.Lawful.{IsGate}
+use Rattle.gatestep.specs.kept.Tasks.{IsTask, NothingDue}
+use Rattle.design.specs.kept.Lawful.{IsGate}
 use Rattle.design.specs.Names.{same_name}
 use Rattle.design.specs.Netlist.{GateEntry, NetEntry, Netlist}
-use Rattle.design.specs.Places.{driver_places}
-use Rattle.waveform.specs.Changes.{state_at, wave_changes_below}
-use Rattle.waveform.specs.Currents.{GoesOn, currents}
+use Rattle.design.specs.kept.Places.{driver_places}
+use Rattle.waveform.specs.Changes.{wave_changes_below}
+use Rattle.waveform.specs.kept.Changes.{state_at}
+use Rattle.waveform.specs.kept.Currents.{GoesOn, currents}
 use Rattle.waveform.specs.Entries.{same_state}
-use Rattle.scratch.specs.Kept.{currents_of, lone_driver}
-use Rattle.scratch.specs.Recorded.{recorded_below}
-use Rattle.scratch.specs.Run.{evaluation_at, state_after, state_before, trace_of, value, wave_of}
+use Rattle.scratch.specs.kept.Kept.{currents_of, lone_driver}
+use Rattle.scratch.specs.kept.Recorded.{recorded_below}
+use Rattle.scratch.specs.Run.{evaluation_at, state_after, state_before, value, wave_of}
+use Rattle.scratch.specs.kept.Run.{trace_of}
 use Rattle.scratch.proofs.Among.{nat_same}
 use Rattle.scratch.proofs.Between.{alike as alike_lists, length_set, set_apart, set_here}
 use Rattle.scratch.proofs.Copies.{GivesValues}

@@ -4,20 +4,23 @@ use Rattle.std.proofs.lemmas.List.{map-append}
 use Rattle.fourstate.specs.declared.value.Value.TheVariants.{Unknown}
 use Rattle.fourstate.specs.Values.{same_value}
 use Rattle.gatestep.specs.Step.{State, Evaluation, due, initial}
-use Rattle.gatestep.specs.Tasks.{IsTask, NothingDue}
+use Rattle.gatestep.specs.kept.Tasks.{IsTask, NothingDue}
 use Rattle.catalog.specs.Catalog.{records_of}
-use Rattle.design.specs.Keys.{Keyed, KeyedGate, entry_in, gate_by_key, netlist}
-use Rattle.design.specs.Lawful.{IsGate}
+use Rattle.design.specs.Keys.{Keyed, KeyedGate, entry_in, netlist}
+use Rattle.design.specs.kept.Keys.{gate_by_key}
+use Rattle.design.specs.kept.Lawful.{IsGate}
 use Rattle.design.specs.Netlist.{GateEntry, NetEntry, Netlist}
 use Rattle.waveform.specs.Entries.{same_state, standing}
-use Rattle.waveform.specs.Runs.{RunRecord}
-use Rattle.waveform.specs.Tables.{line_at}
-use Rattle.waveform.specs.Timelines.{IsAlwaysSettled, changes_below, entries_until, value_by}
-use Rattle.scratch.specs.HorizonLaws.{CutsChanges}
+use Rattle.waveform.specs.kept.Runs.{RunRecord}
+use Rattle.waveform.specs.kept.Tables.{line_at}
+use Rattle.waveform.specs.Timelines.{changes_below, entries_until, value_by}
+use Rattle.waveform.specs.kept.Timelines.{IsAlwaysSettled}
+use Rattle.scratch.specs.kept.HorizonLaws.{CutsChanges}
 use Rattle.std.specs.Option.{option_map_or}
-use Rattle.scratch.specs.Kept.{lone_driver}
-use Rattle.scratch.specs.Recorded.{recorded_below}
-use Rattle.scratch.specs.Run.{IsRun, state_after, state_before, trace_of, value, wave_of}
+use Rattle.scratch.specs.kept.Kept.{lone_driver}
+use Rattle.scratch.specs.kept.Recorded.{recorded_below}
+use Rattle.scratch.specs.Run.{state_after, state_before, value, wave_of}
+use Rattle.scratch.specs.kept.Run.{IsRun, trace_of}
 use Rattle.scratch.proofs.Lists.{take_next}
 use Rattle.scratch.proofs.Moments.{map_twice}
 use Rattle.scratch.proofs.Recorded.{recorded_alone, recorded_whole}

@@ -17,12 +17,12 @@ use Rattle.fourstate.specs.Values.{occurs, same_value}
 use Rattle.gatestep.specs.Step.{State, Evaluation, due}
 use Rattle.design.specs.Names.{same_name}
 use Rattle.design.specs.Netlist.{GateEntry, NetEntry, Netlist}
-use Rattle.design.specs.Places.{driver_places}
-use Rattle.scratch.specs.Kept.{currents_of, output_at, places_at, values_at}
-use Rattle.scratch.specs.Places.{AreRising, drives_at, has, is_due_at}
+use Rattle.design.specs.kept.Places.{driver_places}
+use Rattle.scratch.specs.kept.Kept.{currents_of, output_at, places_at, values_at}
+use Rattle.scratch.specs.kept.Places.{AreRising, drives_at, has, is_due_at}
 use Rattle.scratch.specs.Run.{state_before}
-use Rattle.scratch.specs.Tallies.{AreTallies, Counts}
-use Rattle.scratch.specs.Tally.{tally_of, times}
+use Rattle.scratch.specs.kept.Tallies.{AreTallies, Counts}
+use Rattle.scratch.specs.kept.Tally.{tally_of, times}
 use Rattle.scratch.specs.Work.{is_due, task_at}
 use Rattle.scratch.specs.declared.tallies.Tallies.{Tallies}
 use Rattle.scratch.specs.declared.tally.Tally.{Tally}

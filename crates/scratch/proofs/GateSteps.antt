@@ -3,13 +3,13 @@ use Rattle.std.proofs.Common.{◌≡◌, ◌<◌, ◌∙◌, sym, ap, refl, fals
 use Rattle.std.specs.Option.{option_map, option_map_or}
 use Rattle.std.proofs.lemmas.Option.{slice_get-map}
 use Rattle.gatestep.specs.Step.{State, Evaluation, due}
-use Rattle.gatestep.specs.Tasks.{IsTask, NothingDue, again}
-use Rattle.design.specs.Lawful.{IsGate}
+use Rattle.gatestep.specs.kept.Tasks.{IsTask, NothingDue, again}
+use Rattle.design.specs.kept.Lawful.{IsGate}
 use Rattle.design.specs.Netlist.{GateEntry, Netlist}
-use Rattle.waveform.specs.Changes.{trace_below}
+use Rattle.waveform.specs.kept.Changes.{trace_below}
 use Rattle.waveform.specs.Entries.{same_state}
-use Rattle.waveform.specs.Timelines.{is_reached, pushed}
-use Rattle.scratch.specs.Places.{has, passing}
+use Rattle.waveform.specs.kept.Timelines.{is_reached, pushed}
+use Rattle.scratch.specs.kept.Places.{has, passing}
 use Rattle.scratch.specs.Run.{state_after, state_before}
 use Rattle.scratch.specs.Work.{is_stirred}
 use Rattle.scratch.proofs.Passing.{has_place}

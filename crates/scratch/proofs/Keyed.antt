@@ -3,11 +3,14 @@ use Rattle.std.proofs.Common.{◌≡◌, ◌∙◌, ap, sym, subst, refl, ℕ, z
 use Rattle.std.specs.List.{find, zip}
 use Rattle.fourstate.specs.declared.value.Value.{Value}
 use Rattle.gatestep.specs.Step.{Evaluation, State}
-use Rattle.catalog.specs.Catalog.{keys_of, record_at, records_of}
-use Rattle.design.specs.Keys.{Keyed, entry_in, gate_by_key, net_by_key, netlist}
-use Rattle.waveform.specs.Tables.{IsChangedAt, line_at}
-use Rattle.scratch.specs.Recordings.{AreUnder}
-use Rattle.scratch.specs.Run.{trace_of, wave_of}
+use Rattle.catalog.specs.Catalog.{record_at, records_of}
+use Rattle.catalog.specs.kept.Catalog.{keys_of}
+use Rattle.design.specs.Keys.{Keyed, entry_in, netlist}
+use Rattle.design.specs.kept.Keys.{gate_by_key, net_by_key}
+use Rattle.waveform.specs.kept.Tables.{IsChangedAt, line_at}
+use Rattle.scratch.specs.kept.Recordings.{AreUnder}
+use Rattle.scratch.specs.Run.{wave_of}
+use Rattle.scratch.specs.kept.Run.{trace_of}
 
 -- what a drop leaves, where there is an element at its place
 pub drop_at : {A : Type 0} (xs : List A) (i : ℕ) (x : A) → slice_get xs i ≡ Some x → drop i xs ≡ x ∷ drop (i + 1) xs

@@ -3,11 +3,12 @@ use Rattle.std.proofs.Common.{◌≡◌, ◌∙◌, subst, sym, ℕ, ◌-◌, ma
 use Rattle.gatestep.specs.Step.{State, Evaluation}
 use Rattle.design.specs.Keys.{Keyed, netlist}
 use Rattle.design.specs.Netlist.{Netlist, with_horizon}
-use Rattle.waveform.specs.Changes.{wave_changes_below, trace_below}
-use Rattle.scratch.specs.HorizonLaws.{after_same, before_same, value_same}
-use Rattle.scratch.specs.Kept.{IsWiring}
-use Rattle.scratch.specs.Recorded.{recorded_end}
-use Rattle.scratch.specs.Stands.{Stands}
+use Rattle.waveform.specs.Changes.{wave_changes_below}
+use Rattle.waveform.specs.kept.Changes.{trace_below}
+use Rattle.scratch.specs.kept.HorizonLaws.{after_same, before_same, value_same}
+use Rattle.scratch.specs.kept.Kept.{IsWiring}
+use Rattle.scratch.specs.kept.Recorded.{recorded_end}
+use Rattle.scratch.specs.kept.Stands.{Stands}
 use Rattle.scratch.specs.declared.engine.Engine.{Engine}
 use Rattle.scratch.specs.declared.wiring.Wiring.{Wiring}
 

@@ -10,9 +10,9 @@ use Rattle.gatestep.specs.Step.{State, due}
 use Rattle.design.specs.Connections.{Connection, to_net, to_constant}
 use Rattle.design.specs.Names.{same_name}
 use Rattle.design.specs.Netlist.{NetEntry, GateEntry, Netlist, stimulus}
-use Rattle.design.specs.Places.{driver_places}
-use Rattle.scratch.specs.Cells.{CellRecord}
-use Rattle.scratch.specs.Kept.{cell_of, currents_of, evaluation_from, evaluations_from, input_of, input_value, net_from, values_from}
+use Rattle.design.specs.kept.Places.{driver_places}
+use Rattle.scratch.specs.kept.Cells.{CellRecord}
+use Rattle.scratch.specs.kept.Kept.{cell_of, currents_of, evaluation_from, evaluations_from, input_of, input_value, net_from, values_from}
 use Rattle.scratch.specs.Run.{net_at, terminal_at, evaluation_at}
 use Rattle.scratch.specs.declared.wiring.Input.TheVariants.{At, Fixed}
 use Rattle.scratch.proofs.Lists.{map_alike, map_zip}

@@ -8,20 +8,21 @@ use Rattle.std.proofs.lemmas.Option.{slice_get-map, slice_get_read, slice_get_wi
 use Rattle.fourstate.specs.declared.net.NetKind.{NetKind}
 use Rattle.fourstate.specs.declared.value.Value.{Value}
 use Rattle.fourstate.specs.declared.value.Value.TheVariants.{Unknown}
-use Rattle.fourstate.specs.NetLaws.{lone_driver_passes}
-use Rattle.fourstate.specs.Nets.{net_of, passes_lone_driver}
+use Rattle.fourstate.specs.kept.NetLaws.{lone_driver_passes}
+use Rattle.fourstate.specs.Nets.{net_of}
+use Rattle.fourstate.specs.kept.Nets.{passes_lone_driver}
 use Rattle.fourstate.specs.Values.{same_value}
 use Rattle.gatestep.specs.Step.{State, Evaluation, due}
 use Rattle.design.specs.Netlist.{NetEntry, Netlist, stimulus}
-use Rattle.design.specs.Places.{driver_places}
+use Rattle.design.specs.kept.Places.{driver_places}
 use Rattle.waveform.specs.Changes.{wave_changes_below}
 use Rattle.waveform.specs.Entries.{standing}
-use Rattle.fourstate.specs.ValueLaws.{is_same, same_self}
-use Rattle.waveform.specs.Timelines.{is_reached, pushed}
+use Rattle.fourstate.specs.kept.ValueLaws.{is_same, same_self}
+use Rattle.waveform.specs.kept.Timelines.{is_reached, pushed}
 use Rattle.smallvec.specs.SmallVec.{SmallVec}
-use Rattle.scratch.specs.Kept.{currents_of, driven_kind, lone_driver, net_from, only_place, values_at}
-use Rattle.scratch.specs.Places.{changes_at, has}
-use Rattle.scratch.specs.Recorded.{recorded_below}
+use Rattle.scratch.specs.kept.Kept.{currents_of, driven_kind, lone_driver, net_from, only_place, values_at}
+use Rattle.scratch.specs.kept.Places.{changes_at, has}
+use Rattle.scratch.specs.kept.Recorded.{recorded_below}
 use Rattle.scratch.specs.Run.{state_before, value}
 use Rattle.scratch.proofs.Among.{has_more, nat_itself, or_false, or_true}
 use Rattle.scratch.proofs.Between.{Between, is_new, is_old, length_set, pass, step, write}

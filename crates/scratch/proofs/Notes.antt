@@ -5,12 +5,13 @@ use Rattle.std.specs.List.{find}
 use Rattle.std.specs.Option.{option_map, option_map_or}
 use Rattle.std.proofs.lemmas.Bool.Decides.{nat_tests}
 use Rattle.std.proofs.lemmas.Option.{get_or_from_slice_get, slice_get_within}
-use Rattle.event_queue.specs.Noted.{IsAdded, IsTaken, noted}
+use Rattle.event_queue.specs.kept.Noted.{IsAdded, IsTaken, noted}
 use Rattle.fourstate.specs.declared.value.Value.{Value}
 use Rattle.gatestep.specs.Step.{State}
-use Rattle.design.specs.Lawful.{AreRising}
-use Rattle.design.specs.Netlist.{has_point, next_point}
-use Rattle.scratch.specs.Places.{Announces, Covers, IsNotedWithin, Keeps, has, pends_at}
+use Rattle.design.specs.kept.Lawful.{AreRising}
+use Rattle.design.specs.Netlist.{has_point}
+use Rattle.design.specs.kept.Netlist.{next_point}
+use Rattle.scratch.specs.kept.Places.{Announces, Covers, IsNotedWithin, Keeps, has, pends_at}
 use Rattle.scratch.proofs.Among.{any_from, has_more, nat_apart, nat_itself, nat_same, or_true}
 
 abbrev Queue : Type 0

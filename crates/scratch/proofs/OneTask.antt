@@ -4,8 +4,8 @@ use Rattle.std.specs.Prelude.{slice_get, slice_index_or}
 use Rattle.fourstate.specs.declared.value.Value.{Value}
 use Rattle.gatestep.specs.Step.{State, Evaluation}
 use Rattle.design.specs.Netlist.{GateEntry, Netlist}
-use Rattle.scratch.specs.Cells.{CellRecord}
-use Rattle.scratch.specs.Kept.{cell_of, evaluation_from}
+use Rattle.scratch.specs.kept.Cells.{CellRecord}
+use Rattle.scratch.specs.kept.Kept.{cell_of, evaluation_from}
 use Rattle.scratch.specs.Run.{state_before, value}
 use Rattle.scratch.specs.Work.{task_at}
 use Rattle.scratch.proofs.Moments.{evaluation_is}

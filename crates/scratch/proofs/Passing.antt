@@ -5,7 +5,7 @@ use Rattle.std.specs.List.{filter, range_with_len, zip}
 use Rattle.std.specs.Option.{option_map, option_map_or}
 use Rattle.std.proofs.lemmas.List.{length-map, map-append}
 use Rattle.std.proofs.lemmas.Option.{slice_get-map, slice_get_within}
-use Rattle.scratch.specs.Places.{AreRising, has, passing}
+use Rattle.scratch.specs.kept.Places.{AreRising, has, passing}
 use Rattle.scratch.proofs.Among.{absent, nat_beyond, nat_itself, rising_from, same_members}
 use Rattle.scratch.proofs.Lists.{take_next}
 use Rattle.scratch.proofs.Moments.{map_twice}

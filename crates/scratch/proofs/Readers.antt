@@ -14,9 +14,9 @@ use Rattle.design.specs.Connections.{Connection, to_net, to_constant}
 use Rattle.design.specs.Names.{same_name}
 use Rattle.design.specs.Netlist.{NetEntry, GateEntry, Netlist, is_at_net, reads}
 use Rattle.smallvec.specs.SmallVec.{SmallVec}
-use Rattle.scratch.specs.Cells.{CellRecord}
-use Rattle.scratch.specs.Kept.{cell_of, input_of, is_at, output_at, places_at}
-use Rattle.scratch.specs.Places.{drives_at, has, reads_at}
+use Rattle.scratch.specs.kept.Cells.{CellRecord}
+use Rattle.scratch.specs.kept.Kept.{cell_of, input_of, is_at, output_at, places_at}
+use Rattle.scratch.specs.kept.Places.{drives_at, has, reads_at}
 use Rattle.scratch.specs.declared.wiring.Input.TheVariants.{At, Fixed}
 use Rattle.scratch.proofs.Among.{and_false, and_true, nat_itself, nat_same, or_false}
 use Rattle.scratch.proofs.Between.{set_apart, set_here}

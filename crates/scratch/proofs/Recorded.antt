@@ -5,8 +5,8 @@ use Rattle.fourstate.specs.declared.value.Value.{Value}
 use Rattle.gatestep.specs.Step.{State, Evaluation}
 use Rattle.design.specs.Netlist.{NetEntry, Netlist}
 use Rattle.waveform.specs.Changes.{wave_changes_below}
-use Rattle.scratch.specs.Kept.{lone_driver}
-use Rattle.scratch.specs.Recorded.{recorded_below}
+use Rattle.scratch.specs.kept.Kept.{lone_driver}
+use Rattle.scratch.specs.kept.Recorded.{recorded_below}
 use Rattle.scratch.specs.Run.{value}
 
 by_driver : (f : ℕ → Value) (t u : ℕ) (o : Option ℕ) → wave_changes_below f t ≡ wave_changes_below f u →

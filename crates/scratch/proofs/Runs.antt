@@ -4,13 +4,16 @@ use Rattle.std.proofs.lemmas.List.{length-map}
 use Rattle.std.proofs.lemmas.List.Elements.{All-cons, All-nil, All-head, All-map, All-tail, All-weaker}
 use Rattle.fourstate.specs.declared.limits.TheConstants.{MAX_DELAY}
 use Rattle.gatestep.specs.Step.{State, Evaluation, due}
-use Rattle.gatestep.specs.StepLaws.{not_due}
-use Rattle.gatestep.specs.Tasks.{IsTask, NothingDue, PendingBefore, PendingFrom}
-use Rattle.design.specs.Lawful.{IsGate}
+use Rattle.gatestep.specs.kept.StepLaws.{not_due}
+use Rattle.gatestep.specs.Tasks.{PendingFrom}
+use Rattle.gatestep.specs.kept.Tasks.{IsTask, NothingDue, PendingBefore}
+use Rattle.design.specs.kept.Lawful.{IsGate}
 use Rattle.design.specs.Netlist.{GateEntry, Netlist}
-use Rattle.waveform.specs.Changes.{trace_below}
-use Rattle.waveform.specs.Entries.{CanStore, same_state}
-use Rattle.waveform.specs.Timelines.{IsAlwaysSettled, changes_below, is_reached, pushed}
+use Rattle.waveform.specs.kept.Changes.{trace_below}
+use Rattle.waveform.specs.Entries.{same_state}
+use Rattle.waveform.specs.kept.Entries.{CanStore}
+use Rattle.waveform.specs.Timelines.{changes_below}
+use Rattle.waveform.specs.kept.Timelines.{IsAlwaysSettled, is_reached, pushed}
 use Rattle.waveform.specs.declared.times.TheConstants.{TIME_END}
 use Rattle.scratch.specs.Run.{evaluation_at, state_after, state_before}
 

@@ -6,20 +6,21 @@ use Rattle.std.proofs.lemmas.Bool.{cases_lt}
 use Rattle.std.proofs.lemmas.Bool.Decides.{nat_tests}
 use Rattle.std.proofs.lemmas.List.Elements.{All-head, All-tail}
 use Rattle.std.proofs.lemmas.Option.{slice_get-map, slice_get-get_or}
-use Rattle.event_queue.specs.Noted.{noted}
+use Rattle.event_queue.specs.kept.Noted.{noted}
 use Rattle.fourstate.specs.declared.value.Value.{Value}
 use Rattle.fourstate.specs.Values.{same_value}
 use Rattle.gatestep.specs.Step.{State, Evaluation, due}
-use Rattle.gatestep.specs.Tasks.{IsTask, NothingDue, PendingFrom, again}
-use Rattle.design.specs.Lawful.{IsGate}
+use Rattle.gatestep.specs.Tasks.{PendingFrom}
+use Rattle.gatestep.specs.kept.Tasks.{IsTask, NothingDue, again}
+use Rattle.design.specs.kept.Lawful.{IsGate}
 use Rattle.design.specs.Netlist.{GateEntry, Netlist, has_point}
-use Rattle.waveform.specs.Changes.{trace_below}
+use Rattle.waveform.specs.kept.Changes.{trace_below}
 use Rattle.waveform.specs.Entries.{same_state, standing}
-use Rattle.scratch.specs.Places.{Announces, Covers, has, pends_at, point_at}
-use Rattle.scratch.specs.Quiet.{IsQuiet}
-use Rattle.scratch.specs.Recorded.{recorded_below}
+use Rattle.scratch.specs.kept.Places.{Announces, Covers, has, pends_at, point_at}
+use Rattle.scratch.specs.kept.Quiet.{IsQuiet}
+use Rattle.scratch.specs.kept.Recorded.{recorded_below}
 use Rattle.scratch.specs.Run.{state_after, state_before, value}
-use Rattle.scratch.specs.Stands.{Stands}
+use Rattle.scratch.specs.kept.Stands.{Stands}
 use Rattle.scratch.specs.Work.{is_due, is_stirred, stirred_at, work_below}
 use Rattle.scratch.specs.declared.engine.Engine.{Engine}
 use Rattle.scratch.proofs.Recorded.{recorded_moves}

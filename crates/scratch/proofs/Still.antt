@@ -11,16 +11,17 @@ use Rattle.fourstate.specs.Nets.{net_of}
 use Rattle.fourstate.specs.Values.{same_value}
 use Rattle.gatestep.specs.Step.{State, Evaluation, due, due_of}
 use Rattle.gatestep.specs.Record.{at_moment}
-use Rattle.gatestep.specs.Tasks.{NothingDue, again}
+use Rattle.gatestep.specs.kept.Tasks.{NothingDue, again}
 use Rattle.design.specs.Connections.{Connection, to_net, to_constant}
 use Rattle.design.specs.Names.{same_name}
 use Rattle.design.specs.Netlist.{NetEntry, GateEntry, Netlist, drivers_of, stimulus, has_point}
-use Rattle.waveform.specs.Changes.{wave_changes_below, trace_below}
+use Rattle.waveform.specs.Changes.{wave_changes_below}
+use Rattle.waveform.specs.kept.Changes.{trace_below}
 use Rattle.waveform.specs.Entries.{same_state, standing}
-use Rattle.fourstate.specs.ValueLaws.{is_same, same_self}
-use Rattle.waveform.specs.SampleLaws.{same_state_self}
+use Rattle.fourstate.specs.kept.ValueLaws.{is_same, same_self}
+use Rattle.waveform.specs.kept.SampleLaws.{same_state_self}
 use Rattle.waveform.specs.Timelines.{changes_below, is_change}
-use Rattle.scratch.specs.Quiet.{IsQuiet}
+use Rattle.scratch.specs.kept.Quiet.{IsQuiet}
 use Rattle.scratch.specs.Run.{terminal_at, state_after, state_before, value}
 use Rattle.scratch.specs.Work.{inputs_at, is_due, is_stirred, same_values, stirred_at, task_at, work_below}
 use Rattle.scratch.proofs.Lists.{map_alike}

@@ -15,8 +15,8 @@ use Rattle.gatestep.specs.Tasks.{PendingFrom}
 use Rattle.design.specs.Connections.{Connection, to_net, to_constant}
 use Rattle.design.specs.Names.{same_name}
 use Rattle.design.specs.Netlist.{NetEntry, GateEntry, Netlist, drivers_of, has_point, is_at_net, net_named, reads}
-use Rattle.fourstate.specs.ValueLaws.{same_self}
-use Rattle.scratch.specs.Places.{Announces, AreRising, Covers, changes_at, drives_at, has, is_due_at, passing, pends_at, point_at, reads_at}
+use Rattle.fourstate.specs.kept.ValueLaws.{same_self}
+use Rattle.scratch.specs.kept.Places.{Announces, AreRising, Covers, changes_at, drives_at, has, is_due_at, passing, pends_at, point_at, reads_at}
 use Rattle.scratch.specs.Run.{state_before, terminal_at, value}
 use Rattle.scratch.specs.Work.{is_due, is_stirred, same_values}
 use Rattle.scratch.proofs.Among.{and_false, any_from, any_to, has_at, has_filter, nat_itself}

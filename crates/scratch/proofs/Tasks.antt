@@ -7,9 +7,9 @@ use Rattle.std.proofs.lemmas.Option.{slice_get-map}
 use Rattle.fourstate.specs.declared.value.Value.{Value}
 use Rattle.gatestep.specs.Step.{State, Evaluation}
 use Rattle.design.specs.Netlist.{GateEntry, Netlist}
-use Rattle.scratch.specs.Cells.{CellRecord}
-use Rattle.scratch.specs.Kept.{cell_of, evaluations_from}
-use Rattle.scratch.specs.Places.{passing}
+use Rattle.scratch.specs.kept.Cells.{CellRecord}
+use Rattle.scratch.specs.kept.Kept.{cell_of, evaluations_from}
+use Rattle.scratch.specs.kept.Places.{passing}
 use Rattle.scratch.specs.Run.{state_before, value}
 use Rattle.scratch.specs.Work.{is_stirred, stirred_at, task_at}
 use Rattle.scratch.proofs.Lists.{same_put}

@@ -1,17 +1,14 @@
 -- The run of a design: the state of each gate and the value of each net at each moment, by the answer of a stepper
 -- (IEEE 1364-2005, 11; the order within a moment is this project's: due events, then nets, then gates).
-use Rattle.std.specs.Prelude.{◌≡◌, ℕ, zero, suc, if◌then◌else◌, List, map, option_map}
+use Rattle.std.specs.Prelude.{ℕ, zero, suc, if◌then◌else◌, List, map}
 use Rattle.std.specs.Option.{option_map_or}
 use Rattle.fourstate.specs.declared.value.Value.{Value}
 use Rattle.fourstate.specs.declared.value.Value.TheVariants.{Unknown}
 use Rattle.fourstate.specs.Nets.{net_of}
 use Rattle.gatestep.specs.Step.{State, Evaluation, initial, due}
 use Rattle.design.specs.Connections.{Connection, to_net, to_constant}
-use Rattle.design.specs.Keys.{Keyed, entry_in, gate_by_key, net_by_key, netlist}
 use Rattle.design.specs.Netlist.{NetEntry, GateEntry, Netlist, net_named, drivers_of, stimulus}
-use Rattle.waveform.specs.Changes.{wave_changes_below, trace_below}
-use Rattle.waveform.specs.Runs.{RunRecord}
-use Rattle.waveform.specs.Tables.{line_at}
+use Rattle.waveform.specs.Changes.{wave_changes_below}
 
 -- Below, `before` gives each gate's state before the moment t, that is after t - 1.
 
@@ -48,18 +45,3 @@ value answer d n t = net_at d (state_before answer d t) n t
 -- the changes of a net's value up to the horizon
 abbrev pub wave_of : (Evaluation → ℕ → State) → Netlist → NetEntry → List (ℕ × Value)
 wave_of answer d n = wave_changes_below (value answer d n) (suc d.horizon)
-
--- the trace of a gate's state up to the horizon
-abbrev pub trace_of : (Evaluation → ℕ → State) → Netlist → GateEntry → List (ℕ × State)
-trace_of answer d g = trace_below (state_after answer d g) (suc d.horizon)
-
--- this is the run of the design by this answer: under the key of each net its wave, under the key of each gate its trace, up to
--- the horizon, and nothing under any other key
-pub record IsRun (answer : Evaluation → ℕ → State) (d : Keyed) (run : RunRecord) : Type 0 where
-  pub waves : (key : ℕ) → line_at run.waves key ≡ option_map (wave_of answer (netlist d)) (net_by_key d key)
-  pub traces : (key : ℕ) → line_at run.traces key ≡ option_map (λ g. trace_of answer (netlist d) (entry_in d.nets g)) (gate_by_key d key)
-  pub horizon : run.horizon ≡ (netlist d).horizon
-
--- this is the run of the design by some answer
-abbrev pub IsSomeRun : Keyed → RunRecord → Type 0
-IsSomeRun d run = (answer : Evaluation → ℕ → State) × IsRun answer d run

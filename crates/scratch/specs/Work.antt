@@ -1,5 +1,5 @@
 -- What a run asks of its stepper: moment after moment the gates that are stirred, in the order of the gates.
-use Rattle.std.specs.Prelude.{◌≡◌, ◌⊎◌, ◌||◌, Bool, true, false, not, ℕ, zero, suc, nat_le, if◌then◌else◌, List, [], ◌++◌, map}
+use Rattle.std.specs.Prelude.{◌||◌, Bool, true, false, not, ℕ, zero, suc, nat_le, List, [], ◌++◌, map}
 use Rattle.std.specs.Cmp.Lexicographic.{pointwise}
 use Rattle.std.specs.List.{filter}
 use Rattle.std.specs.Option.{option_map_or}
@@ -43,12 +43,3 @@ work_at answer d t = at_moment t (map (λ g. task_at answer d g t) (stirred_at a
 abbrev pub work_below : (Evaluation → ℕ → State) → Netlist → ℕ → List (Evaluation × ℕ)
 work_below answer d zero = []
 work_below answer d (suc t) = work_below answer d t ++ work_at answer d t
-
--- what is asked at the moments from n on and below m, in order
-abbrev pub work_from : (Evaluation → ℕ → State) → Netlist → ℕ → ℕ → List (Evaluation × ℕ)
-work_from answer d n zero = []
-work_from answer d n (suc t) = if nat_le n t then work_from answer d n t ++ work_at answer d t else []
-
--- a list has grown by some work, or not at all
-abbrev pub HasGrownOrNot : (old new work : List (Evaluation × ℕ)) → Type 0
-HasGrownOrNot old new work = (new ≡ old) ⊎ (new ≡ old ++ work)

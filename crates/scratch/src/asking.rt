@@ -7,10 +7,11 @@ ghost use Rattle.gatestep.specs.Record.{at_moment};
 ghost use Rattle.gatestep.specs.Step.{Evaluation};
 ghost use Rattle.gatestep.specs.Tasks.{PendingFrom};
 ghost use Rattle.design.specs.Keys.{netlist};
-ghost use Rattle.scratch.specs.Kept.{IsWiring, evaluations_from};
-ghost use Rattle.scratch.specs.Places.{passing};
+ghost use Rattle.scratch.specs.kept.Kept.{IsWiring, evaluations_from};
+ghost use Rattle.scratch.specs.kept.Places.{passing};
 ghost use Rattle.scratch.specs.Run.{state_before, value};
-ghost use Rattle.scratch.specs.Work.{HasGrownOrNot, is_stirred, stirred_at, work_at};
+ghost use Rattle.scratch.specs.Work.{is_stirred, stirred_at, work_at};
+ghost use Rattle.scratch.specs.kept.Work.{HasGrownOrNot};
 
 use crate::moment::task;
 use crate::wiring::Wiring;

@@ -2,9 +2,10 @@
 
 ghost use Rattle.std.specs.Prelude.{◌≡◌, ◌<◌, suc, map, length, slice_get, OnOk, IfSome};
 ghost use Rattle.design.specs.Keys.{netlist};
-ghost use Rattle.scratch.specs.Kept.{IsWiring};
-ghost use Rattle.scratch.specs.Recorded.{recorded_below};
-ghost use Rattle.scratch.specs.Run.{trace_of, wave_of};
+ghost use Rattle.scratch.specs.kept.Kept.{IsWiring};
+ghost use Rattle.scratch.specs.kept.Recorded.{recorded_below};
+ghost use Rattle.scratch.specs.Run.{wave_of};
+ghost use Rattle.scratch.specs.kept.Run.{trace_of};
 
 use crate::wiring::Wiring;
 use design::Design;

@@ -2,13 +2,15 @@
 
 ghost use Rattle.std.specs.Prelude.{◌≡◌, ◌≢◌, ◌<◌, ◌≤◌, ◌+◌, ◌++◌, [], ℕ, suc, map, IfSome, IfNone, IfOk, OnOk, OnErr};
 ghost use Rattle.fourstate.specs.declared.limits.TheConstants.{MAX_TIME};
-ghost use Rattle.event_queue.specs.Noted.{noted};
+ghost use Rattle.event_queue.specs.kept.Noted.{noted};
 ghost use Rattle.design.specs.Keys.{netlist};
-ghost use Rattle.scratch.specs.Kept.{IsWiring};
-ghost use Rattle.scratch.specs.Lost.{CountsLoss};
-ghost use Rattle.scratch.specs.Run.{IsRun, state_before};
-ghost use Rattle.scratch.specs.Stands.{IsStirred, Stands};
-ghost use Rattle.scratch.specs.Work.{HasGrownOrNot, stirred_at, work_at, work_below};
+ghost use Rattle.scratch.specs.kept.Kept.{IsWiring};
+ghost use Rattle.scratch.specs.kept.Lost.{CountsLoss};
+ghost use Rattle.scratch.specs.Run.{state_before};
+ghost use Rattle.scratch.specs.kept.Run.{IsRun};
+ghost use Rattle.scratch.specs.kept.Stands.{IsStirred, Stands};
+ghost use Rattle.scratch.specs.Work.{stirred_at, work_at, work_below};
+ghost use Rattle.scratch.specs.kept.Work.{HasGrownOrNot};
 
 use crate::asking::ask;
 use crate::completing::complete_waves;

@@ -2,11 +2,11 @@
 
 ghost use Rattle.std.specs.Prelude.{◌≡◌, ◌≤◌, ◌++◌, ℕ, suc, IfOk, OnErr, OnOk};
 ghost use Rattle.design.specs.Keys.{netlist};
-ghost use Rattle.scratch.specs.Kept.{IsWiring};
-ghost use Rattle.scratch.specs.Lost.{CountsLoss};
-ghost use Rattle.scratch.specs.Run.{IsRun};
-ghost use Rattle.scratch.specs.Stands.{Stands};
-ghost use Rattle.scratch.specs.Work.{work_from};
+ghost use Rattle.scratch.specs.kept.Kept.{IsWiring};
+ghost use Rattle.scratch.specs.kept.Lost.{CountsLoss};
+ghost use Rattle.scratch.specs.kept.Run.{IsRun};
+ghost use Rattle.scratch.specs.kept.Stands.{Stands};
+ghost use Rattle.scratch.specs.kept.Work.{work_from};
 
 use crate::continuing::run_on;
 use crate::engine::Engine;

@@ -1,17 +1,19 @@
 //! One moment of a run: due events become current, then nets are resolved, then gates are evaluated.
 
 ghost use Rattle.std.specs.Prelude.{◌≡◌, ◌<◌, ◌≤◌, ◌+◌, ◌++◌, IfSome, map, length, slice_get, unwrap_or, All, OnOk, IfOk, MatchResult, if◌then◌else◌};
-ghost use Rattle.fourstate.specs.declared.limits.TheConstants.{MAX_TIME};
+ghost use Rattle.fourstate.specs.declared.limits.TheConstants.{MAX_INPUTS, MAX_TIME};
 ghost use Rattle.gatestep.specs.Faults.{is_lost};
 ghost use Rattle.gatestep.specs.Record.{at_moment};
 ghost use Rattle.gatestep.specs.Step.{initial};
 ghost use Rattle.gatestep.specs.Tasks.{IsReady, PendingFrom};
 ghost use Rattle.design.specs.Keys.{netlist};
-ghost use Rattle.scratch.specs.Kept.{IsWiring, currents_of, evaluation_from, evaluations_from, input_value, net_from, values_at, values_from};
+ghost use Rattle.scratch.specs.kept.Kept.{IsWiring, currents_of, evaluation_from, evaluations_from, input_value, net_from, values_at, values_from};
 ghost use Rattle.scratch.specs.Run.{state_before, value};
-ghost use Rattle.scratch.specs.Work.{HasGrownOrNot, task_at};
-ghost use Rattle.scratch.specs.Plain.{all_work_at};
+ghost use Rattle.scratch.specs.Work.{task_at};
+ghost use Rattle.scratch.specs.kept.Work.{HasGrownOrNot};
+ghost use Rattle.scratch.specs.kept.Plain.{all_work_at};
 
+use crate::packed_input::PackedInput;
 use crate::wiring::{Cell, Input, Wiring};
 use design::{Design, Net};
 use fourstate::{Inputs, Value, resolve};
@@ -212,18 +214,67 @@ pub fn read_input(values: &[Value], input: Input) -> Value
     }
 }
 
+/// The value that an input reads, where the nets have these values. Most inputs read a net that is there, and that takes one
+/// comparison.
+#[inline(always)]
+fn read_packed(values: &[Value], input: PackedInput) -> Value
+    ensures { result ≡ input_value values.now input }
+{
+    match input.place_below(values.len()) {
+        Some(place) => values[place],
+        None => read_input(values, input.get()),
+    }
+}
+
+/// The values that inputs read, where the nets have these values, one after another.
+fn read_each(values: &[Value], inputs: &[PackedInput]) -> Inputs
+    requires { length inputs.now ≤ MAX_INPUTS }
+    ensures { result ≡ map (input_value values.now) inputs.now }
+{
+    let mut read_values = Inputs::new();
+    let mut place = inputs.len();
+    while place > 0 {
+        place -= 1;
+        read_values.put_first(read_packed(values, inputs[place]));
+    }
+    read_values
+}
+
+/// The values that inputs read, where the nets have these values. Those of a gate with few inputs are read without a loop.
+#[inline(always)]
+fn read_inputs(values: &[Value], inputs: &[PackedInput]) -> Inputs
+    requires { length inputs.now ≤ MAX_INPUTS }
+    ensures { result ≡ map (input_value values.now) inputs.now }
+{
+    let mut read_values = Inputs::new();
+    match inputs {
+        [first] => read_values.put_first(read_packed(values, *first)),
+        [first, second] => {
+            read_values.put_first(read_packed(values, *second));
+            read_values.put_first(read_packed(values, *first));
+        }
+        [first, second, third] => {
+            read_values.put_first(read_packed(values, *third));
+            read_values.put_first(read_packed(values, *second));
+            read_values.put_first(read_packed(values, *first));
+        }
+        [first, second, third, fourth] => {
+            read_values.put_first(read_packed(values, *fourth));
+            read_values.put_first(read_packed(values, *third));
+            read_values.put_first(read_packed(values, *second));
+            read_values.put_first(read_packed(values, *first));
+        }
+        _ => return read_each(values, inputs),
+    }
+    read_values
+}
+
 /// The task of a cell in this state.
 #[inline(always)]
 pub fn task(cell: &Cell, state: Driver, values: &[Value]) -> Task
     ensures { result ≡ evaluation_from values.now cell.now state }
 {
-    let inputs = cell.inputs();
-    let mut read_values = Inputs::new();
-    let mut place = inputs.len();
-    while place > 0 {
-        place -= 1;
-        read_values.put_first(read_input(values, inputs[place].get()));
-    }
+    let read_values = read_inputs(values, cell.inputs());
     Task::new(cell.kind(), cell.delays(), state, read_values)
 }
 

@@ -1,10 +1,10 @@
 //! What is noted before a run goes on from a moment, and the next point of a net.
 
 ghost use Rattle.std.specs.Prelude.{◌≡◌, ◌<◌, ◌≤◌, ◌+◌, [], ℕ, true, All, IfOk, OnOk};
-ghost use Rattle.event_queue.specs.Noted.{noted};
+ghost use Rattle.event_queue.specs.kept.Noted.{noted};
 ghost use Rattle.gatestep.specs.Tasks.{PendingFrom};
 ghost use Rattle.design.specs.Keys.{netlist};
-ghost use Rattle.scratch.specs.Places.{Announces, Covers, IsNotedWithin, Keeps, pends_at, point_at};
+ghost use Rattle.scratch.specs.kept.Places.{Announces, Covers, IsNotedWithin, Keeps, pends_at, point_at};
 
 use design::Design;
 use event_queue::EventQueue;

@@ -2,10 +2,10 @@
 
 ghost use Rattle.std.specs.Prelude.{◌≡◌, map, true, IfOk};
 ghost use Rattle.design.specs.Keys.{netlist};
-ghost use Rattle.scratch.specs.Kept.{IsWiring};
-ghost use Rattle.scratch.specs.Places.{passing};
+ghost use Rattle.scratch.specs.kept.Kept.{IsWiring};
+ghost use Rattle.scratch.specs.kept.Places.{passing};
 ghost use Rattle.scratch.specs.Run.{state_before};
-ghost use Rattle.scratch.specs.Stands.{IsOpening, Stands};
+ghost use Rattle.scratch.specs.kept.Stands.{IsOpening, Stands};
 ghost use Rattle.scratch.specs.Work.{stirred_at};
 
 use crate::engine::Engine;

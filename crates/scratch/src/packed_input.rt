@@ -1,7 +1,8 @@
 //! Inputs of gates in 32 bits.
 
-ghost use Rattle.std.specs.Prelude.{◌≡◌};
-ghost use Rattle.scratch.specs.PackedInputs.{IsPackable};
+ghost use Rattle.std.specs.Prelude.{◌≡◌, ◌<◌, IfSome};
+ghost use Rattle.scratch.specs.kept.PackedInputs.{IsPackable};
+ghost use Rattle.scratch.specs.declared.wiring.Input.TheVariants.{At};
 
 use crate::wiring::Input;
 use fourstate::Value;
@@ -22,7 +23,7 @@ pub struct PackedInput {
 
 impl Model for PackedInput {
     ghost use Rattle.scratch.specs.declared.wiring.Input as inputs;
-    ghost use Rattle.scratch.specs.PackedInputs.{input_of_fields, fields_of_input, IsNumber, fields_of_input-kept};
+    ghost use Rattle.scratch.specs.kept.PackedInputs.{input_of_fields, fields_of_input, IsNumber, fields_of_input-kept};
 
     ghost Value = { inputs.Input };
 
@@ -59,6 +60,19 @@ impl PackedInput {
             Input::Fixed(value) => FIRST_VALUE + value as u32,
         };
         PackedInput { number }
+    }
+
+    /// The place of the net that it reads, if that is one of the first `count`.
+    #[inline(always)]
+    pub fn place_below(self, count: usize) -> Option<usize>
+        ensures { IfSome result (λ place. (place < count) × (self ≡ At place)) }
+    {
+        let place = self.number as usize;
+        if place < count.min(FIRST_VALUE as usize) {
+            Some(place)
+        } else {
+            None
+        }
     }
 
     /// The input.

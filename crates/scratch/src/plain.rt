@@ -2,7 +2,7 @@
 
 ghost use Rattle.std.specs.Prelude.{◌≡◌, ◌++◌, ◌∷◌, [], map, suc, IfOk, OnOk};
 ghost use Rattle.design.specs.Keys.{netlist};
-ghost use Rattle.scratch.specs.Plain.{values_at, moments};
+ghost use Rattle.scratch.specs.kept.Plain.{values_at, moments};
 
 use crate::moment::Moment;
 use crate::wiring::wire;

@@ -1,10 +1,10 @@
 //! What a run leaves, as it grows: the wave of each net and the trace of each gate's driver.
 
 ghost use Rattle.std.specs.Prelude.{◌≡◌, ◌∷◌, [], map, All, IfOk, OnOk, length};
-ghost use Rattle.waveform.specs.Entries.{CanStore};
-ghost use Rattle.catalog.specs.Catalog.{keys_of};
+ghost use Rattle.waveform.specs.kept.Entries.{CanStore};
+ghost use Rattle.catalog.specs.kept.Catalog.{keys_of};
 ghost use Rattle.design.specs.Keys.{netlist};
-ghost use Rattle.scratch.specs.Recordings.{AreUnder};
+ghost use Rattle.scratch.specs.kept.Recordings.{AreUnder};
 
 use design::Design;
 use fourstate::Value;

@@ -3,10 +3,11 @@
 ghost use Rattle.std.specs.Prelude.{◌≡◌, ◌<◌, ◌-◌, ℕ, suc, map, length, IfOk, Some, option_map, slice_get};
 ghost use Rattle.design.specs.Keys.{netlist};
 ghost use Rattle.gatestep.specs.Step.{Evaluation, State, due, initial};
-ghost use Rattle.scratch.specs.Kept.{IsWiring};
-ghost use Rattle.scratch.specs.Recorded.{recorded_below};
-ghost use Rattle.scratch.specs.Run.{IsRun, IsSomeRun, trace_of, value};
-ghost use Rattle.scratch.specs.Stands.{Stands};
+ghost use Rattle.scratch.specs.kept.Kept.{IsWiring};
+ghost use Rattle.scratch.specs.kept.Recorded.{recorded_below};
+ghost use Rattle.scratch.specs.Run.{value};
+ghost use Rattle.scratch.specs.kept.Run.{IsRun, IsSomeRun, trace_of};
+ghost use Rattle.scratch.specs.kept.Stands.{Stands};
 ghost use Rattle.waveform.specs.Timelines.{value_by};
 
 use crate::engine::Engine;

@@ -2,8 +2,8 @@
 
 ghost use Rattle.std.specs.Prelude.{◌≡◌, ◌≤◌, ◌++◌, ℕ, suc, IfOk, OnErr, OnOk};
 ghost use Rattle.design.specs.Keys.{netlist};
-ghost use Rattle.scratch.specs.Lost.{CountsLoss};
-ghost use Rattle.scratch.specs.Run.{IsRun};
+ghost use Rattle.scratch.specs.kept.Lost.{CountsLoss};
+ghost use Rattle.scratch.specs.kept.Run.{IsRun};
 ghost use Rattle.scratch.specs.Work.{work_below};
 
 use crate::continuing::run_on;

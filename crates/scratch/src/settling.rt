@@ -2,10 +2,10 @@
 
 ghost use Rattle.std.specs.Prelude.{◌≡◌, ◌<◌, ◌≤◌, ◌+◌, ◌&&◌, [], ℕ, not, map, length, OnOk};
 ghost use Rattle.fourstate.specs.declared.limits.TheConstants.{MAX_TIME};
-ghost use Rattle.event_queue.specs.Noted.{noted};
-ghost use Rattle.waveform.specs.Changes.{trace_below};
+ghost use Rattle.event_queue.specs.kept.Noted.{noted};
+ghost use Rattle.waveform.specs.kept.Changes.{trace_below};
 ghost use Rattle.design.specs.Keys.{netlist};
-ghost use Rattle.scratch.specs.Places.{Covers, has, passing, pends_at};
+ghost use Rattle.scratch.specs.kept.Places.{Covers, has, passing, pends_at};
 ghost use Rattle.scratch.specs.Run.{state_after, state_before};
 ghost use Rattle.scratch.specs.Work.{is_stirred, stirred_at};
 

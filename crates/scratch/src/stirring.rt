@@ -2,11 +2,11 @@
 
 ghost use Rattle.std.specs.Prelude.{◌≡◌, ◌<◌, ◌≤◌, ◌+◌, ◌++◌, ◌||◌, [], ℕ, true, OnOk};
 ghost use Rattle.std.specs.List.{filter, list_any};
-ghost use Rattle.bit_set.specs.Words.{has_bit};
-ghost use Rattle.event_queue.specs.Noted.{IsTaken, noted};
+ghost use Rattle.bit_set.specs.kept.Words.{has_bit};
+ghost use Rattle.event_queue.specs.kept.Noted.{IsTaken, noted};
 ghost use Rattle.design.specs.Keys.{netlist};
-ghost use Rattle.scratch.specs.Kept.{output_at, places_at};
-ghost use Rattle.scratch.specs.Places.{Announces, AreRising, IsNotedWithin, Keeps, has, is_due_at, point_at};
+ghost use Rattle.scratch.specs.kept.Kept.{output_at, places_at};
+ghost use Rattle.scratch.specs.kept.Places.{Announces, AreRising, IsNotedWithin, Keeps, has, is_due_at, point_at};
 
 use crate::noting::note_next_point;
 use crate::wiring::Wiring;

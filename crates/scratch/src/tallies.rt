@@ -3,9 +3,9 @@
 ghost use Rattle.std.specs.Prelude.{◌≡◌, ◌<◌, ℕ, Option, Some, None, false, map, length, slice_get, slice_set, IfOk};
 ghost use Rattle.std.specs.Option.{option_map_or};
 ghost use Rattle.design.specs.Keys.{netlist};
-ghost use Rattle.scratch.specs.Kept.{IsWiring, currents_of, places_at, values_at};
-ghost use Rattle.scratch.specs.Places.{has, is_due_at};
-ghost use Rattle.scratch.specs.Tally.{tally_of};
+ghost use Rattle.scratch.specs.kept.Kept.{IsWiring, currents_of, places_at, values_at};
+ghost use Rattle.scratch.specs.kept.Places.{has, is_due_at};
+ghost use Rattle.scratch.specs.kept.Tally.{tally_of};
 ghost use Rattle.scratch.specs.declared.tally.Tally.{Tally};
 
 use crate::resolving::current_at;
@@ -31,7 +31,7 @@ pub struct Tallies {
 }
 
 impl Tallies {
-    ghost use Rattle.scratch.specs.Tallies.{AreTallies, Counts};
+    ghost use Rattle.scratch.specs.kept.Tallies.{AreTallies, Counts};
 
     /// Counts the drivers in these states.
     pub fn count(

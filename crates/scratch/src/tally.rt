@@ -3,7 +3,7 @@
 ghost use Rattle.std.specs.Prelude.{◌≡◌, ◌<◌, ◌≤◌, ◌+◌, ◌-◌, ◌^◌, List, [], if◌then◌else◌};
 ghost use Rattle.fourstate.specs.Nets.{net_of};
 ghost use Rattle.fourstate.specs.declared.value.Value as values;
-ghost use Rattle.scratch.specs.Kept.{values_at};
+ghost use Rattle.scratch.specs.kept.Kept.{values_at};
 
 use crate::moment::value_at;
 use fourstate::{NetKind, Value, resolve};
@@ -17,7 +17,7 @@ pub struct Tally {
 }
 
 impl Tally {
-    ghost use Rattle.scratch.specs.Tally.{tally_of, times};
+    ghost use Rattle.scratch.specs.kept.Tally.{tally_of, times};
 
     /// That of no driver.
     pub fn new() -> Tally

@@ -5,7 +5,8 @@ ghost use Rattle.std.specs.Option.{option_copied};
 ghost use Rattle.gatestep.specs.Step.{Evaluation, State};
 ghost use Rattle.design.specs.Keys.{netlist};
 ghost use Rattle.design.specs.Netlist.{net_named};
-ghost use Rattle.scratch.specs.Run.{IsRun, IsSomeRun, wave_of};
+ghost use Rattle.scratch.specs.Run.{wave_of};
+ghost use Rattle.scratch.specs.kept.Run.{IsRun, IsSomeRun};
 
 use design::Design;
 use waveform::{Run, Wave};

@@ -3,11 +3,12 @@
 ghost use Rattle.std.specs.Prelude.{◌≡◌, ◌<◌, ◌||◌, ◌&&◌, ℕ, true, false, nat_eq, map, IfOk, OnOk, IfSome, IsSome, IsTrue, length};
 ghost use Rattle.std.specs.List.{list_any};
 ghost use Rattle.fourstate.specs.Gates.{takes_inputs};
-ghost use Rattle.design.specs.Keys.{IsConnected, IsThere, connection_in, entry_in, net_by_key, netlist};
-ghost use Rattle.design.specs.Places.{driver_places};
-ghost use Rattle.scratch.specs.Kept.{IsWiring, cell_of, driven_kind, input_of, is_at, lone_driver, lone_place, output_at, places_at};
-ghost use Rattle.scratch.specs.PackedInputs.{IsPackable};
-ghost use Rattle.scratch.specs.Places.{drives_at, has, reads_at};
+ghost use Rattle.design.specs.Keys.{connection_in, entry_in, netlist};
+ghost use Rattle.design.specs.kept.Keys.{IsConnected, IsThere, net_by_key};
+ghost use Rattle.design.specs.kept.Places.{driver_places};
+ghost use Rattle.scratch.specs.kept.Kept.{IsWiring, cell_of, driven_kind, input_of, is_at, lone_driver, lone_place, output_at, places_at};
+ghost use Rattle.scratch.specs.kept.PackedInputs.{IsPackable};
+ghost use Rattle.scratch.specs.kept.Places.{drives_at, has, reads_at};
 
 use crate::packed_input::PackedInput;
 use design::{Design, Gate, Net, NetKey, Terminal};
@@ -42,7 +43,7 @@ pub struct Cell {
 impl Model for Cell {
     ghost use Rattle.std.specs.Prelude.{IsTrue, length};
     ghost use Rattle.fourstate.specs.Gates.{takes_inputs};
-    ghost use Rattle.scratch.specs.Cells.{CellRecord};
+    ghost use Rattle.scratch.specs.kept.Cells.{CellRecord};
 
     ghost Value = { CellRecord };
 

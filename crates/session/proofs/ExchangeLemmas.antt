@@ -5,14 +5,16 @@ use Rattle.std.specs.List.{concat, list_all, list_any}
 use Rattle.std.specs.Io.{StartsWith}
 use Rattle.std.proofs.lemmas.List.{length-append, length-take-le}
 use Rattle.std.proofs.lemmas.List.Folds.{concat-append, list_all-append}
-use Rattle.devices.specs.Incoming.{Incoming, IsAllOf, Reads, text_of}
-use Rattle.devices.specs.Outgoing.{Outgoing, MovesOn, byte_count}
+use Rattle.devices.specs.Incoming.{IsAllOf}
+use Rattle.devices.specs.kept.Incoming.{Incoming, Reads, text_of}
+use Rattle.devices.specs.Outgoing.{Outgoing}
+use Rattle.devices.specs.kept.Outgoing.{MovesOn, byte_count}
 use Rattle.session.specs.declared.talk.exchange.TheConstants.{PIECE}
 use Rattle.session.specs.declared.talk.feed.Turn.{Turn}
 use Rattle.session.specs.declared.talk.feed.Turn.TheVariants as turn
 use Rattle.session.specs.Lines.{lines, whole_lines}
 use Rattle.session.specs.State.{SessionState, Transcript, ends}
-use Rattle.session.specs.Talk.{EndsReading, Going, HasQuit, IsCutShort, IsSent, Stands, Waits, is_finished}
+use Rattle.session.specs.kept.Talk.{EndsReading, Going, HasQuit, IsCutShort, IsSent, Stands, Waits, is_finished}
 use Rattle.session.specs.Transcripts.{StopsReading, goes_on}
 use Rattle.session.specs.Words.{has_bytes}
 use Rattle.session.proofs.TalkLemmas.{begins, wholly}
@@ -64,11 +66,11 @@ read_more {r = r} {piece = piece} piece_came some =
     let longer : length (text_of r) < length (text_of r ++ piece) = omega (arith, length-append (text_of r) piece, some) in
     rw piece_came.text at longer
 
-waits_on : {first s : SessionState} {kept : List ℕ} {r : Incoming} {w : Outgoing} → Waits first r kept s w → goes_on r.pieces ≡ true
+waits_on : {first s : SessionState} {kept : List ℕ} {r : Incoming} {w : Outgoing} → Waits first r kept s w → goes_on first.tools r.pieces ≡ true
 waits_on waits = rw (waits.unended, none_ends waits.going.reaches) refl
 
 -- what has come ends with the piece before which the session went on
-stops : {first s : SessionState} {kept : List ℕ} {r r' : Incoming} {piece : List ℕ} {w : Outgoing} → HasCome r r' piece → Waits first r kept s w → StopsReading r'.pieces
+stops : {first s : SessionState} {kept : List ℕ} {r r' : Incoming} {piece : List ℕ} {w : Outgoing} → HasCome r r' piece → Waits first r kept s w → StopsReading first.tools r'.pieces
 stops {r = r} {piece = piece} piece_came waits =
     record { earlier = r.pieces; last = piece; parts = sym piece_came.pieces; at_once = piece_came.at_once; went_on = waits_on waits }
 
@@ -81,10 +83,10 @@ all_by {r = r} {piece = piece} piece_came waits =
 
 -- the source failed
 pub read_failed : {first s : SessionState} {kept : List ℕ} {w : Outgoing} (r r' : Incoming) (buffer : List ℕ) → Reads r r' buffer None → Waits first r kept s w
-    → (goes_on r'.pieces ≡ true) × Transcript first (whole_lines (text_of r')) w.text
+    → (goes_on first.tools r'.pieces ≡ true) × Transcript first (whole_lines (text_of r')) w.text
 read_failed {first = first} {w = w} r r' buffer reads waits =
     let same : r.pieces ≡ r'.pieces = ap (λ (r : Incoming). r.pieces) (sym reads) in
-    let P : List (List ℕ) → Type 0 = λ pieces. (goes_on pieces ≡ true) × Transcript first (whole_lines (concat pieces)) w.text in
+    let P : List (List ℕ) → Type 0 = λ pieces. (goes_on first.tools pieces ≡ true) × Transcript first (whole_lines (concat pieces)) w.text in
     subst P same (waits_on waits, wholly waits.going)
 
 pub text_moved : (w w' : Outgoing) → MovesOn w w' → w.text ≡ w'.text
@@ -105,22 +107,22 @@ went_on {first = first} {s' = s'} {kept' = kept'} {out = out} {r' = r'} {piece =
 -- a line has ended the session
 pub has_quit : {first s : SessionState} {kept out : List ℕ} {r r' : Incoming} {piece : List ℕ} {w w' : Outgoing}
     → HasCome r r' piece → Waits first r kept s w → HasQuit first (text_of r ++ piece) out → out ≡ w'.text → IsSent w'
-    → EndsReading r' × HasQuit first (text_of r') w'.text × IsSent w'
+    → EndsReading first r' × HasQuit first (text_of r') w'.text × IsSent w'
 has_quit {first = first} {out = out} {r' = r'} piece_came waits quit moved sent =
     let P : List ℕ → Type 0 = λ text. HasQuit first text out in
     let Q : List ℕ → Type 0 = λ text. HasQuit first (text_of r') text in
     let quit' = subst Q moved (subst P piece_came.text quit) in
-    let off = off_by_line (list_all has_bytes r'.pieces) (list_any ends (whole_lines (text_of r'))) quit'.quits in
+    let off = off_by_line (list_all has_bytes r'.pieces) (list_any (ends first.tools) (whole_lines (text_of r'))) quit'.quits in
     ((stops piece_came waits, off), quit', sent)
 
 -- the input has ended
 pub finished : {first s : SessionState} {kept out : List ℕ} {r r' : Incoming} {piece : List ℕ} {w w' : Outgoing}
     → HasCome r r' piece → Waits first r kept s w → length piece ≡ 0 → Transcript first (lines (text_of r ++ piece)) out → out ≡ w'.text → IsSent w'
-    → EndsReading r' × IsAllOf r'.before (text_of r') × Transcript first (lines (text_of r')) w'.text × IsSent w'
+    → EndsReading first r' × IsAllOf r'.before (text_of r') × Transcript first (lines (text_of r')) w'.text × IsSent w'
 finished {first = first} {out = out} {r' = r'} {piece = piece} piece_came waits empty t moved sent =
     let P : List ℕ → Type 0 = λ text. Transcript first (lines text) out in
     let Q : List ℕ → Type 0 = λ text. Transcript first (lines (text_of r')) text in
-    let off : goes_on r'.pieces ≡ false = rw (all_by piece_came waits ∙ has_none piece empty) refl in
+    let off : goes_on first.tools r'.pieces ≡ false = rw (all_by piece_came waits ∙ has_none piece empty) refl in
     ((stops piece_came waits, off), piece_came.end empty, subst Q moved (subst P piece_came.text t), sent)
 
 -- The sink failed.

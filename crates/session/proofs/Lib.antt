@@ -3,8 +3,11 @@ pub mod OpeningLemmas
 pub mod ServeLemmas
 pub mod ExchangeLemmas
 pub mod AnswerLemmas
+pub mod FaultLemmas
+pub mod HeldLemmas
 pub mod LineLemmas
 pub mod PinLemmas
+pub mod StepLemmas
 pub mod TalkLemmas
 pub mod TranscriptLemmas
 pub mod ToolLemmas

@@ -7,7 +7,8 @@ use Rattle.vtext.specs.ReadFaults.{out_of_memory, too_long}
 use Rattle.vtext.specs.declared.fault.ReadFault.{ReadFault}
 use Rattle.vtext.specs.declared.fault.ReadFaultKind.{ReadFaultKind}
 use Rattle.vtext.specs.declared.fault.ReadFaultKind.TheVariants as read
-use Rattle.session.specs.Opening.{IsTextRefused, fault_by}
+use Rattle.session.specs.Opening.{IsTextRefused}
+use Rattle.session.specs.kept.Opening.{fault_by}
 
 err_is : {A E : Type 0} (x y : E) → ◌≡◌ {A = Result A E} (Err x) (Err y) → x ≡ y
 err_is x y e = cc

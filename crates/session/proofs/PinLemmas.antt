@@ -2,7 +2,8 @@
 use Rattle.std.proofs.Common.{◌≡◌, ℕ, List, [], ◌∷◌, ◌++◌, true, Option, Some, None, refl, sym, ap, ◌∙◌, append_assoc}
 use Rattle.std.specs.Prelude.{option_map, is_some, unwrap_or}
 use Rattle.edits.specs.declared.pin.Pin.{Pin}
-use Rattle.session.specs.Pins.{ArePins, pin_of, pins_of, with_pin}
+use Rattle.session.specs.Pins.{pin_of, pins_of, with_pin}
+use Rattle.session.specs.kept.Pins.{ArePins}
 
 -- an unreadable word spoils all
 pub pins_fail : (words rest : List (List ℕ)) (word : List ℕ) → words ≡ word ∷ rest → pin_of word ≡ None → pins_of words ≡ None

@@ -7,7 +7,8 @@ use Rattle.session.specs.declared.open.Options.{Options}
 use Rattle.session.specs.declared.talk.exchange.End.{End}
 use Rattle.session.specs.declared.talk.exchange.End.TheVariants as end
 use Rattle.session.specs.Opening.{IsOpeningFault, Opens, Refuses}
-use Rattle.session.specs.Outcomes.{Ran, Serves, outcome_of}
+use Rattle.session.specs.Outcomes.{Ran}
+use Rattle.session.specs.kept.Outcomes.{Serves, outcome_of}
 use Rattle.session.specs.State.{SessionState}
 use Rattle.session.specs.Traffic.{SinkTraffic, SourceTraffic}
 

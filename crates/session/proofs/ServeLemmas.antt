@@ -2,15 +2,16 @@
 use Rattle.std.proofs.Common.{◌≡◌, ℕ, ◌+◌, List, [], ◌++◌, false, refl, sym, ap, subst, ◌∙◌, Option, None, Some, arith}
 use Rattle.std.specs.Prelude.{IfSome}
 use Rattle.std.specs.Io.KnownBytes.{Appends, Consumes}
-use Rattle.devices.specs.Incoming.{Incoming, IsAllOf, text_of}
+use Rattle.devices.specs.Incoming.{IsAllOf}
+use Rattle.devices.specs.kept.Incoming.{Incoming, text_of}
 use Rattle.devices.specs.Outgoing.{Outgoing}
 use Rattle.devices.specs.Traffic.{failures_after}
 use Rattle.session.specs.declared.talk.exchange.End.{End}
 use Rattle.session.specs.declared.talk.exchange.End.TheVariants as end
 use Rattle.session.specs.Lines.{last_line, lines, unfinished}
-use Rattle.session.specs.Outcomes.{Serves}
+use Rattle.session.specs.kept.Outcomes.{Serves}
 use Rattle.session.specs.State.{SessionState, Transcript}
-use Rattle.session.specs.Talk.{Ends, HasQuit, IsSent, SameSink, SameSource, read_failures}
+use Rattle.session.specs.kept.Talk.{Ends, HasQuit, IsSent, SameSink, SameSource, read_failures}
 use Rattle.session.specs.Transcripts.{Came}
 use Rattle.session.specs.Traffic.{SinkTraffic, SourceTraffic, sink_traffic, source_traffic}
 use Rattle.session.proofs.LineLemmas.{lines_behind}

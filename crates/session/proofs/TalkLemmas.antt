@@ -11,14 +11,16 @@ use Rattle.session.specs.declared.commands.command.TheConstants.{LINE_LIMIT}
 use Rattle.session.specs.declared.talk.line_buffer.TheConstants.{ROOM}
 use Rattle.session.specs.Commands.{command_of, command_within}
 use Rattle.session.specs.Lines.{whole_lines, unfinished, last_line, lines, without_return}
-use Rattle.session.specs.State.{SessionState, Answers, Reaches, Replies, Transcript, answered, ends, is_quit, opened}
-use Rattle.session.specs.Talk.{Answered, Going, HasQuit, SameSink, SameSource}
-use Rattle.devices.specs.Incoming.{Incoming}
+use Rattle.session.specs.State.{SessionState, Answers, Replies, Transcript, ends, is_quit}
+use Rattle.session.specs.kept.State.{Reaches, answered, opened}
+use Rattle.session.specs.kept.Talk.{Answered, Going, HasQuit, SameSink, SameSource}
+use Rattle.devices.specs.kept.Incoming.{Incoming}
 use Rattle.devices.specs.Outgoing.{Outgoing, Adds}
-use Rattle.session.specs.ToolCommands.{command_by, read_further}
+use Rattle.session.specs.ToolCommands.{command_in, read_further, request_by}
+use Rattle.session.specs.declared.commands.request.Request.{Request}
 use Rattle.session.proofs.ToolLemmas.{long_as_ever}
 use Rattle.session.proofs.LineLemmas.{cut_byte, cut_feed, take_front, whole_behind}
-use Rattle.session.proofs.TranscriptLemmas.{joins, joins_none, transcript_last, transcript_quit}
+use Rattle.session.proofs.TranscriptLemmas.{joins, joins_none, same_tools, transcript_last, transcript_quit}
 
 -- a short line and a byte more
 pub kept_short : (n : ℕ) (line : List ℕ) (byte : ℕ) → length line < n → line ++ byte ∷ [] ≡ take n (line ++ byte ∷ [])
@@ -41,28 +43,28 @@ chosen n line C false e =
 command_of_kept : (line : List ℕ) → command_of (take ROOM line) ≡ command_of line
 command_of_kept line = chosen LINE_LIMIT line (λ l. command_within (without_return l)) (nat_lt LINE_LIMIT (length line)) refl
 
-by_length : (tools : Bool) (line : List ℕ) (long : Bool) → nat_lt LINE_LIMIT (length line) ≡ long → command_by tools (take ROOM line) ≡ command_by tools line
+by_length : (tools : Bool) (line : List ℕ) (long : Bool) → nat_lt LINE_LIMIT (length line) ≡ long → request_by tools (take ROOM line) ≡ request_by tools line
 by_length tools line true e =
     let long : command_of line ≡ command.TooLong = rw e refl in
     ap (read_further tools (take ROOM line)) (command_of_kept line ∙ long) ∙ long_as_ever tools (take ROOM line)
     ∙ sym (ap (read_further tools line) long ∙ long_as_ever tools line)
 by_length tools line false e =
     let all : take ROOM line ≡ line = take_all ROOM line (omega (arith, ltb-false LINE_LIMIT (length line) e)) in
-    ap (command_by tools) all
+    ap (request_by tools) all
 
-command_by_kept : (tools : Bool) (line : List ℕ) → command_by tools (take ROOM line) ≡ command_by tools line
-command_by_kept tools line = by_length tools line (nat_lt LINE_LIMIT (length line)) refl
+request_by_kept : (tools : Bool) (line : List ℕ) → request_by tools (take ROOM line) ≡ request_by tools line
+request_by_kept tools line = by_length tools line (nat_lt LINE_LIMIT (length line)) refl
 
 -- what is kept of a line shows what it is
 answers_kept : (s s' : SessionState) (line kept reply : List ℕ) → kept ≡ take ROOM line → Answers s kept reply s' → Answers s line reply s'
 unfolding Answers
 answers_kept s s' line kept reply e answers =
-    let P : Command → Type 0 = λ c. Replies s c reply s' in
-    subst P (ap (command_by s.tools) e ∙ command_by_kept s.tools line) answers
+    let P : Request → Type 0 = λ r. Replies s r reply s' in
+    subst P (ap (request_by s.tools) e ∙ request_by_kept s.tools line) answers
 
-ends_kept : (line kept : List ℕ) → kept ≡ take ROOM line → ends kept ≡ ends line
+ends_kept : (tools : Bool) (line kept : List ℕ) → kept ≡ take ROOM line → ends tools kept ≡ ends tools line
 unfolding ends
-ends_kept line kept e = ap is_quit (ap command_of e ∙ command_of_kept line)
+ends_kept tools line kept e = ap (λ (r : Request). is_quit (command_in r)) (ap (request_by tools) e ∙ request_by_kept tools line)
 
 -- Bytes.
 
@@ -95,14 +97,14 @@ none_left input byte e = ap (λ (p : List (List ℕ) × List ℕ). p.1) (cut_fee
 
 -- the line feed of a line that does not end the session
 goes_on : {first s s' : SessionState} {input kept out : List ℕ} (reply : List ℕ) (byte : ℕ) → eqb byte 10 ≡ true
-    → Going first input kept s out → Answers s kept reply s' → ends kept ≡ false → Going first (input ++ byte ∷ []) [] s' (out ++ reply)
+    → Going first input kept s out → Answers s kept reply s' → ends s.tools kept ≡ false → Going first (input ++ byte ∷ []) [] s' (out ++ reply)
 goes_on {first = first} {s = s} {s' = s'} {input = input} {kept = kept} {out = out} reply byte e going answers goes = record {
   line = ap (λ line. take ROOM line) (sym (none_left input byte e));
   reaches =
       let line = unfinished input in
       let P : List (List ℕ) → Type 0 = λ ls. Reaches first ls (out ++ reply) s' in
       subst P (one_whole input byte e)
-      (answered line reply going.reaches (answers_kept s s' line kept reply going.line answers) (sym (ends_kept line kept going.line) ∙ goes));
+      (answered line reply going.reaches (answers_kept s s' line kept reply going.line answers) (sym (ends_kept s.tools line kept going.line) ∙ goes));
 }
 
 either : (a b : Bool) → (a ≡ true) ⊎ (b ≡ true) → (a || b) ≡ true
@@ -112,19 +114,21 @@ either false false (inl e) = e
 either false false (inr e) = e
 
 -- lines of which the last one ends the session
-last_ends : (done : List (List ℕ)) (line : List ℕ) → ends line ≡ true → list_any ends (done ++ line ∷ []) ≡ true
-last_ends done line quit =
-    list_any-append ends done (line ∷ []) ∙ either (list_any ends done) (ends line || false) (inr (either (ends line) false (inl quit)))
+last_ends : (tools : Bool) (done : List (List ℕ)) (line : List ℕ) → ends tools line ≡ true → list_any (ends tools) (done ++ line ∷ []) ≡ true
+last_ends tools done line quit =
+    list_any-append (ends tools) done (line ∷ [])
+    ∙ either (list_any (ends tools) done) (ends tools line || false) (inr (either (ends tools line) false (inl quit)))
 
 -- the line feed of the line that ends the session
 quits : {first s : SessionState} {input kept out : List ℕ} (s' : SessionState) (reply : List ℕ) (byte : ℕ) → eqb byte 10 ≡ true
-    → Going first input kept s out → Answers s kept reply s' → ends kept ≡ true → HasQuit first (input ++ byte ∷ []) (out ++ reply)
+    → Going first input kept s out → Answers s kept reply s' → ends s.tools kept ≡ true → HasQuit first (input ++ byte ∷ []) (out ++ reply)
 quits {first = first} {s = s} {input = input} {kept = kept} {out = out} s' reply byte e going answers quit =
     let line = unfinished input in
-    let line_ends = sym (ends_kept line kept going.line) ∙ quit in
+    let line_ends = sym (ends_kept s.tools line kept going.line) ∙ quit in
+    let at_first : ends first.tools line ≡ true = ap (λ (tools : Bool). ends tools line) (sym (same_tools going.reaches)) ∙ line_ends in
     let P : List (List ℕ) → Type 0 = λ ls. Transcript first ls (out ++ reply) in
     record {
-      quits = ap (list_any ends) (sym (one_whole input byte e)) ∙ last_ends (whole_lines input) line line_ends;
+      quits = ap (list_any (ends first.tools)) (sym (one_whole input byte e)) ∙ last_ends first.tools (whole_lines input) line at_first;
       transcript = λ more.
           subst P (one_more input byte more e)
           (joins (line ∷ more) reply going.reaches
@@ -157,7 +161,7 @@ ends_line {first = first} {s = s} {input = input} {kept = kept} {out = out} s' r
     let last : last_line line ≡ line ∷ [] = last_is ROOM line (rw going.line at some) in
     let P : List (List ℕ) → Type 0 = λ ls. Transcript first (whole_lines input ++ ls) (out ++ reply) in
     subst P (sym last)
-    (joins (line ∷ []) reply going.reaches (transcript_last s s' line reply (ends line) refl (answers_kept s s' line kept reply going.line answers)))
+    (joins (line ∷ []) reply going.reaches (transcript_last s s' line reply (ends s.tools line) refl (answers_kept s s' line kept reply going.line answers)))
 
 -- what was written is the transcript of the whole lines
 pub wholly : {first s : SessionState} {input kept out : List ℕ} → Going first input kept s out → Transcript first (whole_lines input) out
@@ -186,22 +190,22 @@ pub closes_empty : {first s : SessionState} {input kept line out : List ℕ} →
 closes_empty {first = first} {s = s} {input = input} {kept = kept} {line = line} {out = out} e none going =
     ends_empty going (sym e ∙ is_nil line none)
 
-pub quits_line : {first s s' : SessionState} {input kept line : List ℕ} {w w' : Outgoing} (byte : ℕ) → byte ≡ 10 → line ≡ kept → Answered s s' line w w' → ends line ≡ true
+pub quits_line : {first s s' : SessionState} {input kept line : List ℕ} {w w' : Outgoing} (byte : ℕ) → byte ≡ 10 → line ≡ kept → Answered s s' line w w' → ends s.tools line ≡ true
     → Going first input kept s w.text → HasQuit first (input ++ byte ∷ []) w'.text
 quits_line {first = first} {s = s} {s' = s'} {input = input} {kept = kept} {w = w} {w' = w'} byte feed e a quit going =
     let P : List ℕ → Type 0 = λ text. HasQuit first (input ++ byte ∷ []) text in
-    subst P (sym (text_is w w' a.reply a.adds)) (quits s' a.reply byte (eq-eqb byte 10 feed) going (answers_at e a) (ap ends (sym e) ∙ quit))
+    subst P (sym (text_is w w' a.reply a.adds)) (quits s' a.reply byte (eq-eqb byte 10 feed) going (answers_at e a) (ap (ends s.tools) (sym e) ∙ quit))
 
-pub goes_line : {first s s' : SessionState} {input kept kept' line : List ℕ} {w w' : Outgoing} (byte : ℕ) → byte ≡ 10 → line ≡ kept → kept' ≡ [] → Answered s s' line w w' → ends line ≡ false
+pub goes_line : {first s s' : SessionState} {input kept kept' line : List ℕ} {w w' : Outgoing} (byte : ℕ) → byte ≡ 10 → line ≡ kept → kept' ≡ [] → Answered s s' line w w' → ends s.tools line ≡ false
     → Going first input kept s w.text → Going first (input ++ byte ∷ []) kept' s' w'.text
 goes_line {first = first} {s = s} {s' = s'} {input = input} {kept = kept} {w = w} {w' = w'} byte feed e none a goes going =
     let P : List ℕ → Type 0 = λ text. Going first (input ++ byte ∷ []) [] s' text in
     let Q : List ℕ → Type 0 = λ line. Going first (input ++ byte ∷ []) line s' w'.text in
-    subst Q (sym none) (subst P (sym (text_is w w' a.reply a.adds)) (goes_on a.reply byte (eq-eqb byte 10 feed) going (answers_at e a) (ap ends (sym e) ∙ goes)))
+    subst Q (sym none) (subst P (sym (text_is w w' a.reply a.adds)) (goes_on a.reply byte (eq-eqb byte 10 feed) going (answers_at e a) (ap (ends s.tools) (sym e) ∙ goes)))
 
 -- the line feed of a line that may end the session
 pub fed_line : {first s s' : SessionState} {input kept kept' line : List ℕ} {w w' : Outgoing} (byte : ℕ) (b : Bool) → byte ≡ 10 → line ≡ kept → kept' ≡ []
-    → Answered s s' line w w' → b ≡ ends line → Going first input kept s w.text
+    → Answered s s' line w w' → b ≡ ends s.tools line → Going first input kept s w.text
     → MatchBool b (HasQuit first (input ++ byte ∷ []) w'.text) (Going first (input ++ byte ∷ []) kept' s' w'.text)
 fed_line byte true feed e none a is going = quits_line byte feed e a (sym is) going
 fed_line byte false feed e none a is going = goes_line byte feed e none a (sym is) going
@@ -219,6 +223,7 @@ pub quits_early : (first : SessionState) (out input piece : List ℕ) (i : ℕ) 
     → HasQuit first ((input ++ take i piece) ++ get_or piece i 0 ∷ []) out → HasQuit first (input ++ piece) out
 quits_early first out input piece i within quit =
     let byte = get_or piece i 0 in
+    let quits : List ℕ → Bool = ends first.tools in
     let front = (input ++ take i piece) ++ byte ∷ [] in
     let rest = drop (i + 1) piece in
     let parts : (take i piece ++ byte ∷ []) ++ rest ≡ piece = ap (λ xs. xs ++ rest) (sym (take_more piece i 0 within)) ∙ take-append-drop (i + 1) piece in
@@ -227,8 +232,8 @@ quits_early first out input piece i within quit =
     let whole : whole_lines front ++ later.0 ≡ whole_lines (input ++ piece) = sym later.1 ∙ ap whole_lines all in
     let P : List (List ℕ) → Type 0 = λ ls. Transcript first ls out in
     record {
-      quits = ap (list_any ends) (sym whole) ∙ list_any-append ends (whole_lines front) later.0
-          ∙ either (list_any ends (whole_lines front)) (list_any ends later.0) (inl quit.quits);
+      quits = ap (list_any quits) (sym whole) ∙ list_any-append quits (whole_lines front) later.0
+          ∙ either (list_any quits (whole_lines front)) (list_any quits later.0) (inl quit.quits);
       transcript = λ more.
           subst P (sym (append_assoc (whole_lines front) later.0 more) ∙ ap (λ ls. ls ++ more) whole) (quit.transcript (later.0 ++ more));
     }

@@ -9,7 +9,8 @@ use Rattle.std.proofs.lemmas.Str.{IsUtf8-from_ascii}
 use Rattle.std.proofs.lemmas.Str.Ascii.{IsAscii-nil, IsAscii-cons}
 use Rattle.std.specs.Str.{IsUtf8, IsAscii}
 use Rattle.std.specs.List.{filter, list_all, slice_split, onto_first, position_or_len}
-use Rattle.session.specs.Words.{is_blank, is_plain, has_bytes, words, decimal_value, begins_blank}
+use Rattle.session.specs.Words.{is_blank, is_plain, has_bytes, words, decimal_value}
+use Rattle.session.specs.kept.Words.{begins_blank}
 
 pub and_true : (a b : Bool) → (a && b) ≡ true → (a ≡ true) × (b ≡ true)
 and_true true b e = (refl, e)

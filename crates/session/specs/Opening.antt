@@ -4,9 +4,6 @@ use Rattle.fourstate.specs.declared.limits.TheConstants.{MAX_TIME}
 use Rattle.design.specs.Netlist.{Netlist, with_horizon}
 use Rattle.edits.specs.declared.fault.EditFault.TheVariants as edit
 use Rattle.vread.specs.Reads.{IsReadFault, MAX_TEXT, Spells}
-use Rattle.vtext.specs.declared.fault.ReadFault.{ReadFault}
-use Rattle.vtext.specs.declared.fault.ReadFaultKind.{ReadFaultKind}
-use Rattle.vtext.specs.declared.fault.ReadFaultKind.TheVariants as read
 use Rattle.session.specs.declared.fault.SessionFault.{SessionFault}
 use Rattle.session.specs.declared.fault.SessionFault.TheVariants as fault
 use Rattle.session.specs.declared.open.Options.{Options}
@@ -28,11 +25,6 @@ pub record IsHorizonOver (text : List ℕ) (options : Options) : Type 0 where
   pub spelled : Netlist
   pub spells : Spells options.delay text spelled
   pub over : MAX_TIME < options.horizon
-
--- what a fault of this kind of a text gives
-abbrev pub fault_by : ReadFaultKind → ReadFault → SessionFault
-fault_by (read.Edit edit.OutOfMemory) f = fault.OutOfMemory
-fault_by kind f = fault.Design f
 
 -- why a text opens no session: it has this fault, or an allocation was refused, as may happen to a text within its limit
 abbrev pub IsTextRefused : Option ℕ → List ℕ → SessionFault → Type 0

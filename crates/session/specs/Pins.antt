@@ -1,5 +1,5 @@
 -- The inputs of gates, as words write them (own).
-use Rattle.std.specs.Prelude.{◌≡◌, ◌==◌, ℕ, true, if◌then◌else◌, List, [], ◌∷◌, take, drop, Option, None, Some, is_some, option_map, codes}
+use Rattle.std.specs.Prelude.{◌==◌, ℕ, if◌then◌else◌, List, [], ◌∷◌, take, drop, Option, None, Some, option_map, codes}
 use Rattle.std.specs.List.{list_any}
 use Rattle.fourstate.specs.declared.value.Value.{Value}
 use Rattle.edits.specs.declared.pin.Pin.{Pin}
@@ -23,7 +23,3 @@ with_pin None pins = None
 abbrev pub pins_of : List (List ℕ) → Option (List Pin)
 pins_of [] = Some []
 pins_of (word ∷ ws) = with_pin (pin_of word) (pins_of ws)
-
--- each word is a readable input
-abbrev pub ArePins : List (List ℕ) → Type 0
-ArePins words = is_some (pins_of words) ≡ true

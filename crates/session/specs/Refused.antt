@@ -1,17 +1,14 @@
 -- Why a command may be refused, and what it leaves.
-use Rattle.std.specs.Prelude.{◌≡◌, ◌⊎◌, Bool, true, false, List, None, is_none, is_some, IsOk, Result, Ok, Err}
+use Rattle.std.specs.Prelude.{◌≡◌, ◌⊎◌, Bool, true, false, None, is_none, is_some, IsOk, Result, Ok, Err}
 use Rattle.std.specs.Option.{option_map_or}
-use Rattle.edits.specs.declared.edit.Edit.{Edit}
 use Rattle.edits.specs.declared.fault.EditFault.TheVariants.{OutOfMemory}
-use Rattle.bench.specs.declared.fault.CommitFault.{CommitFault}
-use Rattle.bench.specs.declared.fault.CommitFault.TheVariants as commit
 use Rattle.session.specs.declared.commands.command.Command.{Command}
 use Rattle.session.specs.declared.commands.command.Command.TheVariants as command
 use Rattle.session.specs.declared.replies.refusal.Refusal.{Refusal}
 use Rattle.session.specs.declared.replies.refusal.Refusal.TheVariants as refusal
 use Rattle.session.specs.Held.{hold_fault}
 use Rattle.session.specs.Standing.{SessionState, with_batch}
-use Rattle.session.specs.Steps.{commit_step, has_room, step}
+use Rattle.session.specs.Steps.{has_room, step}
 
 -- the command takes memory, so that an allocation may be refused
 abbrev pub takes_memory : SessionState → Command → Bool
@@ -42,15 +39,3 @@ left_by c s = s
 abbrev pub Comes : SessionState → SessionState → Command → Result (Unit {0}) Refusal → Type 0
 Comes old new c (Ok done) = step old c ≡ Ok new
 Comes old new c (Err refused) = (new ≡ left_by c old) × MayRefuse old c refused
-
--- a commit's fault as a reply says it
-abbrev pub refusal_of : CommitFault → Refusal
-refusal_of (commit.Edit place fault) = refusal.Edit fault
-refusal_of commit.OutOfMemory = refusal.Edit OutOfMemory
-refusal_of commit.WorkerLost = refusal.WorkerLost
-
--- the same as of a command, of a commit of these edits
-abbrev pub MayRefuseCommit : SessionState → List Edit → Refusal → Type 0
-MayRefuseCommit s edits (refusal.Edit fault) = (commit_step s edits ≡ Err (refusal.Edit fault)) ⊎ (fault ≡ OutOfMemory)
-MayRefuseCommit s edits refusal.WorkerLost = IsOk (commit_step s edits)
-MayRefuseCommit s edits r = ⊥

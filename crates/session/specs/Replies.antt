@@ -31,8 +31,15 @@ refusal_name InBatch = codes "InBatch"
 abbrev pub ok_line : ℕ → List ℕ
 ok_line version = codes "ok " ++ decimal version ++ codes "\n"
 
-abbrev pub refusal_line : Refusal → List ℕ
-refusal_line refusal = codes "no " ++ decimal (refusal_code refusal) ++ codes " " ++ refusal_name refusal ++ codes "\n"
+-- what stands behind a refusal, where it names a word at fault
+abbrev pub behind_refusal : Option (List ℕ) → List ℕ
+behind_refusal None = []
+behind_refusal (Some word) = codes " " ++ word
+
+-- a refusal, and the word at fault if it names one
+abbrev pub refusal_line : Refusal → Option (List ℕ) → List ℕ
+refusal_line refusal word =
+    codes "no " ++ decimal (refusal_code refusal) ++ codes " " ++ refusal_name refusal ++ behind_refusal word ++ codes "\n"
 
 abbrev pub wave_lines : List (ℕ × Value) → List ℕ
 wave_lines changes = change_lines changes

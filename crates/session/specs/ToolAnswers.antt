@@ -1,16 +1,19 @@
 -- The lines that answer what tools ask of a design, or why a question is refused (own).
-use Rattle.std.specs.Prelude.{◌≡◌, ℕ, if◌then◌else◌, List, ◌++◌, Option, None, Some, Result, Ok, Err}
-use Rattle.devices.specs.Outgoing.{Adds, Outgoing}
+use Rattle.std.specs.Prelude.{ℕ, nat_lt, if◌then◌else◌, List, ◌++◌, Option, None, Some, Result, Ok, Err}
 use Rattle.design.specs.Netlist.{GateEntry, NetEntry, Netlist, drivers_of, gate_named, has_net, net_named}
 use Rattle.edits.specs.declared.fault.EditFault.{EditFault}
-use Rattle.edits.specs.declared.fault.EditFault.TheVariants.{NotInput, UnknownGate, UnknownNet}
+use Rattle.edits.specs.declared.fault.EditFault.TheVariants.{NotInput, TimeTooLarge, UnknownGate, UnknownNet}
 use Rattle.bench.specs.Benches.{SnapshotRecord}
 use Rattle.listing.specs.Lines.{gate_line}
 use Rattle.listing.specs.Listings.{change_lines, gate_lines, gate_names, inputs_of, net_lines, readers_of}
+use Rattle.causes.specs.CauseLines.{reach_lines, why_lines}
+use Rattle.differences.specs.Differences.{difference_lines}
+use Rattle.session.specs.declared.commands.question.ChangeName.{ChangeName}
 use Rattle.session.specs.declared.commands.question.Listing.{Listing}
 use Rattle.session.specs.declared.commands.question.Listing.TheVariants as listing
+use Rattle.session.specs.declared.replies.refusal.Refusal.{Refusal}
 use Rattle.session.specs.declared.replies.refusal.Refusal.TheVariants as refusal
-use Rattle.session.specs.Replies.{ok_line, refusal_line}
+use Rattle.session.specs.Replies.{ok_line}
 
 -- of a gate, if there is one
 abbrev pub gate_asked : Option GateEntry → Result (List ℕ) EditFault
@@ -36,16 +39,25 @@ listing_lines d (listing.Readers name) = at_net d name (gate_names (readers_of d
 listing_lines d (listing.Points name) = points_asked (net_named d name)
 
 -- the lines and the version behind them, or the refusal
-abbrev pub lines_reply : ℕ → Result (List ℕ) EditFault → List ℕ
-lines_reply version (Ok lines) = lines ++ ok_line version
-lines_reply version (Err fault) = refusal_line (refusal.Edit fault)
+abbrev pub lines_result : ℕ → Result (List ℕ) EditFault → Result (List ℕ) Refusal
+lines_result version (Ok lines) = Ok (lines ++ ok_line version)
+lines_result version (Err fault) = Err (refusal.Edit fault)
 
-abbrev pub listing_reply : Listing → SnapshotRecord → List ℕ
-listing_reply asked snapshot = lines_reply snapshot.version (listing_lines snapshot.design asked)
+abbrev pub listing_result : Listing → SnapshotRecord → Result (List ℕ) Refusal
+listing_result asked snapshot = lines_result snapshot.version (listing_lines snapshot.design asked)
 
--- the wanted lines were written, or nothing for the wanted cause
-abbrev pub Tells : Result (List ℕ) EditFault → Outgoing → Outgoing → Result (Unit {0}) EditFault → Type 0
-Tells (Ok lines) old new (Ok done) = Adds old new lines
-Tells (Err wanted) old new (Err fault) = (fault ≡ wanted) × (new ≡ old)
-Tells (Ok lines) old new (Err fault) = ⊥
-Tells (Err wanted) old new (Ok done) = ⊥
+-- of a change of the net of this name at a moment, which lies within the run: what is said of it, and the version
+abbrev pub change_by : SnapshotRecord → ℕ → (NetEntry → List ℕ) → Option NetEntry → Result (List ℕ) EditFault
+change_by snapshot t lines None = Err UnknownNet
+change_by snapshot t lines (Some n) = if nat_lt snapshot.design.horizon t then Err TimeTooLarge else Ok (lines n)
+
+abbrev pub why_asked : ChangeName → SnapshotRecord → Result (List ℕ) EditFault
+why_asked change snapshot = change_by snapshot change.time (λ n. why_lines snapshot.design n change.time) (net_named snapshot.design change.net)
+
+abbrev pub reach_asked : ChangeName → SnapshotRecord → Result (List ℕ) EditFault
+reach_asked change snapshot = change_by snapshot change.time (λ n. reach_lines snapshot.design n change.time) (net_named snapshot.design change.net)
+
+-- what differs from another snapshot, if there is one
+abbrev pub diff_result : SnapshotRecord → Option SnapshotRecord → Result (List ℕ) Refusal
+diff_result snapshot None = Err refusal.UnknownHold
+diff_result snapshot (Some other) = Ok (difference_lines snapshot.design other.design ++ ok_line snapshot.version)

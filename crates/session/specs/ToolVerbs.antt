@@ -13,9 +13,14 @@ tool_word tool.Drivers = codes "drivers"
 tool_word tool.Readers = codes "readers"
 tool_word tool.Points = codes "points"
 tool_word tool.Window = codes "window"
+tool_word tool.Why = codes "why"
+tool_word tool.Reach = codes "reach"
+tool_word tool.Diff = codes "diff"
 
 abbrev pub tool_verbs : List ToolVerb
-tool_verbs = tool.Nets ∷ tool.Inputs ∷ tool.Gates ∷ tool.Gate ∷ tool.Drivers ∷ tool.Readers ∷ tool.Points ∷ tool.Window ∷ []
+tool_verbs =
+    tool.Nets ∷ tool.Inputs ∷ tool.Gates ∷ tool.Gate ∷ tool.Drivers ∷ tool.Readers ∷ tool.Points ∷ tool.Window
+    ∷ tool.Why ∷ tool.Reach ∷ tool.Diff ∷ []
 
 -- the verb that a word writes, if it writes one
 abbrev pub tool_verb_of : List ℕ → Option ToolVerb

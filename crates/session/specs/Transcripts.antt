@@ -10,17 +10,18 @@ use Rattle.session.specs.State.{SessionState, Transcript, ends}
 use Rattle.session.specs.Traffic.{SinkTraffic, SourceTraffic}
 use Rattle.session.specs.Words.{has_bytes}
 
--- Behind these pieces a session takes one more: none is empty, as at the input's end, and no whole line of them has ended it.
-abbrev pub goes_on : List (List ℕ) → Bool
-goes_on pieces = list_all has_bytes pieces && not (list_any ends (whole_lines (concat pieces)))
+-- Behind these pieces a session takes one more: none is empty, as at the input's end, and no whole line of them has ended it, by
+-- whether the questions of tools are known.
+abbrev pub goes_on : Bool → List (List ℕ) → Bool
+goes_on tools pieces = list_all has_bytes pieces && not (list_any (ends tools) (whole_lines (concat pieces)))
 
 -- Nothing more is taken once a line or the input's end has ended the session: without the last piece it went on.
-pub record StopsReading (pieces : List (List ℕ)) : Type 0 where
+pub record StopsReading (tools : Bool) (pieces : List (List ℕ)) : Type 0 where
   pub earlier : List (List ℕ)
   pub last : List ℕ
   pub parts : pieces ≡ earlier ++ last ∷ []
   pub at_once : length last ≤ PIECE
-  pub went_on : goes_on earlier ≡ true
+  pub went_on : goes_on tools earlier ≡ true
 
 -- What came from a source: exactly the pieces that its takes brought, and the text that they join to.
 pub record Came (source : SourceTraffic) : Type 0 where
@@ -36,8 +37,8 @@ pub record Came (source : SourceTraffic) : Type 0 where
 -- give that gets a reply, and no device failed.
 pub record AnswersAll (first : SessionState) (source : SourceTraffic) (sink : SinkTraffic) : Type 0 where
   pub came : Came source
-  pub stops : StopsReading came.pieces
-  pub ended : goes_on came.pieces ≡ false
+  pub stops : StopsReading first.tools came.pieces
+  pub ended : goes_on first.tools came.pieces ≡ false
   pub out : List ℕ
   pub transcript : Transcript first (lines came.text) out
   pub all : IfSome source.bytes (λ input. Transcript first (lines input) out)
@@ -48,7 +49,7 @@ pub record AnswersAll (first : SessionState) (source : SourceTraffic) (sink : Si
 -- The source failed, once. All whole lines that came were answered, and the session was to go on.
 pub record AnswersWholeLines (first : SessionState) (source : SourceTraffic) (sink : SinkTraffic) : Type 0 where
   pub came : Came source
-  pub went_on : goes_on came.pieces ≡ true
+  pub went_on : goes_on first.tools came.pieces ≡ true
   pub out : List ℕ
   pub transcript : Transcript first (whole_lines came.text) out
   pub written : Appends sink.bytes sink.bytes' out
@@ -59,7 +60,7 @@ pub record AnswersWholeLines (first : SessionState) (source : SourceTraffic) (si
 -- as a line only where the input had ended.
 pub record AnswersPartly (first : SessionState) (source : SourceTraffic) (sink : SinkTraffic) : Type 0 where
   pub came : Came source
-  pub stops : StopsReading came.pieces
+  pub stops : StopsReading first.tools came.pieces
   pub at_end : has_bytes stops.last ≡ false → IsAllOf source.bytes came.text
   pub out : List ℕ
   pub transcript : Transcript first (if has_bytes stops.last then whole_lines came.text else lines came.text) out

@@ -78,11 +78,6 @@ abbrev pub value_of : List ℕ → Option Value
 value_of (byte ∷ []) = value_of_symbol byte
 value_of _ = None
 
--- a text begins with a blank
-abbrev pub begins_blank : List ℕ → Bool
-begins_blank [] = false
-begins_blank (byte ∷ bytes) = is_blank byte
-
 -- a name and a moment
 abbrev pub name_and_time : List (List ℕ) → Option (List ℕ × ℕ)
 name_and_time ws = option_and_then (λ w. option_map (λ time. (w.0, time)) (number_of w.1)) (two_words ws)

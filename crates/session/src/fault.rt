@@ -1,7 +1,7 @@
 //! Why a session did not open, or broke off.
 
 ghost use Rattle.std.specs.Prelude.{◌≡◌};
-ghost use Rattle.session.specs.SessionFaults.{fault_number};
+ghost use Rattle.session.specs.kept.SessionFaults.{fault_number};
 
 use edits::EditFault;
 use thiserror::Error;

@@ -2,6 +2,7 @@
 #![tactic(auto)]
 
 mod asking;
+mod at_fault;
 mod batch;
 mod commands;
 mod fault;

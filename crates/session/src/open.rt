@@ -6,8 +6,10 @@ ghost use Rattle.gatestep.specs.Step.{advance};
 ghost use Rattle.design.specs.Keys.{netlist};
 ghost use Rattle.design.specs.Netlist.{with_horizon};
 ghost use Rattle.vread.specs.Reads.{Spells};
-ghost use Rattle.session.specs.Opening.{IsOpeningFault, IsTextRefused, Opens, Refuses, fault_by};
-ghost use Rattle.session.specs.Outcomes.{Ran, outcome_of};
+ghost use Rattle.session.specs.Opening.{IsOpeningFault, IsTextRefused, Opens, Refuses};
+ghost use Rattle.session.specs.kept.Opening.{fault_by};
+ghost use Rattle.session.specs.Outcomes.{Ran};
+ghost use Rattle.session.specs.kept.Outcomes.{outcome_of};
 ghost use Rattle.session.specs.Standing.{opened_with};
 ghost use Rattle.session.specs.Traffic.{sink_traffic, source_traffic};
 

@@ -1,7 +1,7 @@
 //! A line, read by itself.
 
 ghost use Rattle.session.specs.Commands.{command_of};
-ghost use Rattle.session.specs.LineReadings.{IsReadTo};
+ghost use Rattle.session.specs.kept.LineReadings.{IsReadTo};
 
 use crate::commands::{Command, EditLine, read};
 use crate::said::{Line, LineFault};

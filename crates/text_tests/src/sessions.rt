@@ -14,6 +14,7 @@ mod questions;
 mod scopes;
 mod texts;
 mod vectors;
+mod words;
 
 use crate::compare::equal;
 use devices::Device;

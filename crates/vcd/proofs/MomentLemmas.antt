@@ -7,8 +7,8 @@ use Rattle.fourstate.specs.declared.value.Value.{Value}
 use Rattle.waveform.specs.Timelines.{moments}
 use Rattle.vcd.specs.Changes.{change_lines, lines_below, moment_lines, some_changes_at, time_line}
 use Rattle.vcd.specs.declared.upcoming.Upcoming.{Upcoming}
-use Rattle.vcd.specs.Kept.{IsAhead, IsNext, lefts}
-use Rattle.vcd.specs.Waves.{wave_in}
+use Rattle.vcd.specs.kept.Kept.{IsAhead, IsNext, lefts}
+use Rattle.vcd.specs.kept.Waves.{wave_in}
 use Rattle.vcd.proofs.UpcomingLemmas.{since_left}
 use Rattle.vcd.proofs.WaveLemmas.{next_later, no_change}
 

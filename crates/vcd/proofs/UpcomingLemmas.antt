@@ -7,14 +7,14 @@ use Rattle.std.proofs.lemmas.Bool.{ltb-true, ltb-false, lt-ltb, le-ltb, eqb-true
 use Rattle.fourstate.specs.declared.value.Value.{Value}
 use Rattle.fourstate.specs.Values.{same_value}
 use Rattle.waveform.specs.Entries.{standing}
-use Rattle.waveform.specs.Timelines.{IsTimeline}
+use Rattle.waveform.specs.kept.Timelines.{IsTimeline}
 use Rattle.std.proofs.Math.ListN.{replicate}
 use Rattle.devices.specs.Outgoing.{Adds, Outgoing}
 use Rattle.vcd.specs.declared.upcoming.TheConstants.{NEVER}
 use Rattle.vcd.specs.declared.upcoming.Upcoming.{Upcoming}
 use Rattle.vcd.specs.Changes.{change_line, change_lines, changes_at, some_changes_at}
-use Rattle.vcd.specs.Kept.{IsAhead, IsNext, IsPassing, IsSameAt, IsSameBut, lefts, lines_from, since, time_of}
-use Rattle.vcd.specs.Waves.{wave_in}
+use Rattle.vcd.specs.kept.Kept.{IsAhead, IsNext, IsPassing, IsSameAt, IsSameBut, lefts, lines_from, since, time_of}
+use Rattle.vcd.specs.kept.Waves.{wave_in}
 use Rattle.vcd.proofs.WaveLemmas.{next_at_start, next_later, some_change}
 use Rattle.vcd.proofs.Ways.{both}
 

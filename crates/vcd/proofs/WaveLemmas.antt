@@ -8,11 +8,12 @@ use Rattle.fourstate.specs.declared.value.Value.{Value}
 use Rattle.fourstate.specs.Values.{same_value}
 use Rattle.waveform.specs.Changes.{wave_at}
 use Rattle.waveform.specs.Entries.{standing}
-use Rattle.waveform.specs.Timelines.{AreInTurn, IsTimeline, entries_until}
+use Rattle.waveform.specs.Timelines.{entries_until}
+use Rattle.waveform.specs.kept.Timelines.{AreInTurn, IsTimeline}
 use Rattle.vcd.specs.declared.upcoming.TheConstants.{NEVER}
 use Rattle.vcd.specs.Changes.{change_line, changes_at, some_changes_at, value_line}
-use Rattle.vcd.specs.Kept.{IsNext, changes_from, time_of}
-use Rattle.vcd.specs.Waves.{wave_in}
+use Rattle.vcd.specs.kept.Kept.{IsNext, changes_from, time_of}
+use Rattle.vcd.specs.kept.Waves.{wave_in}
 
 -- two moments that differ
 apart : (a s : ℕ) → s < a → (a == s) ≡ false

@@ -6,6 +6,7 @@ mod codes;
 mod dump;
 mod fault;
 mod head;
+pub mod laws;
 mod lines;
 mod moments;
 mod scopes;

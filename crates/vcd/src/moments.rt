@@ -3,7 +3,7 @@
 ghost use Rattle.std.specs.Prelude.{◌≡◌, ◌≤◌, ◌<◌, ◌+◌, ◌++◌, ℕ, suc};
 ghost use Rattle.devices.specs.Outgoing.{Adds};
 ghost use Rattle.vcd.specs.Changes.{change_lines, lines_below, moment_lines, time_line};
-ghost use Rattle.vcd.specs.Kept.{IsAhead};
+ghost use Rattle.vcd.specs.kept.Kept.{IsAhead};
 
 use crate::lines::time_line;
 use crate::upcoming::{NEVER, Upcoming};

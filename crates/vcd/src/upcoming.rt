@@ -4,8 +4,8 @@
 ghost use Rattle.std.specs.Prelude.{◌≡◌, ◌≤◌, ◌<◌, ◌+◌, ◌-◌, ◌*◌, ℕ, true, length, min, slice_index};
 ghost use Rattle.devices.specs.Outgoing.{Adds};
 ghost use Rattle.vcd.specs.Changes.{change_line, change_lines, some_changes_at};
-ghost use Rattle.vcd.specs.Kept.{IsAhead, IsNext, IsPassing, IsSameBut, lefts, lines_from, time_of};
-ghost use Rattle.vcd.specs.Waves.{wave_in};
+ghost use Rattle.vcd.specs.kept.Kept.{IsAhead, IsNext, IsPassing, IsSameBut, lefts, lines_from, time_of};
+ghost use Rattle.vcd.specs.kept.Waves.{wave_in};
 
 use crate::lines::value_line;
 use crate::waves::Waves;

@@ -5,9 +5,9 @@ ghost use Rattle.fourstate.specs.Values.{same_value};
 ghost use Rattle.fourstate.specs.declared.limits.TheConstants.{MAX_TIME};
 ghost use Rattle.design.specs.declared.limits.TheConstants.{MAX_NETS};
 ghost use Rattle.waveform.specs.Entries.{standing};
-ghost use Rattle.waveform.specs.Timelines.{IsTimeline};
+ghost use Rattle.waveform.specs.kept.Timelines.{IsTimeline};
 ghost use Rattle.vcd.specs.Text.{waves_of};
-ghost use Rattle.vcd.specs.Waves.{wave_in};
+ghost use Rattle.vcd.specs.kept.Waves.{wave_in};
 
 use bench::Snapshot;
 use fourstate::Value;
@@ -22,7 +22,7 @@ pub(crate) struct Waves<'a> {
 
 impl<'a> Model for Waves<'a> {
     ghost use Rattle.vcd.specs.Text.{waves_of};
-    ghost use Rattle.vcd.specs.Waves.{Recorded};
+    ghost use Rattle.vcd.specs.kept.Waves.{Recorded};
 
     ghost Value = { Recorded };
 

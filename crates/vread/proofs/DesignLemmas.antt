@@ -1,5 +1,5 @@
 -- The design that scopes without a fault are.
-use Rattle.std.proofs.Common.{◌≡◌, ◌≢◌, ℕ, ◌^◌, ◌<◌, ◌≤◌, nat_lt, arith, IsTrue, Bool, true, false, cond, List, [], ◌∷◌, ◌++◌, length, get_or, Option, Some, None, All, AllPairs, refl, sym, ap, subst, ◌∙◌}
+use Rattle.std.proofs.Common.{◌≡◌, ℕ, ◌^◌, ◌<◌, ◌≤◌, nat_lt, arith, IsTrue, Bool, true, false, cond, List, [], ◌∷◌, ◌++◌, length, get_or, Option, Some, None, All, refl, sym, ap, subst, ◌∙◌}
 use Rattle.std.specs.Prelude.{Err, IfOk, Ok, Result, flat_map}
 use Rattle.std.specs.List.{AllZip, find, list_any}
 use Rattle.std.specs.Option.{option_map_or, option_or}
@@ -9,24 +9,25 @@ use Rattle.std.proofs.lemmas.List.Elements.{All-cons, All-head, All-nil, All-tai
 use Rattle.fourstate.specs.declared.unit.TimeUnit.{TimeUnit}
 use Rattle.design.specs.Keys.{Keyed, netlist}
 use Rattle.design.specs.declared.limits.TheConstants.{MAX_GATES, MAX_NETS}
-use Rattle.design.specs.Names.{is_name, is_part, parts}
+use Rattle.design.specs.Names.{is_name}
 use Rattle.design.specs.Netlist as netlists
-use Rattle.design.specs.Netlist.{Netlist, empty_netlist}
-use Rattle.vtext.specs.declared.gate.Terminal.{Terminal}
-use Rattle.vtext.specs.declared.net.Net as nets
+use Rattle.design.specs.Netlist.{Netlist}
+use Rattle.design.specs.kept.Netlist.{empty_netlist}
 use Rattle.vtext.specs.GateNames.{gate_bytes}
 use Rattle.vtext.specs.Modules.{ModuleEntry, ModuleList}
 use Rattle.vtext.specs.Names.{name_at}
-use Rattle.vtext.specs.Sound.{IsSoundModule, IsSoundNet}
-use Rattle.elaboration.specs.Elaborations.{Elaborated, IsElaboration, IsNode, IsScope, levels_fault}
-use Rattle.elaboration.specs.Numbered.{PlacedScope, ref_at}
-use Rattle.elaboration.specs.Scopes.{Scope, flat_names, gates_of, nets_of, node_at, own_gates, own_nets, scopes_of}
-use Rattle.elaboration.specs.SoundScopes.{IsSingleGate, IsSoundScope}
+use Rattle.vtext.specs.kept.Sound.{IsSoundModule}
+use Rattle.elaboration.specs.Elaborations.{levels_fault}
+use Rattle.elaboration.specs.kept.Elaborations.{Elaborated, IsElaboration, IsScope}
+use Rattle.elaboration.specs.kept.Numbered.{PlacedScope, ref_at}
+use Rattle.elaboration.specs.Scopes.{Scope, gates_of, nets_of, node_at, own_gates, own_nets, scopes_of}
+use Rattle.elaboration.specs.kept.SoundScopes.{IsSingleGate, IsSoundScope}
 use Rattle.elaboration.specs.Ports.{second_pass}
 use Rattle.elaboration.specs.Tops.{is_top, third_pass, top_of}
+use Rattle.vread.specs.kept.Known.{Known}
 use Rattle.vread.specs.LateFaults as late
 use Rattle.vread.specs.Netlists.{netlist_of, unit_of}
-use Rattle.vread.specs.Parts.{AreDistinctGates, AreFitGates, AreFitNets, IsFitGate, kept_gates, kept_nets}
+use Rattle.vread.specs.kept.Parts.{AreDistinctGates, AreFitGates, AreFitNets, IsFitGate, kept_gates, kept_nets}
 use Rattle.vread.proofs.FaultLemmas.{AllFail, no_fault, none_of}
 use Rattle.vread.proofs.GateLemmas.{scope_gates_same}
 use Rattle.vread.proofs.NodeLemmas.{drivable, readable}
@@ -61,17 +62,6 @@ no_instance_fault text list design is =
 
 at_most : (limit n : ℕ) → nat_lt limit n ≡ false → n ≤ limit
 at_most limit n e = grind (arith, nat_tests)
-
--- What laws say of the design of a list of modules with this one at its top.
-pub record Known (list : ModuleList) (top : ModuleEntry) : Type 0 where
-  pub refs : (kept : PlacedScope) (scope : Scope) → IsScope list.names list.modules (nets_of list.names list.modules top) kept scope
-      → (terminal : Terminal) → IsNode (nets_of list.names list.modules top) (ref_at kept terminal) (node_at list.names list.modules scope terminal)
-  pub whole : (part : List ℕ) → IsTrue (is_part part) → parts part ≡ part ∷ []
-  pub flat_parts : (net : ℕ × nets.Net) → IsSoundNet list.names net → All (λ name. IsTrue (is_part name)) (flat_names list.names net)
-  pub sound : All (IsSoundScope list.names) (scopes_of list.names list.modules top)
-  pub single : All (λ scope. All (IsSingleGate list.names list.modules scope) scope.entry.gates) (scopes_of list.names list.modules top)
-  pub differ_nets : AllPairs (λ a b. a.name ≢ b.name) (nets_of list.names list.modules top)
-  pub differ_gates : AllPairs (λ a b. a.name ≢ b.name) (gates_of list.names list.modules top)
 
 -- A design that modules make, whose scopes have no fault.
 module _ (text : List ℕ) (list : ModuleList) (design : Elaborated) (is : IsElaboration text list design) (known : Known list design.top.1)

@@ -15,15 +15,16 @@ use Rattle.vtext.specs.declared.fault.ReadFaultKind.{ReadFaultKind}
 use Rattle.vtext.specs.declared.fault.ReadFaultKind.TheVariants.{PortKind, Edit}
 use Rattle.vtext.specs.declared.gate.Terminal.{Terminal}
 use Rattle.vtext.specs.Modules.{ModuleEntry, ModuleList}
-use Rattle.elaboration.specs.Elaborations.{Elaborated, IsElaboration, IsNode, IsScope, elaboration_fault}
-use Rattle.elaboration.specs.Numbered.{PlacedScope, ref_at}
+use Rattle.elaboration.specs.Elaborations.{elaboration_fault}
+use Rattle.elaboration.specs.kept.Elaborations.{Elaborated, IsElaboration, IsNode, IsScope}
+use Rattle.elaboration.specs.kept.Numbered.{PlacedScope, ref_at}
 use Rattle.elaboration.specs.Ports.{fault_at}
 use Rattle.elaboration.specs.Scopes.{Scope, gates_of, nets_of, node_at, own_gate, own_gates, scopes_of}
-use Rattle.elaboration.specs.SoundScopes.{IsSoundScope}
+use Rattle.elaboration.specs.kept.SoundScopes.{IsSoundScope}
 use Rattle.elaboration.specs.Tops.{top_of}
 use Rattle.vread.specs.LateFaults as late
-use Rattle.vread.specs.Parts as kept_parts
-use Rattle.vread.specs.Parts.{gate_count, kept_fault}
+use Rattle.vread.specs.kept.Parts as kept_parts
+use Rattle.vread.specs.kept.Parts.{gate_count, kept_fault}
 use Rattle.vread.proofs.GateLemmas.{input_driven_same, long_named_same, port_wrong_same}
 use Rattle.vread.proofs.ZipLemmas.{any_zip, zip_both}
 

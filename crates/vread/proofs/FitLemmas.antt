@@ -7,7 +7,7 @@ use Rattle.std.proofs.lemmas.List.Folds.{list_any_none}
 use Rattle.design.specs.declared.limits.TheConstants.{MAX_GATES, MAX_NETS}
 use Rattle.design.specs.Names.{is_name, same_name}
 use Rattle.design.specs.Netlist as netlist
-use Rattle.vread.specs.Parts.{AreDistinctGates, AreFitNets}
+use Rattle.vread.specs.kept.Parts.{AreDistinctGates, AreFitNets}
 use Rattle.vread.proofs.Lists.{names_differ}
 
 module _ {X : Type 0} (P : X → Type 0) where

@@ -7,16 +7,16 @@ use Rattle.vtext.specs.declared.gate.Terminal.{Terminal}
 use Rattle.vtext.specs.declared.net.Net as nets
 use Rattle.vtext.specs.GateNames.{gate_bytes}
 use Rattle.vtext.specs.Modules.{GateEntry, ModuleEntry}
-use Rattle.vtext.specs.Sound.{IsSoundNet}
+use Rattle.vtext.specs.kept.Sound.{IsSoundNet}
 use Rattle.elaboration.specs.declared.node.Slot.{Slot}
-use Rattle.elaboration.specs.Elaborations.{IsNode, IsScope, IsSlot}
-use Rattle.elaboration.specs.Numbered.{PlacedScope, ref_at}
+use Rattle.elaboration.specs.kept.Elaborations.{IsNode, IsScope, IsSlot}
+use Rattle.elaboration.specs.kept.Numbered.{PlacedScope, ref_at}
 use Rattle.elaboration.specs.Scopes.{Scope, is_own, node_at, own_gate, own_gates}
 use Rattle.elaboration.specs.Scopes as scopes
-use Rattle.elaboration.specs.SoundScopes.{IsSingleGate, IsSingleNode, IsSoundScope}
+use Rattle.elaboration.specs.kept.SoundScopes.{IsSingleGate, IsSingleNode, IsSoundScope}
 use Rattle.vread.specs.LateFaults as late
-use Rattle.vread.specs.Parts as parts
-use Rattle.vread.specs.Parts.{kept_gate, kept_gates}
+use Rattle.vread.specs.kept.Parts as parts
+use Rattle.vread.specs.kept.Parts.{kept_gate, kept_gates}
 use Rattle.vread.proofs.LengthLemmas.{longest_long}
 use Rattle.vread.proofs.NodeLemmas.{connection_same, input_same, output_same, tied_same}
 use Rattle.vread.proofs.ZipLemmas.{any_misjoined_same, any_of_scope}
@@ -74,7 +74,7 @@ module _ (names : List (List ℕ)) (modules : List (ℕ × ModuleEntry)) (flat :
 
   -- Gates, where there are not too many nets.
   module _ (few : length flat < 2 ^ 32) where
-    gate_same : (kept : PlacedScope) (scope : Scope) → IsScope names modules flat kept scope → (gate : GateEntry) → IsSingleGate names modules scope gate → kept_gate names flat kept gate ≡ own_gate names modules scope gate
+    pub gate_same : (kept : PlacedScope) (scope : Scope) → IsScope names modules flat kept scope → (gate : GateEntry) → IsSingleGate names modules scope gate → kept_gate names flat kept gate ≡ own_gate names modules scope gate
     gate_same kept scope is gate single =
         ap (λ (p : List ℕ). record (kept_gate names flat kept gate) { name = p ++ gate_bytes names gate }) is.path
         ∙ ap (λ (n : List ℕ). record (kept_gate names flat kept gate) { name = scope.path ++ gate_bytes names gate; output = n })

@@ -16,7 +16,7 @@ use Rattle.vtext.specs.Bits.{bit_bytes, index_bytes}
 use Rattle.vtext.specs.Names.{name_at}
 use Rattle.vtext.specs.Ranges.{index_at, indexes, indexes_from, width}
 use Rattle.elaboration.specs.Scopes.{flat_names}
-use Rattle.vread.specs.Parts as parts
+use Rattle.vread.specs.kept.Parts as parts
 
 -- Digits.
 

@@ -1,5 +1,7 @@
 pub mod AnswerLemmas
 pub mod DesignLemmas
+pub mod DetailLemmas
+pub mod DriverLemmas
 pub mod FaultLemmas
 pub mod FitLemmas
 pub mod GateLemmas

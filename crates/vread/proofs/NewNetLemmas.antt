@@ -10,8 +10,8 @@ use Rattle.vtext.specs.declared.range.Range.{Range}
 use Rattle.vtext.specs.Modules.{ModuleEntry}
 use Rattle.vtext.specs.Ranges.{index_at, indexes_from, width}
 use Rattle.elaboration.specs.declared.node.Slot.{Slot}
-use Rattle.elaboration.specs.Numbered.{PlacedScope}
-use Rattle.vread.specs.Parts.{kept_nets, slot_nets, slots_nets}
+use Rattle.elaboration.specs.kept.Numbered.{PlacedScope}
+use Rattle.vread.specs.kept.Parts.{kept_nets, slot_nets, slots_nets}
 use Rattle.vread.proofs.PairLemmas.{both_here, past_end, slots_end}
 
 pub all_right : {X : Type 0} (P : X → Type 0) (xs ys : List X) → All P (xs ++ ys) → All P ys

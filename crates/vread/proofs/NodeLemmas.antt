@@ -13,13 +13,13 @@ use Rattle.vtext.specs.Modules.{ModuleEntry}
 use Rattle.elaboration.specs.declared.node.NetRun.{NetRun}
 use Rattle.elaboration.specs.declared.node.NodeRef.{NodeRef}
 use Rattle.elaboration.specs.declared.node.NodeRef.TheVariants.{Nets, Tied}
-use Rattle.elaboration.specs.Elaborations.{IsNode, IsRun}
+use Rattle.elaboration.specs.kept.Elaborations.{IsNode, IsRun}
 use Rattle.elaboration.specs.Scopes.{Node, tied, wired}
 use Rattle.elaboration.specs.Scopes as scopes
-use Rattle.elaboration.specs.SoundScopes.{IsSingleNode}
+use Rattle.elaboration.specs.kept.SoundScopes.{IsSingleNode}
 use Rattle.vread.specs.LateFaults as late
-use Rattle.vread.specs.Parts as parts
-use Rattle.vread.specs.Parts.{net_at}
+use Rattle.vread.specs.kept.Parts as parts
+use Rattle.vread.specs.kept.Parts.{net_at}
 
 some_there : (n : ℕ) → 0 < n → nat_lt 0 n ≡ true
 some_there n there = grind (arith, nat_tests)

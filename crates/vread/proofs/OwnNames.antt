@@ -11,11 +11,11 @@ use Rattle.design.specs.Names.{is_name, is_part, parts}
 use Rattle.design.specs.Netlist as netlists
 use Rattle.vtext.specs.declared.net.Net as nets
 use Rattle.vtext.specs.Modules.{ModuleEntry}
-use Rattle.vtext.specs.Sound.{IsSoundNet}
+use Rattle.vtext.specs.kept.Sound.{IsSoundNet}
 use Rattle.elaboration.specs.Scopes.{Scope, flat_names, is_own, own_bits, own_net, own_nets}
-use Rattle.elaboration.specs.SoundScopes.{IsPath, IsSoundScope}
+use Rattle.elaboration.specs.kept.SoundScopes.{IsPath, IsSoundScope}
 use Rattle.vread.specs.LateFaults as late
-use Rattle.vread.specs.Parts as kept_parts
+use Rattle.vread.specs.kept.Parts as kept_parts
 use Rattle.vread.proofs.FaultLemmas.{none_of}
 
 is_true : (b : Bool) → IsTrue b → b ≡ true

@@ -8,8 +8,8 @@ use Rattle.elaboration.specs.declared.node.Slot.{Slot}
 use Rattle.fourstate.specs.declared.net.NetKind.TheVariants.{Wire}
 use Rattle.vtext.specs.Modules.{ModuleEntry}
 use Rattle.elaboration.specs.declared.node.Slot.TheVariants.{Own}
-use Rattle.elaboration.specs.Numbered.{PlacedScope}
-use Rattle.vread.specs.Parts.{any_slot}
+use Rattle.elaboration.specs.kept.Numbered.{PlacedScope}
+use Rattle.vread.specs.kept.Parts.{any_slot}
 
 module _ {Y : Type 0} (F : List Slot → List (ℕ × nets.Net) → Y) (slots : List Slot) (listed : List (ℕ × nets.Net)) (i : ℕ) where
   -- both have an item here

@@ -21,15 +21,15 @@ use Rattle.vtext.specs.declared.gate.Terminal.TheVariants as terminals
 use Rattle.vtext.specs.Modules.{GateEntry, InstanceEntry, ModuleEntry}
 use Rattle.vtext.specs.Names.{name_at}
 use Rattle.elaboration.specs.declared.limits.TheConstants.{MAX_DEPTH}
-use Rattle.elaboration.specs.Elaborations.{IsNode, IsScope}
-use Rattle.elaboration.specs.Numbered.{AreDistinct, PlacedScope, inner_alone, ref_at, top_alone}
+use Rattle.elaboration.specs.kept.Elaborations.{IsNode, IsScope}
+use Rattle.elaboration.specs.kept.Numbered.{AreDistinct, PlacedScope, inner_alone, ref_at, top_alone}
 use Rattle.elaboration.specs.Scopes.{Scope, gates_of, inner, nets_of, node_at, scopes_below, scopes_of, top_scope}
-use Rattle.elaboration.specs.SoundScopes.{IsSoundScope}
+use Rattle.elaboration.specs.kept.SoundScopes.{IsSoundScope}
 use Rattle.vread.specs.declared.search.Wanted.{Wanted}
 use Rattle.vread.specs.declared.search.Wanted.TheVariants.{LongName, WrongPort}
 use Rattle.vread.specs.LateFaults as late
-use Rattle.vread.specs.Parts as parts
-use Rattle.vread.specs.Searches.{AreAlike, any_below, any_inside, any_scope, is_wanted, path_after}
+use Rattle.vread.specs.kept.Parts as parts
+use Rattle.vread.specs.kept.Searches.{AreAlike, any_below, any_inside, any_scope, is_wanted, path_after}
 use Rattle.vread.proofs.FaultLemmas.{chain}
 use Rattle.vread.proofs.GateLemmas.{any_same, long_after_same, port_wrong_same}
 use Rattle.vread.proofs.NewNetLemmas.{all_right}

@@ -17,12 +17,12 @@ use Rattle.elaboration.specs.declared.node.NetRun.{NetRun}
 use Rattle.elaboration.specs.declared.node.NodeRef.{NodeRef}
 use Rattle.elaboration.specs.declared.node.NodeRef.TheVariants.{Nets, Tied}
 use Rattle.elaboration.specs.declared.node.Slot.{Slot}
-use Rattle.elaboration.specs.Elaborations.{IsNode, IsScope, IsSlot}
-use Rattle.elaboration.specs.Numbered.{PlacedScope, slot_node}
+use Rattle.elaboration.specs.kept.Elaborations.{IsNode, IsScope, IsSlot}
+use Rattle.elaboration.specs.kept.Numbered.{PlacedScope, slot_node}
 use Rattle.elaboration.specs.Scopes.{Node, Scope, flat_names, is_own, node_of, own_bits, own_net, own_nets, wired}
 use Rattle.vread.specs.LateFaults as late
-use Rattle.vread.specs.Parts as parts
-use Rattle.vread.specs.Parts.{any_slot, kept_nets, slots_nets}
+use Rattle.vread.specs.kept.Parts as parts
+use Rattle.vread.specs.kept.Parts.{any_slot, kept_nets, slots_nets}
 use Rattle.vread.proofs.NodeLemmas.{clashes_same}
 
 -- Two lists place by place.

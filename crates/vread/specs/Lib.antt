@@ -1,5 +1,6 @@
+pub mod Details
+pub mod Drivers
 pub mod LateFaults
 pub mod Netlists
-pub mod Parts
 pub mod Reads
-pub mod Searches
+pub mod kept

@@ -2,25 +2,24 @@
 
 ghost use Rattle.std.specs.Prelude.{◌≡◌, ◌⊎◌, ◌<◌, ◌≤◌, ℕ, List, None, Some, All, IfErr, IfOk, length};
 ghost use Rattle.design.specs.Keys.{netlist};
-ghost use Rattle.elaboration.specs.Elaborations.{IsElaboration, elaboration_fault};
+ghost use Rattle.elaboration.specs.Elaborations.{elaboration_fault};
+ghost use Rattle.elaboration.specs.kept.Elaborations.{IsElaboration};
 ghost use Rattle.elaboration.specs.Scopes.{nets_of};
 ghost use Rattle.elaboration.specs.Tops.{top_of};
 ghost use Rattle.vread.specs.LateFaults.{late_fault, scopes_fault};
 ghost use Rattle.vread.specs.Netlists.{design_of, netlist_of, unit_of};
 ghost use Rattle.vtext.specs.ReadFaults.{out_of_memory};
-ghost use Rattle.vtext.specs.Sound.{IsSoundModule};
+ghost use Rattle.vtext.specs.kept.Sound.{IsSoundModule};
 
 use crate::gates::with_gates;
+use crate::knowledge::know;
 use crate::late::scopes_fault;
 use crate::names::name_from;
 use crate::nets::with_nets;
 use crate::search::crowded_fault;
 use design::laws::parts_are_names;
 use design::{Design, MAX_NETS, NameHasher};
-use elaboration::laws::{
-    flat_names, flat_names_are_parts, gate_terminals_are_single, scopes_are_sound,
-    terminals_are_nodes,
-};
+use elaboration::laws::{scopes_are_sound, terminals_are_nodes};
 use elaboration::{Elaboration, Top, design_within, fault_at, find_top};
 use fourstate::TimeUnit;
 use std::alloc::{AllocError, Global};
@@ -103,11 +102,7 @@ fn design_from(
     requires faultless { scopes_fault modules.now.names modules.now.modules elaboration.now.top.1 ≡ None }
     ensures { IfOk result (λ design. netlist design ≡ netlist_of modules.now elaboration.now.top) }
 {
-    flat_names();
-    flat_names_are_parts();
-    gate_terminals_are_single();
-    scopes_are_sound();
-    terminals_are_nodes();
+    know(modules, elaboration);
     parts_are_names();
     let names = modules.names();
     let scopes = elaboration.scopes();

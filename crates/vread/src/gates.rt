@@ -1,13 +1,14 @@
 //! The gates of a design, from those of its scopes.
 
 ghost use Rattle.std.specs.Prelude.{◌≡◌, ◌++◌, ◌∷◌, [], false, All, AllPairs, IfOk, IsSomeAnd, IsTrue, flat_map, length, map};
-ghost use Rattle.fourstate.specs.Delays.{AreDelays};
-ghost use Rattle.design.specs.Keys as Keys;
-ghost use Rattle.design.specs.Keys.{IsThere, connection_in, entry_in, name_of, net_by_key, netlist};
+ghost use Rattle.fourstate.specs.kept.Delays.{AreDelays};
+ghost use Rattle.design.specs.kept.Keys as Keys;
+ghost use Rattle.design.specs.Keys.{connection_in, entry_in, name_of, netlist};
+ghost use Rattle.design.specs.kept.Keys.{IsThere, net_by_key};
 ghost use Rattle.design.specs.Names.{is_name};
-ghost use Rattle.elaboration.specs.Numbered.{ref_at};
+ghost use Rattle.elaboration.specs.kept.Numbered.{ref_at};
 ghost use Rattle.vtext.specs.GateNames.{gate_bytes};
-ghost use Rattle.vread.specs.Parts.{AreDistinctGates, AreFitGates, IsDrivable, IsFitGate, IsReadable, connection_of, driven, kept_gate, kept_gates, output_of};
+ghost use Rattle.vread.specs.kept.Parts.{AreDistinctGates, AreFitGates, IsDrivable, IsFitGate, IsReadable, connection_of, driven, kept_gate, kept_gates, output_of};
 
 use crate::names::name_in;
 use crate::net_keys::key_of;

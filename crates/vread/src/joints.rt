@@ -1,10 +1,10 @@
 //! Ports and what they are joined to.
 
 ghost use Rattle.std.specs.Prelude.{◌≡◌, ◌&&◌, not};
-ghost use Rattle.elaboration.specs.Numbered.{is_own_slot, slot_node};
+ghost use Rattle.elaboration.specs.kept.Numbered.{is_own_slot, slot_node};
 ghost use Rattle.vtext.specs.Nets.{net_kind};
 ghost use Rattle.vread.specs.LateFaults.{is_clash};
-ghost use Rattle.vread.specs.Parts.{any_slot, clashes, is_input_ref, is_misjoined, is_tied};
+ghost use Rattle.vread.specs.kept.Parts.{any_slot, clashes, is_input_ref, is_misjoined, is_tied};
 
 use elaboration::{NodeRef, Scope, Slot};
 use fourstate::{NetKind, NetRule};

@@ -2,7 +2,7 @@
 
 ghost use Rattle.std.specs.Prelude.{◌≡◌, ◌&&◌, nat_lt};
 ghost use Rattle.std.specs.List.{list_any};
-ghost use Rattle.vread.specs.Parts.{drives_constant, drives_input, gate_count, is_input_driven, is_long_named, is_port_wrong, kept_fault};
+ghost use Rattle.vread.specs.kept.Parts.{drives_constant, drives_input, gate_count, is_input_driven, is_long_named, is_port_wrong, kept_fault};
 
 use crate::joints::{is_input, is_misjoined, is_tied};
 use crate::lengths::is_long_named;
@@ -86,7 +86,7 @@ fn drives_constant(scope: &Scope, gate: &Gate) -> bool
     is_tied(scope.node(gate.output()))
 }
 
-/// Whether a gate drives an input of the design.
+/// Whether one of the gates drives an input of the design.
 fn is_input_driven(scope: &Scope) -> bool
     ensures { result ≡ is_input_driven scope.now }
 {
@@ -97,7 +97,8 @@ fn is_input_driven(scope: &Scope) -> bool
         .any(|gate| drives_input(scope, gate))
 }
 
-fn drives_input(scope: &Scope, gate: &Gate) -> bool
+/// Whether a gate drives an input of the design.
+pub fn drives_input(scope: &Scope, gate: &Gate) -> bool
     ensures { result ≡ drives_input scope.now gate.now }
 {
     is_input(scope.node(gate.output()))

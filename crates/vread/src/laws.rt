@@ -2,10 +2,13 @@
 
 ghost use Rattle.std.specs.Prelude.{◌≡◌, ◌⊎◌, ℕ, Option};
 ghost use Rattle.design.specs.Netlist.{Netlist};
+ghost use Rattle.vread.specs.Details.{IsFaultDetail};
+ghost use Rattle.vread.specs.kept.Details.{IsOnLine};
 ghost use Rattle.vread.specs.Reads.{IsReadFault, Spells};
+ghost use Rattle.vread.specs.declared.detail.FaultDetail as details;
 ghost use Rattle.vtext.specs.declared.fault.ReadFault as faults;
 
-use elaboration::laws::faultless_has_top;
+use elaboration::laws::{faultless_has_top, faults_are_at_places};
 use vtext::laws::{one_reading, some_reading};
 
 /// A text spells one design, or has one fault, and not both.
@@ -23,4 +26,14 @@ pub fn some_answer(text: &[u8])
 {
     some_reading(text);
     faultless_has_top();
+}
+
+/// The fault of a text lies on the line of the word by which it is told.
+pub fn words_are_on_lines(text: &[u8])
+    ensures { (default : Option ℕ) (detail : details.FaultDetail) (fault : faults.ReadFault) → IsFaultDetail default text.now detail → IsReadFault default text.now fault →
+        IsOnLine text.now fault detail.word }
+{
+    one_reading(text);
+    one_answer(text);
+    faults_are_at_places();
 }

@@ -4,10 +4,10 @@ ghost use Rattle.std.specs.Prelude.{◌≡◌, ◌&&◌, ◌+◌, ◌<◌, ◌�
 ghost use Rattle.std.specs.Fmt.{decimal};
 ghost use Rattle.std.specs.List.{list_any};
 ghost use Rattle.std.specs.Option.{option_map_or};
-ghost use Rattle.elaboration.specs.Numbered.{is_own_slot};
+ghost use Rattle.elaboration.specs.kept.Numbered.{is_own_slot};
 ghost use Rattle.vtext.specs.Names.{name_at};
 ghost use Rattle.vtext.specs.GateNames.{gate_bytes, instance_bytes, numbered};
-ghost use Rattle.vread.specs.Parts.{any_slot, bracketed_length, is_long, is_long_after, is_long_gate, is_long_named, is_long_net, longest};
+ghost use Rattle.vread.specs.kept.Parts.{any_slot, bracketed_length, is_long, is_long_after, is_long_gate, is_long_named, is_long_net, longest};
 
 use design::MAX_NAME;
 use elaboration::{Scope, Slot};

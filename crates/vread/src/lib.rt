@@ -2,8 +2,11 @@
 #![tactic(auto)]
 
 mod build;
+mod detail;
+mod driver;
 mod gates;
 mod joints;
+mod knowledge;
 mod late;
 pub mod laws;
 mod lengths;
@@ -14,5 +17,6 @@ mod new_nets;
 mod reading;
 mod search;
 
+pub use detail::{FaultDetail, FaultWord, fault_detail};
 pub use reading::read;
 pub use vtext::{ReadFault, ReadFaultKind};

@@ -1,8 +1,9 @@
 //! The keys of a design's nets.
 
 ghost use Rattle.std.specs.Prelude.{◌≡◌, IsSome, slice_get};
-ghost use Rattle.design.specs.Keys.{name_of, net_by_key, netlist};
-ghost use Rattle.vread.specs.Parts.{net_at};
+ghost use Rattle.design.specs.Keys.{name_of, netlist};
+ghost use Rattle.design.specs.kept.Keys.{net_by_key};
+ghost use Rattle.vread.specs.kept.Parts.{net_at};
 
 use design::{Design, NetKey};
 use elaboration::NetRun;

@@ -2,7 +2,7 @@
 
 ghost use Rattle.std.specs.Prelude.{◌≡◌, ◌++◌, IfOk, flat_map};
 ghost use Rattle.design.specs.Keys.{netlist};
-ghost use Rattle.vread.specs.Parts.{AreFitNets, kept_nets};
+ghost use Rattle.vread.specs.kept.Parts.{AreFitNets, kept_nets};
 
 use crate::new_nets::{NewNet, nets_of};
 use design::Design;

@@ -5,7 +5,7 @@ ghost use Rattle.design.specs.Names.{is_name};
 ghost use Rattle.design.specs.Netlist.{new_net};
 ghost use Rattle.vtext.specs.Bits.{bit_bytes};
 ghost use Rattle.vtext.specs.Names.{name_at};
-ghost use Rattle.vread.specs.Parts.{AreNamed, bits_nets, kept_nets, run_net, run_nets, slot_nets};
+ghost use Rattle.vread.specs.kept.Parts.{AreNamed, bits_nets, kept_nets, run_net, run_nets, slot_nets};
 
 use crate::names::{bit_in, name_in};
 use design::Name;

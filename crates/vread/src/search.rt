@@ -3,13 +3,13 @@
 
 ghost use Rattle.std.specs.Prelude.{◌≡◌, ◌<◌, ◌-◌, true, Some, All, IfOk, length, nat_eq, option_map, slice_index_or};
 ghost use Rattle.std.specs.Map.{lookup};
-ghost use Rattle.elaboration.specs.Numbered.{AreDistinct, inner_alone};
+ghost use Rattle.elaboration.specs.kept.Numbered.{AreDistinct, inner_alone};
 ghost use Rattle.elaboration.specs.Scopes.{nets_of, scopes_of};
-ghost use Rattle.elaboration.specs.SoundScopes.{IsSoundScope};
+ghost use Rattle.elaboration.specs.kept.SoundScopes.{IsSoundScope};
 ghost use Rattle.vtext.specs.Modules.{InstanceEntry};
-ghost use Rattle.vtext.specs.Sound.{IsSoundModule};
+ghost use Rattle.vtext.specs.kept.Sound.{IsSoundModule};
 ghost use Rattle.vread.specs.LateFaults.{scopes_fault};
-ghost use Rattle.vread.specs.Searches.{AreAlike, any_below, any_scope, is_wanted, path_after};
+ghost use Rattle.vread.specs.kept.Searches.{AreAlike, any_below, any_scope, is_wanted, path_after};
 
 use crate::late::is_port_wrong;
 use crate::lengths::is_long_after;

@@ -12,7 +12,7 @@ use Rattle.vtext.specs.Instances.{called, completed, inputs_of, instance_name, i
 use Rattle.vtext.specs.Modules.{GateEntry}
 use Rattle.vtext.specs.Names.{name_at, number_of}
 use Rattle.vtext.specs.Readings.{Reading}
-use Rattle.vtext.specs.Sound.{IsGoodNumber}
+use Rattle.vtext.specs.kept.Sound.{IsGoodNumber}
 use Rattle.vtext.proofs.TakenLemmas.{IsHeld, Keeps, name_held, name_kept, parts_kept}
 use Rattle.vtext.proofs.FreshLemmas.{IsFresh, IsKnown, IsNext, IsSettled, base_some, fresh, settled_more}
 use Rattle.vtext.proofs.InstanceLemmas.{Differ, gates_apart, gates_settled}

@@ -9,7 +9,7 @@ use Rattle.vtext.specs.declared.gate.InstanceName.TheVariants.{Written, Unnamed}
 use Rattle.vtext.specs.GateNames.{gate_bytes, instance_bytes, is_name_taken, part_bytes}
 use Rattle.vtext.specs.Modules.{GateEntry}
 use Rattle.vtext.specs.Names.{name_at, number_of}
-use Rattle.vtext.specs.Sound.{IsGoodNumber}
+use Rattle.vtext.specs.kept.Sound.{IsGoodNumber}
 use Rattle.vtext.proofs.MadeNames.{numbered_once, no_part}
 use Rattle.vtext.proofs.TakenLemmas.{IsHeld, Keeps, unnumbered}
 

@@ -20,7 +20,7 @@ use Rattle.vtext.specs.declared.word.Word.TheVariants.{Module, Endmodule, PortWo
 use Rattle.design.specs.declared.limits.TheConstants.{MAX_NAME}
 use Rattle.vtext.specs.Keywords.{is_bad_byte, is_misnamed, is_refused, mark_of, name_word, plain_word, unkept_word}
 use Rattle.vtext.specs.Names.{number_of}
-use Rattle.vtext.specs.Sound.{AreGoodWords, IsGoodNumber, IsGoodWord}
+use Rattle.vtext.specs.kept.Sound.{AreGoodWords, IsGoodNumber, IsGoodWord}
 use Rattle.vtext.specs.Words.{directive_word, first_unit, is_named, names_of, same_unit, unit_at, word_by, word_of, words_of}
 use Rattle.vtext.proofs.NamedBytes.{IsPlain, IsPlainToken, names_are_plain}
 use Rattle.vtext.proofs.NumberLemmas.{numbered}

@@ -7,7 +7,8 @@ use Rattle.std.specs.Str.{bytes_eq}
 use Rattle.fourstate.specs.Keywords.{gate_keyword, gate_kinds, net_keyword, net_kinds}
 use Rattle.fourstate.specs.declared.gate.GateKind.{GateKind}
 use Rattle.fourstate.specs.declared.net.NetKind.{NetKind}
-use Rattle.vtext.specs.Keywords.{is_refused, is_wordlike, name_word, plain_word, refused_words}
+use Rattle.vtext.specs.Keywords.{is_refused, name_word, plain_word, refused_words}
+use Rattle.vtext.specs.kept.Keywords.{is_wordlike}
 
 -- What all like a word fail.
 

@@ -56,3 +56,5 @@ pub mod BitNames
 pub mod NetReadings
 pub mod NetEnds
 pub mod SaidNets
+pub mod CauseRows
+pub mod FirstCauses

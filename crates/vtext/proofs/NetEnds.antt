@@ -6,8 +6,8 @@ use Rattle.std.specs.List.{list_any}
 use Rattle.vtext.specs.declared.net.Net.{Net}
 use Rattle.vtext.specs.Nets.{is_scalar, is_undirected, is_used, net_of, with_net}
 use Rattle.vtext.specs.Ranges.{has_bit}
-use Rattle.vtext.specs.Sound as sound
-use Rattle.vtext.specs.Sound.{IsGoodNumber, IsSoundNet}
+use Rattle.vtext.specs.kept.Sound as sound
+use Rattle.vtext.specs.kept.Sound.{IsGoodNumber, IsSoundNet}
 use Rattle.vtext.proofs.InsertLemmas.{AreApart, net_kept, same_numbers}
 use Rattle.vtext.proofs.NetReadings.{AreNets, IsSaid, net_else, net_here, no_bit, range_of, scalar_of, used_of}
 

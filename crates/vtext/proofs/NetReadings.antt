@@ -12,7 +12,7 @@ use Rattle.vtext.specs.Bits.{bit_bytes, bit_of, has_named_bit, is_bit_of, is_cla
 use Rattle.vtext.specs.Names.{name_at}
 use Rattle.vtext.specs.Nets.{is_scalar, is_used, listed, net_of, with_net}
 use Rattle.vtext.specs.Ranges.{has_bit, is_within}
-use Rattle.vtext.specs.Sound.{IsGoodNumber}
+use Rattle.vtext.specs.kept.Sound.{IsGoodNumber}
 use Rattle.vtext.proofs.BitNames.{any_bit, bit_there}
 use Rattle.vtext.proofs.InsertLemmas.{AreApart, apart_kept, numbers_kept, same_numbers}
 use Rattle.vtext.proofs.NumberLemmas.{numbered}

@@ -1,11 +1,11 @@
 -- A short name is known by what is noted of it.
 use Rattle.std.proofs.Common.{◌≡◌, ◌-◌, ◌<◌, ℕ, List, Some, get_or, length, sym, ap, ◌∙◌}
 use Rattle.std.proofs.lemmas.List.Elements.{All-weaker}
-use Rattle.catalog.specs.Spellings.{four}
+use Rattle.catalog.specs.kept.Spellings.{four}
 use Rattle.vtext.specs.declared.recent.Noted.{Noted}
 use Rattle.vtext.specs.declared.recent.Recent.{Recent}
 use Rattle.vtext.specs.Names.{number_of, with_name}
-use Rattle.vtext.specs.Recents.{AreRight, IsOf, IsRight}
+use Rattle.vtext.specs.kept.Recents.{AreRight, IsOf, IsRight}
 use Rattle.vtext.proofs.SameBytes.{same_ends}
 use Rattle.vtext.proofs.TableLemmas.{number_with}
 

@@ -14,8 +14,9 @@ use Rattle.vtext.specs.Readings.{Reading, unread}
 use Rattle.vtext.specs.Reads.{IsFirstFault, Says, start_of}
 use Rattle.vtext.specs.Trees.{after_parts}
 use Rattle.vtext.specs.Walks.{IsFault, Leads, start}
-use Rattle.vtext.specs.Sound.{AreGoodWords}
-use Rattle.vtext.specs.Words.{AreSaid, names_of, words_of}
+use Rattle.vtext.specs.kept.Sound.{AreGoodWords}
+use Rattle.vtext.specs.Words.{names_of, words_of}
+use Rattle.vtext.specs.kept.Words.{AreSaid}
 use Rattle.vtext.proofs.GoodWords.{good_words}
 use Rattle.vtext.proofs.SpelledLemmas.{written}
 use Rattle.vtext.proofs.TreeLemmas.{text_read}

@@ -14,7 +14,7 @@ use Rattle.vtext.specs.Causes.{bound_cause, declared_again, declared_cause, dire
 use Rattle.vtext.specs.Nets.{blank, declared, directed, is_declared, is_scalar, is_used, listed, net_of, ported, used, with_use}
 use Rattle.vtext.specs.Ranges.{has_bit}
 use Rattle.vtext.specs.Readings.{Reading}
-use Rattle.vtext.specs.Sound.{IsSingle}
+use Rattle.vtext.specs.kept.Sound.{IsSingle}
 use Rattle.vtext.specs.Turns.{with_right}
 use Rattle.vtext.proofs.NetReadings.{AreNets, IsBounded, IsSaid, net_here, scalar_of}
 

@@ -2,7 +2,7 @@
 use Rattle.std.proofs.Common.{◌≡◌, ◌+◌, ◌-◌, ◌<◌, ◌≤◌, ℕ, zero, suc, Bool, true, false, List, get_or, length, nat_lt, refl, subst, add-zero, arith}
 use Rattle.std.proofs.lemmas.Bool.Decides.{nat_tests}
 use Rattle.std.proofs.lemmas.Grind.{same_number_lists}
-use Rattle.catalog.specs.Spellings.{four, is_short}
+use Rattle.catalog.specs.kept.Spellings.{four, is_short}
 
 most_bytes : (bytes : List ℕ) → is_short bytes ≡ true → length bytes ≤ 8
 most_bytes bytes short = grind (arith, nat_tests)

@@ -2,8 +2,9 @@
 use Rattle.std.proofs.Common.{◌≡◌, ℕ, Bool, true, false, Option, Some, None, cond, ltb, ◌==◌, ◌≤◌, sym, ap, ◌∙◌, refl, arith}
 use Rattle.std.proofs.lemmas.Bool.Decides.{nat_tests}
 use Rattle.std.specs.Option.{unwrap_or}
-use Rattle.fourstate.specs.DelayLaws.{uniform_in_range}
-use Rattle.fourstate.specs.Delays.{AreDelays, IsDelay, uniform_delays}
+use Rattle.fourstate.specs.kept.DelayLaws.{uniform_in_range}
+use Rattle.fourstate.specs.Delays.{uniform_delays}
+use Rattle.fourstate.specs.kept.Delays.{AreDelays, IsDelay}
 use Rattle.fourstate.specs.declared.limits.TheConstants.{MAX_DELAY}
 use Rattle.vtext.specs.declared.cause.Cause.TheVariants.{ZeroDelay, DelayTooLarge}
 use Rattle.vtext.specs.declared.word.Word.{Word}

@@ -3,7 +3,7 @@ use Rattle.std.proofs.Common.{◌≡◌, ℕ, suc, ◌==◌, Bool, true, false, 
 use Rattle.std.proofs.lemmas.List.Elements.{All-cons, All-drop, All-head, All-nil, All-tail, All-take, All-weaker}
 use Rattle.std.specs.List.{list_any}
 use Rattle.std.specs.Prelude.{IsSomeAnd}
-use Rattle.fourstate.specs.Delays.{AreDelays}
+use Rattle.fourstate.specs.kept.Delays.{AreDelays}
 use Rattle.fourstate.specs.Gates.{takes_inputs}
 use Rattle.vtext.specs.declared.cause.Cause.{Cause}
 use Rattle.vtext.specs.declared.cause.Cause.TheVariants.{WrongArity, PortKind}
@@ -18,7 +18,7 @@ use Rattle.vtext.specs.Modules.{GateEntry, InstanceEntry}
 use Rattle.vtext.specs.Nets.{is_scalar, net_of}
 use Rattle.vtext.specs.Readings.{Reading}
 use Rattle.vtext.specs.Ranges.{has_bit}
-use Rattle.vtext.specs.Sound.{IsDriven, IsGoodNumber, IsJoinable, IsPortConnected, IsSingle, IsSoundGate, IsSoundInstance}
+use Rattle.vtext.specs.kept.Sound.{IsDriven, IsGoodNumber, IsJoinable, IsPortConnected, IsSingle, IsSoundGate, IsSoundInstance}
 use Rattle.vtext.proofs.NetEnds.{AreKept}
 use Rattle.vtext.proofs.SpellingLemmas.{IsGoodInstance, gate_spelled}
 

@@ -14,7 +14,7 @@ use Rattle.vtext.specs.Causes.{bound_cause, direction_cause, end_cause, gate_cau
 use Rattle.vtext.specs.Nets.{blank, declared, directed, is_undirected, listed, net_of, ported}
 use Rattle.vtext.specs.Notes.{declare_net, declare_port, direct_port, finished, list_port}
 use Rattle.vtext.specs.Readings.{Reading}
-use Rattle.vtext.specs.Sound.{IsGoodWord}
+use Rattle.vtext.specs.kept.Sound.{IsGoodWord}
 use Rattle.vtext.specs.Turns as turns
 use Rattle.vtext.specs.Turns.{Walk, goes}
 use Rattle.vtext.proofs.SaidNets.{inline_said, lists_said, low_bound, net_said, no_cause, port_said, right_bounded}

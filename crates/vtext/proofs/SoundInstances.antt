@@ -12,7 +12,7 @@ use Rattle.vtext.specs.Modules.{InstanceEntry}
 use Rattle.vtext.specs.Nets.{with_net}
 use Rattle.vtext.specs.Notes.{add_connection, instantiated}
 use Rattle.vtext.specs.Readings.{Reading}
-use Rattle.vtext.specs.Sound.{IsGoodNumber, IsJoinable, IsPortConnected, IsSoundInstance}
+use Rattle.vtext.specs.kept.Sound.{IsGoodNumber, IsJoinable, IsPortConnected, IsSoundInstance}
 use Rattle.vtext.proofs.NetEnds.{said_kept}
 use Rattle.vtext.proofs.NetReadings.{IsSaid}
 use Rattle.vtext.proofs.SoundGateLemmas.{connections_still}

@@ -6,7 +6,7 @@ use Rattle.lexing.specs.declared.limits.TheConstants.{MAX_TEXT}
 use Rattle.lexing.specs.declared.token.Token.{Token}
 use Rattle.vtext.specs.Modules.{ModuleEntry, ModuleList}
 use Rattle.vtext.specs.Reads.{Says}
-use Rattle.vtext.specs.Sound.{IsSoundModule}
+use Rattle.vtext.specs.kept.Sound.{IsSoundModule}
 use Rattle.vtext.specs.Words.{first_unit, names_of, word_of, words_of}
 use Rattle.vtext.specs.Readings.{Reading}
 use Rattle.vtext.proofs.GoodWords.{good_words}

@@ -3,7 +3,7 @@ use Rattle.std.proofs.Common.{◌≡◌, ℕ, suc, Bool, true, false, List, [], 
 use Rattle.std.proofs.lemmas.List.Elements.{All-append, All-nil, All-push, All-weaker}
 use Rattle.std.specs.List.{list_any}
 use Rattle.std.specs.Option.{option_map_or}
-use Rattle.fourstate.specs.Delays.{AreDelays}
+use Rattle.fourstate.specs.kept.Delays.{AreDelays}
 use Rattle.vtext.specs.declared.cause.Cause.{Cause}
 use Rattle.vtext.specs.declared.gate.InstanceName.TheVariants.{Written}
 use Rattle.vtext.specs.declared.gate.Terminal.{Terminal}
@@ -16,7 +16,7 @@ use Rattle.vtext.specs.Names.{name_at}
 use Rattle.vtext.specs.Nets.{is_undirected, with_net}
 use Rattle.vtext.specs.Notes.{finished, module_of}
 use Rattle.vtext.specs.Readings.{Reading}
-use Rattle.vtext.specs.Sound.{IsGoodNumber, IsSingle, IsSoundGate, IsSoundInstance, IsSoundModule}
+use Rattle.vtext.specs.kept.Sound.{IsGoodNumber, IsSingle, IsSoundGate, IsSoundInstance, IsSoundModule}
 use Rattle.vtext.proofs.CompletedLemmas.{IsNamed, IsStarted, completed_holds, completed_keeps}
 use Rattle.vtext.proofs.FreshLemmas.{IsSettled, fresh, settled_more}
 use Rattle.vtext.proofs.InsertLemmas.{entries_kept, pairs_apart}

@@ -1,7 +1,7 @@
 -- What holds of a reading in each state of a walk over good words: what is read is sound so far, and all is ready for what follows.
 use Rattle.std.proofs.Common.{◌≡◌, ◌≢◌, ℕ, true, false, List, [], Option, Some, None, Result, Ok, Err, All, AllPairs, refl}
 use Rattle.std.specs.Option.{is_some}
-use Rattle.fourstate.specs.Delays.{AreDelays}
+use Rattle.fourstate.specs.kept.Delays.{AreDelays}
 use Rattle.vtext.specs.declared.cause.Cause.{Cause}
 use Rattle.vtext.specs.declared.gate.Terminal.{Terminal}
 use Rattle.vtext.specs.declared.module_instance.PortConnection.{PortConnection}
@@ -17,7 +17,7 @@ use Rattle.vtext.specs.Causes.{is_hash}
 use Rattle.vtext.specs.GateNames.{is_taken}
 use Rattle.vtext.specs.Modules.{GateEntry, InstanceEntry, ModuleEntry}
 use Rattle.vtext.specs.Readings.{Reading}
-use Rattle.vtext.specs.Sound.{IsGoodNumber, IsPortConnected, IsSingle, IsSoundGate, IsSoundInstance, IsSoundModule}
+use Rattle.vtext.specs.kept.Sound.{IsGoodNumber, IsPortConnected, IsSingle, IsSoundGate, IsSoundInstance, IsSoundModule}
 use Rattle.vtext.specs.Turns.{Walk, unless}
 use Rattle.vtext.proofs.CompletedLemmas.{IsApart, IsStarted}
 use Rattle.vtext.proofs.NetReadings.{AreNets, IsBounded}

@@ -1,7 +1,7 @@
 -- Each good word keeps what is read sound, in each state of the parser.
 use Rattle.std.proofs.Common.{ℕ, suc, Bool, true, false, cond, ◌++◌, [], ◌∷◌, List, Option, Some, None, Result, refl}
 use Rattle.std.specs.Option.{unwrap_or}
-use Rattle.fourstate.specs.DelayLaws.{uniform_in_range, with_fall_in_range, with_off_in_range}
+use Rattle.fourstate.specs.kept.DelayLaws.{uniform_in_range, with_fall_in_range, with_off_in_range}
 use Rattle.fourstate.specs.Gates.{takes_off}
 use Rattle.vtext.specs.declared.cause.Cause.{Cause}
 use Rattle.vtext.specs.declared.cause.Cause.TheVariants.{DuplicateName}
@@ -20,7 +20,7 @@ use Rattle.vtext.specs.Instances.{completed}
 use Rattle.vtext.specs.Nets.{blank, net_of, used, with_use}
 use Rattle.vtext.specs.Notes.{connect, name_instance, name_module_instance, note_index, use_terminal}
 use Rattle.vtext.specs.Readings.{Reading}
-use Rattle.vtext.specs.Sound.{IsGoodWord}
+use Rattle.vtext.specs.kept.Sound.{IsGoodWord}
 use Rattle.vtext.specs.Turns as turns
 use Rattle.vtext.specs.Turns.{Walk, goes}
 use Rattle.vtext.proofs.InsertLemmas.{net_there}

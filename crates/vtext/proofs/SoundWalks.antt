@@ -8,7 +8,7 @@ use Rattle.vtext.specs.declared.word.Placed.{Placed}
 use Rattle.vtext.specs.GateNames.{is_taken}
 use Rattle.vtext.specs.Modules.{InstanceEntry}
 use Rattle.vtext.specs.Readings.{Reading}
-use Rattle.vtext.specs.Sound.{AreGoodWords, IsGoodWord, IsSoundGate, IsSoundInstance, IsSoundModule}
+use Rattle.vtext.specs.kept.Sound.{AreGoodWords, IsGoodWord, IsSoundGate, IsSoundInstance, IsSoundModule}
 use Rattle.vtext.specs.Turns.{Walk}
 use Rattle.vtext.specs.Walks.{Leads, first_word, start, word_at}
 use Rattle.vtext.proofs.FreshLemmas.{IsSettled}

@@ -100,7 +100,7 @@ module _ (s : Setting) (r : Reading) (at : ℕ) where
 
   module_back : (words : List Placed) → Rest s state.ModuleName (record r { start = at }) words → Rest s state.Outside r (record { word = Module; start = at } ∷ words)
   module_back words (n, (none, (head, e))) = (
-    module_part at n head.header head.tail.items ∷ head.tail.parts,
+    module_part (record { start = at; name = n; header = head.header; items = head.tail.items }) ∷ head.tail.parts,
     (
       ((refl, refl), e),
       (

@@ -10,7 +10,7 @@ use Rattle.design.specs.Names.{is_name_byte, is_part, same_name}
 use Rattle.vtext.specs.declared.gate.InstanceName.{InstanceName}
 use Rattle.vtext.specs.declared.gate.InstanceName.TheVariants.{Written, Unnamed}
 use Rattle.vtext.specs.GateNames.{instance_bytes, part_bytes}
-use Rattle.vtext.specs.Sound.{IsGoodNumber}
+use Rattle.vtext.specs.kept.Sound.{IsGoodNumber}
 
 and_parts : (a b : Bool) → (a && b) ≡ true → (a ≡ true) × (b ≡ true)
 and_parts true b h = (refl, h)

@@ -13,7 +13,8 @@ use Rattle.lexing.specs.declared.token.Token.{Token}
 use Rattle.fourstate.specs.declared.unit.TimeUnit.{TimeUnit}
 use Rattle.vtext.specs.declared.word.Placed.{Placed}
 use Rattle.vtext.specs.declared.word.Word.{Word}
-use Rattle.vtext.specs.Keywords.{meanings_of, name_word, plain_word}
+use Rattle.vtext.specs.Keywords.{name_word, plain_word}
+use Rattle.vtext.specs.kept.Keywords.{meanings_of}
 use Rattle.vtext.specs.Names.{number_of, with_name}
 use Rattle.vtext.specs.Words.{is_named, names_of, with_token, word_by, word_of}
 use Rattle.vtext.proofs.NumberLemmas.{found_at, is_itself, kept_by_token, numbered, or_first, there_from}

@@ -8,7 +8,7 @@ use Rattle.vtext.specs.declared.word.Placed.{Placed}
 use Rattle.vtext.specs.Causes.{end_cause, module_cause}
 use Rattle.vtext.specs.Notes.{finished}
 use Rattle.vtext.specs.Readings.{Reading, unread}
-use Rattle.vtext.specs.Trees.{AreItemsAdmitted, AreMarked, ArePartsAdmitted, AreWritten, Header, IsItemAdmitted, IsModuleAdmitted, Item, Mark, Part, after_body, after_header, after_item, after_items, after_parts, header_then, item_then, items_then, parts_then, plain}
+use Rattle.vtext.specs.Trees.{AreItemsAdmitted, AreMarked, ArePartsAdmitted, AreWritten, IsItemAdmitted, IsModuleAdmitted, Item, Mark, ModuleTree, Part, after_body, after_header, after_item, after_items, after_parts, header_then, item_then, items_then, parts_then, plain}
 use Rattle.vtext.specs.Trees.Item.{port_item, net_item, gate_item, instance_item}
 use Rattle.vtext.specs.Trees.Part.{directive, module_part}
 use Rattle.vtext.specs.Turns.{Walk, goes}
@@ -39,15 +39,15 @@ module _ (default : Option ℕ) (table : List (List ℕ)) where
         item_read r item (items_then items rest) admitted.0 (items_read (after_item default table r item) items rest admitted.1 onward)
 
     -- behind the word `module`
-    body_read : (r : Reading) (start name : ℕ) (header : Header) (items : List Item) (rest : List Mark) → IsModuleAdmitted default table r start name header items
-        → Reads Outside (finished (after_body default table r start name header items)) rest
-        → Reads ModuleName (record r { start = start }) (plain (Name name) ∷ header_then header (items_then items (plain Endmodule ∷ rest)))
-    body_read r start name header items rest admitted onward =
-        let named : Reading = record r { start = start; name = name } in
-        let last : Reading = after_body default table r start name header items in
-        free_word_read ModuleHead named (module_cause r name) admitted.free (λ start. refl)
-        (header_read default table after end named header (items_then items (plain Endmodule ∷ rest)) admitted.header_admitted
-        (items_read (after_header named header) items (plain Endmodule ∷ rest) admitted.items_admitted
+    body_read : (r : Reading) (m : ModuleTree) (rest : List Mark) → IsModuleAdmitted default table r m
+        → Reads Outside (finished (after_body default table r m)) rest
+        → Reads ModuleName (record r { start = m.start }) (plain (Name m.name) ∷ header_then m.header (items_then m.items (plain Endmodule ∷ rest)))
+    body_read r m rest admitted onward =
+        let named : Reading = record r { start = m.start; name = m.name } in
+        let last : Reading = after_body default table r m in
+        free_word_read ModuleHead named (module_cause r m.name) admitted.free (λ start. refl)
+        (header_read default table after end named m.header (items_then m.items (plain Endmodule ∷ rest)) admitted.header_admitted
+        (items_read (after_header named m.header) m.items (plain Endmodule ∷ rest) admitted.items_admitted
         (free_word_read Outside (finished last) (end_cause last) admitted.directed (λ start. refl) onward)))
 
   -- where the words of all parts lead
@@ -61,10 +61,10 @@ module _ (default : Option ℕ) (table : List (List ℕ)) where
       nothing [] marked = refl
       nothing (p ∷ words) marked = absurd marked
   parts_read r (directive unit ∷ parts) admitted = word_read Outside (record r { unit = Some unit }) (λ start. refl) (parts_read (record r { unit = Some unit }) parts admitted.1)
-  parts_read r (module_part start name header items ∷ parts) admitted =
-      let last : Reading = finished (after_body default table r start name header items) in
-      mark_read ModuleName (record r { start = start }) (λ here there. ap (λ (place : ℕ). goes ModuleName (record r { start = place })) there)
-      (body_read None (over last parts) r start name header items (parts_then parts []) admitted.0 (parts_read last parts admitted.1))
+  parts_read r (module_part m ∷ parts) admitted =
+      let last : Reading = finished (after_body default table r m) in
+      mark_read ModuleName (record r { start = m.start }) (λ here there. ap (λ (place : ℕ). goes ModuleName (record r { start = place })) there)
+      (body_read None (over last parts) r m (parts_then parts []) admitted.0 (parts_read last parts admitted.1))
 
   -- a text that parts write is read as what they say
   pub text_read : (words : List Placed) (parts : List Part) → AreWritten parts words → ArePartsAdmitted default table unread parts

@@ -9,7 +9,8 @@ use Rattle.lexing.specs.declared.token.Shape.TheVariants as shape
 use Rattle.lexing.specs.declared.token.Token.{Token}
 use Rattle.vtext.specs.declared.word.Placed.{Placed}
 use Rattle.vtext.specs.declared.word.Word.{Word}
-use Rattle.vtext.specs.Words.{directive_word, first_unit, is_timescale, unit_at, with_directive, word_by, word_of}
+use Rattle.vtext.specs.Words.{directive_word, first_unit, is_timescale, unit_at, word_by, word_of}
+use Rattle.vtext.specs.kept.Words.{with_directive}
 
 abbrev is_directive : Token → Bool
 is_directive token = is_timescale token.shape

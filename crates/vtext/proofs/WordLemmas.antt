@@ -3,10 +3,12 @@ use Rattle.std.proofs.Common.{◌≡◌, ◌≤◌, ℕ, true, false, List, [], 
 use Rattle.std.specs.List.{find}
 use Rattle.std.proofs.lemmas.List.Elements.{All-push}
 use Rattle.fourstate.specs.declared.unit.TimeUnit.{TimeUnit}
-use Rattle.lexing.specs.Texts.{IsInside, IsNext, Spells, is_fault}
+use Rattle.lexing.specs.Texts.{Spells}
+use Rattle.lexing.specs.kept.Texts.{IsInside, IsNext, is_fault}
 use Rattle.lexing.specs.declared.token.Token.{Token}
 use Rattle.vtext.specs.declared.word.Placed.{Placed}
-use Rattle.vtext.specs.Words.{AreSaid, AreWithin, first_unit, is_timescale, names_of, unit_at, with_directive, with_token, word_of}
+use Rattle.vtext.specs.Words.{first_unit, is_timescale, names_of, unit_at, with_token, word_of}
+use Rattle.vtext.specs.kept.Words.{AreSaid, AreWithin, with_directive}
 use Rattle.vtext.proofs.TableLemmas.{names_more, words_more}
 use Rattle.vtext.proofs.UnitLemmas.{same_word_so_far, unit_more}
 

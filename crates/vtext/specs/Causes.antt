@@ -113,18 +113,25 @@ is_hash word = false
 abbrev pub gate_cause : Option ℕ → Option Word → Option Cause
 gate_cause default next = if is_hash next then None else default_cause default
 
+-- a port declaration, with this net kind or none, comes too late for a net: it has a direction, or was used without a declaration,
+-- or both write a net kind
+abbrev pub is_port_late : Option NetKind → Net → Bool
+is_port_late kind net = is_some net.direction || net.implicit || (is_some kind && is_some net.kind)
+
 -- a direction is said of a name of the header, once, with a net kind only where none was said, and before its use
 abbrev pub directed_again : Option NetKind → Net → Option Cause
-directed_again kind net =
-    if not net.port then Some Syntax
-    else when (is_some net.direction || net.implicit || (is_some kind && is_some net.kind)) DuplicateName
+directed_again kind net = if not net.port then Some Syntax else when (is_port_late kind net) DuplicateName
 
 abbrev pub port_cause : List (List ℕ) → Reading → ℕ → Option Cause
 port_cause names r n = option_map_or (λ net. option_or (directed_again r.kind net) (declared_cause names r n net)) (net_of r.nets n) (Some Syntax)
 
+-- a net declaration comes too late for a net: it has one, or was used without a declaration
+abbrev pub is_net_late : Net → Bool
+is_net_late net = is_some net.kind || net.implicit
+
 -- a net is declared once, and before its use
 abbrev pub declared_again : Net → Option Cause
-declared_again net = when (is_some net.kind || net.implicit) DuplicateName
+declared_again net = when (is_net_late net) DuplicateName
 
 abbrev pub net_cause : List (List ℕ) → Reading → ℕ → Option Cause
 net_cause names r n =

@@ -1,7 +1,6 @@
 -- The words of Verilog that mean something, and those that are refused (IEEE 1364-2005, annex B; which are refused is own).
-use Rattle.std.specs.Prelude.{Bool, ℕ, ◌-◌, ◌==◌, ◌||◌, nat_lt, if◌then◌else◌, List, [], ◌∷◌, length, map, take, codes}
-use Rattle.std.specs.Char.{is_ascii_lowercase}
-use Rattle.std.specs.List.{list_all, list_any}
+use Rattle.std.specs.Prelude.{Bool, ℕ, ◌==◌, ◌||◌, nat_lt, if◌then◌else◌, List, [], ◌∷◌, length, codes}
+use Rattle.std.specs.List.{list_any}
 use Rattle.std.specs.Option.{option_map_or}
 use Rattle.std.specs.Str.{bytes_eq}
 use Rattle.fourstate.specs.Keywords.{gate_kind_of, net_kind_of}
@@ -33,10 +32,6 @@ refused_words =
 unfoldable pub is_refused : List ℕ → Bool
 is_refused bytes = list_any (bytes_eq bytes) refused_words
 
--- small letters but for the last byte, as those of each word are
-abbrev pub is_wordlike : List ℕ → Bool
-is_wordlike bytes = list_all is_ascii_lowercase (take (length bytes - 1) bytes)
-
 -- a dot or an apostrophe
 abbrev pub is_bad_byte : ℕ → Bool
 is_bad_byte byte = byte == 46 || byte == 39
@@ -61,10 +56,6 @@ plain_word names bytes =
     else if bytes_eq bytes (codes "input") then PortWord Input
     else if bytes_eq bytes (codes "output") then PortWord Output
     else option_map_or NetWord (net_kind_of bytes) (option_map_or GateWord (gate_kind_of bytes) (unkept_word names bytes))
-
--- what each name of a table says where it is not escaped
-abbrev pub meanings_of : List (List ℕ) → List Word
-meanings_of names = map (plain_word names) names
 
 -- a byte that is a token by itself; a `\` that begins no name is broken
 abbrev pub mark_of : ℕ → Word

@@ -1,4 +1,5 @@
 pub mod Bits
+pub mod CauseTable
 pub mod Causes
 pub mod GateNames
 pub mod Instances
@@ -11,9 +12,9 @@ pub mod Ranges
 pub mod ReadFaults
 pub mod Readings
 pub mod Reads
-pub mod Recents
+pub mod Roles
 pub mod Trees
 pub mod Turns
 pub mod Walks
-pub mod Sound
 pub mod Words
+pub mod kept

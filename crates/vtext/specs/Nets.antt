@@ -1,5 +1,5 @@
 -- What a module says of a net (IEEE 1364-2005, 4.5, 6.1.1, 12.3).
-use Rattle.std.specs.Prelude.{Bool, true, false, ℕ, nat_eq, ◌&&◌, ◌||◌, not, if◌then◌else◌, List, map, position, Option, Some, None, is_none, is_some, unwrap_or}
+use Rattle.std.specs.Prelude.{Bool, true, false, ℕ, nat_eq, ◌&&◌, ◌||◌, not, if◌then◌else◌, List, Option, Some, None, is_none, is_some, unwrap_or}
 use Rattle.std.specs.Option.{option_or}
 use Rattle.std.specs.Map.{lookup}
 use Rattle.indexmap.specs.IndexMap.{insert_entry}
@@ -67,10 +67,6 @@ is_scalar net = is_used net && is_none net.range
 -- what is said of a net so far
 abbrev pub net_of : List (ℕ × Net) → ℕ → Option Net
 net_of nets n = lookup (nat_eq n) nets
-
--- the place of a net in the order
-abbrev pub place_of : List (ℕ × Net) → ℕ → Option ℕ
-place_of nets n = position (nat_eq n) (map (λ net. net.0) nets)
 
 -- a net says so from now on: it keeps its place, and a new one goes last
 abbrev pub with_net : List (ℕ × Net) → ℕ → Net → List (ℕ × Net)

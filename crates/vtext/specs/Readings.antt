@@ -9,7 +9,6 @@ use Rattle.fourstate.specs.declared.net.NetKind.{NetKind}
 use Rattle.fourstate.specs.declared.unit.TimeUnit.{TimeUnit}
 use Rattle.vtext.specs.declared.word.Direction.{Direction}
 use Rattle.vtext.specs.declared.word.Direction.TheVariants.{Input}
-use Rattle.vtext.specs.declared.draft.Draft.{Draft}
 use Rattle.vtext.specs.declared.gate.Terminal.{Terminal}
 use Rattle.vtext.specs.declared.module_instance.PortConnection.{PortConnection}
 use Rattle.vtext.specs.declared.net.Net.{Net}
@@ -77,32 +76,4 @@ unread = record {
   instance_name = 0;
   connections = [];
   port = None;
-}
-
--- a draft as a reading
-abbrev pub view : Draft → Reading
-view d = record {
-  unit = d.unit;
-  modules = d.modules.entries;
-  start = d.module.start;
-  name = d.module.name;
-  inline = d.module.inline;
-  nets = d.module.nets.entries;
-  gates = d.module.gates.items;
-  instances = d.module.instances.items;
-  taken = d.module.taken.keys;
-  unnamed = d.module.unnamed;
-  direction = d.declaration.direction;
-  kind = d.declaration.kind;
-  range = d.declaration.range;
-  gate = d.item.kind;
-  delays = d.item.delays;
-  instance = d.instance.name;
-  terminals = d.instance.terminals.items;
-  indexed = d.indexed;
-  of = d.module_instance.of;
-  instance_start = d.module_instance.start;
-  instance_name = d.module_instance.name;
-  connections = d.module_instance.connections.items;
-  port = d.module_instance.port;
 }

@@ -98,6 +98,13 @@ pub data Item : Type 0 where
   gate_item : GateKind → Delay → Instance → List Instance → Item
   instance_item : ℕ → ModuleInstance → List ModuleInstance → Item
 
+-- a module: where its word `module` begins, its name, its header and its items
+pub record ModuleTree : Type 0 where
+  pub start : ℕ
+  pub name : ℕ
+  pub header : Header
+  pub items : List Item
+
 -- Marks: what a part writes for each of its words, and, where it records where a word begins, that place.
 
 pub record Mark : Type 0 where
@@ -210,8 +217,8 @@ abbrev pub items_then : List Item → List Mark → List Mark
 items_then [] rest = rest
 items_then (item ∷ items) rest = item_then item (items_then items rest)
 
-abbrev pub module_then : ℕ → ℕ → Header → List Item → List Mark → List Mark
-module_then start name header items rest = at_place start Module ∷ plain (Name name) ∷ header_then header (items_then items (plain Endmodule ∷ rest))
+abbrev pub module_then : ModuleTree → List Mark → List Mark
+module_then m rest = at_place m.start Module ∷ plain (Name m.name) ∷ header_then m.header (items_then m.items (plain Endmodule ∷ rest))
 
 -- What they say.
 
@@ -271,12 +278,12 @@ after_item default table r (instance_item of instance instances) = fold after_mo
 abbrev pub after_items : Option ℕ → List (List ℕ) → Reading → List Item → Reading
 after_items default table r items = fold (after_item default table) r items
 
--- Conditions: no cause holds at any word, after what stands before it.
+-- Conditions: no cause holds at any word, given what has been read before it. Below, `r` is what has been read before a part.
 
--- a verb may be applied to each name in turn
-abbrev pub AreAdmitted : (Reading → ℕ → Reading) → (Reading → ℕ → Type 0) → Reading → List ℕ → Type 0
+-- each of a list is admitted, after what those before it say
+abbrev pub AreAdmitted : {X : Type 0} → (Reading → X → Reading) → (Reading → X → Type 0) → Reading → List X → Type 0
 AreAdmitted after P r [] = Unit {0}
-AreAdmitted after P r (n ∷ names) = P r n × AreAdmitted after P (after r n) names
+AreAdmitted after P r (x ∷ more) = P r x × AreAdmitted after P (after r x) more
 
 -- both bounds of a range are within the limit
 abbrev pub IsRangeAdmitted : Option Range → Type 0
@@ -296,115 +303,115 @@ abbrev pub IsNameAdmitted : Reading → Option ℕ → Type 0
 IsNameAdmitted r None = Unit {0}
 IsNameAdmitted r (Some n) = instance_cause r n ≡ None
 
--- an index is that of a bit
-abbrev pub IsBitAdmitted : List (List ℕ) → Reading → ℕ → ℕ → Type 0
-IsBitAdmitted table r n i = (use_cause table r n ≡ None) × (index_cause (note_index r n) i ≡ None)
+module _ (table : List (List ℕ)) where
+  -- an index is that of a bit
+  abbrev pub IsBitAdmitted : Reading → ℕ → ℕ → Type 0
+  IsBitAdmitted r n i = (use_cause table r n ≡ None) × (index_cause (note_index r n) i ≡ None)
 
--- a terminal of a gate
-abbrev pub IsTerminalAdmitted : List (List ℕ) → Reading → Terminal → Type 0
-IsTerminalAdmitted table r (Net n) = terminal_cause table r n ≡ None
-IsTerminalAdmitted table r (Bit n i) = IsBitAdmitted table r n i
-IsTerminalAdmitted table r (Constant value) = Unit {0}
+  -- a terminal of a gate
+  abbrev pub IsTerminalAdmitted : Reading → Terminal → Type 0
+  IsTerminalAdmitted r (Net n) = terminal_cause table r n ≡ None
+  IsTerminalAdmitted r (Bit n i) = IsBitAdmitted r n i
+  IsTerminalAdmitted r (Constant value) = Unit {0}
 
-abbrev pub AreTerminalsAdmitted : List (List ℕ) → Reading → List Terminal → Type 0
-AreTerminalsAdmitted table r [] = Unit {0}
-AreTerminalsAdmitted table r (terminal ∷ terminals) = IsTerminalAdmitted table r terminal × AreTerminalsAdmitted table (use_terminal r terminal) terminals
+  abbrev pub AreTerminalsAdmitted : Reading → List Terminal → Type 0
+  AreTerminalsAdmitted = AreAdmitted use_terminal IsTerminalAdmitted
 
-pub record IsInstanceAdmitted (table : List (List ℕ)) (r : Reading) (instance : Instance) : Type 0 where
-  pub name : IsNameAdmitted r instance.name
-  pub terminals : AreTerminalsAdmitted table (after_name r instance.name) (instance.first ∷ instance.more)
-  pub whole : completed_cause table (after_terminals r instance) ≡ None
+  pub record IsInstanceAdmitted (r : Reading) (instance : Instance) : Type 0 where
+    pub name : IsNameAdmitted r instance.name
+    pub terminals : AreTerminalsAdmitted (after_name r instance.name) (instance.first ∷ instance.more)
+    pub whole : completed_cause table (after_terminals r instance) ≡ None
 
-abbrev pub AreInstancesAdmitted : List (List ℕ) → Reading → List Instance → Type 0
-AreInstancesAdmitted table r [] = Unit {0}
-AreInstancesAdmitted table r (instance ∷ instances) = IsInstanceAdmitted table r instance × AreInstancesAdmitted table (after_instance table r instance) instances
+  abbrev pub AreInstancesAdmitted : Reading → List Instance → Type 0
+  AreInstancesAdmitted = AreAdmitted (after_instance table) IsInstanceAdmitted
 
--- what a port is connected to, if anything: a whole vector may be
-abbrev pub IsPlaceAdmitted : List (List ℕ) → Reading → Option Terminal → Type 0
-IsPlaceAdmitted table r None = Unit {0}
-IsPlaceAdmitted table r (Some (Net n)) = use_cause table r n ≡ None
-IsPlaceAdmitted table r (Some (Bit n i)) = IsBitAdmitted table r n i
-IsPlaceAdmitted table r (Some (Constant value)) = Unit {0}
+  -- what a port is connected to, if anything: a whole vector may be
+  abbrev pub IsPlaceAdmitted : Reading → Option Terminal → Type 0
+  IsPlaceAdmitted r None = Unit {0}
+  IsPlaceAdmitted r (Some (Net n)) = use_cause table r n ≡ None
+  IsPlaceAdmitted r (Some (Bit n i)) = IsBitAdmitted r n i
+  IsPlaceAdmitted r (Some (Constant value)) = Unit {0}
 
-abbrev pub ArePlacesAdmitted : List (List ℕ) → Reading → List (Option Terminal) → Type 0
-ArePlacesAdmitted table r [] = Unit {0}
-ArePlacesAdmitted table r (place ∷ places) = IsPlaceAdmitted table r place × ArePlacesAdmitted table (connect r place) places
+  abbrev pub ArePlacesAdmitted : Reading → List (Option Terminal) → Type 0
+  ArePlacesAdmitted = AreAdmitted connect IsPlaceAdmitted
 
-abbrev pub AreNamedAdmitted : List (List ℕ) → Reading → List NamedPort → Type 0
-AreNamedAdmitted table r [] = Unit {0}
-AreNamedAdmitted table r (connection ∷ more) =
-    IsPlaceAdmitted table (record r { port = Some connection.port }) connection.terminal × AreNamedAdmitted table (after_named r connection) more
+  abbrev pub IsNamedAdmitted : Reading → NamedPort → Type 0
+  IsNamedAdmitted r connection = IsPlaceAdmitted (record r { port = Some connection.port }) connection.terminal
 
-abbrev pub AreConnectionsAdmitted : List (List ℕ) → Reading → Connections → Type 0
-AreConnectionsAdmitted table r no_connections = Unit {0}
-AreConnectionsAdmitted table r (by_order terminal places) = ArePlacesAdmitted table r (Some terminal ∷ places)
-AreConnectionsAdmitted table r (by_order_late place places) = ArePlacesAdmitted table r (None ∷ place ∷ places)
-AreConnectionsAdmitted table r (by_name first more) = AreNamedAdmitted table r (first ∷ more)
+  abbrev pub AreNamedAdmitted : Reading → List NamedPort → Type 0
+  AreNamedAdmitted = AreAdmitted after_named IsNamedAdmitted
 
-pub record IsModuleInstanceAdmitted (table : List (List ℕ)) (r : Reading) (instance : ModuleInstance) : Type 0 where
-  pub name : instance_cause r instance.name ≡ None
-  pub connections : AreConnectionsAdmitted table (name_module_instance r instance.start instance.name) instance.connections
+  abbrev pub AreConnectionsAdmitted : Reading → Connections → Type 0
+  AreConnectionsAdmitted r no_connections = Unit {0}
+  AreConnectionsAdmitted r (by_order terminal places) = ArePlacesAdmitted r (Some terminal ∷ places)
+  AreConnectionsAdmitted r (by_order_late place places) = ArePlacesAdmitted r (None ∷ place ∷ places)
+  AreConnectionsAdmitted r (by_name first more) = AreNamedAdmitted r (first ∷ more)
 
-abbrev pub AreModuleInstancesAdmitted : List (List ℕ) → Reading → List ModuleInstance → Type 0
-AreModuleInstancesAdmitted table r [] = Unit {0}
-AreModuleInstancesAdmitted table r (instance ∷ instances) =
-    IsModuleInstanceAdmitted table r instance × AreModuleInstancesAdmitted table (after_module_instance r instance) instances
+  pub record IsModuleInstanceAdmitted (r : Reading) (instance : ModuleInstance) : Type 0 where
+    pub name : instance_cause r instance.name ≡ None
+    pub connections : AreConnectionsAdmitted (name_module_instance r instance.start instance.name) instance.connections
 
-abbrev pub IsItemAdmitted : Option ℕ → List (List ℕ) → Reading → Item → Type 0
-IsItemAdmitted default table r (port_item direction kind range n names) =
-    (direction_cause r ≡ None) × IsRangeAdmitted range
-    × AreAdmitted direct_port (λ now name. port_cause table now name ≡ None) (record r { direction = direction; kind = kind; range = range }) (n ∷ names)
-IsItemAdmitted default table r (net_item kind range n names) =
-    IsRangeAdmitted range × AreAdmitted declare_net (λ now name. net_cause table now name ≡ None) (record r { kind = Some kind; range = range }) (n ∷ names)
-IsItemAdmitted default table r (gate_item kind delay instance instances) =
-    IsDelayAdmitted default kind delay × AreInstancesAdmitted table (after_gate default r kind delay) (instance ∷ instances)
-IsItemAdmitted default table r (instance_item of instance instances) = AreModuleInstancesAdmitted table (record r { of = of }) (instance ∷ instances)
+  abbrev pub AreModuleInstancesAdmitted : Reading → List ModuleInstance → Type 0
+  AreModuleInstancesAdmitted = AreAdmitted after_module_instance IsModuleInstanceAdmitted
 
-abbrev pub AreItemsAdmitted : Option ℕ → List (List ℕ) → Reading → List Item → Type 0
-AreItemsAdmitted default table r [] = Unit {0}
-AreItemsAdmitted default table r (item ∷ items) = IsItemAdmitted default table r item × AreItemsAdmitted default table (after_item default table r item) items
+  abbrev pub IsDeclAdmitted : Reading → Decl → Type 0
+  IsDeclAdmitted r decl =
+      IsRangeAdmitted decl.range × (inline_cause table (record r { direction = decl.direction; kind = decl.kind; range = decl.range }) decl.name ≡ None)
 
-abbrev pub IsDeclAdmitted : List (List ℕ) → Reading → Decl → Type 0
-IsDeclAdmitted table r decl =
-    IsRangeAdmitted decl.range × (inline_cause table (record r { direction = decl.direction; kind = decl.kind; range = decl.range }) decl.name ≡ None)
+  abbrev pub IsPortAdmitted : Reading → Port → Type 0
+  IsPortAdmitted r (declared decl) = IsDeclAdmitted r decl
+  IsPortAdmitted r (bare n) = inline_cause table r n ≡ None
 
-abbrev pub IsPortAdmitted : List (List ℕ) → Reading → Port → Type 0
-IsPortAdmitted table r (declared decl) = IsDeclAdmitted table r decl
-IsPortAdmitted table r (bare n) = inline_cause table r n ≡ None
+  abbrev pub ArePortsAdmitted : Reading → List Port → Type 0
+  ArePortsAdmitted = AreAdmitted after_port IsPortAdmitted
 
-abbrev pub ArePortsAdmitted : List (List ℕ) → Reading → List Port → Type 0
-ArePortsAdmitted table r [] = Unit {0}
-ArePortsAdmitted table r (port ∷ ports) = IsPortAdmitted table r port × ArePortsAdmitted table (after_port r port) ports
+  abbrev pub IsHeaderAdmitted : Reading → Header → Type 0
+  IsHeaderAdmitted r no_ports = Unit {0}
+  IsHeaderAdmitted r empty_ports = Unit {0}
+  IsHeaderAdmitted r (older_ports n names) = AreAdmitted list_port (λ now name. header_cause now name ≡ None) r (n ∷ names)
+  IsHeaderAdmitted r (inline_ports decl ports) =
+      IsDeclAdmitted (record r { inline = true }) decl × ArePortsAdmitted (after_decl (record r { inline = true }) decl) ports
 
-abbrev pub IsHeaderAdmitted : List (List ℕ) → Reading → Header → Type 0
-IsHeaderAdmitted table r no_ports = Unit {0}
-IsHeaderAdmitted table r empty_ports = Unit {0}
-IsHeaderAdmitted table r (older_ports n names) = AreAdmitted list_port (λ now name. header_cause now name ≡ None) r (n ∷ names)
-IsHeaderAdmitted table r (inline_ports decl ports) =
-    IsDeclAdmitted table (record r { inline = true }) decl × ArePortsAdmitted table (after_decl (record r { inline = true }) decl) ports
+module _ (default : Option ℕ) (table : List (List ℕ)) where
+  abbrev pub IsItemAdmitted : Reading → Item → Type 0
+  IsItemAdmitted r (port_item direction kind range n names) =
+      (direction_cause r ≡ None) × IsRangeAdmitted range
+      × AreAdmitted direct_port (λ now name. port_cause table now name ≡ None) (record r { direction = direction; kind = kind; range = range }) (n ∷ names)
+  IsItemAdmitted r (net_item kind range n names) =
+      IsRangeAdmitted range × AreAdmitted declare_net (λ now name. net_cause table now name ≡ None) (record r { kind = Some kind; range = range }) (n ∷ names)
+  IsItemAdmitted r (gate_item kind delay instance instances) =
+      IsDelayAdmitted default kind delay × AreInstancesAdmitted table (after_gate default r kind delay) (instance ∷ instances)
+  IsItemAdmitted r (instance_item of instance instances) = AreModuleInstancesAdmitted table (record r { of = of }) (instance ∷ instances)
 
--- A module, its word `module` beginning at this place.
+  abbrev pub AreItemsAdmitted : Reading → List Item → Type 0
+  AreItemsAdmitted = AreAdmitted (after_item default table) IsItemAdmitted
 
-abbrev pub after_body : Option ℕ → List (List ℕ) → Reading → ℕ → ℕ → Header → List Item → Reading
-after_body default table r start name header items = after_items default table (after_header (record r { start = start; name = name }) header) items
+  -- Modules.
 
--- the name is free, header and items are admitted, and each name of the header has a direction in the end
-pub record IsModuleAdmitted (default : Option ℕ) (table : List (List ℕ)) (r : Reading) (start name : ℕ) (header : Header) (items : List Item) : Type 0 where
-  pub free : module_cause r name ≡ None
-  pub header_admitted : IsHeaderAdmitted table (record r { start = start; name = name }) header
-  pub items_admitted : AreItemsAdmitted default table (after_header (record r { start = start; name = name }) header) items
-  pub directed : end_cause (after_body default table r start name header items) ≡ None
+  -- what is read of a module before its items, and before its word `endmodule`
+  abbrev pub after_head : Reading → ModuleTree → Reading
+  after_head r m = after_header (record r { start = m.start; name = m.name }) m.header
+
+  abbrev pub after_body : Reading → ModuleTree → Reading
+  after_body r m = after_items default table (after_head r m) m.items
+
+  -- the name is free, header and items are admitted, and each name of the header has a direction in the end
+  pub record IsModuleAdmitted (r : Reading) (m : ModuleTree) : Type 0 where
+    pub free : module_cause r m.name ≡ None
+    pub header_admitted : IsHeaderAdmitted table (record r { start = m.start; name = m.name }) m.header
+    pub items_admitted : AreItemsAdmitted (after_head r m) m.items
+    pub directed : end_cause (after_body r m) ≡ None
 
 -- Texts: directives and modules in any order.
 
 pub data Part : Type 0 where
   directive : TimeUnit → Part
-  module_part : ℕ → ℕ → Header → List Item → Part
+  module_part : ModuleTree → Part
 
 abbrev pub parts_then : List Part → List Mark → List Mark
 parts_then [] rest = rest
 parts_then (directive unit ∷ parts) rest = plain (Timescale unit) ∷ parts_then parts rest
-parts_then (module_part start name header items ∷ parts) rest = module_then start name header items (parts_then parts rest)
+parts_then (module_part m ∷ parts) rest = module_then m (parts_then parts rest)
 
 -- a word is that of a mark, and begins where the mark says, if it says where
 abbrev pub IsMarked : Mark → Placed → Type 0
@@ -420,17 +427,17 @@ AreMarked marks words = ⊥
 abbrev pub AreWritten : List Part → List Placed → Type 0
 AreWritten parts words = AreMarked (parts_then parts []) words
 
-abbrev pub after_part : Option ℕ → List (List ℕ) → Reading → Part → Reading
-after_part default table r (directive unit) = record r { unit = Some unit }
-after_part default table r (module_part start name header items) = finished (after_body default table r start name header items)
+module _ (default : Option ℕ) (table : List (List ℕ)) where
+  abbrev pub after_part : Reading → Part → Reading
+  after_part r (directive unit) = record r { unit = Some unit }
+  after_part r (module_part m) = finished (after_body default table r m)
 
-abbrev pub after_parts : Option ℕ → List (List ℕ) → Reading → List Part → Reading
-after_parts default table r parts = fold (after_part default table) r parts
+  abbrev pub after_parts : Reading → List Part → Reading
+  after_parts r parts = fold after_part r parts
 
-abbrev pub IsPartAdmitted : Option ℕ → List (List ℕ) → Reading → Part → Type 0
-IsPartAdmitted default table r (directive unit) = Unit {0}
-IsPartAdmitted default table r (module_part start name header items) = IsModuleAdmitted default table r start name header items
+  abbrev pub IsPartAdmitted : Reading → Part → Type 0
+  IsPartAdmitted r (directive unit) = Unit {0}
+  IsPartAdmitted r (module_part m) = IsModuleAdmitted default table r m
 
-abbrev pub ArePartsAdmitted : Option ℕ → List (List ℕ) → Reading → List Part → Type 0
-ArePartsAdmitted default table r [] = Unit {0}
-ArePartsAdmitted default table r (part ∷ parts) = IsPartAdmitted default table r part × ArePartsAdmitted default table (after_part default table r part) parts
+  abbrev pub ArePartsAdmitted : Reading → List Part → Type 0
+  ArePartsAdmitted = AreAdmitted after_part IsPartAdmitted

@@ -1,6 +1,6 @@
 -- What each state of the parser does with a word: where it leads, and what has been read then, or why it is refused. The grammar
 -- itself is in Trees.antt.
-use Rattle.std.specs.Prelude.{◌≡◌, true, ℕ, List, Option, Some, None, if◌then◌else◌, option_map, unwrap_or, Result, Ok, Err}
+use Rattle.std.specs.Prelude.{true, ℕ, List, Option, Some, None, if◌then◌else◌, option_map, unwrap_or, Result, Ok, Err}
 use Rattle.fourstate.specs.Delays.{uniform_delays, with_fall, with_off}
 use Rattle.fourstate.specs.Gates.{takes_off}
 use Rattle.fourstate.specs.declared.delay_times.DelayTimes.{DelayTimes}
@@ -16,8 +16,6 @@ use Rattle.vtext.specs.declared.parser_state.Indexed.TheVariants as indexed
 use Rattle.vtext.specs.declared.range.Range.{Range}
 use Rattle.vtext.specs.declared.parser_state.ParserState.{ParserState}
 use Rattle.vtext.specs.declared.parser_state.ParserState.TheVariants as state
-use Rattle.vtext.specs.declared.turn.Turn.{Turn}
-use Rattle.vtext.specs.declared.turn.Turn.TheVariants.{To, Refused}
 use Rattle.vtext.specs.declared.word.Word.{Word}
 use Rattle.vtext.specs.declared.word.Word.TheVariants.{Module, Endmodule, PortWord, NetWord, GateWord, Name, Misnamed, Number, Literal, Open, Close, Comma, Semicolon, Hash, Dot, Colon, OpenBracket, CloseBracket, Timescale}
 use Rattle.vtext.specs.declared.word.Placed.{Placed}
@@ -38,11 +36,6 @@ goes to r = Ok (record { state = to; so_far = r })
 abbrev pub unless : Option Cause → Result Walk Cause → Result Walk Cause
 unless None goes_on = goes_on
 unless (Some why) goes_on = Err why
-
--- what a turn of the code is, with what has been read after it
-abbrev pub IsTurn : Turn → Reading → Result Walk Cause → Type 0
-IsTurn (To state) r turn = turn ≡ goes state r
-IsTurn (Refused why) r turn = turn ≡ Err why
 
 -- Modules.
 

@@ -5,8 +5,6 @@ use Rattle.vtext.specs.declared.cause.Cause.TheVariants.{Syntax}
 use Rattle.vtext.specs.declared.parser_state.ParserState.TheVariants.{Outside}
 use Rattle.vtext.specs.declared.word.Word.{Word}
 use Rattle.vtext.specs.declared.word.Placed.{Placed}
-use Rattle.vtext.specs.declared.walks.Refusal.{Refusal}
-use Rattle.vtext.specs.declared.walks.Refusal.TheVariants.{OutOfMemory, Fault}
 use Rattle.vtext.specs.Readings.{unread}
 use Rattle.vtext.specs.Turns.{Walk, turn}
 
@@ -38,8 +36,3 @@ module _ (default : Option ℕ) (names : List (List ℕ)) where
     pub leads : Leads start (take k words) (word_at words k) before
     pub refused : MatchOption (slice_get words k) ((before.state ≢ Outside) × (why ≡ Syntax))
         (λ p. turn default names before.so_far before.state p (word_at words (k + 1)) ≡ Err why)
-
-  -- why the words were refused, if not because memory ran out
-  abbrev pub IsRefusal : List Placed → Refusal → Type 0
-  IsRefusal words OutOfMemory = Unit {0}
-  IsRefusal words (Fault k why) = IsFault words k why

@@ -1,11 +1,11 @@
 -- What the tokens of a text say to the grammar.
-use Rattle.std.specs.Prelude.{◌≡◌, ℕ, ◌+◌, ◌≤◌, ◌==◌, Bool, true, false, if◌then◌else◌, List, [], All, Option, Some, length, map, drop, slice_index, unwrap_or}
+use Rattle.std.specs.Prelude.{ℕ, ◌+◌, ◌==◌, Bool, true, false, if◌then◌else◌, List, [], Option, Some, map, drop, slice_index}
 use Rattle.std.specs.List.{find, fold}
 use Rattle.std.specs.Option.{option_and_then}
 use Rattle.lexing.specs.Constants.{constant_of}
 use Rattle.lexing.specs.Directives.{timescale_of}
 use Rattle.lexing.specs.Numbers as numbers
-use Rattle.lexing.specs.Texts.{Spells, bytes_of, name_bytes}
+use Rattle.lexing.specs.Texts.{bytes_of, name_bytes}
 use Rattle.lexing.specs.declared.token.Shape.{Shape}
 use Rattle.lexing.specs.declared.token.Shape.TheVariants as shape
 use Rattle.lexing.specs.declared.token.Token.{Token}
@@ -70,10 +70,6 @@ is_timescale kind = false
 abbrev pub first_unit : List ℕ → List Token → Option TimeUnit
 first_unit text tokens = option_and_then (unit_at text) (find (λ (token : Token). is_timescale token.shape) tokens)
 
--- the unit of the first directive so far, with one more token, if that is one
-abbrev pub with_directive : List ℕ → Option (Option TimeUnit) → Token → Option (Option TimeUnit)
-with_directive text first token = if is_timescale token.shape then Some (unwrap_or first (unit_at text token)) else first
-
 -- a directive whose unit is that of the first one; another unit is refused (own)
 abbrev pub directive_word : Option TimeUnit → Option TimeUnit → Word
 directive_word (Some first) (Some this) = if same_unit first this then Timescale this else Refused
@@ -98,14 +94,3 @@ word_of names first text token = record { word = word_by token.shape names first
 -- what the tokens of a text say, each at its place
 abbrev pub words_of : List ℕ → List Token → List Placed
 words_of text tokens = map (word_of (names_of text tokens) (first_unit text tokens) text) tokens
-
--- these are the names of a text, and what its tokens say
-pub record AreSaid (text : List ℕ) (names : List (List ℕ)) (words : List Placed) : Type 0 where
-  pub tokens : List Token
-  pub spelled : Spells text 0 tokens
-  pub named : names ≡ names_of text tokens
-  pub said : words ≡ words_of text tokens
-
--- each word begins within the text
-abbrev pub AreWithin : List ℕ → List Placed → Type 0
-AreWithin text words = All (λ (word : Placed). word.start ≤ length text) words

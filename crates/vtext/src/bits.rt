@@ -5,7 +5,7 @@ ghost use Rattle.std.specs.List.{list_any};
 ghost use Rattle.lexing.specs.Numbers as numbers;
 ghost use Rattle.vtext.specs.Bits.{bit_at, bit_between, bit_names, bit_of, is_bit_of, is_index, is_named_bit, last_open, names_bit_of};
 ghost use Rattle.vtext.specs.Names.{name_at};
-ghost use Rattle.vtext.specs.Readings.{view};
+ghost use Rattle.vtext.specs.kept.Readings.{view};
 
 use crate::draft::Draft;
 use crate::names::Names;

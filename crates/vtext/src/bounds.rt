@@ -1,8 +1,9 @@
 //! What ranges of declarations do with a word, in each state of the parser.
 
 ghost use Rattle.std.specs.Prelude.{◌≡◌};
-ghost use Rattle.vtext.specs.Readings.{view};
-ghost use Rattle.vtext.specs.Turns.{IsTurn, bound_colon, left_bound, names_of, range_end, right_bound, with_right};
+ghost use Rattle.vtext.specs.kept.Readings.{view};
+ghost use Rattle.vtext.specs.Turns.{bound_colon, left_bound, names_of, range_end, right_bound, with_right};
+ghost use Rattle.vtext.specs.kept.Turns.{IsTurn};
 
 use crate::causes::{bound_cause, misfit};
 use crate::draft::Draft;

@@ -7,7 +7,7 @@ ghost use Rattle.vtext.specs.Bits.{bit_names, is_clash};
 ghost use Rattle.vtext.specs.Nets.{is_undirected, net_of};
 ghost use Rattle.vtext.specs.Ranges.{has_bit};
 ghost use Rattle.vtext.specs.Causes.{bound_cause, completed_cause, declared_again, declared_cause, default_cause, delay_cause, directed_again, direction_cause, end_cause, gate_cause, header_cause, index_cause, inline_cause, instance_cause, is_hash, is_index, misfit, module_cause, net_cause, new_cause, port_cause, same_range, terminal_cause, use_cause, when};
-ghost use Rattle.vtext.specs.Readings.{view};
+ghost use Rattle.vtext.specs.kept.Readings.{view};
 
 use crate::bits::BitName;
 use crate::cause::Cause;

@@ -4,7 +4,8 @@ ghost use Rattle.std.specs.Prelude.{◌≡◌, [], false, not, IfOk, IsSome, OnO
 ghost use Rattle.vtext.specs.Nets.{net_of, with_net};
 ghost use Rattle.vtext.specs.GateNames.{is_taken, with_taken};
 ghost use Rattle.vtext.specs.Notes.{finished};
-ghost use Rattle.vtext.specs.Readings.{unread, view};
+ghost use Rattle.vtext.specs.Readings.{unread};
+ghost use Rattle.vtext.specs.kept.Readings.{view};
 
 use crate::gate::{Gate, Terminal};
 use crate::hints::Hints;

@@ -1,8 +1,9 @@
 //! What gate items do with a word, in each state of the parser.
 
 ghost use Rattle.std.specs.Prelude.{◌≡◌, ◌<◌, ◌-◌, ◌^◌, IfOk};
-ghost use Rattle.vtext.specs.Readings.{view};
-ghost use Rattle.vtext.specs.Turns.{IsTurn, delay, delay_number, fall_end, gate_start, instance_open, instance_start, off_end, plain_terminal, rise_end, terminal_end, terminal_start, with_number};
+ghost use Rattle.vtext.specs.kept.Readings.{view};
+ghost use Rattle.vtext.specs.Turns.{delay, delay_number, fall_end, gate_start, instance_open, instance_start, off_end, plain_terminal, rise_end, terminal_end, terminal_start, with_number};
+ghost use Rattle.vtext.specs.kept.Turns.{IsTurn};
 
 use crate::cause::Cause;
 use crate::causes::{delay_cause, is_index, misfit};

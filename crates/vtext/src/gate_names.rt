@@ -2,7 +2,7 @@
 
 ghost use Rattle.std.specs.Prelude.{◌≡◌, ◌++◌, IfOk, OnOk};
 ghost use Rattle.vtext.specs.GateNames.{gate_bytes, instance_bytes, is_name_taken, is_part_taken, numbered, with_name_taken, with_parts_taken};
-ghost use Rattle.vtext.specs.Readings.{view};
+ghost use Rattle.vtext.specs.kept.Readings.{view};
 
 use crate::draft::Draft;
 use crate::gate::{Gate, InstanceName};

@@ -2,8 +2,9 @@
 
 ghost use Rattle.std.specs.Prelude.{◌≡◌, IfOk};
 ghost use Rattle.vtext.specs.Bits.{bit_names};
-ghost use Rattle.vtext.specs.Readings.{view};
-ghost use Rattle.vtext.specs.Turns.{IsTurn, header, header_end, inline_kind, inline_more, inline_name, inline_next, inline_start, module_head, module_name, older_name, older_next, outside};
+ghost use Rattle.vtext.specs.kept.Readings.{view};
+ghost use Rattle.vtext.specs.Turns.{header, header_end, inline_kind, inline_more, inline_name, inline_next, inline_start, module_head, module_name, older_name, older_next, outside};
+ghost use Rattle.vtext.specs.kept.Turns.{IsTurn};
 
 use crate::bits::BitName;
 use crate::cause::Cause;

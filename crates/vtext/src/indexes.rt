@@ -1,8 +1,9 @@
 //! What indexes of terminals do with a word, in each state of the parser.
 
 ghost use Rattle.std.specs.Prelude.{◌≡◌, IfOk};
-ghost use Rattle.vtext.specs.Readings.{view};
-ghost use Rattle.vtext.specs.Turns.{IsTurn, behind, index, index_end, index_name, index_start};
+ghost use Rattle.vtext.specs.kept.Readings.{view};
+ghost use Rattle.vtext.specs.Turns.{behind, index, index_end, index_name, index_start};
+ghost use Rattle.vtext.specs.kept.Turns.{IsTurn};
 
 use crate::causes::misfit;
 use crate::draft::Draft;

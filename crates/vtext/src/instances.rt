@@ -4,7 +4,7 @@ ghost use Rattle.std.specs.Prelude.{◌≡◌, ◌<◌, ◌-◌, ◌^◌, ◌++�
 ghost use Rattle.vtext.specs.Instances.{completed, gate_of, gates_of, instance_name, is_made_taken, is_own_taken, part_gates, with_made_taken, with_own_taken};
 ghost use Rattle.vtext.specs.GateNames.{is_taken};
 ghost use Rattle.vtext.specs.Notes.{name_instance};
-ghost use Rattle.vtext.specs.Readings.{view};
+ghost use Rattle.vtext.specs.kept.Readings.{view};
 
 use crate::draft::Draft;
 use crate::gate::{Gate, InstanceName, Terminal};

@@ -2,8 +2,9 @@
 
 ghost use Rattle.std.specs.Prelude.{◌≡◌, IfOk};
 ghost use Rattle.vtext.specs.Bits.{bit_names};
-ghost use Rattle.vtext.specs.Readings.{view};
-ghost use Rattle.vtext.specs.Turns.{IsTurn, items, list_next, net_name, net_start, port_kind, port_name, port_start};
+ghost use Rattle.vtext.specs.kept.Readings.{view};
+ghost use Rattle.vtext.specs.Turns.{items, list_next, net_name, net_start, port_kind, port_name, port_start};
+ghost use Rattle.vtext.specs.kept.Turns.{IsTurn};
 
 use crate::bits::BitName;
 use crate::cause::Cause;

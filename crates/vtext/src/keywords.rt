@@ -3,7 +3,8 @@
 ghost use Rattle.std.specs.Prelude.{◌≡◌, ℕ, List, Some};
 ghost use Rattle.std.specs.List.{list_any};
 ghost use Rattle.std.specs.Str.{bytes_eq};
-ghost use Rattle.vtext.specs.Keywords.{is_bad_byte, is_misnamed, is_refused, is_wordlike, mark_of, name_word, plain_word, unkept_word};
+ghost use Rattle.vtext.specs.Keywords.{is_bad_byte, is_misnamed, is_refused, mark_of, name_word, plain_word, unkept_word};
+ghost use Rattle.vtext.specs.kept.Keywords.{is_wordlike};
 ghost use Rattle.vtext.specs.Names.{number_of};
 
 use crate::word::{Direction, Word};

@@ -1,21 +1,23 @@
 //! Laws of the walk: each contract is the law, and no function gives anything.
 
-ghost use Rattle.std.specs.Prelude.{◌≡◌, ◌<◌, ◌≤◌, ◌⊎◌, ◌++◌, ℕ, true, List, ◌∷◌, Option, None, Some, IsSome, All, length};
+ghost use Rattle.std.specs.Prelude.{◌≡◌, ◌<◌, ◌≤◌, ◌⊎◌, ◌++◌, ◌+◌, ℕ, Bool, true, false, List, ◌∷◌, Option, None, Some, IsSome, MatchOption, All, length, slice_get};
 ghost use Rattle.lexing.specs.Texts.{name_bytes};
 ghost use Rattle.lexing.specs.declared.token.Token as tokens;
 ghost use Rattle.vtext.specs.Bits.{bit_bytes, bit_of};
+ghost use Rattle.vtext.specs.CauseTable.{IsFirst, cause_in, cause_table, first_cause};
 ghost use Rattle.vtext.specs.Names.{name_at, number_of};
 ghost use Rattle.vtext.specs.Words.{is_named, names_of};
 ghost use Rattle.vtext.specs.Modules.{ModuleList};
 ghost use Rattle.vtext.specs.Readings.{Reading, unread};
 ghost use Rattle.vtext.specs.Reads.{IsFirstFault, Says};
-ghost use Rattle.vtext.specs.Sound.{IsSoundModule};
+ghost use Rattle.vtext.specs.kept.Sound.{IsSoundModule};
 ghost use Rattle.vtext.specs.Trees.{ArePartsAdmitted, AreWritten, Part, after_parts};
-ghost use Rattle.vtext.specs.Turns.{Walk};
-ghost use Rattle.vtext.specs.Walks.{IsFault, Leads, first_word, start};
+ghost use Rattle.vtext.specs.Turns.{Walk, turn};
+ghost use Rattle.vtext.specs.Walks.{IsFault, Leads, first_word, start, word_at};
 ghost use Rattle.vtext.specs.declared.bits.BitName as bits;
 ghost use Rattle.vtext.specs.declared.range.TheConstants.{MAX_INDEX};
 ghost use Rattle.vtext.specs.declared.cause.Cause as causes;
+ghost use Rattle.vtext.specs.declared.cause.Cause.TheVariants.{Syntax};
 ghost use Rattle.vtext.specs.declared.fault.ReadFault as faults;
 ghost use Rattle.vtext.specs.declared.parser_state.ParserState.TheVariants.{Outside};
 ghost use Rattle.vtext.specs.declared.word.Placed as placed;
@@ -71,6 +73,17 @@ pub fn no_parts_begin_so()
     ensures { (default : Option ℕ) (names : List (List ℕ)) (before : List placed.Placed) (refused : placed.Placed) (after other : List placed.Placed) (why : causes.Cause) (parts : List Part) →
         IsFault default names (before ++ refused ∷ after) (length before) why → first_word other None ≡ first_word after None →
         AreWritten parts (before ++ refused ∷ other) → ArePartsAdmitted default names unread parts → ⊥ }
+{}
+
+/// A word is refused for the first cause of the table that holds there, and a walk goes on where none does, in any state. So the
+/// cause of a fault is the first that holds at its word; past the last word it is Syntax.
+pub fn first_cause_is_told()
+    ensures word { (default : Option ℕ) (names : List (List ℕ)) (at : Walk) (p : placed.Placed) (after : Option words.Word) →
+        cause_in (turn default names at.so_far at.state p after) ≡ first_cause (cause_table default names at p.word after) }
+    ensures fault { (default : Option ℕ) (names : List (List ℕ)) (said : List placed.Placed) (k : ℕ) (why : causes.Cause) (fault : IsFault default names said k why) →
+        MatchOption (slice_get said k) (why ≡ Syntax) (λ (p : placed.Placed). IsFirst (cause_table default names fault.before p.word (word_at said (k + 1))) why) }
+    ensures some { (table : List (Bool × causes.Cause)) (why : causes.Cause) → first_cause table ≡ Some why → IsFirst table why }
+    ensures none { (table : List (Bool × causes.Cause)) → first_cause table ≡ None → All (λ row. row.0 ≡ false) table }
 {}
 
 /// Each text says a list of modules or has a first fault.

@@ -2,7 +2,8 @@
 
 ghost use Rattle.std.specs.Prelude.{◌≡◌, ◌<◌, IfOk, IfSome, IsSome, Some, is_some, length, option_map, slice_get};
 ghost use Rattle.vtext.specs.Modules.{ModuleEntry};
-ghost use Rattle.vtext.specs.Nets.{net_of, place_of};
+ghost use Rattle.vtext.specs.Nets.{net_of};
+ghost use Rattle.vtext.specs.kept.Nets.{place_of};
 
 use crate::gate::Gate;
 use crate::hints::Hints;

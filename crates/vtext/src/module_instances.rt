@@ -2,7 +2,7 @@
 
 ghost use Rattle.std.specs.Prelude.{◌≡◌, OnOk};
 ghost use Rattle.vtext.specs.Notes.{add_connection, instantiated, name_module_instance};
-ghost use Rattle.vtext.specs.Readings.{view};
+ghost use Rattle.vtext.specs.kept.Readings.{view};
 
 use crate::draft::Draft;
 use crate::gate::Terminal;

@@ -1,8 +1,9 @@
 //! What items that instantiate modules do with a word, in each state of the parser.
 
 ghost use Rattle.std.specs.Prelude.{IfOk};
-ghost use Rattle.vtext.specs.Readings.{view};
-ghost use Rattle.vtext.specs.Turns.{IsTurn, connected, connections, module_instance_name, module_instance_open, named_close, named_end, named_open, named_port, named_start, named_terminal, ordered_end, ordered_start, plain_connection};
+ghost use Rattle.vtext.specs.kept.Readings.{view};
+ghost use Rattle.vtext.specs.Turns.{connected, connections, module_instance_name, module_instance_open, named_close, named_end, named_open, named_port, named_start, named_terminal, ordered_end, ordered_start, plain_connection};
+ghost use Rattle.vtext.specs.kept.Turns.{IsTurn};
 
 use crate::cause::Cause;
 use crate::causes::{is_index, misfit};

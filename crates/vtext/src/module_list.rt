@@ -2,7 +2,7 @@
 
 ghost use Rattle.std.specs.Prelude.{◌≡◌, nat_eq, IfSome, is_some, length, option_copied, option_map, slice_get};
 ghost use Rattle.std.specs.Map.{lookup};
-ghost use Rattle.vtext.specs.Readings.{view};
+ghost use Rattle.vtext.specs.kept.Readings.{view};
 
 use crate::draft::Draft;
 use crate::module::Module;

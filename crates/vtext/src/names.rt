@@ -24,7 +24,7 @@ impl<'a> Model for Names<'a> {
 
     ghost Value = { List (List ℕ) };
 
-    ghost use Rattle.vtext.specs.Recents.{AreRight};
+    ghost use Rattle.vtext.specs.kept.Recents.{AreRight};
 
     ghost view = { λ a. map (λ text. text.bytes.now) a.texts.keys };
 

@@ -3,7 +3,7 @@
 ghost use Rattle.std.specs.Prelude.{◌≡◌, OnOk};
 ghost use Rattle.vtext.specs.Nets.{net_of};
 ghost use Rattle.vtext.specs.Notes.{add_bit, add_terminal, declare_net, declare_port, direct_port, list_port, note_use};
-ghost use Rattle.vtext.specs.Readings.{view};
+ghost use Rattle.vtext.specs.kept.Readings.{view};
 
 use crate::draft::Draft;
 use crate::gate::Terminal;

@@ -6,7 +6,8 @@ ghost use Rattle.lexing.specs.declared.limits.TheConstants.{MAX_TEXT};
 ghost use Rattle.lexing.specs.declared.token.Token.{Token};
 ghost use Rattle.vtext.specs.ReadFaults.{kind_of, out_of_memory, too_long};
 ghost use Rattle.vtext.specs.Reads.{IsFirstFault, Says, start_of};
-ghost use Rattle.vtext.specs.Words.{AreWithin, words_of};
+ghost use Rattle.vtext.specs.Words.{words_of};
+ghost use Rattle.vtext.specs.kept.Words.{AreWithin};
 
 use crate::cause::Cause;
 use crate::fault::{ReadFault, kind_of};

@@ -1,9 +1,9 @@
 //! Under which numbers names were found lately.
 
 ghost use Rattle.std.specs.Prelude.{◌≡◌, ◌↔◌, List, ℕ, [], IfSome, IsTrue, Some, true};
-ghost use Rattle.catalog.specs.Spellings.{is_short};
+ghost use Rattle.catalog.specs.kept.Spellings.{is_short};
 ghost use Rattle.vtext.specs.Names.{number_of};
-ghost use Rattle.vtext.specs.Recents.{AreRight, IsOf, IsRight};
+ghost use Rattle.vtext.specs.kept.Recents.{AreRight, IsOf, IsRight};
 
 use catalog::spelling::{first_four, is_short, last_four};
 use std::alloc::{AllocError, Global};

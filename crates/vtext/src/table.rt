@@ -1,7 +1,8 @@
 //! The table of names, with what each says as a word.
 
 ghost use Rattle.std.specs.Prelude.{◌≡◌, [], IfOk, None, OnOk, Some};
-ghost use Rattle.vtext.specs.Keywords.{meanings_of, name_word, plain_word};
+ghost use Rattle.vtext.specs.Keywords.{name_word, plain_word};
+ghost use Rattle.vtext.specs.kept.Keywords.{meanings_of};
 ghost use Rattle.vtext.specs.Names.{number_of, with_name};
 
 use crate::keywords::{name_word, plain_word};

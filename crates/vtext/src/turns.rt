@@ -2,8 +2,9 @@
 
 ghost use Rattle.std.specs.Prelude.{◌≡◌, ◌<◌, ◌-◌, ◌^◌, IfOk};
 ghost use Rattle.vtext.specs.Bits.{bit_names};
-ghost use Rattle.vtext.specs.Readings.{view};
-ghost use Rattle.vtext.specs.Turns.{IsTurn, turn};
+ghost use Rattle.vtext.specs.kept.Readings.{view};
+ghost use Rattle.vtext.specs.Turns.{turn};
+ghost use Rattle.vtext.specs.kept.Turns.{IsTurn};
 ghost use Rattle.vtext.specs.Walks.{word_at};
 
 use crate::bits::BitName;

@@ -1,7 +1,7 @@
 //! Time units of directives.
 
 ghost use Rattle.std.specs.Prelude.{◌≡◌, ◌≤◌, length};
-ghost use Rattle.lexing.specs.Texts.{IsInside};
+ghost use Rattle.lexing.specs.kept.Texts.{IsInside};
 ghost use Rattle.vtext.specs.Words.{directive_word, magnitude_power, power_of, same_unit, unit_at, unit_power};
 
 use crate::word::Word;

@@ -2,9 +2,10 @@
 
 ghost use Rattle.std.specs.Prelude.{◌≡◌, None, IfErr, IfOk};
 ghost use Rattle.vtext.specs.declared.parser_state.ParserState.TheVariants.{Outside};
-ghost use Rattle.vtext.specs.Readings.{view};
-ghost use Rattle.vtext.specs.Sound.{AreGoodWords};
-ghost use Rattle.vtext.specs.Walks.{IsRefusal, Leads, start, word_at};
+ghost use Rattle.vtext.specs.kept.Readings.{view};
+ghost use Rattle.vtext.specs.kept.Sound.{AreGoodWords};
+ghost use Rattle.vtext.specs.Walks.{Leads, start, word_at};
+ghost use Rattle.vtext.specs.kept.Walks.{IsRefusal};
 
 use crate::bits::bits_of;
 use crate::cause::Cause;

@@ -1,10 +1,11 @@
 //! What the tokens of a text say to the grammar.
 
 ghost use Rattle.std.specs.Prelude.{◌≡◌, ◌≤◌, IfOk, None, OnOk, Some, length, unwrap_or};
-ghost use Rattle.lexing.specs.Texts.{IsInside};
+ghost use Rattle.lexing.specs.kept.Texts.{IsInside};
 ghost use Rattle.lexing.specs.declared.limits.TheConstants.{MAX_TEXT};
-ghost use Rattle.vtext.specs.Keywords.{meanings_of};
-ghost use Rattle.vtext.specs.Words.{AreSaid, AreWithin, directive_word, unit_at, with_directive, with_token, word_of};
+ghost use Rattle.vtext.specs.kept.Keywords.{meanings_of};
+ghost use Rattle.vtext.specs.Words.{directive_word, unit_at, with_token, word_of};
+ghost use Rattle.vtext.specs.kept.Words.{AreSaid, AreWithin, with_directive};
 
 use crate::keywords::mark;
 use crate::names::Names;

@@ -2,8 +2,8 @@
 use Rattle.std.proofs.Common.{◌≡◌, ◌∙◌, ℕ, ◌+◌, ◌-◌, ◌<◌, ◌≤◌, ◌==◌, List, [], ◌∷◌, ap, sym, subst, cond, map, filter, length, drop, get_or, set, arith, inl, inr}
 use Rattle.std.proofs.lemmas.Bool.{cases_eq, eq-eqb, ne_eqb}
 use Rattle.std.proofs.lemmas.List.{drop_more, get_or_default, get_or-set_same, get_or-set_other}
-use Rattle.waveform.specs.Links.{IsChain}
-use Rattle.waveform.specs.Notes.{entries_at}
+use Rattle.waveform.specs.kept.Links.{IsChain}
+use Rattle.waveform.specs.kept.Notes.{entries_at}
 
 -- the first of the notes is one of the place, or it is not
 pub entries_here : {E : Type 0} (place : ℕ) (note : ℕ × E) (notes : List (ℕ × E)) → note.0 ≡ place →

@@ -3,8 +3,9 @@ use Rattle.std.proofs.Common.{ℕ, suc, ◌<◌, ◌≤◌, Bool, List, [], ◌�
 use Rattle.std.specs.List.{All}
 use Rattle.std.proofs.lemmas.List.Elements.{All-nil, All-cons, All-head, All-tail, All-weaker}
 use Rattle.waveform.proofs.Drifts.{Drifts}
-use Rattle.waveform.specs.Joins.{joined}
-use Rattle.waveform.specs.Timelines.{end_of, entries_until, pushed}
+use Rattle.waveform.specs.kept.Joins.{joined}
+use Rattle.waveform.specs.Timelines.{entries_until}
+use Rattle.waveform.specs.kept.Timelines.{end_of, pushed}
 use Rattle.waveform.proofs.Joins.{joined_all, until_early}
 use Rattle.waveform.proofs.Pushes.{pushed_all}
 

@@ -9,13 +9,15 @@ use Rattle.std.proofs.lemmas.List.Elements.{All-filter, All-head, All-weaker, fi
 use Rattle.std.proofs.lemmas.List.Folds.{map_fixed}
 use Rattle.fourstate.specs.declared.value.Value.{Value}
 use Rattle.fourstate.specs.Values.{same_value}
-use Rattle.fourstate.specs.ValueLaws.{is_same, same_self}
+use Rattle.fourstate.specs.kept.ValueLaws.{is_same, same_self}
 use Rattle.gatestep.specs.Step.{State, initial, due, due_of}
-use Rattle.waveform.specs.Changes.{state_at, wave_changes_below}
-use Rattle.waveform.specs.Currents.{Gives, GoesOn, currents}
+use Rattle.waveform.specs.Changes.{wave_changes_below}
+use Rattle.waveform.specs.kept.Changes.{state_at}
+use Rattle.waveform.specs.kept.Currents.{Gives, GoesOn, currents}
 use Rattle.waveform.specs.Entries.{same_state, standing}
-use Rattle.waveform.specs.SampleLaws.{due_twice, is_same_state, same_state_self}
-use Rattle.waveform.specs.Timelines.{IsTimeline, AreInTurn, entries_after, entries_until, first_after, is_change, is_reached, pushed}
+use Rattle.waveform.specs.kept.SampleLaws.{due_twice, is_same_state, same_state_self}
+use Rattle.waveform.specs.Timelines.{entries_after, entries_until, first_after, is_change}
+use Rattle.waveform.specs.kept.Timelines.{IsTimeline, AreInTurn, is_reached, pushed}
 use Rattle.waveform.proofs.Drifts.{Drifts}
 use Rattle.waveform.proofs.Functions.{changes_early, pushed_is, reached_from, same_changes}
 use Rattle.waveform.proofs.Gaps.{value_between}

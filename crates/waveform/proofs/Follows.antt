@@ -5,8 +5,9 @@ use Rattle.std.specs.Option.{option_map_or}
 use Rattle.std.proofs.lemmas.Bool.{cases_lt, cond-true, cond-false, lt-ltb, le-ltb}
 use Rattle.std.proofs.lemmas.List.Elements.{All-weaker}
 use Rattle.waveform.proofs.Drifts.{Drifts}
-use Rattle.waveform.specs.Joins.{joined}
-use Rattle.waveform.specs.Timelines.{IsTimeline, is_change, changes_below, entries_until, value_by}
+use Rattle.waveform.specs.kept.Joins.{joined}
+use Rattle.waveform.specs.Timelines.{is_change, changes_below, entries_until, value_by}
+use Rattle.waveform.specs.kept.Timelines.{IsTimeline}
 use Rattle.waveform.proofs.Functions.{one_more, changes_early, changes_last, changes_end, changes_in_turn, changes_are_timeline, value_at_is, kept}
 use Rattle.waveform.proofs.Joins.{joined_timeline, joined_value}
 use Rattle.waveform.proofs.Turns.{all_until}

@@ -6,7 +6,8 @@ use Rattle.std.proofs.lemmas.Bool.{cases_lt, cond-true, cond-false, lt-ltb, le-l
 use Rattle.std.proofs.lemmas.List.{append-nil, map-append}
 use Rattle.std.proofs.lemmas.List.Elements.{All-nil, All-cons, All-append, All-weaker, filter-append}
 use Rattle.waveform.proofs.Drifts.{Drifts}
-use Rattle.waveform.specs.Timelines.{IsTimeline, AreInTurn, moments, is_change, changes_below, entries_until, value_by, is_reached, pushed}
+use Rattle.waveform.specs.Timelines.{moments, is_change, changes_below, entries_until, value_by}
+use Rattle.waveform.specs.kept.Timelines.{IsTimeline, AreInTurn, is_reached, pushed}
 use Rattle.waveform.proofs.Lists.{last_or-append, some_entry}
 use Rattle.waveform.proofs.Turns.{all_until}
 use Rattle.waveform.proofs.Pushes.{EndsBefore, until_before, pushed_turns, pushed_value}

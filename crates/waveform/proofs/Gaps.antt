@@ -6,7 +6,8 @@ use Rattle.std.specs.Option.{option_map_or}
 use Rattle.std.proofs.lemmas.Bool.{lt-leb, le-leb, ltb-true, ltb-false}
 use Rattle.std.proofs.lemmas.List.Elements.{All-weaker}
 use Rattle.waveform.proofs.Drifts.{Drifts}
-use Rattle.waveform.specs.Timelines.{IsAlwaysSettled, IsTimeline, AreInTurn, changes_below, entries_until, first_after, value_by}
+use Rattle.waveform.specs.Timelines.{changes_below, entries_until, first_after, value_by}
+use Rattle.waveform.specs.kept.Timelines.{IsAlwaysSettled, IsTimeline, AreInTurn}
 use Rattle.waveform.proofs.Follows.{unique}
 use Rattle.waveform.proofs.Functions.{changes_are_timeline, value_at_is}
 use Rattle.waveform.proofs.Joins.{at_moment, value_settled}

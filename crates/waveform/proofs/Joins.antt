@@ -6,8 +6,9 @@ use Rattle.std.proofs.lemmas.Bool.{lt-ltb, le-ltb, leb-true, ltb-true, cond-true
 use Rattle.std.proofs.lemmas.List.{append-nil, length-append}
 use Rattle.std.proofs.lemmas.List.Elements.{All-append, All-filter, All-head, All-weaker, filter_passes, filter-append}
 use Rattle.waveform.proofs.Drifts.{Drifts}
-use Rattle.waveform.specs.Joins.{joined}
-use Rattle.waveform.specs.Timelines.{IsTimeline, AreInTurn, entries_until, entries_after, latest, value_by, pushed}
+use Rattle.waveform.specs.kept.Joins.{joined}
+use Rattle.waveform.specs.Timelines.{entries_until, entries_after, latest, value_by}
+use Rattle.waveform.specs.kept.Timelines.{IsTimeline, AreInTurn, pushed}
 use Rattle.waveform.proofs.Lists.{last_or-append, some_entry}
 use Rattle.waveform.proofs.Turns.{turns_joined, turns_until, none_until, all_until, until_then_after, latest_some}
 use Rattle.waveform.proofs.Pushes.{EndsBefore, pushed_all, pushed_turns, pushed_last, pushed_until}

@@ -6,8 +6,8 @@ use Rattle.std.specs.Option.{option_or}
 use Rattle.std.proofs.lemmas.Bool.{cases_lt}
 use Rattle.std.proofs.lemmas.List.{get_or-map, get_or_append_left, get_or_past, length-append, take-append-drop, take-map, drop-map}
 use Rattle.std.proofs.lemmas.List.Folds.{find-append}
-use Rattle.waveform.specs.Marks.{AreMarks, mark_of}
-use Rattle.waveform.specs.Timelines.{is_reached, pushed}
+use Rattle.waveform.specs.kept.Marks.{AreMarks, mark_of}
+use Rattle.waveform.specs.kept.Timelines.{is_reached, pushed}
 
 module _ {A : Type 0} (digit : A → ℕ) where
   -- no marks are marks of any entries

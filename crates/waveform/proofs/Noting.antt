@@ -2,7 +2,7 @@
 use Rattle.std.proofs.Common.{◌≡◌, ◌∙◌, refl, ℕ, Bool, List, [], ◌∷◌, ◌++◌, length}
 use Rattle.std.proofs.lemmas.List.{length-set}
 use Rattle.std.specs.Prelude.{slice_index_or}
-use Rattle.waveform.specs.Notes.{AreNoted, MayBeNoted, with_note, with_notes}
+use Rattle.waveform.specs.kept.Notes.{AreNoted, MayBeNoted, with_note, with_notes}
 
 -- there are as many timelines
 pub length_with_notes : {A : Type 0} (lines : List (List (ℕ × A))) (notes : List (ℕ × (ℕ × A))) → length (with_notes lines notes) ≡ length lines

@@ -6,11 +6,11 @@ use Rattle.std.proofs.lemmas.Bool.{le-ltb, cases_lt}
 use Rattle.std.proofs.Math.Seq.{map-set_same}
 use Rattle.std.proofs.lemmas.List.{append-nil, length-append, length-map}
 use Rattle.std.proofs.lemmas.Option.{slice_get-map, slice_get_within, slice_get_cases, get_or_from_slice_get}
-use Rattle.event_queue.specs.Noted.{IsAdded, IsTaken, noted}
-use Rattle.event_queue.specs.Pages.{HasItem, IsBlank, PageRecord, items_at}
+use Rattle.event_queue.specs.kept.Noted.{IsAdded, IsTaken, noted}
+use Rattle.event_queue.specs.kept.Pages.{HasItem, IsBlank, PageRecord, items_at}
 use Rattle.event_queue.specs.declared.page.TheConstants.{PAGE}
-use Rattle.waveform.specs.Timelines.{IsTimeline}
-use Rattle.waveform.specs.Paging.{AreAllInTime, AreUnreadFrom, AreGivenOn, AreInHand, AreInTime, AreReadOn, HaveValues, IsGiven, IsInOrder, IsIn, IsNoted, IsRead, IsUnreadFrom, OfEach, entries_at, items_of}
+use Rattle.waveform.specs.kept.Timelines.{IsTimeline}
+use Rattle.waveform.specs.kept.Paging.{AreAllInTime, AreUnreadFrom, AreGivenOn, AreInHand, AreInTime, AreReadOn, HaveValues, IsGiven, IsInOrder, IsIn, IsNoted, IsRead, IsUnreadFrom, OfEach, entries_at, items_of}
 use Rattle.waveform.proofs.Lists.{filter-none, left_out, taken}
 use Rattle.waveform.proofs.Places.{times_rise}
 use Rattle.std.proofs.lemmas.List.Elements.{filter-append}

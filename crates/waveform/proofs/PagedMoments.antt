@@ -2,9 +2,9 @@
 use Rattle.std.proofs.Common.{◌≡◌, ◌≢◌, ◌<◌, ◌≤◌, ◌+◌, ◌∙◌, ap, sym, refl, Bool, true, false, cond, ℕ, [], ◌⊎◌, inl, inr, ⊎_elim, arith}
 use Rattle.std.specs.Prelude.{nat_eq}
 use Rattle.std.proofs.lemmas.Bool.{cases_lt}
-use Rattle.event_queue.specs.Pages.{IsBlank, IsCleared, PageRecord, items_at}
+use Rattle.event_queue.specs.kept.Pages.{IsBlank, IsCleared, PageRecord, items_at}
 use Rattle.event_queue.specs.declared.page.TheConstants.{PAGE}
-use Rattle.waveform.specs.Paging.{IsPassed}
+use Rattle.waveform.specs.kept.Paging.{IsPassed}
 use Rattle.waveform.proofs.PagedRows.{are_same, passed_moment, same_number}
 
 module _ {T : Type 0} where

@@ -7,8 +7,8 @@ use Rattle.std.proofs.lemmas.Bool.{cases_lt}
 use Rattle.std.proofs.lemmas.List.{append-nil, map-append}
 use Rattle.std.proofs.lemmas.List.Elements.{filter-append}
 use Rattle.std.proofs.lemmas.Option.{slice_get_within}
-use Rattle.event_queue.specs.Noted.{IsAdded, noted}
-use Rattle.waveform.specs.Paging.{IsIn, items_of}
+use Rattle.event_queue.specs.kept.Noted.{IsAdded, noted}
+use Rattle.waveform.specs.kept.Paging.{IsIn, items_of}
 use Rattle.waveform.proofs.Lists.{taken, left_out}
 
 pub same_number : (t : ℕ) → nat_eq t t ≡ true

@@ -5,10 +5,11 @@ use Rattle.std.specs.List.{last_or}
 use Rattle.std.proofs.lemmas.Bool.{le-leb, lt-leb, lt-ltb, le-ltb, cases_lt}
 use Rattle.std.proofs.lemmas.List.{append-nil, get_or-map, map-append}
 use Rattle.std.proofs.lemmas.Option.{slice_get_cases, slice_get_read}
-use Rattle.event_queue.specs.Pages.{PageRecord, items_at}
+use Rattle.event_queue.specs.kept.Pages.{PageRecord, items_at}
 use Rattle.std.specs.Option.{option_map_or}
-use Rattle.waveform.specs.Timelines.{IsTimeline, entries_until, value_by}
-use Rattle.waveform.specs.Paging.{AreGivenOn, AreInTime, HaveValues, IsGiven, entries_at, entries_below, items_of}
+use Rattle.waveform.specs.Timelines.{entries_until, value_by}
+use Rattle.waveform.specs.kept.Timelines.{IsTimeline}
+use Rattle.waveform.specs.kept.Paging.{AreGivenOn, AreInTime, HaveValues, IsGiven, entries_at, entries_below, items_of}
 use Rattle.waveform.proofs.Lists.{filter-map, filter-same, last_or-append, taken, left_out}
 use Rattle.waveform.proofs.Turns.{latest_some}
 use Rattle.waveform.proofs.PagedRows.{are_same, items_elsewhere, items_here, other_number, same_number, set_other, set_same, some_same, take_more}

@@ -1,9 +1,10 @@
 -- What is kept of a function of time beside a former one is the function.
 use Rattle.std.proofs.Common.{◌≡◌, ℕ, suc, ◌-◌, ◌<◌, ◌≤◌, ◌∙◌, sym, ap, subst, Bool, Option, Some, None, List, refl, arith}
 use Rattle.waveform.proofs.Drifts.{Drifts}
-use Rattle.waveform.specs.Joins.{joined}
-use Rattle.waveform.specs.Patches.{IsMended}
-use Rattle.waveform.specs.Timelines.{IsAlwaysSettled, changes_below, entries_until, pushed, value_by}
+use Rattle.waveform.specs.kept.Joins.{joined}
+use Rattle.waveform.specs.kept.Patches.{IsMended}
+use Rattle.waveform.specs.Timelines.{changes_below, entries_until, value_by}
+use Rattle.waveform.specs.kept.Timelines.{IsAlwaysSettled, pushed}
 use Rattle.waveform.proofs.Follows.{forked_is, followed_is}
 use Rattle.waveform.proofs.Functions.{pushed_is, value_at_is}
 

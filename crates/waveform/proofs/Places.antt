@@ -5,7 +5,8 @@ use Rattle.std.specs.List.{find}
 use Rattle.std.specs.List.Sorted.{IsPartitionPoint, IsNonDecreasingBy}
 use Rattle.std.proofs.lemmas.Bool.{cases_lt, lt-ltb, lt-leb, le-ltb, le-leb}
 use Rattle.std.proofs.lemmas.List.{get_or-map, get_or_read_under, length-map}
-use Rattle.waveform.specs.Timelines.{AreInTurn, entries_until, entries_after, first_after, next_to}
+use Rattle.waveform.specs.Timelines.{entries_until, entries_after, first_after, next_to}
+use Rattle.waveform.specs.kept.Timelines.{AreInTurn}
 use Rattle.waveform.proofs.Lists.{filter-map, filter-front, filter-back, find_is, find-and}
 use Rattle.waveform.proofs.Turns.{turns_later}
 

@@ -6,7 +6,8 @@ use Rattle.std.proofs.lemmas.Bool.{lt-leb, le-ltb, lt-ltb, cond_both, cases_lt, 
 use Rattle.std.proofs.lemmas.List.{append-nil, length-append}
 use Rattle.std.proofs.lemmas.List.Elements.{All-push, All-weaker, All-head, All-tail, filter-append}
 use Rattle.waveform.proofs.Drifts.{Drifts}
-use Rattle.waveform.specs.Timelines.{IsTimeline, AreInTurn, entries_until, value_by, is_reached, pushed}
+use Rattle.waveform.specs.Timelines.{entries_until, value_by}
+use Rattle.waveform.specs.kept.Timelines.{IsTimeline, AreInTurn, is_reached, pushed}
 use Rattle.waveform.proofs.Lists.{last_or-append, left_out, some_last}
 use Rattle.waveform.proofs.Turns.{turns_joined, all_until}
 

@@ -2,9 +2,9 @@
 use Rattle.std.proofs.Common.{◌≡◌, ◌∙◌, ℕ, ◌+◌, ◌-◌, ◌<◌, ◌≤◌, ◌==◌, ◌⊎◌, Bool, false, List, [], ◌∷◌, ◌++◌, All, ap, sym, subst, cond, map, length, get_or, append_assoc, arith, inl, inr}
 use Rattle.std.proofs.lemmas.Bool.{eq-eqb, ne_eqb}
 use Rattle.std.proofs.lemmas.List.{append-nil, get_or_default}
-use Rattle.waveform.specs.Links.{IsChain}
-use Rattle.waveform.specs.Notes.{MayFollow}
-use Rattle.waveform.specs.Timelines.{is_reached}
+use Rattle.waveform.specs.kept.Links.{IsChain}
+use Rattle.waveform.specs.kept.Notes.{MayFollow}
+use Rattle.waveform.specs.kept.Timelines.{is_reached}
 
 -- `left` are the entries of the chain from a number on; they may be written behind those of a timeline, which then is `whole`
 pub record Remains {A E : Type 0} (same : A → A → Bool) (drift : A → ℕ → A) (can : ℕ → A → Type 0) (stored : E → ℕ × A)

@@ -6,9 +6,10 @@ use Rattle.std.specs.Option.{option_map_or}
 use Rattle.std.proofs.lemmas.Bool.{le-leb, lt-leb, lt-ltb, le-ltb, leb-true, ltb-true, cases_lt}
 use Rattle.std.proofs.lemmas.List.Elements.{All-filter, All-weaker, filter_passes}
 use Rattle.waveform.proofs.Drifts.{Drifts}
-use Rattle.waveform.specs.Joins.{joined, spliced}
+use Rattle.waveform.specs.kept.Joins.{joined, spliced}
 use Rattle.waveform.specs.declared.times.TheConstants.{TIME_END}
-use Rattle.waveform.specs.Timelines.{IsTimeline, AreInTurn, entries_before, entries_until, value_by}
+use Rattle.waveform.specs.Timelines.{entries_before, entries_until, value_by}
+use Rattle.waveform.specs.kept.Timelines.{IsTimeline, AreInTurn}
 use Rattle.waveform.proofs.Lists.{filter-filter}
 use Rattle.waveform.proofs.Turns.{before_zero, before_is, until_timeline, latest_some}
 use Rattle.waveform.proofs.Pushes.{EndsBefore, ends_before}

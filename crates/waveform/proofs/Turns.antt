@@ -3,7 +3,8 @@ use Rattle.std.proofs.Common.{◌≡◌, ℕ, ◌<◌, ◌≤◌, ◌∙◌, sym
 use Rattle.std.specs.List.{last_or, All}
 use Rattle.std.proofs.lemmas.Bool.{le-leb, lt-leb, le-ltb, lt-ltb, leb-false, leb-true, cases_lt}
 use Rattle.std.proofs.lemmas.List.Elements.{All-nil, All-cons, All-head, All-tail, All-weaker, All-filter, filter_passes}
-use Rattle.waveform.specs.Timelines.{IsTimeline, AreInTurn, entries_before, entries_until, entries_after, latest}
+use Rattle.waveform.specs.Timelines.{entries_before, entries_until, entries_after, latest}
+use Rattle.waveform.specs.kept.Timelines.{IsTimeline, AreInTurn}
 use Rattle.waveform.proofs.Lists.{filter-all, filter-none, filter-same, taken, left_out, some_last}
 
 -- no entry lies before 0

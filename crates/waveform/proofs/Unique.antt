@@ -5,7 +5,8 @@ use Rattle.std.specs.Option.{option_map_or}
 use Rattle.std.proofs.lemmas.Bool.{le-leb, lt-leb, cases_order}
 use Rattle.std.proofs.lemmas.List.Elements.{All-weaker}
 use Rattle.waveform.proofs.Drifts.{Drifts}
-use Rattle.waveform.specs.Timelines.{IsTimeline, AreInTurn, entries_until, value_by}
+use Rattle.waveform.specs.Timelines.{entries_until, value_by}
+use Rattle.waveform.specs.kept.Timelines.{IsTimeline, AreInTurn}
 use Rattle.waveform.proofs.Lists.{taken, left_out}
 use Rattle.waveform.proofs.Turns.{turns_later, none_until}
 

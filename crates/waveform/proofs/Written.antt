@@ -5,7 +5,7 @@ use Rattle.std.proofs.lemmas.List.{append-nil, ext_get_or, get_or_default, get_o
 use Rattle.std.proofs.lemmas.List.Elements.{All-nil, All-cons}
 use Rattle.waveform.proofs.Chains.{entries_here, entries_elsewhere}
 use Rattle.waveform.proofs.Noting.{length_with_notes}
-use Rattle.waveform.specs.Notes.{AreNoted, MayBeNoted, MayFollow, entries_at, noted, with_note, with_notes}
+use Rattle.waveform.specs.kept.Notes.{AreNoted, MayBeNoted, MayFollow, entries_at, noted, with_note, with_notes}
 
 -- the timeline at the place of a note, and those at other places, once it is written
 line_here : {A : Type 0} (lines : List (List (ℕ × A))) (note : ℕ × (ℕ × A)) (place : ℕ) → place < length lines → note.0 ≡ place →

@@ -20,7 +20,7 @@ pub struct Change {
 impl Model for Change {
     ghost use Rattle.std.specs.Prelude.{ℕ};
     ghost use Rattle.fourstate.specs.declared.value.Value as values;
-    ghost use Rattle.waveform.specs.StoredChanges.{change_of, fields_of, fields_of-kept};
+    ghost use Rattle.waveform.specs.kept.StoredChanges.{change_of, fields_of, fields_of-kept};
 
     ghost Value = { ℕ × values.Value };
 

@@ -2,7 +2,7 @@
 
 ghost use Rattle.std.specs.Prelude.{◌≡◌, ◌<◌, ◌≤◌, All, OnOk};
 ghost use Rattle.waveform.specs.Changes.{wave_changes_below};
-ghost use Rattle.waveform.specs.Currents.{Gives, GoesOn, currents};
+ghost use Rattle.waveform.specs.kept.Currents.{Gives, GoesOn, currents};
 ghost use Rattle.waveform.specs.declared.times.TheConstants.{TIME_END};
 
 use crate::change::Change;

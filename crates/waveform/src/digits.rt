@@ -1,7 +1,7 @@
 //! Values as numbers of two bits.
 
 ghost use Rattle.std.specs.Prelude.{◌≡◌};
-ghost use Rattle.waveform.specs.Digits.{value_of_digit};
+ghost use Rattle.waveform.specs.kept.Digits.{value_of_digit};
 
 use fourstate::Value;
 

@@ -3,8 +3,9 @@
 ghost use Rattle.std.specs.Prelude.{◌≡◌, ◌+◌, ◌<◌, ◌≤◌, ◌++◌, ◌∷◌, [], map, take, drop, length, slice_get, All, Some, OnOk, OnErr, IfOk};
 ghost use Rattle.std.specs.List.{find, last_or};
 ghost use Rattle.std.specs.Vec.{vec_capacity, vec_len};
-ghost use Rattle.waveform.specs.Timelines.{AreInTurn, IsTimeline, is_reached, pushed, latest, entries_before, entries_until, entries_after, value_by};
-ghost use Rattle.waveform.specs.Joins.{joined, spliced};
+ghost use Rattle.waveform.specs.Timelines.{latest, entries_before, entries_until, entries_after, value_by};
+ghost use Rattle.waveform.specs.kept.Timelines.{AreInTurn, IsTimeline, is_reached, pushed};
+ghost use Rattle.waveform.specs.kept.Joins.{joined, spliced};
 ghost use Rattle.waveform.specs.declared.times.TheConstants.{TIME_END};
 
 use crate::sample::Sample;

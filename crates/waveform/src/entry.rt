@@ -28,7 +28,7 @@ impl Model for TraceEntry {
 
     ghost Value = { ℕ × State };
 
-    ghost use Rattle.waveform.specs.TraceEntries.{kept_state, fields_of, IsTraceEntry, fields_of-kept};
+    ghost use Rattle.waveform.specs.kept.TraceEntries.{kept_state, fields_of, IsTraceEntry, fields_of-kept};
 
     ghost view = { kept_state };
 
@@ -40,7 +40,7 @@ impl Model for TraceEntry {
 }
 
 impl TraceEntry {
-    ghost use Rattle.waveform.specs.Entries.{CanStore};
+    ghost use Rattle.waveform.specs.kept.Entries.{CanStore};
 
     /// The entry of a state from the moment `time` on, in time units. What is pending is due after that moment, and at
     /// most the greatest delay after it.

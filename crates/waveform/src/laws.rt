@@ -1,7 +1,8 @@
 //! Laws of functions of time and of their timelines: each function does nothing, and its contract is the law.
 
 ghost use Rattle.std.specs.Prelude.{◌≡◌, ◌<◌, ◌≤◌, ◌-◌, ℕ, suc, false, List, All, IfSome};
-ghost use Rattle.waveform.specs.Timelines.{IsAlwaysSettled, IsTimeline, changes_below, entries_until, first_after, is_change, is_reached, pushed, value_by};
+ghost use Rattle.waveform.specs.Timelines.{changes_below, entries_until, first_after, is_change, value_by};
+ghost use Rattle.waveform.specs.kept.Timelines.{IsAlwaysSettled, IsTimeline, is_reached, pushed};
 ghost use Rattle.waveform.specs.declared.times.TheConstants.{TIME_END};
 
 use crate::sample::Sample;

@@ -1,8 +1,8 @@
 //! Timelines that grow together.
 
 ghost use Rattle.std.specs.Prelude.{◌≡◌, ◌<◌, ◌++◌, ◌∷◌, [], map, length, All, IfOk, OnOk, slice_index_or, slice_set};
-ghost use Rattle.waveform.specs.Notes.{AreNoted, MayBeNoted, noted, with_note, with_notes};
-ghost use Rattle.waveform.specs.Timelines.{is_reached, pushed};
+ghost use Rattle.waveform.specs.kept.Notes.{AreNoted, MayBeNoted, noted, with_note, with_notes};
+ghost use Rattle.waveform.specs.kept.Timelines.{is_reached, pushed};
 
 use crate::sample::Sample;
 use crate::timeline::Timeline;
@@ -23,7 +23,7 @@ pub struct Lines<V: Sample> {
 
 impl<V: Sample> Model for Lines<V> {
     ghost use Rattle.std.specs.Prelude.{ℕ, List, map};
-    ghost use Rattle.waveform.specs.Notes.{AreNoted, noted, with_notes};
+    ghost use Rattle.waveform.specs.kept.Notes.{AreNoted, noted, with_notes};
 
     ghost Value = { List (List (ℕ × V)) };
 

@@ -2,7 +2,7 @@
 
 ghost use Rattle.std.specs.Prelude.{◌≡◌, ◌+◌, ◌*◌, ◌/◌, ◌-◌, ◌<◌, ◌≤◌, ℕ, List, map, take, drop, length, not, slice_index_or, [], true, IfOk, OnOk};
 ghost use Rattle.std.specs.List.{find};
-ghost use Rattle.waveform.specs.Marks.{AreMarks, mark_of};
+ghost use Rattle.waveform.specs.kept.Marks.{AreMarks, mark_of};
 
 use crate::digits::VALUES;
 use crate::entries::first_to;

@@ -2,8 +2,9 @@
 
 ghost use Rattle.std.specs.Prelude.{◌≡◌, ◌<◌, ◌≤◌, ℕ, suc, IfOk, None, Some, unwrap_or};
 ghost use Rattle.std.specs.Option.{ForSome};
-ghost use Rattle.waveform.specs.Timelines.{IsAlwaysSettled, changes_below, end_of};
-ghost use Rattle.waveform.specs.Patches.{IsMended, Keeps};
+ghost use Rattle.waveform.specs.Timelines.{changes_below};
+ghost use Rattle.waveform.specs.kept.Timelines.{IsAlwaysSettled, end_of};
+ghost use Rattle.waveform.specs.kept.Patches.{IsMended, Keeps};
 ghost use Rattle.waveform.specs.declared.times.TheConstants.{TIME_END};
 
 use crate::sample::Sample;
@@ -24,8 +25,8 @@ pub struct Patch<V: Sample> {
 impl<V: Sample> Model for Patch<V> {
     ghost use Rattle.std.specs.Prelude.{◌≤◌};
     ghost use Rattle.std.specs.Option.{ForSome};
-    ghost use Rattle.waveform.specs.Patches.{PatchRecord};
-    ghost use Rattle.waveform.specs.Timelines.{end_of};
+    ghost use Rattle.waveform.specs.kept.Patches.{PatchRecord};
+    ghost use Rattle.waveform.specs.kept.Timelines.{end_of};
 
     ghost Value = { PatchRecord V };
 

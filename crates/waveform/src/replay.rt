@@ -1,7 +1,7 @@
 //! Timelines of a run that are read together, from moment to moment.
 
 ghost use Rattle.std.specs.Prelude.{◌≡◌, ◌<◌, ◌≤◌, ℕ, suc, [], ◌∷◌, ◌++◌, length, IfOk, OnErr, OnOk, map, slice_index_or};
-ghost use Rattle.waveform.specs.Paging.{AreInHand, HaveValues, readings};
+ghost use Rattle.waveform.specs.kept.Paging.{AreInHand, HaveValues, readings};
 ghost use Rattle.waveform.specs.Timelines.{value_by};
 ghost use Rattle.waveform.specs.declared.times.TheConstants.{TIME_END};
 
@@ -38,8 +38,8 @@ pub struct Replay<'a, V: Sample> {
 
 impl<'a, V: Sample> Model for Replay<'a, V> {
     ghost use Rattle.std.specs.Prelude.{map};
-    ghost use Rattle.waveform.specs.Paging.{IsInOrder, readings};
-    ghost use Rattle.waveform.specs.Replays.{ReplayRecord};
+    ghost use Rattle.waveform.specs.kept.Paging.{IsInOrder, readings};
+    ghost use Rattle.waveform.specs.kept.Replays.{ReplayRecord};
 
     ghost Value = { ReplayRecord V };
 

@@ -2,7 +2,7 @@
 
 ghost use Rattle.std.specs.Prelude.{◌≡◌, [], Some, None, IfOk, OnErr, OnOk};
 ghost use Rattle.std.specs.Option.{option_copied};
-ghost use Rattle.waveform.specs.Tables.{IsChangedAt, IsUnchanged, line_at};
+ghost use Rattle.waveform.specs.kept.Tables.{IsChangedAt, IsUnchanged, line_at};
 
 use crate::table::Table;
 use crate::trace::Trace;
@@ -23,7 +23,7 @@ pub struct Run {
 }
 
 impl Model for Run {
-    ghost use Rattle.waveform.specs.Runs.{RunRecord};
+    ghost use Rattle.waveform.specs.kept.Runs.{RunRecord};
 
     ghost Value = { RunRecord };
 

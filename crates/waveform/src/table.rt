@@ -2,7 +2,7 @@
 
 ghost use Rattle.std.specs.Prelude.{◌≡◌, ◌≤◌, ◌<◌, ℕ, [], ◌++◌, Some, None, IfOk, OnErr, OnOk, length, replicate};
 ghost use Rattle.std.specs.Option.{option_copied};
-ghost use Rattle.waveform.specs.Tables.{IsChangedAt, IsUnchanged, line_at};
+ghost use Rattle.waveform.specs.kept.Tables.{IsChangedAt, IsUnchanged, line_at};
 
 use crate::sample::Sample;
 use crate::timeline::Timeline;

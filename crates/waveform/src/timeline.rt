@@ -2,7 +2,8 @@
 
 ghost use Rattle.std.specs.Prelude.{◌≡◌, ◌<◌, ◌≤◌, ℕ, nat_lt, false, [], ◌∷◌, ◌++◌, map, All, IfOk, OnOk, OnErr, Some, if◌then◌else◌};
 ghost use Rattle.std.specs.List.{last_or};
-ghost use Rattle.waveform.specs.Timelines.{IsTimeline, is_reached, pushed, value_by, entries_until};
+ghost use Rattle.waveform.specs.Timelines.{value_by, entries_until};
+ghost use Rattle.waveform.specs.kept.Timelines.{IsTimeline, is_reached, pushed};
 
 mod follow;
 mod look;
@@ -27,8 +28,8 @@ pub struct Timeline<V: Sample> {
 
 impl<V: Sample> Model for Timeline<V> {
     ghost use Rattle.std.specs.Prelude.{ℕ, List, map, All};
-    ghost use Rattle.waveform.specs.Marks.{AreMarks};
-    ghost use Rattle.waveform.specs.Timelines.{IsTimeline};
+    ghost use Rattle.waveform.specs.kept.Marks.{AreMarks};
+    ghost use Rattle.waveform.specs.kept.Timelines.{IsTimeline};
 
     ghost Value = { List (ℕ × V) };
 

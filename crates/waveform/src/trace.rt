@@ -2,9 +2,10 @@
 
 ghost use Rattle.std.specs.Prelude.{◌≡◌};
 ghost use Rattle.gatestep.specs.Step.{due, initial};
-ghost use Rattle.waveform.specs.Digits.{digit_low, digit_of};
-ghost use Rattle.waveform.specs.Entries.{same_state, CanStore};
-ghost use Rattle.waveform.specs.SampleLaws.{is_same_state, same_state_self, due_twice, settled_at, stored_later};
+ghost use Rattle.waveform.specs.kept.Digits.{digit_low, digit_of};
+ghost use Rattle.waveform.specs.Entries.{same_state};
+ghost use Rattle.waveform.specs.kept.Entries.{CanStore};
+ghost use Rattle.waveform.specs.kept.SampleLaws.{is_same_state, same_state_self, due_twice, settled_at, stored_later};
 
 use crate::entry::TraceEntry;
 use crate::sample::Sample;

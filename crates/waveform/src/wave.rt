@@ -1,10 +1,10 @@
 //! Waves: what a net has at each moment.
 
 ghost use Rattle.std.specs.Prelude.{◌≡◌, ◌<◌, refl};
-ghost use Rattle.fourstate.specs.ValueLaws.{is_same, same_self};
+ghost use Rattle.fourstate.specs.kept.ValueLaws.{is_same, same_self};
 ghost use Rattle.fourstate.specs.Values.{same_value};
 ghost use Rattle.fourstate.specs.declared.value.Value.TheVariants.{Unknown};
-ghost use Rattle.waveform.specs.Digits.{digit_low, digit_of};
+ghost use Rattle.waveform.specs.kept.Digits.{digit_low, digit_of};
 ghost use Rattle.waveform.specs.Entries.{standing};
 ghost use Rattle.waveform.specs.declared.times.TheConstants.{TIME_END};
 

@@ -1,8 +1,8 @@
 //! Entries that are noted are written behind those of their timelines.
 
 ghost use Rattle.std.specs.Prelude.{◌≡◌, ◌<◌, ◌^◌, ◌++◌, [], All, length, map, replicate, IfOk, OnOk};
-ghost use Rattle.waveform.specs.Links.{AreLinks};
-ghost use Rattle.waveform.specs.Notes.{AreNoted, MayFollow, entries_at, noted, with_notes};
+ghost use Rattle.waveform.specs.kept.Links.{AreLinks};
+ghost use Rattle.waveform.specs.kept.Notes.{AreNoted, MayFollow, entries_at, noted, with_notes};
 
 use crate::sample::Sample;
 use crate::timeline::Timeline;

@@ -14,7 +14,7 @@ from ..netlist import Gate
 from ..netlist_edits import Edited, edited_in
 from ..netlist_text import Unread
 from ..progress import bar
-from ..script import Step, carry_out, read_script
+from ..script import Step, read_script
 from . import sweeps
 from .faults import faults_of
 from .judge import Detects, Differs, Judge, NoPulse, Verdict
@@ -155,9 +155,9 @@ def setting_of(options: argparse.Namespace) -> Setting:
     with open(options.design, encoding="utf-8", errors="surrogateescape", newline="") as file:
         text = file.read()
     steps: Tuple[Step, ...] = tuple(read_script(options.commands).steps) if options.commands else ()
-    bench = Bench(text, (), (), options.horizon, options.delay, options.program, options.timeout)
-    with bench.open() as session:
-        replies = carry_out(session, steps)
+    bench = Bench(text, steps, (), options.horizon, options.delay, options.program, options.timeout)
+    session, replies = bench.start()
+    with session:
         try:
             design = edited_in(session, text, options.delay, [it.line for it in steps], replies)
         except Unread as unread:
@@ -167,7 +167,7 @@ def setting_of(options: argparse.Namespace) -> Setting:
         if not nets:
             raise Wrong("the design has no outputs: name the nets to compare by --nets")
         horizon = session.waves(*nets)[nets[0]].horizon
-    return Setting(bench._replace(steps=steps, nets=nets), design, horizon)
+    return Setting(bench._replace(nets=nets), design, horizon)
 
 
 def carried_out(

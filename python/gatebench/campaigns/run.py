@@ -6,11 +6,14 @@ from contextlib import closing
 from threading import Event, local
 from typing import Any, Callable, Dict, Generator, Iterable, Iterator, List, NamedTuple, Optional, Sequence, Tuple
 
+from ..edits import batches
 from ..errors import Closed, Refused
 from ..lines import line_of
 from ..refusal import NO_EDIT
-from ..script import Step, carry_out
+from ..replies import Reply
+from ..script import Step
 from ..session import TIMEOUT, Session
+from ..started import started
 from ..values import change_of
 from ..wave import Wave
 from .judge import REFUSED, Judge, Verdict, Waves
@@ -41,11 +44,15 @@ class Bench(NamedTuple):
 
     def open(self) -> Session:
         """A session with the stimulus. BadStep where a command is refused."""
-        session = Session(
-            text=self.text, horizon=self.horizon, delay=self.delay, program=self.program, timeout=self.timeout
-        )
-        carry_out(session, self.steps)
-        return session
+        return self.start()[0]
+
+    def start(self) -> Tuple[Session, List[Reply]]:
+        """The same, and the replies to the commands."""
+
+        def session() -> Session:
+            return Session(text=self.text, horizon=self.horizon, delay=self.delay, program=self.program, timeout=self.timeout)
+
+        return started(session, self.steps)
 
 
 def bench_of(
@@ -77,24 +84,34 @@ class Runner:
         self.session, self.undo = self.bench.open(), ()  # type: Session, Tuple[str, ...]
 
     def verdict(self, what_if: WhatIf) -> Verdict:
+        commits = [line for some in batches([*self.undo, *what_if.edits]) for line in ("begin", *some, "commit")]
+        # All in one block: to write, to wait and to read take Python longer than all else.
+        replies = self.session.ask([*commits, *self.questions])
+        if not all(it.is_ok for it in replies):
+            return self.verdict_alone(what_if)
+        self.undo = what_if.undo
+        return self.judge(self.good, self.waves(replies[len(commits) :]))
+
+    def verdict_alone(self, what_if: WhatIf) -> Verdict:
+        """The verdict of a what-if for which something was refused, in a session of its own: what is said of it does not hang on those
+        before it, and of several commits some may have been carried out."""
+        self.session.kill()
+        self.begin()
         try:
-            self.session.edits([*self.undo, *what_if.edits])
+            self.session.edits(what_if.edits)
         except Refused as refused:
             if refused.code in NO_EDIT:
                 raise
-            # Some batches may have been carried out.
             self.session.kill()
             self.begin()
-            # The names that there are follow what was tried before.
-            refused.near = ()
             return Verdict(REFUSED, note=str(refused))
         self.undo = what_if.undo
-        return self.judge(self.good, self.waves())
+        return self.judge(self.good, self.waves(self.session.ask(self.questions)))
 
-    def waves(self) -> Waves:
-        """The waves of the nets, read where they are not the good ones."""
+    def waves(self, replies: Iterable[Reply]) -> Waves:
+        """The waves that replies to the questions show, read where they are not the good ones."""
         found = {}
-        for (net, good), before, reply in zip(self.good.items(), self.replies, self.session.ask(self.questions)):
+        for (net, good), before, reply in zip(self.good.items(), self.replies, replies):
             changed = reply.lines != before
             found[net] = Wave(net, tuple(map(change_of, reply.lines)), good.horizon) if changed else good
         return found

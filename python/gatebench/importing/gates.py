@@ -6,10 +6,10 @@ from .fault import Fault
 from .liberty import Library, LibertyCell
 from .models import Lead, Model, ModelGate
 from .netlist import Bit, Cell, Kind, Netlist
+from .power import POWER
 from .sources import UNKNOWN_PREFIX, Primitive
 from .yosys_cells import model_of
 
-POWER = re.compile(r"(?i)v(dd|ss|cc|ee|pwr|gnd|pb|nb)[a-z0-9_]*|gnd[a-z0-9_]*|[av]?v(dd|ss)|tap|sub")
 SWITCH_CURE = "write the cell as gates, or give its Liberty file by --lib"
 
 

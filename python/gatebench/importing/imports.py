@@ -57,7 +57,7 @@ def import_design(options: Options) -> Imported:
     refuse(faults + sources.faults)
     netlist, told = run_yosys(sources, options, libraries)
     gates = Gates(netlist, sources.primitives, libraries)
-    refuse(gates.faults + inputs_at_fault(netlist, gates))
+    refuse([*netlist.faults, *gates.faults, *inputs_at_fault(netlist, gates)])
     unit = unit_for(options, sources)
     timed = Timed(netlist, gates, Wanted(unit, options.delay, libraries, options.timing, annotations))
     scopes = Scopes(netlist, gates)
@@ -110,11 +110,12 @@ def run_yosys(sources: Sources, options: Options, libraries: List[Library]) -> T
 def synthesized(first: Yosys, options: Options, libraries: List[Library]) -> Tuple[Netlist, List[str]]:
     """The same by way of a netlist that yosys makes of the source."""
     try:
-        text, told = first.synthesize(options.libraries)
+        text, told = first.synthesize(libraries)
     except ImportRefused:
         # yosys tells one cell that it does not know; without the synthesis all are found.
         ran = first.netlist()
-        refuse(Gates(netlist_of(ran.netlist, ran.hierarchy, first.original), first.sources.primitives, libraries).faults)
+        flat = netlist_of(ran.netlist, ran.hierarchy, first.original)
+        refuse([*flat.faults, *Gates(flat, first.sources.primitives, libraries).faults])
         raise
     made = Sources()
     made.primitives = first.sources.primitives

@@ -1,9 +1,10 @@
 """A flat netlist, as yosys writes it: ports, names of nets, and cells."""
 import json
 import re
-from typing import Any, Callable, Dict, List, NamedTuple, Set, Tuple, Union
+from typing import Any, Callable, Dict, Iterator, List, NamedTuple, Sequence, Set, Tuple, Union
 
 from .fault import Fault, ImportRefused
+from .power import POWER
 from .sources import KIND
 
 # A net by its number, or a constant: "0", "1", "x", "z".
@@ -53,13 +54,15 @@ class Kind(NamedTuple):
 
 
 class Netlist(NamedTuple):
-    """A netlist without hierarchy. `kinds` has the modules of the instances that it had, by their paths."""
+    """A netlist without hierarchy. `kinds` has the modules of the instances that it had, by their paths, and `faults` what was connected
+    to no port of them."""
 
     top: str
     ports: List[Port]
     names: List[NetName]
     cells: List[Cell]
     kinds: Dict[str, Kind]
+    faults: Sequence[Fault] = ()
 
 
 def netlist_of(text: str, hierarchy: str, original: Callable[[str], str]) -> Netlist:
@@ -80,8 +83,9 @@ def netlist_of(text: str, hierarchy: str, original: Callable[[str], str]) -> Net
     cells = [cell_of(name, it, original) for name, it in module["cells"].items() if it["type"] != "$scopeinfo"]
     typed = [it.name for it in names] + [it.name for it in cells]
     taken = {part for it in typed for part in it.split(".")}
-    kinds = kinds_in(json.loads(hierarchy)["modules"], top)
-    return Netlist(bare(top), ports, names, renamed(sorted(cells, key=lambda it: it.order), taken), kinds)
+    instances = json.loads(hierarchy)["modules"]
+    kinds, faults = kinds_in(instances, top), list(ports_at_fault(instances, original))
+    return Netlist(bare(top), ports, names, renamed(sorted(cells, key=lambda it: it.order), taken), kinds, faults)
 
 
 def top_of(modules: Dict[str, Any]) -> str:
@@ -94,6 +98,18 @@ def top_of(modules: Dict[str, Any]) -> str:
             [Fault("the design", 0, "the top", found, "give a file with such a module, or name one by --top")]
         )
     return (marked or whole)[0]
+
+
+def ports_at_fault(modules: Dict[str, Any], original: Callable[[str], str]) -> Iterator[Fault]:
+    """The connections of instances to ports that their modules have not, which yosys leaves out; those that supply power may be."""
+    for cell in (it for module in modules.values() for it in module["cells"].values()):
+        module = modules.get(cell["type"])
+        if module is not None and "blackbox" not in module["attributes"]:
+            kind, place = kind_of(cell["type"], module), place_of(cell["attributes"].get("src", ""))
+            for pin in cell["connections"]:
+                if pin not in module["ports"] and not POWER.fullmatch(pin):
+                    why = f"the module {bare(kind.name)} has no port by this name"
+                    yield Fault(original(place.file), place.line, bare(pin), why, f"it has {', '.join(map(bare, module['ports'])) or 'none'}")
 
 
 def kinds_in(modules: Dict[str, Any], top: str) -> Dict[str, Kind]:

@@ -4,10 +4,13 @@ import re
 import shutil
 import subprocess
 import tempfile
-from typing import List, NamedTuple, Optional, Sequence, Tuple
+from typing import AbstractSet, List, NamedTuple, Optional, Sequence, Tuple
 
 from .fault import Fault, ImportRefused, ToolMissing
-from .sources import Source, Sources
+from .liberty import Library
+from .power import POWER
+from .sources import Source, Sources, names_behind
+from .verilog_words import words_of
 
 PROGRAM = "yosys"
 MISSING = (
@@ -134,15 +137,16 @@ class Yosys:
         """The lines that drop initial values, and add their number to a file."""
         return [f"tee -q -a {self.path(INITIAL)} select -count w:* a:init %i", "setattr -unset init w:*"]
 
-    def synthesize(self, libraries: Sequence[str]) -> Tuple[str, List[str]]:
+    def synthesize(self, libraries: Sequence[Library]) -> Tuple[str, List[str]]:
         """Maps the files to the cells of the first Liberty file, or to gates without one, and gives the netlist as Verilog,
         and remarks."""
         top, out = f"-top {self.top}" if self.top else "-auto-top", self.path("synthesized.v")
-        cells = f"-liberty {quoted(libraries[0])}" if libraries else "-g AND,NAND,OR,NOR,XOR,XNOR,MUX"
+        cells = f"-liberty {quoted(libraries[0].file)}" if libraries else "-g AND,NAND,OR,NOR,XOR,XNOR,MUX"
         lines = [*self.read_lines(False), *([] if self.top else ["hierarchy -auto-top"]), *self.gate_lines()]
         lines += [
             *self.read_lines(True, "-lib "),
-            *(f"read_liberty -lib -ignore_miss_func {quoted(it)}" for it in libraries),
+            *(f"read_liberty -lib -ignore_miss_func {quoted(it.file)}" for it in libraries),
+            *self.power_lines(libraries),
         ]
         lines += [f"hierarchy {top if self.top else ''}", "proc", "tribuf", "chformal -remove"]
         lines += [f"synth {top if self.top else ''}", *self.without_initial()]
@@ -150,6 +154,16 @@ class Yosys:
         lines += [f"abc {cells}", "opt_clean -purge", f"write_verilog -noexpr -nohex {out}"]
         said = self.must_run(lines)
         return self.read(out), self.remarks(said)
+
+    def power_lines(self, libraries: Sequence[Library]) -> List[str]:
+        """The lines that give cells the pins for power to which the design connects something: yosys refuses an instance with a pin
+        that its cell has not."""
+        words = {word for it in self.sources.files if not it.is_cells for word in re.findall(r"\w+", it.text)}
+        usual = {it for it in words if POWER.fullmatch(it)}
+        pins = {name: usual for it in self.sources.files if it.is_cells for name in names_behind(words_of(it.text), "module")}
+        models = {name: it.model for library in libraries for name, it in library.cells.items() if it.model}
+        pins.update({name: (usual | it.power & words).difference(it.pins) for name, it in models.items()})
+        return [line for name in sorted(words.intersection(pins)) for line in add_pins(name, pins[name])]
 
     def read(self, path: str) -> str:
         with open(path, encoding="utf-8", errors="surrogateescape") as file:
@@ -206,12 +220,19 @@ class Yosys:
         return os.path.realpath(path) if path.startswith(self.folder) else path or "the design"
 
 
+def add_pins(cell: str, pins: AbstractSet[str]) -> List[str]:
+    """The lines that add inputs to a cell. yosys adds none to what it knows as a black box."""
+    adding = [f"add -input {it} 1 {cell}" for it in sorted(pins)]
+    return [f"setattr -mod -unset blackbox ={cell}", *adding, f"setattr -mod -set blackbox 1 {cell}"] if adding else []
+
+
 CURE = "yosys says more: run it over the file by itself"
 CURES = (
     ("syntax error", "it is no Verilog that yosys reads: correct it there, or in the line before"),
     ("not found", "give the file that has it, or another --top"),
     ("is not part of the design", "give the file that has it, or another --top"),
     ("of unknown type", "give its library by --lib, as Liberty or as Verilog"),
+    ("Can't map port", "connect as many nets as the module has ports"),
     ("does not have a port", "correct the name of the port, or give the file with the cell that was meant"),
     ("Re-definition", "give it once: leave one of the files out"),
     ("ABC output file", "synthesis wants more cells of the Liberty file: an inverter, a buffer and a gate of two inputs, as a nand"),

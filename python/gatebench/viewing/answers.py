@@ -2,18 +2,19 @@
 from typing import Any, Callable, Dict, List, NamedTuple, Optional, Sequence
 
 from ..asked import PARTS
+from ..causes import without_fault
+from ..edits import EDITS
 from ..errors import GatebenchError, Refused
 from ..limits import MOST_PARTS
 from ..netlist import Gate
-from ..origins import candidates, nets_read
 from ..questions import changes_beside
 from . import saved
 from .cuts import Cuts
 from .edited_session import EditedSession
-from .model import EDITS
 from .rows import rows_of
 from .tracks import Row, Tracks
 from .view import View
+from .ways import effects_at, origin_at, way_back
 from .windows import differing, spans_of
 
 Said = Dict[str, Any]
@@ -139,17 +140,20 @@ def gate(of: Gate) -> Said:
 
 def net(view: View, name: str) -> Said:
     """The gates that drive a net, and those that read it."""
-    gates = view.current.model.gates.values()
-    readers = [gate(it) for it in gates if name in it.inputs][:SHOWN]
-    return {"net": name, "drivers": [gate(it) for it in view.current.model.drivers(name)], "readers": readers}
+    model = view.current.model
+    return {"net": name, "drivers": list(map(gate, model.drivers(name))), "readers": list(map(gate, model.readers(name)[:SHOWN]))}
 
 
-def origins(view: View, name: str, time: int) -> Said:
-    """What may have made the change of a net at a moment."""
-    drivers = view.current.model.drivers(name)
-    found = candidates(drivers, time, changes_beside(view.current.session, "prev", nets_read(drivers), time))
-    reach = view.current.model.reach([name], time)
-    return {**net(view, name), "time": time, "points": reach.points, "candidates": [it._asdict() for it in found]}
+def origins(view: View, bits: Sequence[str], time: int) -> Said:
+    """What made the change of a row at a moment, back to the stimulus, and what it led to: of the first of its nets that changes then."""
+    current = view.current
+    name = next((it for it in bits if origin_at(current, it, time)), None)
+    if name is None:
+        return {"net": None}
+    way = way_back(current, name, time)
+    led = effects_at(current, name, time)
+    effects = None if led is None else {"count": len(led), "changes": [it._asdict() for it in led[:SHOWN]]}
+    return {**net(view, name), "time": time, "way": [it._asdict() for it in way.changes], "end": way.end, "effects": effects}
 
 
 def edge(view: View, bits: Sequence[str], time: int, step: int) -> Said:
@@ -164,11 +168,12 @@ def edge(view: View, bits: Sequence[str], time: int, step: int) -> Said:
 
 def command(view: View, line: str) -> List[str]:
     """Carries out a line that a person has written; gives the lines of its answer."""
-    current, verb, *names = view.current, *line.split()
+    current = view.current
+    verb, *names = without_fault(line)
     if verb in ("hold", "free") and len(names) == 1:
         (current.hold if verb == "hold" else current.free)(names[0])
     elif verb in EDITS:
-        current.edit([line])
+        current.edit([" ".join([verb, *names])])
     elif verb in NOT_HERE:
         raise NotHere(f"{verb} is not for the page: each step is a batch of its own, and ctrl-C in the terminal ends it")
     else:

@@ -136,8 +136,8 @@ def changes(view: View, body: Body) -> Said:
     return answers.changes(view)
 
 
-def reach(view: View, body: Body) -> Said:
-    return view.current.model.reach(body["bits"], body["time"])._asdict()
+def movable(view: View, body: Body) -> Said:
+    return view.current.model.movable(body["bits"], body["time"])._asdict()
 
 
 def net(view: View, body: Body) -> Said:
@@ -145,7 +145,7 @@ def net(view: View, body: Body) -> Said:
 
 
 def origins(view: View, body: Body) -> Said:
-    return answers.origins(view, body["net"], body["time"])
+    return answers.origins(view, body["bits"], body["time"])
 
 
 def edge(view: View, body: Body) -> Said:
@@ -164,5 +164,5 @@ def save(view: View, body: Body) -> Said:
 QUESTIONS: Dict[str, Callable[[View, Body], Said]] = {
     it.__name__: it
     for it in (design, status, windows, edit, command, undo, redo, rule, drop_rule)
-    + (changes, reach, net, origins, edge, reload, save)
+    + (changes, movable, net, origins, edge, reload, save)
 }

@@ -1,14 +1,17 @@
 """A session whose edits are steps that can be undone, with the version before the last step beside it."""
-from typing import Dict, List, NamedTuple, Optional, Sequence, Set, Union
+from typing import Callable, Dict, List, NamedTuple, Optional, Sequence, Set, Tuple, Union
 
 from ..asked import DIFF, TOOLS
+from ..causes import without_fault
 from ..difference import Differences, changed, diff
+from ..edits import EDITS
 from ..errors import GatebenchError, Refused
 from ..lines import checked_line
 from ..netlist_edits import carried_out
-from ..script import BadStep, Step, carry_out
+from ..script import BadStep, Step
 from ..session import HARMLESS, Held, Session
-from .model import EDITS, Model
+from ..started import started
+from .model import Model
 from .tracks import Tracks, horizon_of
 
 # The names under which the version before the last step is held, in turn.
@@ -149,18 +152,18 @@ class EditedSession:
         undo = self.model.take_all(edits)
         if any(it.split()[0] in OF_NETS for it in edits):
             self.net_lists += 1
-        self.now = self._tracks(self.model.reached())
+        self.now = self._tracks(self.model.affected())
         self.commits += 1
         return undo
 
-    def _tracks(self, reached: Optional[Set[str]]) -> Tracks:
-        """The tracks of the present version, with those of the one before that are the same. `reached` has the nets that the edits
+    def _tracks(self, affected: Optional[Set[str]]) -> Tracks:
+        """The tracks of the present version, with those of the one before that are the same. `affected` has the nets that the edits
         between them may have changed."""
         self._differing = {}
         if self.before is None or self.before.horizon != self.model.horizon:
             return Tracks(self.session, self.model.horizon)
         if self.session.knows(TOOLS) and not self.session.knows(DIFF):
-            self._differing[self.before] = reached
+            self._differing[self.before] = affected
         differing = self.may_differ(self.before)
         if differing is None:
             return Tracks(self.session, self.model.horizon)
@@ -172,20 +175,21 @@ def held_tracks(session: Session, name: str, nets: Sequence[str]) -> Tracks:
     return Tracks(held, horizon_of(held, nets))
 
 
-def begin(session: Session, steps: Sequence[Step]) -> List[str]:
-    """Carries out the commands of a file, and gives the edits among them; what it expects is not looked at. BadStep where one
-    is refused."""
+def begin(open_session: Callable[[], Session], steps: Sequence[Step]) -> Tuple[Session, List[str]]:
+    """A session in which the commands of a file were carried out, and the edits among them; what it expects is not looked at. BadStep
+    where one is refused."""
     commands = [it for it in steps if not it.is_expectation]
-    replies = carry_out(session, commands)
+    session, replies = started(open_session, commands)
     if session.ask([HARMLESS])[0].is_ok:
+        session.kill()
         raise BadStep(commands[-1].number, "the commands leave a batch open")
-    return [" ".join(it) for it in carried_out([it.line for it in commands], replies) if it[0] in EDITS]
+    return session, [" ".join(it) for it in carried_out([it.line for it in commands], replies) if it[0] in EDITS]
 
 
 def held_in(steps: Sequence[Step]) -> List[str]:
     """The versions that steps hold at their end, where none of them was refused."""
     held: Dict[str, None] = {}
-    for verb, *names in (it.line.split() for it in steps):
+    for verb, *names in (without_fault(it.line) for it in steps):
         if verb == "hold":
             held[names[0]] = None
         elif verb == "free":

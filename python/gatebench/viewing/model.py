@@ -7,18 +7,17 @@ from ..lines import line_of
 from ..netlist import Gate, Netlist
 from ..netlist_edits import Editing
 from ..structure import Structure
-from .reached import reached, touched
+from .affected import affected, touched
 
 Lines = List[str]
 
-EDITS = ("net", "input", "dropnet", "kind", "gate", "drop", "delay", "type", "wire", "stim", "unstim", "horizon")
 # Edits of a gate that is there.
 OF_GATES = ("drop", "delay", "type", "wire")
 # The kind of an input that was added.
 INPUT_KIND = "wire"
 
 
-class Reach(NamedTuple):
+class Movable(NamedTuple):
     """The stimulus points of some nets at one moment, and the moments to which they can be moved with none behind another."""
 
     points: List[Tuple[str, str]]
@@ -55,6 +54,9 @@ class Model:
     def drivers(self, net: str) -> List[Gate]:
         return [it for it in self.gates.values() if it.output == net]
 
+    def readers(self, net: str) -> List[Gate]:
+        return [it for it in self.gates.values() if net in it.inputs]
+
     def take(self, words: List[str]) -> None:
         """An edit that the program has carried out, by its words."""
         verb, name = words[0], words[1]
@@ -88,10 +90,10 @@ class Model:
             self.take(words)
         return undo
 
-    def reached(self) -> Optional[Set[str]]:
+    def affected(self) -> Optional[Set[str]]:
         """The nets that the edits since the last look may have changed, by the gates as they are known; None for all."""
         nets, self.touched = self.touched, set()
-        return None if nets is None else reached(nets, self.gates.values())
+        return None if nets is None else affected(nets, self.gates.values())
 
     def undo_of(self, words: List[str]) -> Optional[Lines]:
         """The edits that undo one which is carried out now; None where too little is known of what was."""
@@ -120,7 +122,7 @@ class Model:
         points = [line_of("stim", net, time, value) for time, value in sorted(self.points.get(net, {}).items())]
         return [line_of("input", net), *kinds, *points]
 
-    def reach(self, nets: Sequence[str], time: int) -> Reach:
+    def movable(self, nets: Sequence[str], time: int) -> Movable:
         """The points of nets at a moment, and how far they can go."""
         found, least, most = [], 0, self.horizon
         for net in nets:
@@ -131,7 +133,7 @@ class Model:
                 found.append((net, points[time]))
                 least = max([least, *(it + 1 for it in times[place - 1 : place])])
                 most = min([most, *(it - 1 for it in times[place + 1 : place + 2])])
-        return Reach(found, least, most)
+        return Movable(found, least, most)
 
 
 def undo_of_gate(verb: str, gate: Gate) -> Optional[Lines]:

@@ -35,9 +35,8 @@ class View:
         """The design as its file is now, with the steps carried out. What it has read is not read again, even if it was
         refused."""
         self._stamp = stamp_of(self.opening.design)
-        session = self._session(self.opening.horizon)
+        session, edits = begin(lambda: self._session(self.opening.horizon), self.steps)
         try:
-            edits = begin(session, self.steps)
             model = Model(self._netlist())
             model.take_all(edits)
             if session.knows(TOOLS):

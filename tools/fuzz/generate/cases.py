@@ -3,11 +3,14 @@ import random
 
 from case import Case
 
-from . import sessions, texts
+from . import circuits, sessions, texts
+from .tool_lines import ToolLines
 
 HORIZONS = [0, 5, 20, 20, 40, 40, 60]
 # How many designs are looked at for a session, for one with an input and a gate.
 TRIES = 8
+# How many sessions of gatetool are over circuits.
+CIRCUITS = 0.7
 
 
 def options(rng, horizon, delay):
@@ -36,15 +39,22 @@ def lively(rng, delay, words):
     return found or Case(b"module m(input a, output y); not #2 (y, a); endmodule\n", words)
 
 
-def session_case(seed, number, tool=False):
+def commands(lines):
+    return sessions.session(lines, lines.rng.choice([8, 16, 32, 64]))
+
+
+def session_case(seed, number):
     """A session over a design."""
-    rng = random.Random(f"{seed} {'tool' if tool else 'session'} {number}")
+    rng = random.Random(f"{seed} session {number}")
     delay, horizon = rng.choice([None, None, 3]), rng.choice(HORIZONS)
     case = lively(rng, delay, options(rng, horizon, delay))
-    commands = sessions.session(rng, case.design(), horizon, rng.choice([8, 16, 32, 64]), tool)
-    return case._replace(commands=commands, tool=tool)
+    return case._replace(commands=commands(sessions.Lines(rng, case.design(), horizon)))
 
 
 def tool_case(seed, number):
     """A session of gatetool."""
-    return session_case(seed, number, tool=True)
+    rng = random.Random(f"{seed} tool {number}")
+    delay, horizon = rng.choice([None, None, 3]), rng.choice(HORIZONS)
+    words = options(rng, horizon, delay)
+    case = Case(circuits.text(rng, delay), words) if rng.random() < CIRCUITS else lively(rng, delay, words)
+    return case._replace(commands=commands(ToolLines(rng, case.design(), horizon)), tool=True)

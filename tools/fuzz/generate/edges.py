@@ -4,6 +4,7 @@ from itertools import product
 from case import Case
 from reading.tables import GATES, VERILOG
 
+from . import tool_edges
 from .parts import BODIES, HEADERS, INNER, NUMBERED, NUMBERS, SCALES, TOPS, parts
 
 HEAD = b"module m(input a, output y);\n"
@@ -83,7 +84,6 @@ def counts():
     yield b"module k; wire [32767:0] w; endmodule module m; k u(), v(); wire w; endmodule"
     yield b"module m(input a);\nwire %s;\nendmodule" % listed(b"n%d", 65_535)
     yield b"module m(input a);\nwire %s;\nendmodule" % listed(b"n%d", 65_536)
-    yield b"module m(output y);\nnot #1 %s;\nendmodule" % listed(b"g%d(y, y)", 65_536)
     yield b"module m(output y);\nnot #1 %s;\nendmodule" % listed(b"g%d(y, y)", 65_537)
     yield b"module m(output y);\nbuf #1 g(%s, y);\nendmodule" % listed(b"n%d", 65_535)
 
@@ -183,6 +183,7 @@ def sessions():
         yield b"gate h nor 1 2 y%s\nwire g y%s\ntype g and\nwire g y%s\nstim a 2 1\nvcd\n" % ((b" a" * count,) * 3)
     for word in (b"1'bX", b"1'B0", b"1'b2", b"1'b", b"x'", b"'", b"1'b01", b"2'b0", b"1'bz", b"1'bx", b"1"):
         yield b"gate h and 1 1 y %s\nwire g y %s\nwire g %s a\nvalue %s 0\nnet %s wire\nvcd\n" % ((word,) * 5)
+    yield b"net n wire\ngate t bufif1 2 2/1 n 1'b1 a\nstim a 0 1\nstim a 3 x\nwave n\n"
     yield b"net n wire\nnet o wire\ninput p\nnet q wand\ndropnet n\nnet n wor\nnet r wire\nvcd\n"
 
 
@@ -202,3 +203,7 @@ def cases():
     for commands in sessions():
         yield Case(buffer, ("--horizon", "5"), commands)
     yield Case(wide, ("--horizon", "5"), commands)
+    yield Case(wide, ("--horizon", "5"), b"".join(b"fault " + line + b"\n" for line in commands.split(b"\n")), tool=True)
+    full = b"module m(output y);\nnot #1 %s;\nendmodule" % listed(b"g%d(y, y)", 65_536)
+    yield Case(full, ("--horizon", "5"), tool_edges.FULL_OF_GATES, tool=True)
+    yield from tool_edges.cases()

@@ -1,5 +1,6 @@
 """Sessions over a design: edits of every kind, batches, held snapshots and questions, and lines that are none."""
-from reading.session import EDITS, Session
+from reading.lines import EDITS, FAULT
+from reading.session import Session
 
 from .layout import BYTES
 from .words import Words
@@ -38,10 +39,13 @@ def guard(design):
 
 
 class Lines:
-    """Makes lines for a session, which is told of each."""
+    """Makes lines for a session, which is told of each. `quits` are the lines that end it; `shares` say how many lines are edits,
+    questions, lines about held snapshots, and lines about batches, each with those before it."""
 
-    def __init__(self, rng, design, horizon, tools):
-        self.rng, self.session = rng, Session(design, horizon, guard, tools)
+    tools, quits, shares = False, [b"quit"], (0.58, 0.8, 0.9)
+
+    def __init__(self, rng, design, horizon):
+        self.rng, self.session = rng, Session(design, horizon, guard, self.tools)
         self.words = Words(rng, self.session, max(3, min(horizon, 60)))
         verbs = "net", "input", "dropnet", "kind", "gate", "drop", "delay", "type", "wire", "stim", "unstim", "horizon"
         self.verbs = {verb: getattr(self, verb) for verb in verbs}
@@ -101,20 +105,12 @@ class Lines:
         return [verb, *self.verbs[verb]()]
 
     def question(self):
-        often = ["window"] * 6 if "window" in self.session.questions else []
-        verb = self.rng.choice([*self.session.questions, "wave", "wave", "wave", *often])
-        if verb in ("vcd", "nets", "inputs", "gates"):
+        verb = self.rng.choice([*self.session.questions, "wave", "wave", "wave"])
+        if verb == "vcd":
             return [verb]
-        if verb in ("wave", "drivers", "readers", "points", "gate"):
-            return [verb, self.words.gate() if verb == "gate" else self.words.input() if verb == "points" else self.words.net()]
-        if verb == "window":
-            return [verb, self.words.net(), *self.moments(), *self.words.parts()]
+        if verb == "wave":
+            return [verb, self.words.net()]
         return [verb, self.words.net(), self.words.time(), *([self.words.value()] if verb == "seek" else [])]
-
-    def moments(self):
-        """Two moments, mostly in order."""
-        found = ["0" if self.words.often(0.4) else self.words.time(), self.words.time()]
-        return found if self.words.often(0.2) else sorted(found, key=lambda it: (len(it), it))
 
     def held(self):
         held = list(self.session.holds)
@@ -126,16 +122,32 @@ class Lines:
         verb = "begin" if self.session.batch is None else self.rng.choice(["commit", "commit", "commit", "abort"])
         return [verb if self.words.often(0.9) else self.rng.choice(["begin", "commit", "abort"])]
 
+    def odd_line(self):
+        return self.rng.choice(ODD_LINES)
+
+    def said(self, words):
+        """The words of a line as they stand in it."""
+        return words
+
     def line(self):
         """A line without its end."""
         share = self.rng.random()
         if share < 0.03:
-            return self.rng.choice(ODD_LINES).encode("latin-1")
-        made = self.edit if share < 0.58 else self.question if share < 0.8 else self.held if share < 0.9 else self.batch
-        line = self.rng.choice([" "] * 12 + ["  ", "\t"]).join(made()).encode("latin-1")
+            return self.odd_line().encode("latin-1")
+        edits, questions, held = self.shares
+        made = self.edit if share < edits else self.question if share < questions else self.held if share < held else self.batch
+        line = self.rng.choice([" "] * 12 + ["  ", "\t"]).join(self.said(made())).encode("latin-1")
         if self.words.often(0.02):
             line += self.rng.choice(ENDS).encode()
         return self.mangled(line) if self.words.often(0.03) else line
+
+    def first(self):
+        """The lines that it begins with."""
+        return []
+
+    def some(self):
+        """One line, or several that belong together."""
+        return [self.line()]
 
     def mangled(self, line):
         place = self.rng.randrange(len(line) + 1)
@@ -146,23 +158,24 @@ class Lines:
 
     def told(self, line):
         """The line, or another one where the run would take too long; the session has gone on by it."""
-        verb = next(iter(line.split()), b"").decode("latin-1")
+        words = [it.decode("latin-1") for it in line.split()]
+        verb = next(iter(words[1:] if self.tools and words[:1] == [FAULT] else words), "")
         if not verb or verb == "at" or verb in self.session.questions and verb not in EDITS:
             return line
         try:
             self.session.reply(line)
         except TooLong:
-            return b"abort" if line.split()[0] == b"commit" else b"# too long"
+            return b"abort" if verb == "commit" else b"# too long"
         return line
 
 
-def session(rng, design, horizon, count, tools=False):
-    """The commands of a session of about so many lines, among them questions of tools where these are known."""
-    lines = Lines(rng, design, horizon, tools)
-    made = [lines.told(lines.line()) for _ in range(count)]
-    if rng.random() < 0.2:
-        made.insert(rng.randrange(len(made) + 1), b"quit")
-    return b"\n".join(made) + rng.choice([b"", b"\n", b"\n"])
+def session(lines, count):
+    """The commands of a session of about so many lines."""
+    made = [lines.told(line) for line in lines.first()]
+    made += [lines.told(line) for _ in range(count) for line in lines.some()]
+    if lines.words.often(0.2):
+        made.insert(lines.rng.randrange(len(made) + 1), lines.rng.choice(lines.quits))
+    return b"\n".join(made) + lines.rng.choice([b"", b"\n", b"\n"])
 
 
 def show_all(rng, design, horizon):

@@ -5,9 +5,16 @@ from .design import Gate, Net
 from .tables import MAX_DELAY, MAX_GATES, MAX_NAME, MAX_NETS, MAX_POINTS, MAX_TIME, TURN_OFF, Refused, fits
 
 
-def check(holds, cause):
+def check(holds, cause, word=None):
+    """Refuses for this cause, with this word at fault, where it does not hold."""
     if not holds:
-        raise Refused(cause)
+        raise Refused(cause, word)
+
+
+def check_each(holds, words, cause):
+    """Each of these words has to hold; the first that does not is at fault."""
+    for word in words:
+        check(holds(word), cause, word)
 
 
 def is_name(name):
@@ -17,25 +24,25 @@ def is_name(name):
 
 
 def check_new(name, there, most):
-    check(is_name(name), "BadName")
-    check(name not in there, "DuplicateName")
-    check(len(there) < most, "TooMany")
+    check(is_name(name), "BadName", name)
+    check(name not in there, "DuplicateName", name)
+    check(len(there) < most, "TooMany", name)
 
 
 def check_delays(delays):
-    check(0 not in delays, "ZeroDelay")
-    check(max(delays) <= MAX_DELAY, "DelayTooLarge")
+    check_each(lambda it: it != 0, delays, "ZeroDelay")
+    check_each(lambda it: it <= MAX_DELAY, delays, "DelayTooLarge")
 
 
-def check_turn_off(word, delays):
-    check(len(delays) == 2 or word in TURN_OFF, "NoTurnOff")
+def check_turn_off(kind, delays, word):
+    check(len(delays) == 2 or kind in TURN_OFF, "NoTurnOff", word)
 
 
 def check_wires(design, output, inputs):
     """An output and inputs of a gate: nets that are there, or constants, and no input is driven."""
     names = [output, *(it for it in inputs if "'" not in it)]
-    check(all(it in design.nets for it in names), "UnknownNet")
-    check(not design.nets[output].is_input, "DrivenInput")
+    check_each(lambda it: it in design.nets, names, "UnknownNet")
+    check(not design.nets[output].is_input, "DrivenInput", output)
 
 
 def with_net(design, name, net):
@@ -60,54 +67,56 @@ def input(design, name):
 
 
 def dropnet(design, name):
-    check(name in design.nets, "UnknownNet")
-    check(all(name != gate.output and name not in gate.inputs for gate in design.gates.values()), "NetInUse")
+    check(name in design.nets, "UnknownNet", name)
+    check(all(name != gate.output and name not in gate.inputs for gate in design.gates.values()), "NetInUse", name)
     return replace(design, nets=without(design.nets, name))
 
 
 def kind(design, name, word):
-    check(name in design.nets, "UnknownNet")
+    check(name in design.nets, "UnknownNet", name)
     return with_net(design, name, replace(design.nets[name], kind=word))
 
 
-def gate(design, name, word, delays, output, inputs):
+def gate(design, name, word, rise, falls, output, inputs):
+    delays = (rise, *falls)
     check_new(name, design.gates, MAX_GATES)
     check_delays(delays)
-    check_turn_off(word, delays)
-    check(fits(word, len(inputs)), "WrongArity")
+    check_turn_off(word, delays, delays[-1])
+    check(fits(word, len(inputs)), "WrongArity", word)
     check_wires(design, output, inputs)
     return with_gate(design, name, Gate(word, delays, output, inputs))
 
 
 def drop(design, name):
-    check(name in design.gates, "UnknownGate")
+    check(name in design.gates, "UnknownGate", name)
     return replace(design, gates=without(design.gates, name))
 
 
-def delay(design, name, delays):
-    check(name in design.gates, "UnknownGate")
+def delay(design, name, rise, falls):
+    delays = (rise, *falls)
+    check(name in design.gates, "UnknownGate", name)
     check_delays(delays)
-    check_turn_off(design.gates[name].kind, delays)
+    check_turn_off(design.gates[name].kind, delays, delays[-1])
     return with_gate(design, name, replace(design.gates[name], delays=delays))
 
 
 def type(design, name, word):
-    check(name in design.gates, "UnknownGate")
-    check(fits(word, len(design.gates[name].inputs)), "WrongArity")
-    check_turn_off(word, design.gates[name].delays)
+    check(name in design.gates, "UnknownGate", name)
+    check(fits(word, len(design.gates[name].inputs)), "WrongArity", word)
+    check_turn_off(word, design.gates[name].delays, word)
     return with_gate(design, name, replace(design.gates[name], kind=word))
 
 
 def wire(design, name, output, inputs):
-    check(name in design.gates, "UnknownGate")
-    check(fits(design.gates[name].kind, len(inputs)), "WrongArity")
+    check(name in design.gates, "UnknownGate", name)
+    check(fits(design.gates[name].kind, len(inputs)), "WrongArity", name)
     check_wires(design, output, inputs)
     return with_gate(design, name, replace(design.gates[name], output=output, inputs=inputs))
 
 
 def points_of(design, name):
-    check(name in design.nets, "UnknownNet")
-    check(design.nets[name].is_input, "NotInput")
+    check(name in design.nets, "UnknownNet", name)
+    check(design.nets[name].is_input, "NotInput", name)
     return design.nets[name].points
 
 
@@ -117,18 +126,18 @@ def with_points(design, name, points):
 
 def stim(design, name, time, value):
     points = points_of(design, name)
-    check(time <= MAX_TIME, "TimeTooLarge")
+    check(time <= MAX_TIME, "TimeTooLarge", time)
     count = sum(len(it.points) for it in design.nets.values())
-    check(time in points or count < MAX_POINTS, "TooMany")
+    check(time in points or count < MAX_POINTS, "TooMany", time)
     return with_points(design, name, {**points, time: value})
 
 
 def unstim(design, name, time):
     points = points_of(design, name)
-    check(time in points, "NoSuchPoint")
+    check(time in points, "NoSuchPoint", time)
     return with_points(design, name, without(points, time))
 
 
 def horizon(design, time):
-    check(time <= MAX_TIME, "TimeTooLarge")
+    check(time <= MAX_TIME, "TimeTooLarge", time)
     return replace(design, horizon=time)

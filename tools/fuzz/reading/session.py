@@ -1,222 +1,13 @@
 """A session: of each line of commands the reply."""
 from dataclasses import replace
-from itertools import groupby
 
-from . import dump, edits
-from .run import waves
-from .tables import CAUSES, CONSTANTS, GATES, MAX_BATCH, MAX_HOLDS, MAX_LINE, MAX_PARTS, MAX_WORD, NETS, VALUES, Refused
-from .tokens import number_of
+from .edits import check, check_new
+from .lines import EDITS, FAULT, QUESTIONS, TOOL_QUESTIONS, Line, name, verb_of
+from .questions import Snapshot, diff
+from .tables import CAUSES, MAX_BATCH, MAX_HOLDS, MAX_LINE, Refused
 
-
-class Snapshot:
-    """A version of a design; its run is made where a question asks for it."""
-
-    def __init__(self, version, design):
-        self.version, self.design, self.made = version, design, None
-
-    def waves(self):
-        if self.made is None:
-            self.made = waves(self.design)
-        return self.made
-
-    def wave(self, name, time=0):
-        """The changes of a net, where it is there and the time is not past the horizon."""
-        edits.check(name in self.design.nets, "UnknownNet")
-        edits.check(time <= self.design.horizon, "TimeTooLarge")
-        return self.waves()[name]
-
-
-# The questions: each gives the lines of its reply.
-
-
-def change(found):
-    return ["{} {}".format(*found[0])] if found else ["none"]
-
-
-def value(snapshot, name, time):
-    return [[it for at, it in snapshot.wave(name, time) if at <= time][-1]]
-
-
-def wave(snapshot, name):
-    return [f"{time} {it}" for time, it in snapshot.wave(name)]
-
-
-def next(snapshot, name, time):
-    return change([it for it in snapshot.wave(name, time) if it[0] > time])
-
-
-def prev(snapshot, name, time):
-    return change([it for it in reversed(snapshot.wave(name, time)) if it[0] < time])
-
-
-def seek(snapshot, name, time, wanted):
-    return change([it for it in snapshot.wave(name, time) if it[0] > time and it[1] == wanted])
-
-
-def vcd(snapshot):
-    return list(dump.lines(snapshot.design, snapshot.waves()))
-
-
-# The questions of tools.
-
-
-def net_lines(design, wanted):
-    return [f"{name} {net.kind}" for name, net in design.nets.items() if wanted(net)]
-
-
-def nets(snapshot):
-    return net_lines(snapshot.design, lambda net: True)
-
-
-def inputs(snapshot):
-    return net_lines(snapshot.design, lambda net: net.is_input)
-
-
-def gate_line(name, gate):
-    rise, *others = gate.delays
-    return " ".join([name, gate.kind, str(rise), "/".join(map(str, others)), gate.output, *gate.inputs])
-
-
-def gates(snapshot):
-    return [gate_line(name, gate) for name, gate in snapshot.design.gates.items()]
-
-
-def gate(snapshot, name):
-    edits.check(name in snapshot.design.gates, "UnknownGate")
-    return [gate_line(name, snapshot.design.gates[name])]
-
-
-def gates_at(snapshot, net, is_at):
-    edits.check(net in snapshot.design.nets, "UnknownNet")
-    return [name for name, gate in snapshot.design.gates.items() if is_at(gate)]
-
-
-def drivers(snapshot, net):
-    return gates_at(snapshot, net, lambda gate: gate.output == net)
-
-
-def readers(snapshot, net):
-    return gates_at(snapshot, net, lambda gate: net in gate.inputs)
-
-
-def points(snapshot, name):
-    edits.check(name in snapshot.design.nets, "UnknownNet")
-    edits.check(snapshot.design.nets[name].is_input, "NotInput")
-    return [f"{time} {it}" for time, it in sorted(snapshot.design.nets[name].points.items())]
-
-
-def window(snapshot, name, begin, end, count=None):
-    changes = snapshot.wave(name, end)
-    edits.check(begin <= end, "TimeTooLarge")
-    first = [it for time, it in changes if time <= begin][-1]
-    later = [it for it in changes if begin < it[0] <= end]
-    if count is not None:
-        return part_lines(first, later, lambda time: ((time - begin) * count - 1) // (end - begin))
-    return [f"{begin} {first}", *(f"{time} {it}" for time, it in later)]
-
-
-def part_lines(value, changes, part_of):
-    """The lines of the parts that these changes lie in, of a net that had this value before them."""
-    lines = []
-    for _, part in groupby(changes, lambda it: part_of(it[0])):
-        (time, last), *more = part
-        last = more[-1][1] if more else last
-        lines.append(f"{time} {value} {last} {'more' if more else 'one'}")
-        value = last
-    return lines
-
-
-# The words of commands: each reads a word or refuses it.
-
-
-def readable(holds, word):
-    edits.check(holds, "BadCommand")
-    return word
-
-
-def name(word):
-    return word
-
-
-def number(word):
-    readable(word.isdigit(), word)
-    return number_of(word, MAX_WORD)
-
-
-def part_count(word):
-    count = number(word)
-    return readable(1 <= count <= MAX_PARTS, count)
-
-
-def one_of(words):
-    return lambda word: readable(word in words, word)
-
-
-def terminal(word):
-    return readable("'" not in word or word in CONSTANTS, word)
-
-
-def delays(rise, fall):
-    fall, mark, off = fall.partition("/")
-    return (number(rise), number(fall), *([number(off)] if mark else []))
-
-
-net_kind, gate_kind, of_value = one_of(NETS), one_of(GATES), one_of(tuple(VALUES))
-
-# Of each edit and question what its words are.
-EDITS = {
-    "net": (edits.net, name, net_kind),
-    "input": (edits.input, name),
-    "dropnet": (edits.dropnet, name),
-    "kind": (edits.kind, name, net_kind),
-    "gate": (edits.gate, name, gate_kind, delays, name, [terminal]),
-    "drop": (edits.drop, name),
-    "delay": (edits.delay, name, delays),
-    "type": (edits.type, name, gate_kind),
-    "wire": (edits.wire, name, name, [terminal]),
-    "stim": (edits.stim, name, number, of_value),
-    "unstim": (edits.unstim, name, number),
-    "horizon": (edits.horizon, number),
-}
-QUESTIONS = {
-    "value": (value, name, number),
-    "wave": (wave, name),
-    "next": (next, name, number),
-    "prev": (prev, name, number),
-    "seek": (seek, name, number, of_value),
-    "vcd": (vcd,),
-}
-TOOL_QUESTIONS = {
-    "nets": (nets,),
-    "inputs": (inputs,),
-    "gates": (gates,),
-    "gate": (gate, name),
-    "drivers": (drivers, name),
-    "readers": (readers, name),
-    "points": (points, name),
-    "window": (window, name, number, number, (part_count,)),
-}
-
-
-def read_words(forms, words):
-    """What the words behind a command's say, read one by one as its form has them; a list at its end takes all others, and what
-    stands in brackets one more, if there is one."""
-    said, left = [], list(words)
-    for form in forms:
-        if isinstance(form, list):
-            said.append(tuple(form[0](it) for it in left))
-            left = []
-            continue
-        if isinstance(form, tuple):
-            if not left:
-                continue
-            [form] = form
-        count = 2 if form is delays else 1
-        readable(len(left) >= count, "")
-        said.append(form(*left[:count]))
-        del left[:count]
-    readable(not left, "")
-    return said
+WHOLE = ("begin", "commit", "abort", "quit")
+OF_HOLDS = ("hold", "free")
 
 
 class Session:
@@ -224,7 +15,9 @@ class Session:
     the questions of tools too."""
 
     def __init__(self, design, horizon, made=lambda design: None, tools=False):
-        self.questions = {**QUESTIONS, **(TOOL_QUESTIONS if tools else {})}
+        self.questions = {**QUESTIONS, **({**TOOL_QUESTIONS, "diff": (self.diff, name)} if tools else {})}
+        self.verbs = {*EDITS, *self.questions, *WHOLE, *OF_HOLDS, "at"}
+        self.tools = tools
         self.snapshot = Snapshot(0, replace(design, horizon=horizon))
         self.holds, self.batch, self.ended, self.made = {}, None, False, made
 
@@ -245,49 +38,53 @@ class Session:
         words = [it.decode("latin-1") for it in words if it]
         if not words or words[0].startswith("#"):
             return b""
+        is_named = self.tools and words[0] == FAULT
         try:
-            readable(all(it == 9 or 32 <= it <= 126 for it in line), "")
-            lines, snapshot = self.command(words[0], words[1:])
+            lines, snapshot = self.command(Line(words[1:] if is_named else words))
         except Refused as refused:
-            return f"no {refused.code} {CAUSES[refused.code]}\n".encode()
+            word = f" {refused.word}" if is_named and refused.word is not None else ""
+            return f"no {refused.code} {CAUSES[refused.code]}{word}\n".encode()
         return "".join(f"{it}\n" for it in [*lines, f"ok {snapshot.version}"]).encode()
 
-    def command(self, verb, words):
+    def command(self, line):
         """The lines of a command's reply, and the snapshot that was asked."""
-        if verb in EDITS and not (verb in self.questions and len(words) == 1):
+        verb = line.read(verb_of(self.verbs))
+        if verb in EDITS and not (verb in self.questions and len(line.left) == 1):
             edit, *forms = EDITS[verb]
-            said = read_words(forms, words)
+            said = line.read_all(forms)
             self.edit(lambda design: edit(design, *said))
         elif verb in self.questions:
-            return self.question(verb, words), self.snapshot
+            return self.question(verb, line)(self.snapshot), self.snapshot
         elif verb == "at":
-            return self.asked_of_held(words)
-        elif verb in ("begin", "commit", "abort", "quit"):
-            read_words((), words)
-            getattr(self, verb)()
-        elif verb in ("hold", "free"):
-            getattr(self, verb)(*read_words((name,), words))
+            return self.asked_of_held(line)
         else:
-            readable(False, verb)
+            getattr(self, verb)(*line.read_all((name,) if verb in OF_HOLDS else ()))
         return [], self.snapshot
 
-    def question(self, verb, words):
+    def question(self, verb, line):
+        """What a question with the words of a line gives of a snapshot."""
         ask, *forms = self.questions[verb]
-        return ask(self.snapshot, *read_words(forms, words))
+        said = line.read_all(forms)
+        return lambda snapshot: ask(snapshot, *said)
 
-    def asked_of_held(self, words):
-        readable(len(words) > 1 and words[1] in self.questions, "")
-        ask, *forms = self.questions[words[1]]
-        said = read_words(forms, words[2:])
-        edits.check(words[0] in self.holds, "UnknownHold")
-        held = self.holds[words[0]]
-        return ask(held, *said), held
+    def asked_of_held(self, line):
+        word = line.read(name)
+        ask = self.question(line.read(verb_of(self.questions)), line)
+        held = self.held(word)
+        return ask(held), held
+
+    def held(self, word):
+        check(word in self.holds, "UnknownHold", word)
+        return self.holds[word]
+
+    def diff(self, snapshot, word):
+        return diff(snapshot, self.held(word))
 
     def edit(self, change):
         if self.batch is None:
             self.carry_out([change])
         else:
-            edits.check(len(self.batch) < MAX_BATCH, "TooMany")
+            check(len(self.batch) < MAX_BATCH, "TooMany")
             self.batch.append(change)
 
     def carry_out(self, batch):
@@ -298,25 +95,25 @@ class Session:
         self.snapshot = Snapshot(self.snapshot.version + 1, design)
 
     def begin(self):
-        edits.check(self.batch is None, "InBatch")
+        check(self.batch is None, "InBatch")
         self.batch = []
 
     def commit(self):
-        edits.check(self.batch is not None, "NoBatch")
+        check(self.batch is not None, "NoBatch")
         batch, self.batch = self.batch, None
         self.carry_out(batch)
 
     def abort(self):
-        edits.check(self.batch is not None, "NoBatch")
+        check(self.batch is not None, "NoBatch")
         self.batch = None
 
     def quit(self):
         self.ended = True
 
     def hold(self, word):
-        edits.check_new(word, self.holds, MAX_HOLDS)
+        check_new(word, self.holds, MAX_HOLDS)
         self.holds[word] = self.snapshot
 
     def free(self, word):
-        edits.check(word in self.holds, "UnknownHold")
+        self.held(word)
         del self.holds[word]

@@ -165,8 +165,8 @@ class Fault(Exception):
 
 
 class Refused(Exception):
-    """A command is refused, for a cause with this name."""
+    """A command is refused, for a cause with this name; a word or number of it may be at fault."""
 
-    def __init__(self, name):
+    def __init__(self, name, word=None):
         super().__init__(name)
-        self.code = CODES[name]
+        self.code, self.word = CODES[name], word

@@ -1,7 +1,7 @@
 //! Edits of small designs, worked out by hand.
 
 ghost use Rattle.std.specs.Prelude.{All};
-ghost use Rattle.design.specs.Keys.{IsThere};
+ghost use Rattle.design.specs.kept.Keys.{IsThere};
 
 use super::{
     add_input, add_net, add_reader, check_counts, check_gate, check_lists, check_net,

@@ -1,7 +1,7 @@
 //! What a run from a former one asks, counted by hand.
 
 ghost use Rattle.gatestep.specs.Step.{advance};
-ghost use Rattle.scratch.specs.Run.{IsRun};
+ghost use Rattle.scratch.specs.kept.Run.{IsRun};
 
 use crate::calls::{changed, followed, rerun, simulated};
 use crate::compare::equal;

@@ -1,7 +1,7 @@
 //! Runs that follow what differs up to a limit, and go on through the whole design then: at each limit, and beside it.
 
 ghost use Rattle.gatestep.specs.Step.{advance};
-ghost use Rattle.scratch.specs.Run.{IsRun};
+ghost use Rattle.scratch.specs.kept.Run.{IsRun};
 
 use super::plain::rows;
 use super::random::check_run;

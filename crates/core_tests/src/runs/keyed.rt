@@ -1,7 +1,7 @@
 //! The run of a design that has lost a net and a gate, so that keys are no places.
 
 ghost use Rattle.gatestep.specs.Step.{advance};
-ghost use Rattle.scratch.specs.Run.{IsRun};
+ghost use Rattle.scratch.specs.kept.Run.{IsRun};
 
 use crate::calls::simulated;
 use crate::compare::equal;

@@ -2,8 +2,8 @@
 
 ghost use Rattle.std.specs.Prelude.{◌≡◌, IfOk};
 ghost use Rattle.design.specs.Keys.{netlist};
-ghost use Rattle.edits.specs.Changes.{IsReady, changed};
-ghost use Rattle.edits.specs.Touched.{Touches};
+ghost use Rattle.edits.specs.kept.Changes.{IsReady, changed};
+ghost use Rattle.edits.specs.kept.Touched.{Touches};
 
 use crate::changes::change::Change;
 use crate::changes::gates::{add_gate, drop_gate, rewire, set_delays, set_gate_kind};

@@ -2,12 +2,13 @@
 
 ghost use Rattle.std.specs.Prelude.{◌≡◌, ◌∷◌, [], IfOk, IsSome, IsSomeAnd, IsTrue, length, map};
 ghost use Rattle.fourstate.specs.Gates.{takes_inputs};
-ghost use Rattle.design.specs.Keys.{gate_by_key, name_of, netlist};
+ghost use Rattle.design.specs.Keys.{name_of, netlist};
+ghost use Rattle.design.specs.kept.Keys.{gate_by_key};
 ghost use Rattle.design.specs.Netlist.{with_delays, with_gate, with_gate_kind, with_wiring, without_gate};
-ghost use Rattle.edits.specs.Changes.{FindsGate, Passes, Resolves, RewiresGate, TakesGate, TakesGateName, gate_name, gate_of_names};
+ghost use Rattle.edits.specs.kept.Changes.{FindsGate, Passes, Resolves, RewiresGate, TakesGate, TakesGateName, gate_name, gate_of_names};
 ghost use Rattle.edits.specs.Checks.{delay_checks, gate_there, is_off_misplaced, new_gate_checks};
 ghost use Rattle.edits.specs.Edits.{connection_of};
-ghost use Rattle.edits.specs.Touched.{Touches};
+ghost use Rattle.edits.specs.kept.Touched.{Touches};
 ghost use Rattle.edits.specs.declared.edit.Edit.TheVariants as edit;
 
 use crate::changes::change::Change;

@@ -2,11 +2,12 @@
 
 ghost use Rattle.std.specs.Prelude.{◌≡◌, ◌∷◌, [], true, false, IfOk, IsSome, IsSomeAnd};
 ghost use Rattle.fourstate.specs.declared.net.NetKind.TheVariants.{Wire};
-ghost use Rattle.design.specs.Keys.{name_of, net_by_key, netlist};
+ghost use Rattle.design.specs.Keys.{name_of, netlist};
+ghost use Rattle.design.specs.kept.Keys.{net_by_key};
 ghost use Rattle.design.specs.Netlist.{is_used, new_net, with_net, with_net_kind, without_net};
-ghost use Rattle.edits.specs.Changes.{FindsNet, Passes, Resolves, TakesNet};
+ghost use Rattle.edits.specs.kept.Changes.{FindsNet, Passes, Resolves, TakesNet};
 ghost use Rattle.edits.specs.Checks.{net_there, new_net_checks};
-ghost use Rattle.edits.specs.Touched.{Touches};
+ghost use Rattle.edits.specs.kept.Touched.{Touches};
 ghost use Rattle.edits.specs.declared.edit.Edit.TheVariants as edit;
 
 use crate::changes::change::Change;

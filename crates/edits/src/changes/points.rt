@@ -1,10 +1,11 @@
 //! Edits of the stimulus and the horizon.
 
 ghost use Rattle.std.specs.Prelude.{◌≡◌, ◌≤◌, true, IfOk, IsSomeAnd};
-ghost use Rattle.design.specs.Keys.{Keyed, name_of, net_by_key, netlist};
+ghost use Rattle.design.specs.Keys.{Keyed, name_of, netlist};
+ghost use Rattle.design.specs.kept.Keys.{net_by_key};
 ghost use Rattle.design.specs.Netlist.{has_point, with_horizon, with_point, without_point};
-ghost use Rattle.edits.specs.Changes.{Resolves, TakesPoint};
-ghost use Rattle.edits.specs.Touched.{Touches};
+ghost use Rattle.edits.specs.kept.Changes.{Resolves, TakesPoint};
+ghost use Rattle.edits.specs.kept.Touched.{Touches};
 ghost use Rattle.edits.specs.declared.edit.Edit.TheVariants as edit;
 
 use crate::changes::change::Change;

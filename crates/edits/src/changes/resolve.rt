@@ -1,6 +1,6 @@
 //! What each edit changes.
 
-ghost use Rattle.edits.specs.Changes.{Resolves};
+ghost use Rattle.edits.specs.kept.Changes.{Resolves};
 
 use crate::changes::change::Change;
 use crate::changes::gates::{

@@ -2,8 +2,9 @@
 
 ghost use Rattle.std.specs.Prelude.{◌≡◌, true, All, IfOk, IfSome, is_some, length, map};
 ghost use Rattle.std.specs.List.{list_all};
-ghost use Rattle.design.specs.Keys.{IsThere, connection_in, netlist};
-ghost use Rattle.edits.specs.Changes.{FindsWiring, Passes};
+ghost use Rattle.design.specs.Keys.{connection_in, netlist};
+ghost use Rattle.design.specs.kept.Keys.{IsThere};
+ghost use Rattle.edits.specs.kept.Changes.{FindsWiring, Passes};
 ghost use Rattle.edits.specs.Checks.{is_known, wiring_checks};
 ghost use Rattle.edits.specs.Edits.{connection_of};
 

@@ -3,6 +3,7 @@
 ghost use Rattle.std.specs.Prelude.{◌≡◌};
 ghost use Rattle.session.specs.Commands.{alone, ask_of, change_of, command_of, command_within, verb_command, words_command};
 ghost use Rattle.session.specs.Lines.{without_return};
+ghost use Rattle.session.specs.State.{is_quit};
 ghost use Rattle.session.specs.Words.{are_skipped, words};
 
 use crate::commands::ask::read_question;
@@ -47,6 +48,15 @@ pub enum Command<'a> {
     TooLong,
 }
 
+impl Command<'_> {
+    /// Whether it ends the session.
+    pub fn is_quit(&self) -> bool
+        ensures { result ≡ is_quit self.now }
+    {
+        matches!(self, Command::Quit)
+    }
+}
+
 /// Reads a line, which comes without its line feed. It takes no memory.
 pub fn read(line: &[u8]) -> Command<'_>
     ensures { result ≡ command_of line.now }
@@ -89,7 +99,8 @@ fn is_skipped(line: &[u8]) -> bool
     }
 }
 
-fn read_words(words: Words<'_>) -> Command<'_>
+/// The command of the words of a line; none is skipped.
+pub fn read_words(words: Words<'_>) -> Command<'_>
     ensures { result ≡ words_command words.entry }
 {
     let mut rest = words;

@@ -2,7 +2,7 @@
 
 ghost use Rattle.std.specs.Prelude.{◌≡◌, IfOk, is_err, true};
 ghost use Rattle.session.specs.EditLines.{edit_line_of, edit_of};
-ghost use Rattle.session.specs.LineReadings.{has_words};
+ghost use Rattle.session.specs.kept.LineReadings.{has_words};
 
 use crate::commands::gate::{read_gate, read_wire};
 use crate::commands::gates::{read_delay, read_drop, read_type};

@@ -2,7 +2,8 @@
 
 ghost use Rattle.std.specs.Prelude.{◌≡◌, ◌==◌, true, take, drop, codes, IfOk, Some, is_some};
 ghost use Rattle.std.specs.List.{list_any};
-ghost use Rattle.session.specs.Pins.{ArePins, constant_of, pin_of, pins_of};
+ghost use Rattle.session.specs.Pins.{constant_of, pin_of, pins_of};
+ghost use Rattle.session.specs.kept.Pins.{ArePins};
 ghost use Rattle.session.specs.Words.{same_word, value_of};
 
 use crate::commands::times::read_value;
@@ -21,7 +22,8 @@ pub struct PinWords<'a> {
 impl<'a> Model for PinWords<'a> {
     ghost use Rattle.std.specs.Prelude.{List, [], unwrap_or};
     ghost use Rattle.edits.specs.declared.pin.Pin.{Pin};
-    ghost use Rattle.session.specs.Pins.{ArePins, pins_of};
+    ghost use Rattle.session.specs.Pins.{pins_of};
+    ghost use Rattle.session.specs.kept.Pins.{ArePins};
 
     ghost Value = { List Pin };
 
@@ -56,7 +58,7 @@ fn are_pins(words: &Words<'_>) -> bool
 {
     let mut rest = words.again();
     while let Some(word) = rest.next() {
-        if !is_pin(&word) {
+        if !is_input(word.as_bytes()) {
             return false;
         }
     }
@@ -77,11 +79,11 @@ fn make_pins(alloc: Global, words: Words<'_>) -> Result<Pins, AllocError>
     Ok(pins)
 }
 
-fn is_pin(word: &WordRef<'_>) -> bool
+/// Whether a word is a readable input.
+pub fn is_input(word: &[u8]) -> bool
     ensures { result ≡ is_some (pin_of word.now) }
 {
-    let bytes = word.as_bytes();
-    !has_apostrophe(bytes) || read_constant(bytes).is_some()
+    !has_apostrophe(word) || read_constant(word).is_some()
 }
 
 fn make_pin(alloc: Global, word: &WordRef<'_>) -> Result<Pin, AllocError>

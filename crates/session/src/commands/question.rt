@@ -49,6 +49,21 @@ pub enum Question<'a> {
     Vcd,
     /// What a design has.
     Listing(Listing<'a>),
+    /// What made a change.
+    Why(ChangeName<'a>),
+    /// What a change made change next.
+    Reach(ChangeName<'a>),
+    /// What differs from the snapshot that is held under the name.
+    Diff(WordRef<'a>),
+}
+
+/// The change of the net of this name at a moment, if it changes there.
+#[derive(Drop)]
+pub struct ChangeName<'a> {
+    /// The name of the net.
+    pub net: WordRef<'a>,
+    /// The moment, in time units.
+    pub time: u64,
 }
 
 /// A question about what a design has. Each thing is named by the word of its line.

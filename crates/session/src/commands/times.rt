@@ -55,7 +55,7 @@ pub fn take_delays(words: &mut Words<'_>) -> Option<DelayTimes>
 }
 
 /// The delays of a rise and of the word `F` or `F/Z`, a fall with or without a turn-off delay.
-fn read_times(rise: u64, word: &[u8]) -> Option<DelayTimes>
+pub fn read_times(rise: u64, word: &[u8]) -> Option<DelayTimes>
     ensures { result ≡ times_of rise word.now }
 {
     match slash_place(word) {

@@ -14,10 +14,13 @@ pub enum ToolVerb {
     Readers,
     Points,
     Window,
+    Why,
+    Reach,
+    Diff,
 }
 
 impl ToolVerb {
-    const ALL: [ToolVerb; 8] = [
+    const ALL: [ToolVerb; 11] = [
         ToolVerb::Nets,
         ToolVerb::Inputs,
         ToolVerb::Gates,
@@ -26,6 +29,9 @@ impl ToolVerb {
         ToolVerb::Readers,
         ToolVerb::Points,
         ToolVerb::Window,
+        ToolVerb::Why,
+        ToolVerb::Reach,
+        ToolVerb::Diff,
     ];
 
     fn keyword(self) -> &'static str
@@ -40,6 +46,9 @@ impl ToolVerb {
             ToolVerb::Readers => "readers",
             ToolVerb::Points => "points",
             ToolVerb::Window => "window",
+            ToolVerb::Why => "why",
+            ToolVerb::Reach => "reach",
+            ToolVerb::Diff => "diff",
         }
     }
 

@@ -4,7 +4,7 @@ ghost use Rattle.std.specs.Prelude.{◌≡◌};
 ghost use Rattle.devices.specs.Outgoing.{Adds};
 ghost use Rattle.fourstate.specs.Values.{same_value};
 ghost use Rattle.waveform.specs.Entries.{standing};
-ghost use Rattle.waveform.specs.Timelines.{IsTimeline};
+ghost use Rattle.waveform.specs.kept.Timelines.{IsTimeline};
 ghost use Rattle.session.specs.Questions.{query_lines};
 ghost use Rattle.session.specs.Replies.{change_or_none, value_line};
 

@@ -1,8 +1,8 @@
 //! A whole conversation, from the first byte to the end.
 
 ghost use Rattle.std.specs.Prelude.{◌≡◌, [], Some, false};
-ghost use Rattle.session.specs.Outcomes.{Serves};
-ghost use Rattle.session.specs.Talk.{Ends, SameSink, SameSource, read_failures};
+ghost use Rattle.session.specs.kept.Outcomes.{Serves};
+ghost use Rattle.session.specs.kept.Talk.{Ends, SameSink, SameSource, read_failures};
 ghost use Rattle.session.specs.Traffic.{sink_traffic, source_traffic};
 
 use crate::talk::exchange::{End, PIECE, exchange};

@@ -1,9 +1,9 @@
 //! The exchange of input and replies.
 
 ghost use Rattle.std.specs.Prelude.{◌<◌, ◌≤◌, Option, None, Some, List, ℕ, length, IfNone, MatchOption};
-ghost use Rattle.devices.specs.Incoming.{text_of};
+ghost use Rattle.devices.specs.kept.Incoming.{text_of};
 ghost use Rattle.session.specs.State.{SessionState};
-ghost use Rattle.session.specs.Talk.{Ends, SameSink, SameSource, Waits, read_failures};
+ghost use Rattle.session.specs.kept.Talk.{Ends, SameSink, SameSource, Waits, read_failures};
 
 use crate::talk::feed::{Session, Turn};
 use devices::{Reader, Sink, Source, Writer};

@@ -3,7 +3,7 @@
 ghost use Rattle.std.specs.Prelude.{◌≡◌, ◌<◌, List, ℕ, ◌++◌, ◌∷◌, [], length, true, false, MatchBool};
 ghost use Rattle.session.specs.Lines.{lines};
 ghost use Rattle.session.specs.State.{SessionState, Transcript};
-ghost use Rattle.session.specs.Talk.{Going, HasQuit, SameSink, Stands, is_finished};
+ghost use Rattle.session.specs.kept.Talk.{Going, HasQuit, SameSink, Stands, is_finished};
 
 use crate::machine::Machine;
 use crate::talk::line_buffer::LineBuffer;

@@ -17,7 +17,7 @@ pub struct LineBuffer {
 
 impl Model for LineBuffer {
     ghost use Rattle.std.specs.Prelude.{ℕ, List};
-    ghost use Rattle.session.specs.Kept.{HasRoom};
+    ghost use Rattle.session.specs.kept.Kept.{HasRoom};
 
     ghost Value = { List ℕ };
 

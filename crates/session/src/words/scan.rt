@@ -2,7 +2,8 @@
 
 ghost use Rattle.std.specs.Prelude.{◌≡◌, ◌<◌, ◌≤◌, true, false, ◌∷◌, length, position, IfSome};
 ghost use Rattle.std.specs.List.{list_all, position_or_len};
-ghost use Rattle.session.specs.Words.{begins_blank, is_blank, is_plain, words};
+ghost use Rattle.session.specs.Words.{is_blank, is_plain, words};
+ghost use Rattle.session.specs.kept.Words.{begins_blank};
 
 /// Whether a byte parts words: a blank or a tab.
 fn is_blank(byte: u8) -> bool

@@ -3,9 +3,9 @@
 ghost use Rattle.std.specs.Prelude.{◌≡◌, ◌<◌, ◌≤◌, ◌+◌, ◌%◌, ℕ, [], map, slice_get};
 ghost use Rattle.std.specs.List.{last_or};
 ghost use Rattle.std.specs.Vec.{vec_len};
-ghost use Rattle.event_queue.specs.Pages.{items_at};
+ghost use Rattle.event_queue.specs.kept.Pages.{items_at};
 ghost use Rattle.event_queue.specs.declared.page.TheConstants.{PAGE};
-ghost use Rattle.waveform.specs.Paging.{AreGivenOn, IsPassed, items_of};
+ghost use Rattle.waveform.specs.kept.Paging.{AreGivenOn, IsPassed, items_of};
 ghost use Rattle.waveform.specs.declared.times.TheConstants.{TIME_END};
 
 use crate::sample::Sample;

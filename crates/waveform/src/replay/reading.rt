@@ -1,10 +1,10 @@
 //! The entries of timelines, page by page.
 
 ghost use Rattle.std.specs.Prelude.{◌≡◌, ◌≢◌, ◌<◌, ◌≤◌, ◌+◌, ◌*◌, ◌/◌, ℕ, List, [], ◌∷◌, map, length, slice_get, IfOk, IfSome, IfNone, OnOk};
-ghost use Rattle.event_queue.specs.Noted.{noted};
-ghost use Rattle.event_queue.specs.Pages.{items_at};
+ghost use Rattle.event_queue.specs.kept.Noted.{noted};
+ghost use Rattle.event_queue.specs.kept.Pages.{items_at};
 ghost use Rattle.event_queue.specs.declared.page.TheConstants.{PAGE};
-ghost use Rattle.waveform.specs.Paging.{AreAllInTime, AreInHand, AreInTime, AreReadOn, AreUnreadFrom, IsIn, IsNoted, IsRead, IsUnreadFrom, items_of, readings};
+ghost use Rattle.waveform.specs.kept.Paging.{AreAllInTime, AreInHand, AreInTime, AreReadOn, AreUnreadFrom, IsIn, IsNoted, IsRead, IsUnreadFrom, items_of, readings};
 ghost use Rattle.waveform.specs.declared.times.TheConstants.{TIME_END};
 
 use crate::sample::Sample;

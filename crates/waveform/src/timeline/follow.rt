@@ -1,8 +1,9 @@
 //! A function of time that follows another one for a while.
 
 ghost use Rattle.std.specs.Prelude.{◌≡◌, ◌<◌, ◌≤◌, ℕ, suc, nat_lt, IfOk, if◌then◌else◌};
-ghost use Rattle.waveform.specs.Joins.{joined};
-ghost use Rattle.waveform.specs.Timelines.{end_of, entries_until, value_by};
+ghost use Rattle.waveform.specs.kept.Joins.{joined};
+ghost use Rattle.waveform.specs.Timelines.{entries_until, value_by};
+ghost use Rattle.waveform.specs.kept.Timelines.{end_of};
 ghost use Rattle.waveform.specs.declared.times.TheConstants.{TIME_END};
 
 use super::Timeline;

@@ -47,7 +47,7 @@ export const endDrag = () => afterStep();
 let turn = Promise.resolve();
 
 // What a key does when it is held down: each waits for the one before, which it builds upon.
-const inTurn = (work) => (...given) => (turn = turn.catch(() => {}).then(() => work(...given)));
+export const inTurn = (work) => (...given) => (turn = turn.catch(() => {}).then(() => work(...given)));
 
 export const edit = (edits) => step("edit", { edits });
 export const undo = inTurn(() => step("undo"));
@@ -109,7 +109,7 @@ export const nudge = inTurn((way) =>
     const row = chosenRow();
     const from = model.cursors.a;
     if (!row || from === null) return;
-    const { points, least, most } = await ask("reach", { bits: row.bits, time: from });
+    const { points, least, most } = await ask("movable", { bits: row.bits, time: from });
     if (!points.length) return tell(`${row.name} has no stimulus point at ${from}`);
     const to = Math.min(most, Math.max(least, from + way));
     await edit(moved(points, from, to));

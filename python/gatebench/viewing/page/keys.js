@@ -1,5 +1,5 @@
 // All that the keyboard does.
-import { hold, nudge, redo, reload, save, switchOther, switchVersions, toEdge, toggle, undo } from "./actions.js";
+import { hold, inTurn, nudge, redo, reload, save, switchOther, switchVersions, toEdge, toggle, undo } from "./actions.js";
 import { clear } from "./banner.js";
 import { changed, chosenRow, hide, model } from "./model.js";
 import { showOrigins } from "./net.js";
@@ -24,9 +24,9 @@ function swap() {
   changed();
 }
 
-function why() {
-  if (chosenRow() && model.cursors.a !== null) showOrigins(chosenRow().bits, model.cursors.a);
-}
+const why = inTurn(async () => {
+  if (chosenRow() && model.cursors.a !== null) await showOrigins(chosenRow().bits, model.cursors.a);
+});
 
 const middle = () => model.pointer ?? model.cursors.a ?? undefined;
 
@@ -49,7 +49,7 @@ export const KEYS = [
   ["[", "the stimulus point at A one earlier", () => nudge(-1)],
   ["]", "the stimulus point at A one later", () => nudge(1)],
   ["t", "the input is the other value from A on", toggle],
-  ["w", "what may have made the edge at A", why],
+  ["w", "what made the edge at A, and what it led to", why],
   ["u", "undo", undo],
   ["r", "redo", redo],
   ["h", "hold this version", hold],

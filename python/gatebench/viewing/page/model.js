@@ -12,6 +12,8 @@ export const model = {
   // The version that is drawn behind, or in front where the two are switched.
   other: "before",
   isSwitched: false,
+  // The changes on the way back from an edge that is shown.
+  way: [],
   pointer: null,
 };
 

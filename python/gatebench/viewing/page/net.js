@@ -1,7 +1,7 @@
-// The chosen net: the gates that drive it with their delays, which can be changed, and what may have made an edge.
+// The chosen net: the gates that drive it with their delays, which can be changed, what made an edge and what it led to.
 import { ask } from "./server.js";
 import { attempt, editInDrag, endDrag, newDrag } from "./actions.js";
-import { chosenRow, model } from "./model.js";
+import { changed, chosenRow, model } from "./model.js";
 import { goTo } from "./lists.js";
 import { note, table } from "./table.js";
 
@@ -85,6 +85,7 @@ export function showNet() {
   const row = chosenRow();
   if (key() === asked || box.contains(document.activeElement)) return;
   asked = key();
+  mark([]);
   if (!row) return box.replaceChildren();
   attempt(async () => {
     const found = await answerTo(() => ask("net", { net: row.bits[0] }));
@@ -101,24 +102,47 @@ function fill({ net, drivers, readers }, row) {
   box.replaceChildren(...parts);
 }
 
-// What may have made an edge: the last changes before it of what its gates read.
+const ENDS = {
+  stimulus: (net, time) => `${net} has a stimulus point at ${time}: here it begins.`,
+  beginning: (net) => `${net} has no point at 0: here it begins.`,
+  constants: () => "It begins at 0, with a gate that reads constants alone.",
+  "": () => "The way goes on behind the last bold line.",
+};
+
+// A change in a list, which leads to it and to what made it.
+const line = ({ time, net, value, gate, followed }) => ({
+  cells: [time, net, `to ${value}, through ${gate}`],
+  go: () => follow(net, time),
+  kind: followed ? "followed" : "",
+});
+
+// What made an edge, back to the stimulus, and what it led to.
 export const showOrigins = (bits, time) =>
   attempt(async () => {
     asked = key();
-    const answers = await answerTo(() => Promise.all(bits.map((net) => ask("origins", { net, time }))));
-    const found = answers?.find((it) => it.candidates.length || it.points.length);
-    if (!found) return;
+    const found = await answerTo(() => ask("origins", { bits, time }));
+    if (!found?.net) return;
     title.textContent = `${found.net} at ${time}`;
-    const rows = found.candidates.map((it) => ({
-      cells: [it.time ?? "", it.net, it.value === null ? "never" : `to ${it.value}, by ${it.gate}`],
-      go: it.time === null ? null : () => follow(it.net, it.time),
-      kind: it.fits ? "fits" : "",
-    }));
-    const text = found.points.length
-      ? "A stimulus point: here it begins."
-      : "Last changes of what drives it; bold: a delay of the gate before. The program doesn't say which it was.";
-    box.replaceChildren(...found.drivers.map(driver), note(text), table(rows));
+    const followed = [found, ...found.way.filter((it) => it.followed)];
+    const last = followed.at(-1);
+    mark(followed);
+    const way = [note("made by"), table(found.way.map(line)), note(ENDS[found.end](last.net, last.time))];
+    box.replaceChildren(...found.drivers.map(driver), ...(found.way.length ? way : way.slice(2)), ...ledTo(found.effects));
   });
+
+function ledTo(effects) {
+  if (!effects) return [note("Many gates read it: this program doesn't say what it led to.")];
+  const { count, changes } = effects;
+  if (!count) return [note("It led to nothing.")];
+  return [note("led to"), table(changes.map(line)), ...(count > changes.length ? [note(`and ${count - changes.length} more`)] : [])];
+}
+
+// The waves show where these changes are.
+function mark(changes) {
+  if (!changes.length && !model.way.length) return;
+  model.way = changes.map(({ net, time }) => ({ net, time }));
+  changed();
+}
 
 function follow(net, time) {
   goTo(net, time);

@@ -136,6 +136,14 @@ export function paintRow(context, row, known, scale) {
   wave(context, row, front, scale, false);
 }
 
+// A point on an edge that lies on the way which is shown.
+export function paintStep(context, at) {
+  context.fillStyle = "#0969da";
+  context.beginPath();
+  context.arc(at, TOP + HEIGHT / 2, 4, 0, 2 * Math.PI);
+  context.fill();
+}
+
 // A red mark below a moment at which a rule is broken.
 export function paintMark(context, at) {
   context.fillStyle = INK.x;

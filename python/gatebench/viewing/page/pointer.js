@@ -40,7 +40,7 @@ canvas.addEventListener("pointerdown", (event) => {
 // What can be dragged: the points of the row at its edge.
 function grab(held) {
   held.name = newDrag();
-  held.asked = attempt(async () => Object.assign(held, await ask("reach", { bits: held.row.bits, time: held.edge })));
+  held.asked = attempt(async () => Object.assign(held, await ask("movable", { bits: held.row.bits, time: held.edge })));
 }
 
 canvas.addEventListener("pointermove", (event) => {

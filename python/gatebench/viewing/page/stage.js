@@ -1,6 +1,6 @@
 // The canvas: axis, rows and cursors, drawn from what the server has answered.
 import { model } from "./model.js";
-import { AXIS, ROW, paintMark, paintRow } from "./paint.js";
+import { AXIS, ROW, paintMark, paintRow, paintStep } from "./paint.js";
 import { roundStep } from "./scale.js";
 import { known, want } from "./windows.js";
 
@@ -74,6 +74,7 @@ function paintRows(wide, high) {
     }
     const found = known(row);
     if (found) paintRow(context, row, found, scale);
+    for (const it of model.way) if (row.bits.includes(it.net)) paintStep(context, place(it.time));
     for (const it of model.state.broken) if (it.nets.some((net) => row.bits.includes(net))) paintMark(context, place(it.time));
     context.restore();
   }

@@ -1,5 +1,5 @@
 use Rattle.std.proofs.Common.{map}
-use Rattle.programs.specs.CommandLaws.{found_along, refused_along}
+use Rattle.programs.specs.kept.CommandLaws.{found_along, refused_along}
 use Rattle.app.proofs.CommandLineLemmas.{simple_and_free_as, simple_as}
 use Rattle.app.proofs.command_line.parse.Goals as goal
 

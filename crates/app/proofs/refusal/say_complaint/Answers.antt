@@ -1,4 +1,4 @@
-use Rattle.programs.specs.TextLaws.{adds_then}
+use Rattle.programs.specs.kept.TextLaws.{adds_then}
 use Rattle.app.proofs.refusal.say_complaint.Goals as goal
 
 pub returns-in-Horizon : goal.returns-in-Horizon

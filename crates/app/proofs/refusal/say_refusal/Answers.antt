@@ -1,5 +1,5 @@
 use Rattle.app.specs.Refusals.{help_text, refusal_text}
-use Rattle.programs.specs.TextLaws.{adds_then}
+use Rattle.programs.specs.kept.TextLaws.{adds_then}
 use Rattle.app.proofs.refusal.say_refusal.Goals as goal
 
 pub returns : goal.returns

@@ -1,7 +1,7 @@
 use Rattle.std.proofs.Common.{◌≡◌, Some, IfErr, IfOk, drop, map, string_bytes}
 use Rattle.std.specs.Vec.Iter.{into_iter_items}
 use Rattle.app.specs.Arguments.{asked}
-use Rattle.app.specs.Complaints.{StopsBy}
+use Rattle.app.specs.kept.Complaints.{StopsBy}
 use Rattle.app.proofs.StartLemmas.{along}
 use Rattle.app.proofs.start.asked.Goals as goal
 

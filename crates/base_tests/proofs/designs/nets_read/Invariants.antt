@@ -1,5 +1,5 @@
 use Rattle.std.proofs.Common.{All}
-use Rattle.design.specs.Keys.{IsThere}
+use Rattle.design.specs.kept.Keys.{IsThere}
 use Rattle.base_tests.proofs.designs.nets_read.Given as goal
 
 -- the nets so far are there

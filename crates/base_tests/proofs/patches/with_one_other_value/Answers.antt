@@ -4,7 +4,7 @@ use Rattle.std.proofs.lemmas.Result.{IfOk-weaker}
 use Rattle.fourstate.specs.declared.value.Value.{Value}
 use Rattle.fourstate.specs.Values.{same_value}
 use Rattle.waveform.specs.Entries.{standing}
-use Rattle.waveform.specs.Patches.{IsMended}
+use Rattle.waveform.specs.kept.Patches.{IsMended}
 use Rattle.base_tests.proofs.patches.with_one_other_value.Goals as goal
 
 -- what was left at s stays right while both functions have the same values

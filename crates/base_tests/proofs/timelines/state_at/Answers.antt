@@ -1,5 +1,5 @@
 use Rattle.std.proofs.Common.{◌∙◌, ap}
-use Rattle.waveform.specs.Changes.{state_at}
+use Rattle.waveform.specs.kept.Changes.{state_at}
 use Rattle.base_tests.proofs.timelines.state_at.Goals as goal
 
 pub returns : goal.returns

@@ -1,5 +1,5 @@
 use Rattle.std.proofs.Common.{◌≤◌, ◌-◌, length, All}
-use Rattle.lexing.specs.Texts.{IsInside}
+use Rattle.lexing.specs.kept.Texts.{IsInside}
 use Rattle.base_tests.proofs.tokens.tokens.Given as goal
 
 -- the tokens so far, and where the next one is looked for

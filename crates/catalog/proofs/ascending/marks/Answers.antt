@@ -1,5 +1,5 @@
 use Rattle.std.proofs.Common.{◌*◌, ◌+◌, sym, subst}
-use Rattle.catalog.specs.Gaps.{Splits}
+use Rattle.catalog.specs.kept.Gaps.{Splits}
 use Rattle.catalog.specs.declared.ascending.TheConstants.{STRIDE}
 use Rattle.catalog.proofs.GapLemmas.{AreMarked, marked_more}
 use Rattle.catalog.proofs.ascending.marks.Goals as goal

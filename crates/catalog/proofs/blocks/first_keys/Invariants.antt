@@ -1,5 +1,5 @@
 use Rattle.std.proofs.Common.{◌≡◌, ℕ, ◌*◌, Some, None, if◌then◌else◌, nat_lt, min, length}
-use Rattle.catalog.specs.Blocks.{index_in}
+use Rattle.catalog.specs.kept.Blocks.{index_in}
 use Rattle.catalog.specs.declared.blocks.TheConstants.{BLOCK}
 use Rattle.catalog.proofs.blocks.first_keys.Given as goal
 

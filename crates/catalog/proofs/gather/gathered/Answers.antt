@@ -1,9 +1,9 @@
 use Rattle.std.proofs.Common.{◌≡◌, ◌≤◌, ◌∙◌, ◌<◌, Some, sym, ap, take, length, subst, if◌then◌else◌, arith}
 use Rattle.std.proofs.lemmas.List.{take_all}
 use Rattle.catalog.specs.Catalog.{same_name}
-use Rattle.catalog.specs.Columns.{entries_in}
-use Rattle.catalog.specs.Found.{key_under}
-use Rattle.catalog.specs.Table.{AreFound}
+use Rattle.catalog.specs.kept.Columns.{entries_in}
+use Rattle.catalog.specs.kept.Found.{key_under}
+use Rattle.catalog.specs.kept.Table.{AreFound}
 use Rattle.catalog.proofs.GatherLemmas.{gathered_more, gathered_still}
 use Rattle.catalog.proofs.gather.gathered.Goals as goal
 use Rattle.catalog.proofs.gather.gathered.Goals.{in-Some+in_ok-record+in_ok-write, in_default}

@@ -1,7 +1,7 @@
 use Rattle.std.proofs.Common.{take}
-use Rattle.catalog.specs.Columns.{entries_in}
-use Rattle.catalog.specs.Found.{key_under}
-use Rattle.catalog.specs.Table.{AreFound}
+use Rattle.catalog.specs.kept.Columns.{entries_in}
+use Rattle.catalog.specs.kept.Found.{key_under}
+use Rattle.catalog.specs.kept.Table.{AreFound}
 use Rattle.catalog.proofs.gather.gathered.Given as goal
 
 abbrev pub invariant-loop-index : goal.invariant-loop-index

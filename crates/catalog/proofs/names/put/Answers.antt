@@ -2,7 +2,7 @@ use Rattle.std.proofs.Common.{◌≡◌, ◌∙◌, Some, refl, ap, sym, subst, 
 use Rattle.std.specs.Arc.{arc_value}
 use Rattle.std.specs.Result.{IsOk}
 use Rattle.catalog.specs.Catalog.{same_name}
-use Rattle.catalog.specs.Found.{key_under}
+use Rattle.catalog.specs.kept.Found.{key_under}
 use Rattle.catalog.proofs.NameLemmas.{lookup_same}
 use Rattle.catalog.proofs.names.put.Goals as goal
 

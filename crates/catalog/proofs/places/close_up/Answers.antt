@@ -1,6 +1,6 @@
 use Rattle.std.proofs.Common.{◌∙◌, sym, ap, subst}
-use Rattle.catalog.specs.Columns.{AreApart, AreKnown, ArePlaced, cell_at, entries_in}
-use Rattle.catalog.specs.Slots.{slot_at}
+use Rattle.catalog.specs.kept.Columns.{AreApart, AreKnown, ArePlaced, cell_at, entries_in}
+use Rattle.catalog.specs.kept.Slots.{slot_at}
 use Rattle.catalog.proofs.CellLemmas.{apart_from_placed, entries_filtered, filtered_apart}
 use Rattle.catalog.proofs.NumberLemmas.{filtered_known, numbered_placed}
 use Rattle.catalog.proofs.places.close_up.Goals as goal

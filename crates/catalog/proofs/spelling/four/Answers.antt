@@ -1,4 +1,4 @@
-use Rattle.catalog.specs.Spellings.{four}
+use Rattle.catalog.specs.kept.Spellings.{four}
 use Rattle.catalog.proofs.spelling.four.Goals as goal
 
 pub returns : goal.returns

@@ -1,4 +1,4 @@
-use Rattle.catalog.specs.Spellings.{packed}
+use Rattle.catalog.specs.kept.Spellings.{packed}
 use Rattle.catalog.proofs.spelling.packed.Goals as goal
 
 pub returns : goal.returns

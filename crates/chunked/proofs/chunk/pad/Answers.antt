@@ -1,7 +1,7 @@
 use Rattle.std.proofs.Common.{◌∙◌, ◌≡◌, ◌+◌, ◌++◌, ap, arith, inl, inr, length, replicate, take}
 use Rattle.std.proofs.lemmas.List.{length-append, take_all}
 use Rattle.std.specs.Result.{is_ok}
-use Rattle.chunked.specs.Chunks.{items_in}
+use Rattle.chunked.specs.kept.Chunks.{items_in}
 use Rattle.chunked.proofs.ChunkLemmas.{copies, zipped}
 use Rattle.chunked.proofs.chunk.pad.Goals as goal
 

@@ -1,5 +1,5 @@
 use Rattle.std.proofs.Common.{◌≡◌, ◌∙◌, ◌*◌, sym, subst, arith, length}
-use Rattle.chunked.specs.Chunks.{AreFull, row_in, rows_of}
+use Rattle.chunked.specs.kept.Chunks.{AreFull, row_in, rows_of}
 use Rattle.chunked.specs.declared.branch.TheConstants.{BRANCH}
 use Rattle.chunked.proofs.ChunkLemmas.{chunk_count, chunk_more}
 use Rattle.chunked.proofs.list.make_room.Goals as goal

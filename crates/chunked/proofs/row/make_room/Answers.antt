@@ -1,5 +1,5 @@
 use Rattle.std.proofs.Common.{◌≡◌, ◌*◌, sym, subst, arith, length}
-use Rattle.chunked.specs.Chunks.{AreFull, items_in, items_of}
+use Rattle.chunked.specs.kept.Chunks.{AreFull, items_in, items_of}
 use Rattle.chunked.specs.declared.chunk.TheConstants.{CHUNK}
 use Rattle.chunked.proofs.ChunkLemmas.{chunk_count, chunk_more}
 use Rattle.chunked.proofs.row.make_room.Goals as goal

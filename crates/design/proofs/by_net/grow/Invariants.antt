@@ -1,5 +1,5 @@
 use Rattle.std.proofs.Common.{◌≡◌, ℕ, ◌+◌, ◌-◌, length}
-use Rattle.design.specs.Lists.{list_of}
+use Rattle.design.specs.kept.Lists.{list_of}
 use Rattle.design.proofs.by_net.grow.Given as goal
 
 -- the lists are those at the beginning

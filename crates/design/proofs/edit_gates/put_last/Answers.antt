@@ -1,6 +1,6 @@
 use Rattle.std.proofs.Common.{◌≡◌, ap, ◌∙◌}
 use Rattle.catalog.specs.Catalog.{record_at}
-use Rattle.design.specs.Lists.{list_of}
+use Rattle.design.specs.kept.Lists.{list_of}
 use Rattle.design.proofs.ChangeLemmas.{record_pushed}
 use Rattle.design.proofs.LookLemmas.{none_or_some, some_inner}
 use Rattle.design.proofs.OrderLemmas.{more_in_order}

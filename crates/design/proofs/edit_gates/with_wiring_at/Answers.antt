@@ -1,8 +1,9 @@
 use Rattle.std.proofs.Common.{◌≡◌, Some, ℕ, List, ap, ◌∙◌}
-use Rattle.catalog.specs.Catalog.{keys_of, record_at}
-use Rattle.design.specs.Keys.{drives_key, reads_key}
-use Rattle.design.specs.Lists.{AreChanged, with_key_in, without_key}
-use Rattle.design.specs.Records.{gate_with_wiring}
+use Rattle.catalog.specs.Catalog.{record_at}
+use Rattle.catalog.specs.kept.Catalog.{keys_of}
+use Rattle.design.specs.kept.Keys.{drives_key, reads_key}
+use Rattle.design.specs.kept.Lists.{AreChanged, with_key_in, without_key}
+use Rattle.design.specs.kept.Records.{gate_with_wiring}
 use Rattle.design.proofs.edit_gates.with_wiring_at.Goals as goal
 
 pub returns-clause-readers : goal.returns-clause-readers

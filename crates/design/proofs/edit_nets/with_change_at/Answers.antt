@@ -1,7 +1,8 @@
 use Rattle.std.proofs.Common.{is_some, ap, length, ◌∙◌}
-use Rattle.catalog.specs.Catalog.{record_at, with_record}
+use Rattle.catalog.specs.Catalog.{record_at}
+use Rattle.catalog.specs.kept.Catalog.{with_record}
 use Rattle.design.specs.Netlist.{NetEntry}
-use Rattle.design.specs.Records.{IsNetChange}
+use Rattle.design.specs.kept.Records.{IsNetChange}
 use Rattle.design.proofs.ChangeLemmas.{record_kept, replaced_twice}
 use Rattle.design.proofs.LookLemmas.{some_of}
 use Rattle.design.proofs.NetLemmas.{change_keeps_name}

@@ -1,7 +1,7 @@
 use Rattle.std.proofs.Common.{◌≡◌, ◌∙◌, ◌++◌, ap, subst, ℕ, List, true, false, add-one, drop, nat_le}
 use Rattle.std.specs.List.Sorted.{IsPartitionPoint}
 use Rattle.fourstate.specs.declared.value.Value.{Value}
-use Rattle.design.specs.Pieces.{points_in, points_of}
+use Rattle.design.specs.kept.Pieces.{points_in, points_of}
 use Rattle.design.proofs.PartingLemmas.{later_part}
 use Rattle.design.proofs.PieceLemmas.{rising_in}
 use Rattle.design.proofs.parting.later_part.Goals as goal

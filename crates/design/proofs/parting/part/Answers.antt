@@ -1,6 +1,6 @@
 use Rattle.std.proofs.Common.{◌≡◌, ◌∙◌, ◌++◌, ap, sym, ℕ, List, drop, take}
 use Rattle.fourstate.specs.declared.value.Value.{Value}
-use Rattle.design.specs.Pieces.{points_in, points_of}
+use Rattle.design.specs.kept.Pieces.{points_in, points_of}
 use Rattle.design.proofs.PartingLemmas.{none_over, none_yet, refilled, rising_rest, same_until, shared_more}
 use Rattle.design.proofs.parting.part.Goals as goal
 

@@ -1,6 +1,6 @@
 use Rattle.std.proofs.Common.{◌≡◌, ◌+◌, ◌++◌, ℕ, List, length}
 use Rattle.fourstate.specs.declared.value.Value.{Value}
-use Rattle.design.specs.Pieces.{points_of}
+use Rattle.design.specs.kept.Pieces.{points_of}
 use Rattle.design.proofs.parting.part.Given as goal
 
 -- both lists have the points so far

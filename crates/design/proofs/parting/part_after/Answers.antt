@@ -1,8 +1,8 @@
 use Rattle.std.proofs.Common.{◌<◌, ◌∙◌, ap, sym, subst, ℕ, List, nat_le, nat_lt}
 use Rattle.std.specs.List.{filter}
 use Rattle.std.proofs.lemmas.List.Kept.{AllPairs-filter}
-use Rattle.design.specs.Lawful.{AreRising}
-use Rattle.design.specs.Pieces.{points_of}
+use Rattle.design.specs.kept.Lawful.{AreRising}
+use Rattle.design.specs.kept.Pieces.{points_of}
 use Rattle.fourstate.specs.declared.value.Value.{Value}
 use Rattle.design.proofs.parting.part_after.Goals as goal
 

@@ -1,5 +1,5 @@
 use Rattle.std.proofs.Common.{◌≡◌, ◌<◌, ◌+◌, ◌++◌, ◌∙◌, suc, ap, length, insert, slice_set, arith}
-use Rattle.design.specs.Pieces.{points_in, points_of}
+use Rattle.design.specs.kept.Pieces.{points_in, points_of}
 use Rattle.design.proofs.PieceLemmas.{filled_halved, halved}
 use Rattle.design.proofs.pieces.halve.Goals as goal
 

@@ -1,7 +1,7 @@
 use Rattle.std.proofs.Common.{◌≡◌, true, false, rules, arith}
 use Rattle.std.proofs.lemmas.List.Sorted.{IsPartitionPoint-from_clause}
 use Rattle.std.specs.List.Sorted.{IsPartitionPoint}
-use Rattle.design.specs.Pieces.{begins_by, points_in}
+use Rattle.design.specs.kept.Pieces.{begins_by, points_in}
 use Rattle.design.proofs.PieceLemmas.{begun_in_order, home_from}
 use Rattle.design.proofs.pieces.home_of.Goals as goal
 

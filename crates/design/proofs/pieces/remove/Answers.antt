@@ -1,7 +1,7 @@
 use Rattle.std.proofs.Common.{◌≡◌, ◌≢◌, ◌<◌, ◌∙◌, ap, sym, length, arith}
 use Rattle.std.proofs.lemmas.Bool.{eqb-false, eqb-true}
 use Rattle.std.proofs.lemmas.List.{get_or-set_same}
-use Rattle.design.specs.Pieces.{IsHome, points_in, points_of}
+use Rattle.design.specs.kept.Pieces.{IsHome, points_in, points_of}
 use Rattle.design.proofs.PieceLemmas.{emptied, filled_emptied, filled_set, home_removed}
 use Rattle.design.proofs.pieces.remove.Goals as goal
 

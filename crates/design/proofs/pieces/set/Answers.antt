@@ -1,5 +1,5 @@
 use Rattle.std.proofs.Common.{◌<◌, ◌∙◌, length}
-use Rattle.design.specs.Pieces.{IsHome, points_in}
+use Rattle.design.specs.kept.Pieces.{IsHome, points_in}
 use Rattle.design.proofs.PieceLemmas.{filled_set, home_set, rising_in, some_set}
 use Rattle.design.proofs.pieces.set.Goals as goal
 

@@ -1,8 +1,8 @@
 use Rattle.std.proofs.Common.{◌≡◌, cond, take, ap, ◌∙◌, arith}
 use Rattle.std.proofs.lemmas.List.{take_all}
-use Rattle.catalog.specs.Catalog.{keys_of}
-use Rattle.design.specs.Keys.{is_among}
-use Rattle.design.specs.Lists.{list_of, with_key_in}
+use Rattle.catalog.specs.kept.Catalog.{keys_of}
+use Rattle.design.specs.kept.Keys.{is_among}
+use Rattle.design.specs.kept.Lists.{list_of, with_key_in}
 use Rattle.design.proofs.EntryLemmas.{keys_apart}
 use Rattle.design.proofs.OrderLemmas.{with_twice}
 use Rattle.design.proofs.WiringLemmas.{among_turn, changed_in_order}

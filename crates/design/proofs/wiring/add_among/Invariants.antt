@@ -1,7 +1,7 @@
 use Rattle.std.proofs.Common.{take}
-use Rattle.catalog.specs.Catalog.{keys_of}
-use Rattle.design.specs.Keys.{is_among}
-use Rattle.design.specs.Lists.{AreChanged, with_key_in}
+use Rattle.catalog.specs.kept.Catalog.{keys_of}
+use Rattle.design.specs.kept.Keys.{is_among}
+use Rattle.design.specs.kept.Lists.{AreChanged, with_key_in}
 use Rattle.design.proofs.wiring.add_among.Given as goal
 
 -- the lists are changed for the terminals so far

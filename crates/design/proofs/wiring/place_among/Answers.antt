@@ -1,7 +1,7 @@
 use Rattle.std.proofs.Common.{◌≡◌, ◌+◌, Some, length, rules, sym, arith}
 use Rattle.std.proofs.lemmas.List.Sorted.{IsPartitionPoint-from_clause}
-use Rattle.catalog.specs.Catalog.{place_of}
-use Rattle.design.specs.Kept.{stands_before}
+use Rattle.catalog.specs.kept.Catalog.{place_of}
+use Rattle.design.specs.kept.Kept.{stands_before}
 use Rattle.design.proofs.EntryLemmas.{keys_apart}
 use Rattle.design.proofs.PlaceLemmas.{ends_before, in_order_partitioned, placed}
 use Rattle.design.proofs.wiring.place_among.Goals as goal

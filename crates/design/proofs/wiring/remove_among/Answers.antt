@@ -1,5 +1,5 @@
 use Rattle.std.proofs.Common.{ℕ, List}
-use Rattle.design.specs.Lists.{without_key}
+use Rattle.design.specs.kept.Lists.{without_key}
 use Rattle.design.proofs.WiringLemmas.{among_turn, without_twice}
 use Rattle.design.proofs.wiring.remove_among.Goals as goal
 

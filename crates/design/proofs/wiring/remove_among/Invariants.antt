@@ -1,6 +1,6 @@
 use Rattle.std.proofs.Common.{take}
-use Rattle.design.specs.Keys.{is_among}
-use Rattle.design.specs.Lists.{AreChanged, without_key}
+use Rattle.design.specs.kept.Keys.{is_among}
+use Rattle.design.specs.kept.Lists.{AreChanged, without_key}
 use Rattle.design.proofs.wiring.remove_among.Given as goal
 
 -- the lists are changed for the terminals so far

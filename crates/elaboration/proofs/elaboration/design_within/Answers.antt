@@ -1,6 +1,6 @@
 use Rattle.std.proofs.Common.{ℕ, ◌<◌, ◌≤◌, Some, ap, sym, subst, ◌∙◌}
 use Rattle.vtext.specs.Modules.{ModuleEntry}
-use Rattle.elaboration.specs.Numbered.{kept_scopes}
+use Rattle.elaboration.specs.kept.Numbered.{kept_scopes}
 use Rattle.elaboration.proofs.ElaborationLemmas.{all_distinct, crowded, elaborated}
 use Rattle.elaboration.proofs.elaboration.design_within.Goals as goal
 

@@ -1,6 +1,6 @@
 use Rattle.std.proofs.Common.{◌≡◌, ◌<◌, ap, subst, ◌∙◌}
 use Rattle.elaboration.specs.declared.limits.TheConstants.{MAX_DEPTH}
-use Rattle.elaboration.specs.Numbered.{SoFar, Start, kept_scopes, none, with_scopes}
+use Rattle.elaboration.specs.kept.Numbered.{SoFar, Start, kept_scopes, none, with_scopes}
 use Rattle.elaboration.proofs.elaboration.scopes_of.Goals as goal
 
 pub returns : goal.returns

@@ -1,7 +1,7 @@
 use Rattle.std.proofs.Common.{◌-◌, ◌<◌, None, replicate, get_or, length, ap, ◌∙◌, arith, sym}
 use Rattle.std.proofs.lemmas.List.{at_drop_all, get_or_default}
 use Rattle.vtext.specs.declared.module_instance.PortConnection.{PortConnection}
-use Rattle.elaboration.specs.Numbered.{joints_from}
+use Rattle.elaboration.specs.kept.Numbered.{joints_from}
 use Rattle.elaboration.proofs.JointLemmas.{joined_more, none_joined}
 use Rattle.elaboration.proofs.joints.joints.Goals as goal
 

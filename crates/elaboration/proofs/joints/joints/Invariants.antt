@@ -1,5 +1,5 @@
 use Rattle.std.proofs.Common.{◌≡◌, ◌≤◌, drop, length}
-use Rattle.elaboration.specs.Numbered.{joints_from}
+use Rattle.elaboration.specs.kept.Numbered.{joints_from}
 use Rattle.elaboration.proofs.joints.joints.Given as goal
 
 abbrev pub invariant-connections : goal.invariant-connections

@@ -3,7 +3,7 @@ use Rattle.std.proofs.lemmas.List.{get_or_default}
 use Rattle.std.proofs.lemmas.Option.{get_or_from_slice_get, slice_get_within}
 use Rattle.vtext.specs.declared.net.Net as nets
 use Rattle.elaboration.specs.declared.node.Slot.{Slot}
-use Rattle.elaboration.specs.Numbered.{next_place, place_after, slots_from}
+use Rattle.elaboration.specs.kept.Numbered.{next_place, place_after, slots_from}
 use Rattle.elaboration.proofs.SlotLemmas.{next_slot, place_next}
 use Rattle.elaboration.proofs.slots.slots_of.Goals as goal
 

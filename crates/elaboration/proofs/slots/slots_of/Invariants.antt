@@ -1,5 +1,5 @@
 use Rattle.std.proofs.Common.{◌≡◌, ◌++◌, drop}
-use Rattle.elaboration.specs.Numbered.{place_after, slots_from}
+use Rattle.elaboration.specs.kept.Numbered.{place_after, slots_from}
 use Rattle.elaboration.proofs.slots.slots_of.Given as goal
 
 abbrev pub invariant-loop-place : goal.invariant-loop-place

@@ -2,7 +2,7 @@ use Rattle.std.proofs.Common.{List, Option, length, ap, ◌∙◌}
 use Rattle.std.specs.Prelude.{option_map}
 use Rattle.std.proofs.lemmas.List.{length-map}
 use Rattle.vtext.specs.declared.gate.Terminal.{Terminal}
-use Rattle.elaboration.specs.Numbered.{ref_at}
+use Rattle.elaboration.specs.kept.Numbered.{ref_at}
 use Rattle.elaboration.proofs.JointLemmas.{joints_count}
 use Rattle.elaboration.proofs.start.given_of.Goals as goal
 

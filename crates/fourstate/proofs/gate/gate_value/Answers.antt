@@ -1,10 +1,10 @@
 use Rattle.std.proofs.Common.{◌≡◌, ◌∙◌, ap, refl}
-use Rattle.fourstate.specs.Rules.{value_by}
+use Rattle.fourstate.specs.kept.Rules.{result_of}
 use Rattle.fourstate.specs.declared.gate.GateKind.{GateKind}
 use Rattle.fourstate.specs.declared.gate.GateKind.TheVariants.{And, Nand, Or, Nor, Xor, Xnor, Buf, Not, Bufif1, Bufif0, Notif1, Notif0}
 use Rattle.fourstate.specs.contracts.gate.GateKind.{the_type}
 use denote.Enum.Declared.{tag_of}
-use Rattle.fourstate.proofs.Rules.{alike, by_number, number_of}
+use Rattle.fourstate.proofs.Rules.{alike, by_summary, number_of}
 use Rattle.fourstate.proofs.gate.gate_value.Goals as goal
 
 tag_is : (kind : GateKind) → tag_of the_type kind ≡ number_of kind
@@ -23,7 +23,6 @@ tag_is Notif0 = refl
 
 pub returns-in_default : goal.returns-in_default
 returns-in_default c =
-    let d = c.in_default in let kind = c.args.kind in
-    let z = c.has_zero.result in let o = c.has_one.result in let odd = c.has_odd_ones.result in let u = c.has_unknown.result in
-    c.value_by.ensures ∙ ap (λ n. value_by n z o odd u) (tag_is kind)
-    ∙ by_number kind c.args.inputs.now z o odd u (alike kind d.not-Bufif1 d.not-Bufif0 d.not-Notif1 d.not-Notif0) c.requires c.has_zero.ensures c.has_one.ensures c.has_unknown.ensures c.has_odd_ones.ensures
+    let d = c.in_default in let kind = c.args.kind in let inputs = c.args.inputs.now in
+    c.result_of.ensures ∙ ap (λ n. result_of n c.summary.result) (tag_is kind) ∙ ap (result_of (number_of kind)) c.summary.ensures.value
+    ∙ by_summary kind inputs (alike kind d.not-Bufif1 d.not-Bufif0 d.not-Notif1 d.not-Notif0) c.requires

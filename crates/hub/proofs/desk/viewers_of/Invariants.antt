@@ -1,6 +1,6 @@
 use Rattle.std.proofs.Common.{◌≡◌, ◌+◌, [], Some, All, length, vec_len}
 use Rattle.left_right.specs.Sides.{view}
-use Rattle.hub.specs.Issues.{issue_of}
+use Rattle.hub.specs.kept.Issues.{issue_of}
 use Rattle.hub.proofs.desk.viewers_of.Given as goal
 
 -- the readers that are left and the viewers so far

@@ -1,6 +1,6 @@
 use Rattle.std.proofs.Common.{List, sym, subst}
-use Rattle.hub.specs.Issues.{IssueRecord, last_of}
-use Rattle.hub.specs.Rules.{Follows}
+use Rattle.hub.specs.kept.Issues.{IssueRecord, last_of}
+use Rattle.hub.specs.kept.Rules.{Follows}
 use Rattle.hub.proofs.Keeping.{follows_same}
 use Rattle.hub.proofs.parts.published_at_once.Goals as goal
 

@@ -1,6 +1,6 @@
 use Rattle.std.proofs.Common.{◌≡◌, drop, sym, subst}
-use Rattle.hub.specs.Issues.{IssueRecord, last_of}
-use Rattle.hub.specs.Rules.{Follows}
+use Rattle.hub.specs.kept.Issues.{IssueRecord, last_of}
+use Rattle.hub.specs.kept.Rules.{Follows}
 use Rattle.hub.proofs.Keeping.{sees}
 use Rattle.hub.proofs.publisher.publish_by.Goals as goal
 

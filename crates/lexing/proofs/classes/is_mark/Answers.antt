@@ -1,5 +1,6 @@
 use Rattle.std.proofs.Common.{refl, arith}
-use Rattle.lexing.specs.Classes.{is_mark, is_printed, is_letter, is_digit}
+use Rattle.lexing.specs.Classes.{is_printed, is_letter, is_digit}
+use Rattle.lexing.specs.kept.Classes.{is_mark}
 use Rattle.lexing.specs.declared.classes.TheConstants.{CLASSES}
 use Rattle.lexing.proofs.ClassLemmas.{agree_below, is_marked}
 use Rattle.lexing.proofs.classes.is_mark.Goals as goal

@@ -1,7 +1,7 @@
 use Rattle.std.proofs.Common.{◌≡◌, ◌<◌, ◌≤◌, Some, sym, ◌∙◌, arith}
 use Rattle.std.proofs.lemmas.Grind.{common_steps}
 use Rattle.fourstate.specs.declared.limits.TheConstants.{MAX_TIME}
-use Rattle.design.specs.Netlist.{next_point}
+use Rattle.design.specs.kept.Netlist.{next_point}
 use Rattle.listing.proofs.Rising.{point_later, point_within, rises_from, until_last, until_point}
 use Rattle.listing.proofs.stimulus.points.Goals as goal
 

@@ -1,6 +1,6 @@
 use Rattle.std.proofs.Common.{take}
 use Rattle.devices.specs.Outgoing.{Adds}
-use Rattle.listing.specs.Listings.{names_at}
+use Rattle.listing.specs.kept.Listings.{names_at}
 use Rattle.listing.proofs.wires.gate_names.Given as goal
 
 abbrev pub invariant-loop-gate : goal.invariant-loop-gate

@@ -1,7 +1,7 @@
 use Rattle.std.proofs.Common.{◌≡◌, ◌∙◌, sym, arith}
 use Rattle.std.proofs.lemmas.Grind.{common_steps}
-use Rattle.fourstate.specs.DelayLaws.{same_delays_equal}
-use Rattle.fourstate.specs.ValueLaws.{same_values_decides}
+use Rattle.fourstate.specs.kept.DelayLaws.{same_delays_equal}
+use Rattle.fourstate.specs.kept.ValueLaws.{same_values_decides}
 use Rattle.parstep.proofs.Same.{same_parts}
 use Rattle.parstep.proofs.compare.same_task.Goals as goal
 

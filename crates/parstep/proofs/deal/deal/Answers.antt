@@ -1,7 +1,7 @@
 use Rattle.std.proofs.Common.{◌-◌, ◌∙◌, length, drop, ap, sym, arith}
 use Rattle.std.proofs.lemmas.List.{length-set}
 use Rattle.std.proofs.lemmas.List.Elements.{All-take, All-drop}
-use Rattle.floor.specs.Pieces.{next_piece, after, Deal}
+use Rattle.floor.specs.kept.Pieces.{next_piece, after, Deal}
 use Rattle.gatestep.specs.Tasks.{IsReady}
 use Rattle.parstep.proofs.Dealt.{deal_at, bounds_at, apart_at, length_range, some_at}
 use Rattle.parstep.proofs.deal.deal.Goals as goal

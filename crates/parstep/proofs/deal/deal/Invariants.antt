@@ -1,5 +1,5 @@
 use Rattle.std.proofs.Common.{◌≡◌, ◌-◌, length}
-use Rattle.parstep.specs.Dealt.{dealing}
+use Rattle.parstep.specs.kept.Dealt.{dealing}
 use Rattle.parstep.proofs.deal.deal.Given as goal
 
 -- the pieces so far are out, and the others wait

@@ -1,7 +1,7 @@
 use Rattle.std.proofs.Common.{◌+◌, ◌∙◌, length, map, ap, slice_range, arith}
 use Rattle.std.proofs.lemmas.Grind.{common_steps}
 use Rattle.std.proofs.lemmas.List.{length-map, length-set}
-use Rattle.floor.specs.Pieces.{first_task, answer_reply, after, finished, Answer}
+use Rattle.floor.specs.kept.Pieces.{first_task, answer_reply, after, finished, Answer}
 use Rattle.gatestep.specs.Step.{State, Evaluation, advance}
 use Rattle.gatestep.specs.Tasks.{PendingFrom}
 use Rattle.parstep.proofs.Gathered.{map_part, taken_at, answer_at, all_more_at, all_at, finished_end}

@@ -1,8 +1,8 @@
 use Rattle.std.proofs.Common.{◌≡◌, ◌+◌, ◌-◌, length, map, take, All}
-use Rattle.floor.specs.Pieces.{first_task}
+use Rattle.floor.specs.kept.Pieces.{first_task}
 use Rattle.gatestep.specs.Step.{advance}
 use Rattle.gatestep.specs.Tasks.{PendingFrom}
-use Rattle.parstep.specs.Dealt.{gathering}
+use Rattle.parstep.specs.kept.Dealt.{gathering}
 use Rattle.parstep.proofs.gather.gather.Given as goal
 
 -- the pieces so far are answered, and the others out

@@ -1,6 +1,6 @@
 use Rattle.std.proofs.Common.{◌++◌, codes, decimal}
 use Rattle.devices.specs.Outgoing.{Adds}
-use Rattle.programs.specs.TextLaws.{adds_then}
+use Rattle.programs.specs.kept.TextLaws.{adds_then}
 use Rattle.programs.proofs.refusal.say_range.Goals as goal
 
 pub returns : goal.returns

@@ -1,6 +1,6 @@
 use Rattle.std.proofs.Common.{codes}
 use Rattle.devices.specs.Outgoing.{Adds}
-use Rattle.programs.specs.TextLaws.{adds_then}
+use Rattle.programs.specs.kept.TextLaws.{adds_then}
 use Rattle.programs.specs.declared.version.TheConstants.{VERSION}
 use Rattle.programs.proofs.version.say_version.Goals as goal
 

@@ -1,5 +1,5 @@
 use Rattle.std.proofs.Common.{rules, ◌≡◌, true, false}
-use Rattle.programs.specs.Endings.{says}
+use Rattle.programs.specs.kept.Endings.{says}
 use Rattle.programs.proofs.version.tell_version.Goals as goal
 
 pub returns-then-print_version : goal.returns-then-print_version

@@ -1,5 +1,5 @@
 use Rattle.std.proofs.Common.{◌≡◌, true, false}
-use Rattle.programs.specs.Endings.{says}
+use Rattle.programs.specs.kept.Endings.{says}
 use Rattle.racer.proofs.ending.ending.Goals as goal
 
 pub returns-then-print : goal.returns-then-print

@@ -1,5 +1,5 @@
 use Rattle.std.proofs.Common.{codes, decimal}
-use Rattle.programs.specs.TextLaws.{adds_then}
+use Rattle.programs.specs.kept.TextLaws.{adds_then}
 use Rattle.racer.proofs.ending.say_line.Goals as goal
 
 pub returns : goal.returns

@@ -1,7 +1,7 @@
 use Rattle.devices.specs.Outgoing.{Adds}
 use Rattle.racer.specs.Refusals.{refusal_text}
 use Rattle.racer.specs.declared.help.TheConstants.{HELP}
-use Rattle.programs.specs.TextLaws.{adds_then}
+use Rattle.programs.specs.kept.TextLaws.{adds_then}
 use Rattle.racer.proofs.refusal.say_refusal.Goals as goal
 
 pub returns : goal.returns

@@ -1,5 +1,5 @@
 use Rattle.std.proofs.Common.{◌≡◌, take}
-use Rattle.racer.specs.Submits.{HasSubmitted}
+use Rattle.racer.specs.kept.Submits.{HasSubmitted}
 use Rattle.racer.specs.Tallies.{tally_of}
 use Rattle.racer.proofs.submit.submit_all.Given as goal
 

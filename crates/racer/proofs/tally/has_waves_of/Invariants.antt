@@ -1,7 +1,8 @@
 use Rattle.std.proofs.Common.{◌≡◌, ◌<◌, ℕ, option_map, slice_get}
 use Rattle.gatestep.specs.Step.{Evaluation, State, advance}
 use Rattle.design.specs.Keys.{netlist}
-use Rattle.scratch.specs.Run.{IsRun, wave_of}
+use Rattle.scratch.specs.Run.{wave_of}
+use Rattle.scratch.specs.kept.Run.{IsRun}
 use Rattle.racer.proofs.tally.has_waves_of.Given as goal
 
 abbrev pub invariant-nets : goal.invariant-nets

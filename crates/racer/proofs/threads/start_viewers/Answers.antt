@@ -1,5 +1,5 @@
 use Rattle.std.proofs.Common.{◌≡◌, vec_len}
-use Rattle.racer.specs.Threads.{looking}
+use Rattle.racer.specs.kept.Threads.{looking}
 use Rattle.racer.proofs.HandleLemmas.{more_handles, more_viewers}
 use Rattle.racer.proofs.threads.start_viewers.Goals as goal
 

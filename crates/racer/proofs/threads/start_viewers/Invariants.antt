@@ -1,5 +1,5 @@
 use Rattle.std.proofs.Common.{◌≡◌, All, length, vec_len}
-use Rattle.racer.specs.Threads.{looking}
+use Rattle.racer.specs.kept.Threads.{looking}
 use Rattle.racer.proofs.threads.start_viewers.Given as goal
 
 abbrev pub invariant-viewers : goal.invariant-viewers

@@ -1,6 +1,6 @@
 use Rattle.std.proofs.Common.{◌≡◌, subst, sym, vec_len}
 use Rattle.racer.specs.Tallies.{Counts}
-use Rattle.racer.specs.Threads.{looking}
+use Rattle.racer.specs.kept.Threads.{looking}
 use Rattle.racer.specs.declared.threads.Looking.{Looking}
 use Rattle.racer.proofs.HandleLemmas.{fewer, more_counted, parted}
 use Rattle.racer.proofs.threads.total.Goals as goal

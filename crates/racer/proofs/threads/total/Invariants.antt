@@ -1,5 +1,5 @@
 use Rattle.std.proofs.Common.{◌≡◌, ◌+◌, ◌*◌, ◌≤◌, All, vec_len}
-use Rattle.racer.specs.Threads.{looking}
+use Rattle.racer.specs.kept.Threads.{looking}
 use Rattle.racer.proofs.threads.total.Given as goal
 
 abbrev pub invariant-children : goal.invariant-children

@@ -3,11 +3,11 @@ use Rattle.std.specs.List.{flat_map}
 use Rattle.gatestep.specs.Record.{at_moment}
 use Rattle.design.specs.Keys.{netlist}
 use Rattle.scratch.specs.Run.{state_after}
-use Rattle.scratch.specs.Work.{HasGrownOrNot}
+use Rattle.scratch.specs.kept.Work.{HasGrownOrNot}
 use Rattle.rundiff.specs.Dirty.{working_at}
-use Rattle.rundiff.specs.OldLines.{known_at}
-use Rattle.rundiff.specs.Places.{gate_at}
-use Rattle.resim.specs.Asking.{dirty_task}
+use Rattle.rundiff.specs.kept.OldLines.{known_at}
+use Rattle.rundiff.specs.kept.Places.{gate_at}
+use Rattle.resim.specs.kept.Asking.{dirty_task}
 use Rattle.resim.proofs.Asked.{answers_are, held_err}
 use Rattle.resim.proofs.Weaving.{tasks_are, woven_are}
 use Rattle.resim.proofs.asking.ask_dirty.Goals as goal

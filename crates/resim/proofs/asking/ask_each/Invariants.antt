@@ -3,7 +3,7 @@ use Rattle.std.specs.List.{flat_map}
 use Rattle.std.specs.Vec.{vec_capacity, vec_len}
 use Rattle.gatestep.specs.Record.{at_moment}
 use Rattle.design.specs.Keys.{netlist}
-use Rattle.resim.specs.Asking.{dirty_task, is_clean}
+use Rattle.resim.specs.kept.Asking.{dirty_task, is_clean}
 use Rattle.resim.proofs.asking.ask_each.Given as goal
 
 -- those of the places so far, and room for the others

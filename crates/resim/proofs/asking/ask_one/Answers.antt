@@ -4,7 +4,7 @@ use Rattle.gatestep.specs.Step.{State, Evaluation}
 use Rattle.design.specs.Keys.{netlist}
 use Rattle.scratch.specs.Work.{task_at}
 use Rattle.rundiff.specs.Dirty.{is_dirty}
-use Rattle.rundiff.specs.Places.{gate_at}
+use Rattle.rundiff.specs.kept.Places.{gate_at}
 use Rattle.resim.proofs.Weaving.{clean_by, dirty_by, task_of}
 use Rattle.resim.proofs.asking.ask_one.Goals as goal
 

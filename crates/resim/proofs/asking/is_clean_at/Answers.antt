@@ -1,9 +1,9 @@
 use Rattle.std.proofs.Common.{◌≡◌, subst}
 use Rattle.design.specs.Keys.{netlist}
 use Rattle.scratch.proofs.OneTask.{task_there}
-use Rattle.scratch.specs.Kept.{evaluation_from}
+use Rattle.scratch.specs.kept.Kept.{evaluation_from}
 use Rattle.scratch.specs.Work.{task_at}
-use Rattle.rundiff.specs.Places.{blank_gate, gate_at}
+use Rattle.rundiff.specs.kept.Places.{blank_gate, gate_at}
 use Rattle.resim.proofs.Weaving.{there}
 use Rattle.resim.proofs.asking.is_clean_at.Goals as goal
 

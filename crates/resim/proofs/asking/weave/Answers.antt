@@ -4,9 +4,9 @@ use Rattle.gatestep.specs.Step.{State, initial}
 use Rattle.design.specs.Keys.{netlist}
 use Rattle.scratch.specs.Run.{state_after}
 use Rattle.rundiff.specs.Dirty.{is_dirty}
-use Rattle.rundiff.specs.OldLines.{known_at}
-use Rattle.rundiff.specs.Places.{gate_at}
-use Rattle.resim.specs.Asking.{is_clean, woven}
+use Rattle.rundiff.specs.kept.OldLines.{known_at}
+use Rattle.rundiff.specs.kept.Places.{gate_at}
+use Rattle.resim.specs.kept.Asking.{is_clean, woven}
 use Rattle.resim.proofs.Weaving.{clean_by, copied_or, dirty_by, index_map, map_at, one_woven, woven_asked, woven_known}
 use Rattle.resim.proofs.asking.weave.Goals as goal
 use Rattle.resim.proofs.asking.weave.Goals.{then-clean-i+in_ok-push, else-clean-i+in_ok-push-2}

@@ -1,8 +1,8 @@
 use Rattle.std.proofs.Common.{◌≡◌, ◌≤◌, ◌++◌, drop, map}
 use Rattle.design.specs.Keys.{netlist}
-use Rattle.rundiff.specs.OldLines.{known_at}
-use Rattle.rundiff.specs.Places.{gate_at}
-use Rattle.resim.specs.Asking.{woven}
+use Rattle.rundiff.specs.kept.OldLines.{known_at}
+use Rattle.rundiff.specs.kept.Places.{gate_at}
+use Rattle.resim.specs.kept.Asking.{woven}
 use Rattle.resim.proofs.asking.weave.Given as goal
 
 -- what is woven so far, and what is left

@@ -1,5 +1,5 @@
 use Rattle.design.specs.Keys.{netlist}
-use Rattle.resim.specs.Asking.{dirty_task, is_clean}
+use Rattle.resim.specs.kept.Asking.{dirty_task, is_clean}
 use Rattle.resim.proofs.Weaving.{flat_more, map_more}
 use Rattle.resim.proofs.asking.weigh_all.Goals as goal
 

@@ -2,7 +2,7 @@ use Rattle.std.proofs.Common.{◌≡◌, map, take, All}
 use Rattle.std.specs.List.{flat_map}
 use Rattle.gatestep.specs.Tasks.{IsReady}
 use Rattle.design.specs.Keys.{netlist}
-use Rattle.resim.specs.Asking.{dirty_task, is_clean}
+use Rattle.resim.specs.kept.Asking.{dirty_task, is_clean}
 use Rattle.resim.proofs.asking.weigh_all.Given as goal
 
 -- those of the places so far

@@ -1,5 +1,5 @@
 use Rattle.std.proofs.Common.{◌≡◌}
-use Rattle.catalog.specs.Catalog.{keys_of}
+use Rattle.catalog.specs.kept.Catalog.{keys_of}
 use Rattle.resim.proofs.Cutting.{AreCutBefore}
 use Rattle.resim.proofs.cut.cut_traces.Given as goal
 

@@ -1,7 +1,7 @@
 use Rattle.std.proofs.Common.{◌≡◌, ◌∙◌, ap, sym, subst, ℕ, List, Option}
 use Rattle.fourstate.specs.declared.value.Value.{Value}
-use Rattle.waveform.specs.Runs.{RunRecord}
-use Rattle.resim.specs.Cuts.{AreCut}
+use Rattle.waveform.specs.kept.Runs.{RunRecord}
+use Rattle.resim.specs.kept.Cuts.{AreCut}
 use Rattle.resim.proofs.Cutting.{run_cut}
 use Rattle.resim.proofs.cut.shorten.Goals as goal
 

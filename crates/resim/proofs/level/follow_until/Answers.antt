@@ -1,7 +1,6 @@
-use Rattle.std.proofs.Common.{◌≡◌, ◌≤◌, ◌++◌, ◌∙◌, ap, refl, sym, ℕ, append-nil, arith}
+use Rattle.std.proofs.Common.{◌≤◌, ◌++◌, ◌∙◌, ap, refl, sym, ℕ, append-nil, arith}
 use Rattle.std.proofs.lemmas.Grind.{common_steps}
 use Rattle.design.specs.Keys.{netlist}
-use Rattle.rundiff.specs.Dirty.{rework_below}
 use Rattle.resim.proofs.Asked.{held_err, lost_on, no_answer, one_more, part}
 use Rattle.resim.proofs.level.follow_until.Goals as goal
 

@@ -1,7 +1,7 @@
 use Rattle.std.proofs.Common.{◌-◌, ◌≡◌, ◌≤◌, ◌++◌}
 use Rattle.design.specs.Keys.{netlist}
 use Rattle.rundiff.specs.Dirty.{rework_below}
-use Rattle.rundiff.specs.Fronts.{IsFront}
+use Rattle.rundiff.specs.kept.Fronts.{IsFront}
 use Rattle.resim.proofs.level.follow_until.Given as goal
 
 -- the moments below `next` are done

@@ -1,4 +1,4 @@
-use Rattle.std.proofs.Common.{◌≡◌, ◌≤◌, ◌∙◌, ap, subst, ℕ, suc, arith}
+use Rattle.std.proofs.Common.{◌∙◌, ap}
 use Rattle.design.specs.Keys.{netlist}
 use Rattle.rundiff.specs.Dirty.{rework_below}
 use Rattle.resim.proofs.Asked.{front_at}

@@ -1,7 +1,7 @@
 use Rattle.std.proofs.Common.{◌≡◌, ◌∙◌, ap, suc, add-one}
 use Rattle.design.specs.Keys.{netlist}
 use Rattle.rundiff.specs.Dirty.{rework_below, working_at}
-use Rattle.rundiff.specs.Fronts.{tasks_in}
+use Rattle.rundiff.specs.kept.Fronts.{tasks_in}
 use Rattle.resim.proofs.Asked.{answers_are, front_at}
 use Rattle.resim.proofs.level.pass.Goals as goal
 

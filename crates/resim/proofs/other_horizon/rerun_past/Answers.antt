@@ -1,6 +1,6 @@
 use Rattle.std.proofs.Common.{◌≤◌, refl, subst, sym}
 use Rattle.design.specs.Keys.{netlist}
-use Rattle.waveform.specs.Runs.{RunRecord}
+use Rattle.waveform.specs.kept.Runs.{RunRecord}
 use Rattle.resim.proofs.Asked.{stopped}
 use Rattle.resim.proofs.Levels.{extended, level_horizon, level_part, level_touched}
 use Rattle.resim.proofs.other_horizon.rerun_past.Goals as goal

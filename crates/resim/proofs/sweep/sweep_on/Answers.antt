@@ -1,9 +1,9 @@
 use Rattle.std.proofs.Common.{◌≡◌, ◌≤◌, ◌++◌, ◌∙◌, sym, ap, refl, subst, suc, add-one, arith}
 use Rattle.std.proofs.lemmas.Grind.{common_steps}
 use Rattle.design.specs.Keys.{netlist}
-use Rattle.scratch.specs.Stands.{Stands}
+use Rattle.scratch.specs.kept.Stands.{Stands}
 use Rattle.rundiff.specs.Dirty.{rework_below}
-use Rattle.resim.specs.Reruns.{Reruns}
+use Rattle.resim.specs.kept.Reruns.{Reruns}
 use Rattle.resim.proofs.Asked.{one_more, part, refused, stopped}
 use Rattle.resim.proofs.Weaving.{rework_idle}
 use Rattle.resim.proofs.sweep.sweep_on.Goals as goal

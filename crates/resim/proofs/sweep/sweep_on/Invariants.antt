@@ -1,9 +1,9 @@
 use Rattle.std.proofs.Common.{◌≡◌, ◌≤◌, ◌-◌, ◌++◌, ℕ, suc, List}
 use Rattle.gatestep.specs.Step.{Evaluation}
 use Rattle.design.specs.Keys.{netlist}
-use Rattle.scratch.specs.Stands.{Stands}
+use Rattle.scratch.specs.kept.Stands.{Stands}
 use Rattle.rundiff.specs.Dirty.{rework_below}
-use Rattle.rundiff.specs.OldLines.{AreOldLines, traces_done, waves_done}
+use Rattle.rundiff.specs.kept.OldLines.{AreOldLines, traces_done, waves_done}
 use Rattle.resim.proofs.sweep.sweep_on.Given as goal
 
 -- the moments below `t` are done

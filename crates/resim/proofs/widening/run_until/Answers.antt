@@ -1,6 +1,6 @@
-use Rattle.std.proofs.Common.{◌≡◌, ◌≤◌, ◌∙◌, ap, sym, subst, suc, arith}
+use Rattle.std.proofs.Common.{◌≤◌, ◌∙◌, ap, sym, subst, suc, arith}
 use Rattle.design.specs.Keys.{netlist}
-use Rattle.scratch.specs.Run.{IsRun}
+use Rattle.scratch.specs.kept.Run.{IsRun}
 use Rattle.resim.proofs.Asked.{front_at}
 use Rattle.resim.proofs.Behind.{front_old, horizon_of, is_within}
 use Rattle.resim.proofs.widening.run_until.Goals as goal

@@ -1,7 +1,6 @@
-use Rattle.std.proofs.Common.{◌≡◌, ◌+◌, ◌++◌, ℕ, List, subst, suc, arith}
-use Rattle.gatestep.specs.Step.{Evaluation}
+use Rattle.std.proofs.Common.{◌≡◌, ◌+◌, ◌++◌, ℕ, subst, suc, arith}
 use Rattle.design.specs.Keys.{netlist}
-use Rattle.scratch.specs.Stands.{Stands}
+use Rattle.scratch.specs.kept.Stands.{Stands}
 use Rattle.rundiff.specs.Dirty.{rework_below}
 use Rattle.resim.proofs.Behind.{in_vain}
 use Rattle.resim.proofs.widening.sweep_after.Goals as goal

@@ -1,4 +1,4 @@
-use Rattle.std.proofs.Common.{◌≡◌, ◌<◌, sym, subst, ℕ, suc, refl, arith}
+use Rattle.std.proofs.Common.{◌<◌, sym, subst, ℕ, suc}
 use Rattle.design.specs.Keys.{netlist}
 use Rattle.resim.proofs.Behind.{front_new, horizon_of, in_vain, swept}
 use Rattle.resim.proofs.widening.widen.Goals as goal

@@ -2,10 +2,11 @@ use Rattle.std.proofs.Common.{◌≡◌, ◌<◌, All, length, ◌∙◌, ap, sy
 use Rattle.std.specs.Prelude.{nat_eq, IsSome}
 use Rattle.std.specs.Option.{option_map_or}
 use Rattle.std.proofs.lemmas.Bool.Decides.{nat_tests}
-use Rattle.catalog.specs.Catalog.{place_of}
-use Rattle.design.specs.Keys.{entry_in, net_by_key, netlist}
+use Rattle.catalog.specs.kept.Catalog.{place_of}
+use Rattle.design.specs.Keys.{entry_in, netlist}
+use Rattle.design.specs.kept.Keys.{net_by_key}
 use Rattle.design.specs.Netlist.{GateEntry}
-use Rattle.rundiff.specs.Places.{blank_gate, is_among, is_live}
+use Rattle.rundiff.specs.kept.Places.{blank_gate, is_among, is_live}
 use Rattle.rundiff.proofs.ByPlace.{at_place}
 use Rattle.rundiff.proofs.Sets.{or_first, or_second}
 use Rattle.rundiff.proofs.Outcoming.{all_more}

@@ -1,7 +1,7 @@
 use Rattle.std.proofs.Common.{◌≡◌, ◌∙◌, ap, sym, subst, refl, ℕ, List, true, false, take}
 use Rattle.std.specs.Prelude.{slice_index_or, nat_eq}
 use Rattle.design.specs.Keys.{netlist}
-use Rattle.rundiff.specs.Places.{gate_at, is_among, is_live}
+use Rattle.rundiff.specs.kept.Places.{gate_at, is_among, is_live}
 use Rattle.rundiff.proofs.Alike.{live_grows}
 use Rattle.rundiff.proofs.ByPlace.{get_at}
 use Rattle.rundiff.proofs.Driven.{take_whole}

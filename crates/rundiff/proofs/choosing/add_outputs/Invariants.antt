@@ -1,6 +1,6 @@
 use Rattle.std.proofs.Common.{◌≡◌, ◌<◌, ℕ, All, true, length, take}
 use Rattle.design.specs.Keys.{netlist}
-use Rattle.rundiff.specs.Places.{gate_at, is_among, is_live}
+use Rattle.rundiff.specs.kept.Places.{gate_at, is_among, is_live}
 use Rattle.rundiff.proofs.choosing.add_outputs.Given as goal
 
 -- the outputs so far are added

@@ -1,9 +1,9 @@
 use Rattle.std.proofs.Common.{◌∙◌, ap, sym, refl, ℕ, List}
 use Rattle.std.specs.BTreeSet.{contains}
 use Rattle.std.specs.Ordering.{nat_cmp}
-use Rattle.event_queue.specs.Noted.{noted}
-use Rattle.scratch.specs.Places.{has}
-use Rattle.rundiff.specs.Places.{is_among}
+use Rattle.event_queue.specs.kept.Noted.{noted}
+use Rattle.scratch.specs.kept.Places.{has}
+use Rattle.rundiff.specs.kept.Places.{is_among}
 use Rattle.rundiff.proofs.Among.{and_true, either_among, taken_among}
 use Rattle.rundiff.proofs.Sets.{or_first}
 use Rattle.rundiff.proofs.Still.{both}

@@ -5,7 +5,7 @@ use Rattle.std.proofs.lemmas.List.Filters.{All-dedup, dedup_is}
 use Rattle.std.proofs.lemmas.List.Kept.{Contains-dedup_nat, Contains-from_dedup}
 use Rattle.std.proofs.lemmas.List.Sorted.{All-permutation, Contains-permutation, IsPermutation-sym}
 use Rattle.std.proofs.lemmas.Map.Keys.{IsStrictlyIncreasing-dedup, sorted_from_strictly_increasing}
-use Rattle.rundiff.specs.Places.{is_among}
+use Rattle.rundiff.specs.kept.Places.{is_among}
 use Rattle.rundiff.proofs.Among.{in_order, same_among}
 use Rattle.rundiff.proofs.choosing.put_in_order.Goals as goal
 

@@ -1,5 +1,5 @@
 use Rattle.std.proofs.Common.{◌≡◌, take}
-use Rattle.rundiff.specs.Finishing.{AreCleared}
+use Rattle.rundiff.specs.kept.Finishing.{AreCleared}
 use Rattle.rundiff.proofs.finishing.clear_touched.Given as goal
 
 -- the waves so far are gone

@@ -1,16 +1,18 @@
 use Rattle.std.proofs.Common.{◌≡◌, ◌∙◌, ◌+◌, ap, sym, suc, ℕ, List, Option, Some, subst, arith}
 use Rattle.std.specs.Option.{option_map}
 use Rattle.gatestep.specs.Step.{State, due}
-use Rattle.catalog.specs.Catalog.{keys_of}
-use Rattle.design.specs.Keys.{KeyedGate, entry_in, gate_by_key, netlist}
+use Rattle.catalog.specs.kept.Catalog.{keys_of}
+use Rattle.design.specs.Keys.{KeyedGate, entry_in, netlist}
+use Rattle.design.specs.kept.Keys.{gate_by_key}
 use Rattle.design.specs.Netlist.{GateEntry}
-use Rattle.waveform.specs.Changes.{trace_below}
+use Rattle.waveform.specs.kept.Changes.{trace_below}
 use Rattle.waveform.specs.Entries.{same_state}
-use Rattle.waveform.specs.Patches.{Keeps, PatchRecord}
-use Rattle.scratch.specs.Run.{state_after, trace_of}
-use Rattle.rundiff.specs.Finishing.{new_trace}
-use Rattle.rundiff.specs.Fronts.{named_state}
-use Rattle.rundiff.specs.Places.{blank_gate, gate_at}
+use Rattle.waveform.specs.kept.Patches.{Keeps, PatchRecord}
+use Rattle.scratch.specs.Run.{state_after}
+use Rattle.scratch.specs.kept.Run.{trace_of}
+use Rattle.rundiff.specs.kept.Finishing.{new_trace}
+use Rattle.rundiff.specs.kept.Fronts.{named_state}
+use Rattle.rundiff.specs.kept.Places.{blank_gate, gate_at}
 use Rattle.rundiff.proofs.ByPlace.{at_place}
 use Rattle.rundiff.proofs.Putting.{put_one}
 use Rattle.rundiff.proofs.Steps.{mapped}

@@ -1,8 +1,8 @@
 use Rattle.std.proofs.Common.{◌≡◌, ℕ, false, take}
-use Rattle.rundiff.specs.PlaceMaps.{kept_at}
-use Rattle.catalog.specs.Catalog.{keys_of}
-use Rattle.rundiff.specs.Finishing.{ArePut, new_trace}
-use Rattle.rundiff.specs.Places.{is_among}
+use Rattle.rundiff.specs.kept.PlaceMaps.{kept_at}
+use Rattle.catalog.specs.kept.Catalog.{keys_of}
+use Rattle.rundiff.specs.kept.Finishing.{ArePut, new_trace}
+use Rattle.rundiff.specs.kept.Places.{is_among}
 use Rattle.rundiff.proofs.finishing.put_traces.Given as goal
 
 -- the traces so far are put, the other patches are as they were

@@ -2,17 +2,18 @@ use Rattle.std.proofs.Common.{◌≡◌, ◌∙◌, ◌+◌, ap, sym, refl, suc,
 use Rattle.std.specs.Option.{option_map}
 use Rattle.fourstate.specs.declared.value.Value.{Value}
 use Rattle.fourstate.specs.Values.{same_value}
-use Rattle.catalog.specs.Catalog.{keys_of}
+use Rattle.catalog.specs.kept.Catalog.{keys_of}
 use Rattle.design.specs.Connections.{to_net}
-use Rattle.design.specs.Keys.{net_by_key, netlist}
+use Rattle.design.specs.Keys.{netlist}
+use Rattle.design.specs.kept.Keys.{net_by_key}
 use Rattle.design.specs.Netlist.{NetEntry}
 use Rattle.waveform.specs.Changes.{wave_changes_below}
 use Rattle.waveform.specs.Entries.{standing}
-use Rattle.waveform.specs.Patches.{Keeps, PatchRecord}
+use Rattle.waveform.specs.kept.Patches.{Keeps, PatchRecord}
 use Rattle.scratch.specs.Run.{value, wave_of}
-use Rattle.rundiff.specs.Finishing.{new_wave}
-use Rattle.rundiff.specs.Places.{blank_net, net_at}
-use Rattle.rundiff.specs.Kept.{read_at}
+use Rattle.rundiff.specs.kept.Finishing.{new_wave}
+use Rattle.rundiff.specs.kept.Places.{blank_net, net_at}
+use Rattle.rundiff.specs.kept.Kept.{read_at}
 use Rattle.rundiff.proofs.ByPlace.{at_place, get_at}
 use Rattle.rundiff.proofs.Putting.{put_one}
 use Rattle.rundiff.proofs.Steps.{mapped}

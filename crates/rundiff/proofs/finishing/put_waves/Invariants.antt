@@ -1,8 +1,8 @@
 use Rattle.std.proofs.Common.{◌≡◌, ℕ, false, take}
-use Rattle.rundiff.specs.PlaceMaps.{kept_at}
-use Rattle.catalog.specs.Catalog.{keys_of}
-use Rattle.rundiff.specs.Finishing.{ArePut, new_wave}
-use Rattle.rundiff.specs.Places.{is_among}
+use Rattle.rundiff.specs.kept.PlaceMaps.{kept_at}
+use Rattle.catalog.specs.kept.Catalog.{keys_of}
+use Rattle.rundiff.specs.kept.Finishing.{ArePut, new_wave}
+use Rattle.rundiff.specs.kept.Places.{is_among}
 use Rattle.rundiff.proofs.finishing.put_waves.Given as goal
 
 -- the waves so far are put, the other patches are as they were

@@ -1,9 +1,9 @@
 use Rattle.std.proofs.Common.{◌≡◌, ◌∙◌, ap, sym, suc, ℕ, List, inl, inr}
 use Rattle.design.specs.Keys.{entry_in, netlist}
 use Rattle.design.specs.Netlist.{GateEntry}
-use Rattle.waveform.specs.Changes.{trace_below}
-use Rattle.rundiff.specs.Fronts.{named_state}
-use Rattle.rundiff.specs.Places.{blank_gate, gate_at}
+use Rattle.waveform.specs.kept.Changes.{trace_below}
+use Rattle.rundiff.specs.kept.Fronts.{named_state}
+use Rattle.rundiff.specs.kept.Places.{blank_gate, gate_at}
 use Rattle.rundiff.proofs.ByPlace.{at_place}
 use Rattle.rundiff.proofs.former.former_trace.Goals as goal
 

@@ -1,10 +1,10 @@
 use Rattle.std.proofs.Common.{◌≡◌, ◌∙◌, ap, sym, subst, refl, ℕ, suc, List, true, false, take}
 use Rattle.std.specs.Prelude.{slice_index_or, nat_eq}
-use Rattle.event_queue.specs.Noted.{noted}
+use Rattle.event_queue.specs.kept.Noted.{noted}
 use Rattle.design.specs.Keys.{netlist}
-use Rattle.scratch.specs.Places.{IsNotedWithin}
-use Rattle.rundiff.specs.Noting.{net_moves}
-use Rattle.rundiff.specs.Places.{is_among}
+use Rattle.scratch.specs.kept.Places.{IsNotedWithin}
+use Rattle.rundiff.specs.kept.Noting.{net_moves}
+use Rattle.rundiff.specs.kept.Places.{is_among}
 use Rattle.rundiff.proofs.ByPlace.{get_at}
 use Rattle.rundiff.proofs.Driven.{take_whole}
 use Rattle.rundiff.proofs.Steps.{among_more, is_one, or_splits, same_place}

@@ -1,9 +1,9 @@
 use Rattle.std.proofs.Common.{◌≡◌, ◌<◌, ◌≤◌, ℕ, suc, true, take}
-use Rattle.event_queue.specs.Noted.{noted}
+use Rattle.event_queue.specs.kept.Noted.{noted}
 use Rattle.design.specs.Keys.{netlist}
-use Rattle.scratch.specs.Places.{IsNotedWithin, Keeps}
-use Rattle.rundiff.specs.Noting.{net_moves}
-use Rattle.rundiff.specs.Places.{is_among}
+use Rattle.scratch.specs.kept.Places.{IsNotedWithin, Keeps}
+use Rattle.rundiff.specs.kept.Noting.{net_moves}
+use Rattle.rundiff.specs.kept.Places.{is_among}
 use Rattle.rundiff.proofs.front_nets.note_nets.Given as goal
 
 -- the nets so far are noted

@@ -1,11 +1,11 @@
 use Rattle.std.proofs.Common.{◌≡◌, ◌<◌, ◌≤◌, ℕ, suc, true, take}
 use Rattle.std.specs.BTreeSet.{contains}
 use Rattle.std.specs.Ordering.{nat_cmp}
-use Rattle.event_queue.specs.Noted.{noted}
+use Rattle.event_queue.specs.kept.Noted.{noted}
 use Rattle.design.specs.Keys.{netlist}
-use Rattle.rundiff.specs.Noting.{input_moves}
-use Rattle.rundiff.specs.Places.{is_among}
-use Rattle.scratch.specs.Places.{IsNotedWithin, Keeps}
+use Rattle.rundiff.specs.kept.Noting.{input_moves}
+use Rattle.rundiff.specs.kept.Places.{is_among}
+use Rattle.scratch.specs.kept.Places.{IsNotedWithin, Keeps}
 use Rattle.rundiff.proofs.gate_notes.note_all_inputs.Given as goal
 
 -- the inputs of the gates so far are noted

@@ -1,10 +1,10 @@
 use Rattle.std.proofs.Common.{◌∙◌, ◌<◌, ap, subst, arith, ℕ, suc, List, length}
 use Rattle.std.specs.Prelude.{slice_index_or}
-use Rattle.event_queue.specs.Noted.{noted}
+use Rattle.event_queue.specs.kept.Noted.{noted}
 use Rattle.gatestep.specs.Step.{State}
 use Rattle.gatestep.specs.Tasks.{PendingFrom}
-use Rattle.rundiff.specs.Noting.{pends}
-use Rattle.rundiff.specs.Places.{is_among}
+use Rattle.rundiff.specs.kept.Noting.{pends}
+use Rattle.rundiff.specs.kept.Places.{is_among}
 use Rattle.rundiff.proofs.ByPlace.{at_place, get_at}
 use Rattle.rundiff.proofs.Driven.{read_get, take_whole}
 use Rattle.rundiff.proofs.NotedMore.{mapped_at, more_events}

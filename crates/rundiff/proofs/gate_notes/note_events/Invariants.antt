@@ -1,9 +1,9 @@
 use Rattle.std.proofs.Common.{◌≡◌, ◌≤◌, ℕ, true, take, map}
-use Rattle.event_queue.specs.Noted.{noted}
+use Rattle.event_queue.specs.kept.Noted.{noted}
 use Rattle.gatestep.specs.Step.{State}
-use Rattle.rundiff.specs.Noting.{pends}
-use Rattle.rundiff.specs.Places.{is_among}
-use Rattle.scratch.specs.Places.{Keeps, has}
+use Rattle.rundiff.specs.kept.Noting.{pends}
+use Rattle.rundiff.specs.kept.Places.{is_among}
+use Rattle.scratch.specs.kept.Places.{Keeps, has}
 use Rattle.rundiff.proofs.gate_notes.note_events.Given as goal
 
 -- the events of the gates so far are noted

@@ -1,5 +1,5 @@
 use Rattle.std.proofs.Common.{sym, subst, All}
-use Rattle.rundiff.specs.Fronts.{IsClean}
+use Rattle.rundiff.specs.kept.Fronts.{IsClean}
 use Rattle.rundiff.proofs.Outcoming.{all_more}
 use Rattle.rundiff.proofs.Steps.{mapped}
 use Rattle.rundiff.proofs.gates.add_clean.Goals as goal

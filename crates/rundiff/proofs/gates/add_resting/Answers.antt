@@ -1,8 +1,8 @@
 use Rattle.std.proofs.Common.{◌∙◌, ap, sym, subst, ℕ, List, [], ◌∷◌, ◌++◌, All, not, map}
-use Rattle.waveform.specs.Entries.{CanStore}
+use Rattle.waveform.specs.kept.Entries.{CanStore}
 use Rattle.scratch.specs.Run.{state_after}
-use Rattle.rundiff.specs.Fronts.{is_working}
-use Rattle.rundiff.specs.Places.{gate_at}
+use Rattle.rundiff.specs.kept.Fronts.{is_working}
+use Rattle.rundiff.specs.kept.Places.{gate_at}
 use Rattle.rundiff.proofs.Outcoming.{all_more, filter_off, filter_on, map_one_more}
 use Rattle.rundiff.proofs.gates.add_resting.Goals as goal
 

@@ -1,7 +1,7 @@
 use Rattle.std.proofs.Common.{◌∙◌, ap, sym, subst, ℕ, List, [], ◌∷◌, ◌++◌, All, not, map}
 use Rattle.gatestep.specs.Tasks.{IsReady}
-use Rattle.rundiff.specs.Fronts.{is_working}
-use Rattle.rundiff.specs.Places.{gate_at}
+use Rattle.rundiff.specs.kept.Fronts.{is_working}
+use Rattle.rundiff.specs.kept.Places.{gate_at}
 use Rattle.scratch.specs.Work.{task_at}
 use Rattle.rundiff.proofs.Outcoming.{all_more, filter_off, filter_on, map_one_more}
 use Rattle.rundiff.proofs.gates.add_working.Goals as goal

@@ -1,7 +1,7 @@
 use Rattle.std.proofs.Common.{sym, subst, ℕ, List, take}
 use Rattle.std.specs.Prelude.{slice_index_or}
 use Rattle.design.specs.Keys.{netlist}
-use Rattle.rundiff.specs.Fronts.{AreOutcomes}
+use Rattle.rundiff.specs.kept.Fronts.{AreOutcomes}
 use Rattle.rundiff.proofs.ByPlace.{get_at}
 use Rattle.rundiff.proofs.Driven.{take_whole}
 use Rattle.rundiff.proofs.Outcoming.{take_next}

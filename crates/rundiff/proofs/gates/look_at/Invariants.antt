@@ -1,6 +1,6 @@
 use Rattle.std.proofs.Common.{take}
 use Rattle.design.specs.Keys.{netlist}
-use Rattle.rundiff.specs.Fronts.{AreOutcomes}
+use Rattle.rundiff.specs.kept.Fronts.{AreOutcomes}
 use Rattle.rundiff.proofs.gates.look_at.Given as goal
 
 -- what comes of the gates so far

@@ -1,8 +1,8 @@
 use Rattle.std.proofs.Common.{◌≤◌, suc, arith}
 use Rattle.design.specs.Keys.{netlist}
 use Rattle.scratch.specs.Run.{state_after}
-use Rattle.rundiff.specs.Fronts.{named_state}
-use Rattle.rundiff.specs.Places.{blank_gate, gate_at}
+use Rattle.rundiff.specs.kept.Fronts.{named_state}
+use Rattle.rundiff.specs.kept.Places.{blank_gate, gate_at}
 use Rattle.rundiff.proofs.Steps.{mapped}
 use Rattle.rundiff.proofs.Tasks.{old_settled, settled}
 use Rattle.rundiff.proofs.gates.put_state.Goals as goal

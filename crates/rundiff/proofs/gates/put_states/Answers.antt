@@ -1,16 +1,17 @@
 use Rattle.std.proofs.Common.{◌≡◌, ◌∙◌, ◌<◌, ◌≤◌, ap, sym, subst, suc, arith, ℕ, List, length, Option}
 use Rattle.std.specs.Prelude.{slice_index_or}
 use Rattle.std.specs.Option.{ForSome}
-use Rattle.rundiff.specs.PlaceMaps.{kept_at}
+use Rattle.rundiff.specs.kept.PlaceMaps.{kept_at}
 use Rattle.std.proofs.lemmas.List.{length-map}
 use Rattle.gatestep.specs.Step.{State, due}
 use Rattle.design.specs.Keys.{netlist}
-use Rattle.waveform.specs.Entries.{CanStore, same_state}
-use Rattle.waveform.specs.Patches.{Keeps, PatchRecord}
-use Rattle.waveform.specs.Timelines.{end_of}
+use Rattle.waveform.specs.Entries.{same_state}
+use Rattle.waveform.specs.kept.Entries.{CanStore}
+use Rattle.waveform.specs.kept.Patches.{Keeps, PatchRecord}
+use Rattle.waveform.specs.kept.Timelines.{end_of}
 use Rattle.scratch.specs.Run.{state_after}
-use Rattle.rundiff.specs.Fronts.{IsOwn, named_state}
-use Rattle.rundiff.specs.Places.{gate_at, is_among}
+use Rattle.rundiff.specs.kept.Fronts.{IsOwn, named_state}
+use Rattle.rundiff.specs.kept.Places.{gate_at, is_among}
 use Rattle.rundiff.proofs.ByPlace.{at_place, get_at}
 use Rattle.rundiff.proofs.Driven.{read_get, take_whole}
 use Rattle.rundiff.proofs.Steps.{is_one, not_yet, others_more, put_more}

@@ -1,10 +1,10 @@
 use Rattle.std.proofs.Common.{◌≡◌, ◌≤◌, ℕ, suc, true, false, take}
 use Rattle.std.specs.Option.{ForSome}
-use Rattle.rundiff.specs.PlaceMaps.{kept_at}
-use Rattle.waveform.specs.Timelines.{end_of}
+use Rattle.rundiff.specs.kept.PlaceMaps.{kept_at}
+use Rattle.waveform.specs.kept.Timelines.{end_of}
 use Rattle.design.specs.Keys.{netlist}
-use Rattle.rundiff.specs.Fronts.{IsOwn, IsTrace}
-use Rattle.rundiff.specs.Places.{is_among}
+use Rattle.rundiff.specs.kept.Fronts.{IsOwn, IsTrace}
+use Rattle.rundiff.specs.kept.Places.{is_among}
 use Rattle.rundiff.proofs.gates.put_states.Given as goal
 
 -- the gates so far are put, the others are as they were

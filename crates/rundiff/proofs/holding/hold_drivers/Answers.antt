@@ -4,11 +4,12 @@ use Rattle.std.specs.BTreeSet.{contains}
 use Rattle.std.specs.List.{list_any}
 use Rattle.std.specs.Option.{option_map_or}
 use Rattle.std.specs.Ordering.{nat_cmp}
-use Rattle.catalog.specs.Catalog.{place_of}
-use Rattle.design.specs.Keys.{driver_keys, name_of, net_by_key, netlist}
+use Rattle.catalog.specs.kept.Catalog.{place_of}
+use Rattle.design.specs.Keys.{name_of, netlist}
+use Rattle.design.specs.kept.Keys.{driver_keys, net_by_key}
 use Rattle.design.specs.Netlist.{NetEntry}
-use Rattle.design.specs.Places.{driver_places}
-use Rattle.rundiff.specs.Places.{blank_net, is_among, net_at}
+use Rattle.design.specs.kept.Places.{driver_places}
+use Rattle.rundiff.specs.kept.Places.{blank_net, is_among, net_at}
 use Rattle.rundiff.proofs.ByPlace.{get_at}
 use Rattle.rundiff.proofs.Driven.{is_there, read_get, take_whole}
 use Rattle.rundiff.proofs.Sets.{any_map, any_more, flips, held_more, test_is}

@@ -2,8 +2,8 @@ use Rattle.std.proofs.Common.{◌≡◌, ◌≤◌, ◌∙◌, ap, sym, subst, r
 use Rattle.std.specs.Prelude.{nat_eq, slice_index_or}
 use Rattle.design.specs.Keys.{netlist}
 use Rattle.design.specs.Netlist.{Netlist}
-use Rattle.rundiff.specs.Inputs.{IsSameInput}
-use Rattle.rundiff.specs.Places.{is_among}
+use Rattle.rundiff.specs.kept.Inputs.{IsSameInput}
+use Rattle.rundiff.specs.kept.Places.{is_among}
 use Rattle.rundiff.proofs.ByPlace.{get_at}
 use Rattle.rundiff.proofs.Driven.{take_whole}
 use Rattle.rundiff.proofs.Steps.{among_more, is_one, or_splits, same_place}

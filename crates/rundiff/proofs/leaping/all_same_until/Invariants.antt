@@ -1,7 +1,7 @@
 use Rattle.std.proofs.Common.{◌≡◌, ◌<◌, ◌≤◌, ℕ, true, take}
 use Rattle.design.specs.Keys.{netlist}
-use Rattle.rundiff.specs.Inputs.{IsSameInput}
-use Rattle.rundiff.specs.Places.{is_among}
+use Rattle.rundiff.specs.kept.Inputs.{IsSameInput}
+use Rattle.rundiff.specs.kept.Places.{is_among}
 use Rattle.rundiff.proofs.leaping.all_same_until.Given as goal
 
 -- the nets so far

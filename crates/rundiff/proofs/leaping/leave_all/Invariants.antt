@@ -2,10 +2,10 @@ use Rattle.std.proofs.Common.{◌≡◌, ℕ, true, false, take}
 use Rattle.fourstate.specs.declared.value.Value.{Value}
 use Rattle.fourstate.specs.Values.{same_value}
 use Rattle.waveform.specs.Entries.{standing}
-use Rattle.waveform.specs.Patches.{Keeps}
-use Rattle.rundiff.specs.Fronts.{EndBy, IsFree}
-use Rattle.rundiff.specs.PlaceMaps.{kept_at}
-use Rattle.rundiff.specs.Places.{is_among}
+use Rattle.waveform.specs.kept.Patches.{Keeps}
+use Rattle.rundiff.specs.kept.Fronts.{EndBy, IsFree}
+use Rattle.rundiff.specs.kept.PlaceMaps.{kept_at}
+use Rattle.rundiff.specs.kept.Places.{is_among}
 use Rattle.rundiff.proofs.leaping.leave_all.Given as goal
 
 -- the waves so far are left

@@ -1,7 +1,7 @@
 use Rattle.std.proofs.Common.{◌≡◌, ◌∙◌, ap, sym, ℕ, List}
 use Rattle.design.specs.Keys.{netlist}
 use Rattle.design.specs.Netlist.{NetEntry, net_named, stimulus}
-use Rattle.rundiff.specs.Places.{blank_net, net_at}
+use Rattle.rundiff.specs.kept.Places.{blank_net, net_at}
 use Rattle.rundiff.proofs.ByPlace.{at_place}
 use Rattle.rundiff.proofs.leaping.same_until.Goals as goal
 

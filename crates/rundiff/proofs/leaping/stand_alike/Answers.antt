@@ -1,5 +1,5 @@
 use Rattle.std.proofs.Common.{◌∙◌, sym}
-use Rattle.fourstate.specs.ValueLaws.{is_same}
+use Rattle.fourstate.specs.kept.ValueLaws.{is_same}
 use Rattle.rundiff.proofs.leaping.stand_alike.Goals as goal
 
 pub returns : goal.returns

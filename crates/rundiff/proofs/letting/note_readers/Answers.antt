@@ -1,13 +1,14 @@
 use Rattle.std.proofs.Common.{◌≡◌, ◌∙◌, ap, sym, subst, refl, ℕ, suc, List, true, false, take, Some}
 use Rattle.std.specs.Prelude.{nat_eq}
-use Rattle.catalog.specs.Catalog.{place_of}
-use Rattle.event_queue.specs.Noted.{noted}
+use Rattle.catalog.specs.kept.Catalog.{place_of}
+use Rattle.event_queue.specs.kept.Noted.{noted}
 use Rattle.design.specs.Connections.{to_net}
-use Rattle.design.specs.Keys.{net_by_key, netlist}
+use Rattle.design.specs.Keys.{netlist}
+use Rattle.design.specs.kept.Keys.{net_by_key}
 use Rattle.design.specs.Netlist.{NetEntry}
-use Rattle.scratch.specs.Places.{IsNotedWithin}
-use Rattle.rundiff.specs.Noting.{old_moves}
-use Rattle.rundiff.specs.Places.{blank_net, is_among, net_at}
+use Rattle.scratch.specs.kept.Places.{IsNotedWithin}
+use Rattle.rundiff.specs.kept.Noting.{old_moves}
+use Rattle.rundiff.specs.kept.Places.{blank_net, is_among, net_at}
 use Rattle.rundiff.proofs.ByPlace.{at_place, get_at}
 use Rattle.rundiff.proofs.Driven.{read_get, take_whole}
 use Rattle.rundiff.proofs.NamedLines.{some_equal}

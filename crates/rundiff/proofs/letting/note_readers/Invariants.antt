@@ -1,9 +1,9 @@
 use Rattle.std.proofs.Common.{◌≡◌, ◌≤◌, ℕ, suc, true, take, Some}
 use Rattle.std.specs.Option.{IsSomeAnd}
-use Rattle.catalog.specs.Catalog.{place_of}
-use Rattle.event_queue.specs.Noted.{noted}
-use Rattle.scratch.specs.Places.{IsNotedWithin, Keeps}
-use Rattle.rundiff.specs.Places.{is_among}
+use Rattle.catalog.specs.kept.Catalog.{place_of}
+use Rattle.event_queue.specs.kept.Noted.{noted}
+use Rattle.scratch.specs.kept.Places.{IsNotedWithin, Keeps}
+use Rattle.rundiff.specs.kept.Places.{is_among}
 use Rattle.rundiff.proofs.letting.note_readers.Given as goal
 
 -- the readers so far are noted

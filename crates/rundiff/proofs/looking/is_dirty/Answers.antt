@@ -2,7 +2,7 @@ use Rattle.std.proofs.Common.{◌≡◌, ◌∙◌, ap, sym, Some, false}
 use Rattle.design.specs.Keys.{connection_in, entry_in, netlist}
 use Rattle.design.specs.Netlist.{gate_named}
 use Rattle.rundiff.specs.Dirty.{is_new}
-use Rattle.rundiff.specs.Kept.{read_at}
+use Rattle.rundiff.specs.kept.Kept.{read_at}
 use Rattle.rundiff.proofs.Known.{known_gate}
 use Rattle.rundiff.proofs.OneGate.{inputs_differ, new_decides, state_differs}
 use Rattle.rundiff.proofs.ByPlace.{map_twice}

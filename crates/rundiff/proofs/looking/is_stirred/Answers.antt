@@ -2,7 +2,7 @@ use Rattle.std.proofs.Common.{◌≡◌, ◌<◌, ◌-◌, ◌∙◌, ap, sym, f
 use Rattle.gatestep.specs.Step.{State}
 use Rattle.design.specs.Keys.{connection_in, entry_in, netlist}
 use Rattle.scratch.specs.Run.{state_before}
-use Rattle.rundiff.specs.Kept.{read_at}
+use Rattle.rundiff.specs.kept.Kept.{read_at}
 use Rattle.scratch.specs.Work.{is_due}
 use Rattle.rundiff.proofs.OneGate.{stirred_is}
 use Rattle.rundiff.proofs.ByPlace.{map_twice}

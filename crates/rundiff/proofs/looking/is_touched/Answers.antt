@@ -2,9 +2,10 @@ use Rattle.std.proofs.Common.{◌≡◌, ◌∙◌, ap, sym, ℕ, Option, Some, 
 use Rattle.std.specs.BTreeSet.{contains}
 use Rattle.std.specs.Ordering.{nat_cmp}
 use Rattle.std.specs.Option.{option_map_or}
-use Rattle.catalog.specs.Catalog.{place_of}
-use Rattle.design.specs.Keys.{net_by_key, netlist}
-use Rattle.rundiff.specs.Places.{blank_net, net_at}
+use Rattle.catalog.specs.kept.Catalog.{place_of}
+use Rattle.design.specs.Keys.{netlist}
+use Rattle.design.specs.kept.Keys.{net_by_key}
+use Rattle.rundiff.specs.kept.Places.{blank_net, net_at}
 use Rattle.rundiff.proofs.ByPlace.{get_at}
 use Rattle.rundiff.proofs.Driven.{is_there}
 use Rattle.rundiff.proofs.looking.is_touched.Goals as goal

@@ -6,15 +6,15 @@ use Rattle.std.proofs.lemmas.List.{length-map}
 use Rattle.fourstate.specs.declared.value.Value.{Value}
 use Rattle.gatestep.specs.Tasks.{IsReady}
 use Rattle.design.specs.Keys.{connection_in, entry_in, netlist}
-use Rattle.design.specs.Lawful.{IsGate}
+use Rattle.design.specs.kept.Lawful.{IsGate}
 use Rattle.design.specs.Netlist.{GateEntry, gate_named}
-use Rattle.waveform.specs.Entries.{CanStore}
+use Rattle.waveform.specs.kept.Entries.{CanStore}
 use Rattle.waveform.specs.declared.times.TheConstants.{TIME_END}
 use Rattle.scratch.specs.Run.{state_after, state_before}
 use Rattle.rundiff.specs.Dirty.{is_dirty, is_new}
-use Rattle.rundiff.specs.Fronts.{is_working}
-use Rattle.rundiff.specs.Places.{blank_gate, gate_at, is_live}
-use Rattle.rundiff.specs.Kept.{read_at}
+use Rattle.rundiff.specs.kept.Fronts.{is_working}
+use Rattle.rundiff.specs.kept.Places.{blank_gate, gate_at, is_live}
+use Rattle.rundiff.specs.kept.Kept.{read_at}
 use Rattle.scratch.specs.Work.{is_stirred, task_at}
 use Rattle.rundiff.proofs.Clean.{clean_after}
 use Rattle.rundiff.proofs.Known.{known_gate}

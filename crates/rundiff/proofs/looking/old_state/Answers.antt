@@ -5,7 +5,7 @@ use Rattle.design.specs.Keys.{netlist}
 use Rattle.waveform.specs.Timelines.{value_by}
 use Rattle.waveform.specs.declared.times.TheConstants.{TIME_END}
 use Rattle.scratch.specs.Run.{state_after}
-use Rattle.rundiff.specs.Fronts.{named_state}
+use Rattle.rundiff.specs.kept.Fronts.{named_state}
 use Rattle.rundiff.proofs.Tasks.{old_settled}
 use Rattle.rundiff.proofs.looking.old_state.Goals as goal
 

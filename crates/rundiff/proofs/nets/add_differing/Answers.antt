@@ -3,7 +3,7 @@ use Rattle.std.specs.Prelude.{◌||◌}
 use Rattle.std.specs.BTreeSet.{contains}
 use Rattle.std.specs.Ordering.{nat_cmp}
 use Rattle.design.specs.Keys.{netlist}
-use Rattle.rundiff.specs.Places.{gate_at, is_among}
+use Rattle.rundiff.specs.kept.Places.{gate_at, is_among}
 use Rattle.rundiff.proofs.Alike.{live_grows}
 use Rattle.rundiff.proofs.Sets.{or_first, or_second}
 use Rattle.rundiff.proofs.Steps.{mapped}

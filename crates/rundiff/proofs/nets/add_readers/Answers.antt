@@ -2,10 +2,11 @@ use Rattle.std.proofs.Common.{◌≡◌, ◌∙◌, ◌<◌, ap, sym, subst, ref
 use Rattle.std.specs.Prelude.{◌||◌, nat_eq}
 use Rattle.std.specs.Option.{option_map_or}
 use Rattle.std.proofs.lemmas.Bool.Decides.{nat_tests}
-use Rattle.catalog.specs.Catalog.{place_of}
-use Rattle.design.specs.Keys.{KeyedGate, gate_by_key, net_by_key, netlist}
+use Rattle.catalog.specs.kept.Catalog.{place_of}
+use Rattle.design.specs.Keys.{KeyedGate, netlist}
+use Rattle.design.specs.kept.Keys.{gate_by_key, net_by_key}
 use Rattle.design.specs.Netlist.{GateEntry}
-use Rattle.rundiff.specs.Places.{blank_net, is_among, is_live, net_at}
+use Rattle.rundiff.specs.kept.Places.{blank_net, is_among, is_live, net_at}
 use Rattle.rundiff.proofs.ByPlace.{get_at}
 use Rattle.rundiff.proofs.Driven.{read_get, take_whole}
 use Rattle.rundiff.proofs.NamedLines.{some_equal}

@@ -1,7 +1,8 @@
 use Rattle.std.proofs.Common.{◌≡◌, ◌<◌, ℕ, true, take, Some, All, length}
-use Rattle.catalog.specs.Catalog.{place_of}
-use Rattle.design.specs.Keys.{KeyedGate, gate_by_key, netlist}
-use Rattle.rundiff.specs.Places.{is_among}
+use Rattle.catalog.specs.kept.Catalog.{place_of}
+use Rattle.design.specs.Keys.{KeyedGate, netlist}
+use Rattle.design.specs.kept.Keys.{gate_by_key}
+use Rattle.rundiff.specs.kept.Places.{is_among}
 use Rattle.rundiff.proofs.nets.add_readers.Given as goal
 
 -- the nets that the readers so far drive are found

@@ -6,11 +6,11 @@ use Rattle.design.specs.Keys.{netlist}
 use Rattle.design.specs.Netlist.{NetEntry}
 use Rattle.waveform.specs.Changes.{wave_changes_below}
 use Rattle.waveform.specs.Entries.{standing}
-use Rattle.fourstate.specs.ValueLaws.{is_same}
+use Rattle.fourstate.specs.kept.ValueLaws.{is_same}
 use Rattle.waveform.specs.Timelines.{value_by}
 use Rattle.scratch.specs.Run.{value}
-use Rattle.rundiff.specs.Places.{blank_net, net_at}
-use Rattle.rundiff.specs.Kept.{read_at}
+use Rattle.rundiff.specs.kept.Places.{blank_net, net_at}
+use Rattle.rundiff.specs.kept.Kept.{read_at}
 use Rattle.rundiff.proofs.ByPlace.{at_place}
 use Rattle.rundiff.proofs.Still.{not_false}
 use Rattle.rundiff.proofs.nets.differs.Goals as goal

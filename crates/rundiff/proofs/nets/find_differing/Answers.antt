@@ -3,8 +3,8 @@ use Rattle.std.specs.Prelude.{◌||◌, slice_index_or, nat_eq}
 use Rattle.std.specs.BTreeSet.{contains}
 use Rattle.std.specs.Ordering.{nat_cmp}
 use Rattle.design.specs.Keys.{netlist}
-use Rattle.rundiff.specs.Fronts.{IsAlike}
-use Rattle.rundiff.specs.Places.{is_among}
+use Rattle.rundiff.specs.kept.Fronts.{IsAlike}
+use Rattle.rundiff.specs.kept.Places.{is_among}
 use Rattle.rundiff.proofs.Alike.{alike_grows, either_more}
 use Rattle.rundiff.proofs.ByPlace.{get_at}
 use Rattle.rundiff.proofs.Driven.{take_whole}

@@ -1,18 +1,18 @@
 use Rattle.std.proofs.Common.{◌≡◌, ◌∙◌, ◌≤◌, ap, sym, subst, suc, refl, arith, ℕ, true, false, List, Option}
 use Rattle.std.specs.Prelude.{slice_index_or}
 use Rattle.std.specs.Option.{ForSome}
-use Rattle.rundiff.specs.PlaceMaps.{kept_at}
+use Rattle.rundiff.specs.kept.PlaceMaps.{kept_at}
 use Rattle.fourstate.specs.declared.value.Value.{Value}
 use Rattle.fourstate.specs.Values.{same_value}
 use Rattle.design.specs.Connections.{to_net}
 use Rattle.design.specs.Keys.{netlist}
 use Rattle.waveform.specs.Entries.{standing}
-use Rattle.waveform.specs.Patches.{Keeps, PatchRecord}
-use Rattle.waveform.specs.Timelines.{end_of}
+use Rattle.waveform.specs.kept.Patches.{Keeps, PatchRecord}
+use Rattle.waveform.specs.kept.Timelines.{end_of}
 use Rattle.scratch.specs.Run.{value}
-use Rattle.rundiff.specs.Fronts.{IsOwn}
-use Rattle.rundiff.specs.Places.{is_among, net_at}
-use Rattle.rundiff.specs.Kept.{read_at}
+use Rattle.rundiff.specs.kept.Fronts.{IsOwn}
+use Rattle.rundiff.specs.kept.Places.{is_among, net_at}
+use Rattle.rundiff.specs.kept.Kept.{read_at}
 use Rattle.rundiff.proofs.ByPlace.{get_at}
 use Rattle.rundiff.proofs.Driven.{take_whole}
 use Rattle.rundiff.proofs.Steps.{is_one, not_yet, others_more, put_more}

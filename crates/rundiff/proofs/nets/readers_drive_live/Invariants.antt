@@ -1,9 +1,10 @@
 use Rattle.std.proofs.Common.{◌≡◌, ℕ, true, take, Some}
 use Rattle.std.specs.BTreeSet.{contains}
 use Rattle.std.specs.Ordering.{nat_cmp}
-use Rattle.catalog.specs.Catalog.{place_of}
-use Rattle.design.specs.Keys.{KeyedGate, gate_by_key}
-use Rattle.rundiff.specs.Places.{is_among}
+use Rattle.catalog.specs.kept.Catalog.{place_of}
+use Rattle.design.specs.Keys.{KeyedGate}
+use Rattle.design.specs.kept.Keys.{gate_by_key}
+use Rattle.rundiff.specs.kept.Places.{is_among}
 use Rattle.rundiff.proofs.nets.readers_drive_live.Given as goal
 
 -- the nets that the readers so far drive are live

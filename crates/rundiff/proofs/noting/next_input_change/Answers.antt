@@ -3,7 +3,7 @@ use Rattle.std.specs.BTreeSet.{contains}
 use Rattle.std.specs.Ordering.{nat_cmp}
 use Rattle.design.specs.Connections.{to_net}
 use Rattle.design.specs.Keys.{connection_in, name_of, netlist}
-use Rattle.rundiff.specs.Noting.{is_at_live, old_moves}
+use Rattle.rundiff.specs.kept.Noting.{is_at_live, old_moves}
 use Rattle.rundiff.proofs.Still.{both}
 use Rattle.rundiff.proofs.noting.next_input_change.Goals as goal
 

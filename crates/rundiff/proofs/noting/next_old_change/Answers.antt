@@ -3,7 +3,7 @@ use Rattle.fourstate.specs.declared.value.Value.{Value}
 use Rattle.design.specs.Connections.{to_net}
 use Rattle.design.specs.Keys.{netlist}
 use Rattle.waveform.specs.Timelines.{first_after}
-use Rattle.rundiff.specs.Kept.{read_at}
+use Rattle.rundiff.specs.kept.Kept.{read_at}
 use Rattle.rundiff.proofs.Changes.{change_first, change_never, found_after}
 use Rattle.rundiff.proofs.noting.next_old_change.Goals as goal
 

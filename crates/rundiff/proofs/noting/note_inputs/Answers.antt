@@ -7,8 +7,8 @@ use Rattle.design.specs.declared.terminal.Terminal.{Terminal}
 use Rattle.design.specs.Connections.{Connection}
 use Rattle.design.specs.Keys.{connection_in, entry_in, netlist}
 use Rattle.design.specs.Netlist.{GateEntry}
-use Rattle.rundiff.specs.Noting.{is_at_live, old_moves}
-use Rattle.rundiff.specs.Places.{blank_gate, gate_at}
+use Rattle.rundiff.specs.kept.Noting.{is_at_live, old_moves}
+use Rattle.rundiff.specs.kept.Places.{blank_gate, gate_at}
 use Rattle.rundiff.proofs.ByPlace.{at_place}
 use Rattle.rundiff.proofs.Driven.{take_whole}
 use Rattle.rundiff.proofs.Sets.{any_map}

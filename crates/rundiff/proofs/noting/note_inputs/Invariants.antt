@@ -5,7 +5,7 @@ use Rattle.std.specs.List.{list_any}
 use Rattle.std.specs.Option.{IsSomeAnd}
 use Rattle.std.specs.Ordering.{nat_cmp}
 use Rattle.design.specs.Keys.{connection_in, netlist}
-use Rattle.rundiff.specs.Noting.{is_at_live, old_moves}
+use Rattle.rundiff.specs.kept.Noting.{is_at_live, old_moves}
 use Rattle.rundiff.proofs.noting.note_inputs.Given as goal
 
 -- the next change of the inputs so far

@@ -3,8 +3,8 @@ use Rattle.std.specs.Prelude.{◌||◌}
 use Rattle.design.specs.Connections.{to_net}
 use Rattle.design.specs.Keys.{netlist}
 use Rattle.design.specs.Netlist.{NetEntry, has_point}
-use Rattle.rundiff.specs.Noting.{old_moves}
-use Rattle.rundiff.specs.Places.{blank_net, net_at}
+use Rattle.rundiff.specs.kept.Noting.{old_moves}
+use Rattle.rundiff.specs.kept.Places.{blank_net, net_at}
 use Rattle.rundiff.proofs.ByPlace.{at_place}
 use Rattle.rundiff.proofs.Noted.{either}
 use Rattle.rundiff.proofs.Points.{point_after, point_first}

@@ -1,4 +1,5 @@
-use Rattle.design.specs.Keys.{entry_in, gate_by_key, netlist}
+use Rattle.design.specs.Keys.{entry_in, netlist}
+use Rattle.design.specs.kept.Keys.{gate_by_key}
 use Rattle.rundiff.proofs.Known.{keys_there}
 use Rattle.rundiff.proofs.old.old_gate.Goals as goal
 

@@ -1,7 +1,8 @@
 use Rattle.std.proofs.Common.{◌∙◌, ap, sym}
 use Rattle.std.specs.Option.{option_copied, option_map}
-use Rattle.design.specs.Keys.{entry_in, gate_by_key, netlist}
-use Rattle.scratch.specs.Run.{trace_of}
+use Rattle.design.specs.Keys.{entry_in, netlist}
+use Rattle.design.specs.kept.Keys.{gate_by_key}
+use Rattle.scratch.specs.kept.Run.{trace_of}
 use Rattle.rundiff.proofs.NamedLines.{named_trace, unnamed_trace, untraced}
 use Rattle.rundiff.proofs.old.old_trace.Goals as goal
 

@@ -1,6 +1,7 @@
 use Rattle.std.proofs.Common.{◌∙◌, ap, sym}
 use Rattle.std.specs.Option.{option_copied, option_map}
-use Rattle.design.specs.Keys.{net_by_key, netlist}
+use Rattle.design.specs.Keys.{netlist}
+use Rattle.design.specs.kept.Keys.{net_by_key}
 use Rattle.scratch.specs.Run.{wave_of}
 use Rattle.rundiff.proofs.NamedLines.{named_wave, unnamed_wave}
 use Rattle.rundiff.proofs.old.old_wave.Goals as goal

@@ -1,9 +1,9 @@
 use Rattle.std.proofs.Common.{◌≡◌, suc, length}
 use Rattle.design.specs.Keys.{netlist}
-use Rattle.waveform.specs.Changes.{trace_below}
-use Rattle.rundiff.specs.Fronts.{named_state}
-use Rattle.rundiff.specs.OldLines.{HoldsEach}
-use Rattle.rundiff.specs.Places.{gate_at}
+use Rattle.waveform.specs.kept.Changes.{trace_below}
+use Rattle.rundiff.specs.kept.Fronts.{named_state}
+use Rattle.rundiff.specs.kept.OldLines.{HoldsEach}
+use Rattle.rundiff.specs.kept.Places.{gate_at}
 use Rattle.rundiff.proofs.old_lines.old_traces.Given as goal
 
 -- those of the gates so far

@@ -3,8 +3,8 @@ use Rattle.design.specs.Connections.{to_net}
 use Rattle.design.specs.Keys.{netlist}
 use Rattle.design.specs.Netlist.{NetEntry}
 use Rattle.waveform.specs.Changes.{wave_changes_below}
-use Rattle.rundiff.specs.Kept.{read_at}
-use Rattle.rundiff.specs.Places.{blank_net, net_at}
+use Rattle.rundiff.specs.kept.Kept.{read_at}
+use Rattle.rundiff.specs.kept.Places.{blank_net, net_at}
 use Rattle.rundiff.proofs.ByPlace.{at_place}
 use Rattle.rundiff.proofs.EachPlace.{grown, one_longer}
 use Rattle.rundiff.proofs.old_lines.old_waves.Goals as goal

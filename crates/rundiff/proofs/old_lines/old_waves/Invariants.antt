@@ -2,9 +2,9 @@ use Rattle.std.proofs.Common.{◌≡◌, suc, length}
 use Rattle.design.specs.Connections.{to_net}
 use Rattle.design.specs.Keys.{netlist}
 use Rattle.waveform.specs.Changes.{wave_changes_below}
-use Rattle.rundiff.specs.Kept.{read_at}
-use Rattle.rundiff.specs.OldLines.{HoldsEach}
-use Rattle.rundiff.specs.Places.{net_at}
+use Rattle.rundiff.specs.kept.Kept.{read_at}
+use Rattle.rundiff.specs.kept.OldLines.{HoldsEach}
+use Rattle.rundiff.specs.kept.Places.{net_at}
 use Rattle.rundiff.proofs.old_lines.old_waves.Given as goal
 
 -- those of the nets so far

@@ -1,8 +1,8 @@
 use Rattle.std.proofs.Common.{◌≡◌, length}
 use Rattle.design.specs.Keys.{netlist}
 use Rattle.rundiff.specs.Dirty.{is_new}
-use Rattle.rundiff.specs.OldLines.{HoldsEach}
-use Rattle.rundiff.specs.Places.{gate_at}
+use Rattle.rundiff.specs.kept.OldLines.{HoldsEach}
+use Rattle.rundiff.specs.kept.Places.{gate_at}
 use Rattle.rundiff.proofs.old_lines.other_gates.Given as goal
 
 -- those of the gates so far

@@ -1,8 +1,8 @@
 use Rattle.std.proofs.Common.{◌≡◌, ◌∙◌, ap, cond, ℕ, List, [], ◌∷◌, ◌++◌, false, true, arith}
 use Rattle.std.specs.Prelude.{nat_eq, slice_index_or}
 use Rattle.std.proofs.lemmas.Bool.Decides.{nat_tests}
-use Rattle.event_queue.specs.Noted.{noted}
-use Rattle.rundiff.specs.Places.{is_among}
+use Rattle.event_queue.specs.kept.Noted.{noted}
+use Rattle.rundiff.specs.kept.Places.{is_among}
 use Rattle.rundiff.proofs.ByPlace.{get_at}
 use Rattle.rundiff.proofs.Driven.{take_whole}
 use Rattle.rundiff.proofs.NotedMore.{added_keeps, added_there, more_noted}

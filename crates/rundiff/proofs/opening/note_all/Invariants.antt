@@ -1,7 +1,7 @@
 use Rattle.std.proofs.Common.{◌≡◌, ◌<◌, ℕ, [], true, take}
-use Rattle.event_queue.specs.Noted.{noted}
-use Rattle.rundiff.specs.Places.{is_among}
-use Rattle.scratch.specs.Places.{has}
+use Rattle.event_queue.specs.kept.Noted.{noted}
+use Rattle.rundiff.specs.kept.Places.{is_among}
+use Rattle.scratch.specs.kept.Places.{has}
 use Rattle.rundiff.proofs.opening.note_all.Given as goal
 
 -- the places so far are noted

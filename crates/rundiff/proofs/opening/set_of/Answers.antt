@@ -2,7 +2,7 @@ use Rattle.std.proofs.Common.{◌≡◌, ◌∙◌, ap, sym, refl, ℕ, List, Bo
 use Rattle.std.specs.Prelude.{slice_index_or, ◌||◌, ◌==◌}
 use Rattle.std.specs.BTreeSet.{contains}
 use Rattle.std.specs.Ordering.{nat_cmp}
-use Rattle.rundiff.specs.Places.{is_among}
+use Rattle.rundiff.specs.kept.Places.{is_among}
 use Rattle.rundiff.proofs.ByPlace.{get_at}
 use Rattle.rundiff.proofs.Driven.{take_whole}
 use Rattle.rundiff.proofs.Sets.{any_more, cond_or, flips, test_is}

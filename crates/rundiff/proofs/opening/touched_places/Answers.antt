@@ -1,8 +1,8 @@
 use Rattle.std.proofs.Common.{◌≡◌, ◌∙◌, ◌≤◌, ap, sym, subst, refl, ℕ, List, true, false, take, length, Some}
 use Rattle.std.specs.Prelude.{slice_get, nat_eq}
-use Rattle.catalog.specs.Catalog.{place_of}
-use Rattle.design.specs.Keys.{gate_by_key}
-use Rattle.rundiff.specs.Places.{is_among}
+use Rattle.catalog.specs.kept.Catalog.{place_of}
+use Rattle.design.specs.kept.Keys.{gate_by_key}
+use Rattle.rundiff.specs.kept.Places.{is_among}
 use Rattle.rundiff.proofs.Driven.{read_get, take_whole}
 use Rattle.rundiff.proofs.Steps.{among_more, or_splits, same_place}
 use Rattle.rundiff.proofs.opening.touched_places.Goals as goal

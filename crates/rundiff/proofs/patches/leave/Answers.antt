@@ -1,7 +1,7 @@
 use Rattle.std.proofs.Common.{◌≡◌, ◌∙◌, ◌≤◌, ap, sym, subst, ℕ, List, Option, Some, None, unwrap_or, inl, inr}
 use Rattle.std.specs.Option.{ForSome}
-use Rattle.waveform.specs.Patches.{Keeps, PatchRecord}
-use Rattle.waveform.specs.Timelines.{end_of}
+use Rattle.waveform.specs.kept.Patches.{Keeps, PatchRecord}
+use Rattle.waveform.specs.kept.Timelines.{end_of}
 use Rattle.rundiff.proofs.NamedLines.{some_equal}
 use Rattle.rundiff.proofs.Steps.{mapped}
 use Rattle.rundiff.proofs.patches.leave.Goals as goal

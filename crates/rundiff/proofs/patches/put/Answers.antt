@@ -1,6 +1,6 @@
 use Rattle.std.proofs.Common.{◌≡◌, ◌≤◌, ◌+◌, sym, subst, arith, suc, ℕ, Option, Some, All, ⊎_elim}
-use Rattle.rundiff.specs.PlaceMaps.{kept_at}
-use Rattle.waveform.specs.Patches.{Keeps, PatchRecord}
+use Rattle.rundiff.specs.kept.PlaceMaps.{kept_at}
+use Rattle.waveform.specs.kept.Patches.{Keeps, PatchRecord}
 use Rattle.waveform.specs.Timelines.{value_by}
 use Rattle.rundiff.proofs.NamedLines.{any_former, own_former}
 use Rattle.rundiff.proofs.patches.put.Goals as goal

@@ -1,7 +1,7 @@
 use Rattle.std.proofs.Common.{◌≡◌, ◌∙◌, ◌<◌, ◌≤◌, ◌+◌, ap, sym, subst, arith, suc, ℕ, List, Option, Some, All, ⊎_elim}
-use Rattle.rundiff.specs.PlaceMaps.{kept_at}
+use Rattle.rundiff.specs.kept.PlaceMaps.{kept_at}
 use Rattle.std.specs.Option.{option_copied}
-use Rattle.waveform.specs.Patches.{Keeps, PatchRecord}
+use Rattle.waveform.specs.kept.Patches.{Keeps, PatchRecord}
 use Rattle.waveform.specs.Timelines.{changes_below, value_by}
 use Rattle.rundiff.proofs.NamedLines.{keeps_none, never_own, own_former}
 use Rattle.rundiff.proofs.patches.value_at.Goals as goal

@@ -1,5 +1,5 @@
 use Rattle.std.proofs.Common.{◌∙◌, ◌/◌, ◌%◌, ap, sym, length, slice_index_or}
-use Rattle.rundiff.specs.PlaceMaps.{page_at}
+use Rattle.rundiff.specs.kept.PlaceMaps.{page_at}
 use Rattle.rundiff.specs.declared.place_map.TheConstants.{PAGE}
 use Rattle.rundiff.proofs.Items.{is_past}
 use Rattle.rundiff.proofs.Pages.{no_page, number_is, page_is}

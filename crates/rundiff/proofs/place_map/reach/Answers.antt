@@ -2,7 +2,7 @@ use Rattle.std.proofs.Common.{◌≡◌, ◌∙◌, ◌<◌, ◌/◌, ◌%◌, a
 use Rattle.std.proofs.Math.ListN.{get_or, set}
 use Rattle.std.specs.Prelude.{Vec}
 use Rattle.std.specs.Global.{Global}
-use Rattle.rundiff.specs.PlaceMaps.{number_at, page_at}
+use Rattle.rundiff.specs.kept.PlaceMaps.{number_at, page_at}
 use Rattle.rundiff.specs.declared.place_map.TheConstants.{PAGE}
 use Rattle.rundiff.proofs.Pages.{other_numbers, page_here, page_is, same_pages}
 use Rattle.rundiff.proofs.place_map.reach.Goals as goal

@@ -1,5 +1,5 @@
 use Rattle.std.proofs.Common.{◌∙◌, ap}
-use Rattle.rundiff.specs.PlaceMaps.{page_at}
+use Rattle.rundiff.specs.kept.PlaceMaps.{page_at}
 use Rattle.rundiff.proofs.Pages.{page_more}
 use Rattle.rundiff.proofs.place_map.reach_page.Goals as goal
 

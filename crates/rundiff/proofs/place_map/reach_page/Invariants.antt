@@ -1,5 +1,5 @@
 use Rattle.std.proofs.Common.{◌≡◌, ◌-◌, ◌+◌, ℕ, length}
-use Rattle.rundiff.specs.PlaceMaps.{page_at}
+use Rattle.rundiff.specs.kept.PlaceMaps.{page_at}
 use Rattle.rundiff.proofs.place_map.reach_page.Given as goal
 
 -- each page has the numbers that it had

@@ -1,6 +1,6 @@
 use Rattle.std.proofs.Common.{◌∙◌, ap, sym}
 use Rattle.design.specs.Keys.{connection_in, name_of, netlist}
-use Rattle.rundiff.specs.Kept.{read_at}
+use Rattle.rundiff.specs.kept.Kept.{read_at}
 use Rattle.rundiff.proofs.ByPlace.{reads_place}
 use Rattle.rundiff.proofs.reading.connection_value.Goals as goal
 

@@ -3,10 +3,10 @@ use Rattle.std.specs.Option.{option_map}
 use Rattle.fourstate.specs.declared.value.Value.{Value}
 use Rattle.fourstate.specs.Nets.{net_of}
 use Rattle.gatestep.specs.Step.{due}
-use Rattle.catalog.specs.Catalog.{place_of}
+use Rattle.catalog.specs.kept.Catalog.{place_of}
 use Rattle.design.specs.Keys.{netlist}
 use Rattle.scratch.specs.Run.{state_before}
-use Rattle.rundiff.specs.Places.{gate_at}
+use Rattle.rundiff.specs.kept.Places.{gate_at}
 use Rattle.rundiff.proofs.Driven.{driven_is, take_whole}
 use Rattle.rundiff.proofs.reading.driven_value.Goals as goal
 

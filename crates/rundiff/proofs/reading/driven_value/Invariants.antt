@@ -1,10 +1,10 @@
 use Rattle.std.proofs.Common.{◌≡◌, map, take, Some}
 use Rattle.std.specs.Option.{option_map}
 use Rattle.gatestep.specs.Step.{due}
-use Rattle.catalog.specs.Catalog.{place_of}
+use Rattle.catalog.specs.kept.Catalog.{place_of}
 use Rattle.design.specs.Keys.{netlist}
 use Rattle.scratch.specs.Run.{state_before}
-use Rattle.rundiff.specs.Places.{gate_at}
+use Rattle.rundiff.specs.kept.Places.{gate_at}
 use Rattle.rundiff.proofs.reading.driven_value.Given as goal
 
 -- the current values of the drivers so far

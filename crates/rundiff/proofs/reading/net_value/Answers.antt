@@ -2,8 +2,8 @@ use Rattle.std.proofs.Common.{◌<◌, refl, suc, arith}
 use Rattle.design.specs.Connections.{to_net}
 use Rattle.design.specs.Keys.{netlist}
 use Rattle.scratch.specs.Run.{value}
-use Rattle.rundiff.specs.Places.{net_at}
-use Rattle.rundiff.specs.Kept.{read_at}
+use Rattle.rundiff.specs.kept.Places.{net_at}
+use Rattle.rundiff.specs.kept.Kept.{read_at}
 use Rattle.rundiff.proofs.reading.net_value.Goals as goal
 
 pub returns : goal.returns

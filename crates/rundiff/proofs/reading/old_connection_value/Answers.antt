@@ -6,7 +6,7 @@ use Rattle.design.specs.Keys.{connection_in, name_of, netlist}
 use Rattle.waveform.specs.Changes.{wave_changes_below}
 use Rattle.waveform.specs.Entries.{standing}
 use Rattle.waveform.specs.Timelines.{value_by}
-use Rattle.rundiff.specs.Kept.{read_at}
+use Rattle.rundiff.specs.kept.Kept.{read_at}
 use Rattle.rundiff.proofs.reading.old_connection_value.Goals as goal
 
 pub returns-in-Net : goal.returns-in-Net

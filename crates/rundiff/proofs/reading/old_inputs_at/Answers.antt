@@ -1,6 +1,6 @@
 use Rattle.std.proofs.Common.{◌∙◌, arith}
 use Rattle.design.specs.Keys.{connection_in, netlist}
-use Rattle.rundiff.specs.Kept.{read_at}
+use Rattle.rundiff.specs.kept.Kept.{read_at}
 use Rattle.rundiff.proofs.Driven.{map_before}
 use Rattle.rundiff.proofs.reading.old_inputs_at.Goals as goal
 

@@ -3,8 +3,8 @@ use Rattle.std.specs.Prelude.{slice_index_or, nat_eq}
 use Rattle.gatestep.specs.Step.{State, Evaluation}
 use Rattle.design.specs.Keys.{netlist}
 use Rattle.design.specs.Netlist.{Netlist}
-use Rattle.rundiff.specs.Places.{is_among}
-use Rattle.rundiff.specs.Steady.{IsSteady}
+use Rattle.rundiff.specs.kept.Places.{is_among}
+use Rattle.rundiff.specs.kept.Steady.{IsSteady}
 use Rattle.rundiff.proofs.ByPlace.{get_at}
 use Rattle.rundiff.proofs.Driven.{take_whole}
 use Rattle.rundiff.proofs.Steps.{among_more, is_one, or_splits, same_place}

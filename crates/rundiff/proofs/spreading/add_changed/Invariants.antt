@@ -1,7 +1,7 @@
 use Rattle.std.proofs.Common.{◌≡◌, ℕ, true, take}
 use Rattle.design.specs.Keys.{netlist}
-use Rattle.rundiff.specs.Places.{is_among}
-use Rattle.rundiff.specs.Steady.{IsSteady}
+use Rattle.rundiff.specs.kept.Places.{is_among}
+use Rattle.rundiff.specs.kept.Steady.{IsSteady}
 use Rattle.rundiff.proofs.spreading.add_changed.Given as goal
 
 -- the readers of the nets so far that changed are added

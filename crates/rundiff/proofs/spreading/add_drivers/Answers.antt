@@ -2,8 +2,8 @@ use Rattle.std.proofs.Common.{◌≡◌, ◌∙◌, ap, sym, refl, ℕ, List, tr
 use Rattle.std.specs.Prelude.{slice_index_or, nat_eq}
 use Rattle.design.specs.Keys.{netlist}
 use Rattle.design.specs.Names.{same_name}
-use Rattle.design.specs.Places.{driver_places}
-use Rattle.rundiff.specs.Places.{gate_at, is_among, net_at}
+use Rattle.design.specs.kept.Places.{driver_places}
+use Rattle.rundiff.specs.kept.Places.{gate_at, is_among, net_at}
 use Rattle.rundiff.proofs.Among.{live_net}
 use Rattle.rundiff.proofs.ByPlace.{get_at}
 use Rattle.rundiff.proofs.Driven.{take_whole}

@@ -1,7 +1,7 @@
 use Rattle.std.proofs.Common.{◌≡◌, ℕ, true, take}
 use Rattle.design.specs.Keys.{netlist}
-use Rattle.design.specs.Places.{driver_places}
-use Rattle.rundiff.specs.Places.{is_among, net_at}
+use Rattle.design.specs.kept.Places.{driver_places}
+use Rattle.rundiff.specs.kept.Places.{is_among, net_at}
 use Rattle.rundiff.proofs.spreading.add_drivers.Given as goal
 
 -- the drivers of the nets so far are added

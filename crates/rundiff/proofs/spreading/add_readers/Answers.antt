@@ -1,9 +1,10 @@
 use Rattle.std.proofs.Common.{◌≡◌, ◌∙◌, ap, sym, refl, ℕ, List, true, false, take, Some, arith}
 use Rattle.std.specs.Prelude.{◌||◌, nat_eq}
 use Rattle.std.proofs.lemmas.Bool.Decides.{nat_tests}
-use Rattle.catalog.specs.Catalog.{place_of}
-use Rattle.design.specs.Keys.{net_by_key, netlist}
-use Rattle.rundiff.specs.Places.{blank_net, is_among, net_at}
+use Rattle.catalog.specs.kept.Catalog.{place_of}
+use Rattle.design.specs.Keys.{netlist}
+use Rattle.design.specs.kept.Keys.{net_by_key}
+use Rattle.rundiff.specs.kept.Places.{blank_net, is_among, net_at}
 use Rattle.rundiff.proofs.ByPlace.{get_at}
 use Rattle.rundiff.proofs.Driven.{read_get, take_whole}
 use Rattle.rundiff.proofs.NamedLines.{some_equal}

@@ -1,6 +1,6 @@
 use Rattle.std.proofs.Common.{◌≡◌, ℕ, true, take, Some}
-use Rattle.catalog.specs.Catalog.{place_of}
-use Rattle.rundiff.specs.Places.{is_among}
+use Rattle.catalog.specs.kept.Catalog.{place_of}
+use Rattle.rundiff.specs.kept.Places.{is_among}
 use Rattle.rundiff.proofs.spreading.add_readers.Given as goal
 
 -- the readers so far are added

@@ -2,10 +2,10 @@ use Rattle.std.proofs.Common.{◌≡◌, ◌∙◌, ◌<◌, ◌-◌, ap, sym, r
 use Rattle.fourstate.specs.declared.value.Value.{Value}
 use Rattle.design.specs.Connections.{to_net}
 use Rattle.design.specs.Keys.{netlist}
-use Rattle.fourstate.specs.ValueLaws.{is_same}
+use Rattle.fourstate.specs.kept.ValueLaws.{is_same}
 use Rattle.scratch.specs.Run.{value}
-use Rattle.rundiff.specs.Places.{net_at}
-use Rattle.rundiff.specs.Kept.{read_at}
+use Rattle.rundiff.specs.kept.Places.{net_at}
+use Rattle.rundiff.specs.kept.Kept.{read_at}
 use Rattle.rundiff.proofs.Still.{not_false}
 use Rattle.rundiff.proofs.spreading.changes.Goals as goal
 

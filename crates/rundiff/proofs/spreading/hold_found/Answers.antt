@@ -5,8 +5,8 @@ use Rattle.std.specs.List.{filter}
 use Rattle.std.specs.Ordering.{nat_cmp}
 use Rattle.std.proofs.lemmas.List.Elements.{All-filter}
 use Rattle.design.specs.Keys.{netlist}
-use Rattle.scratch.specs.Places.{has}
-use Rattle.rundiff.specs.Places.{gate_at, is_among}
+use Rattle.scratch.specs.kept.Places.{has}
+use Rattle.rundiff.specs.kept.Places.{gate_at, is_among}
 use Rattle.rundiff.proofs.Among.{among_filter, among_has, either_among, live_gained}
 use Rattle.rundiff.proofs.Sets.{or_first, or_second}
 use Rattle.rundiff.proofs.Steps.{mapped, or_splits}

@@ -4,7 +4,7 @@ use Rattle.std.proofs.lemmas.List.{length-map}
 use Rattle.gatestep.specs.Record.{at_moment}
 use Rattle.gatestep.specs.Tasks.{PendingFrom}
 use Rattle.design.specs.Keys.{netlist}
-use Rattle.scratch.specs.Places.{has}
+use Rattle.scratch.specs.kept.Places.{has}
 use Rattle.scratch.specs.Run.{state_before}
 use Rattle.scratch.specs.Work.{is_stirred, stirred_at, task_at}
 use Rattle.scratch.proofs.Among.{in_range}

@@ -4,7 +4,7 @@ use Rattle.std.specs.Option.{option_map}
 use Rattle.std.proofs.lemmas.List.{map-append}
 use Rattle.std.proofs.lemmas.Option.{slice_get-get_or, slice_get-map, slice_get_read}
 use Rattle.gatestep.specs.Record.{at_moment}
-use Rattle.scratch.specs.Kept.{evaluation_from, evaluations_from}
+use Rattle.scratch.specs.kept.Kept.{evaluation_from, evaluations_from}
 use Rattle.scratch.proofs.Passing.{read_more, zip_at}
 use Rattle.scratch.proofs.asking.evaluate_each.Goals as goal
 

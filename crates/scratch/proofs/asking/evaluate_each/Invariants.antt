@@ -2,7 +2,7 @@ use Rattle.std.proofs.Common.{◌≡◌, ◌≤◌, ◌+◌, ◌-◌, ◌++◌, 
 use Rattle.std.specs.Vec.{vec_capacity, vec_len}
 use Rattle.gatestep.specs.Record.{at_moment}
 use Rattle.gatestep.specs.Step.{Evaluation}
-use Rattle.scratch.specs.Kept.{evaluations_from}
+use Rattle.scratch.specs.kept.Kept.{evaluations_from}
 use Rattle.scratch.proofs.asking.evaluate_each.Given as goal
 
 -- the answers so far, and room for the others

@@ -2,7 +2,7 @@ use Rattle.std.proofs.Common.{◌≡◌, ◌<◌, ◌∙◌, ap, sym, refl, Some
 use Rattle.std.specs.List.{zip}
 use Rattle.std.specs.Option.{option_map}
 use Rattle.std.proofs.lemmas.Option.{slice_get-get_or, slice_get-map, slice_get_read}
-use Rattle.scratch.specs.Kept.{evaluation_from, evaluations_from}
+use Rattle.scratch.specs.kept.Kept.{evaluation_from, evaluations_from}
 use Rattle.scratch.proofs.Passing.{read_more, zip_at}
 use Rattle.scratch.proofs.asking.find_some_tasks.Goals as goal
 

@@ -1,5 +1,5 @@
 use Rattle.std.proofs.Common.{◌≡◌, map, take, Some, slice_get}
-use Rattle.scratch.specs.Kept.{evaluations_from}
+use Rattle.scratch.specs.kept.Kept.{evaluations_from}
 use Rattle.scratch.proofs.asking.find_some_tasks.Given as goal
 
 -- the tasks so far

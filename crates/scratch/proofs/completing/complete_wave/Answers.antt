@@ -3,10 +3,11 @@ use Rattle.std.proofs.lemmas.List.{length-map}
 use Rattle.gatestep.specs.Step.{State}
 use Rattle.design.specs.Keys.{netlist}
 use Rattle.waveform.specs.Changes.{wave_changes_below}
-use Rattle.waveform.specs.Currents.{GoesOn, currents}
-use Rattle.scratch.specs.Kept.{lone_driver}
-use Rattle.scratch.specs.Recorded.{recorded_below}
-use Rattle.scratch.specs.Run.{state_after, trace_of, wave_of}
+use Rattle.waveform.specs.kept.Currents.{GoesOn, currents}
+use Rattle.scratch.specs.kept.Kept.{lone_driver}
+use Rattle.scratch.specs.kept.Recorded.{recorded_below}
+use Rattle.scratch.specs.Run.{state_after, wave_of}
+use Rattle.scratch.specs.kept.Run.{trace_of}
 use Rattle.scratch.proofs.Complete.{begins, found, goes_on, is_whole, lone_within}
 use Rattle.scratch.proofs.Lists.{if_there, of_there, some_at}
 use Rattle.scratch.proofs.NetSteps.{listed_at}

@@ -1,8 +1,8 @@
 use Rattle.std.proofs.Common.{◌≡◌, ◌≤◌, ◌++◌, ◌∙◌, sym, ap, refl, append-nil, subst, suc, Result, Ok, Err, OnErr, add-one, arith}
 use Rattle.std.proofs.lemmas.Grind.{common_steps}
 use Rattle.design.specs.Keys.{netlist}
-use Rattle.scratch.specs.Stands.{Stands}
-use Rattle.scratch.specs.Work.{work_from}
+use Rattle.scratch.specs.kept.Stands.{Stands}
+use Rattle.scratch.specs.kept.Work.{work_from}
 use Rattle.scratch.proofs.Asked.{none, one_more, part, unmoved}
 use Rattle.scratch.proofs.continuing.run_on.Goals as goal
 

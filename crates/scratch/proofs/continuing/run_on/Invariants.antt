@@ -1,7 +1,7 @@
 use Rattle.std.proofs.Common.{◌≡◌, ◌≤◌, ◌-◌, ◌++◌, suc}
 use Rattle.design.specs.Keys.{netlist}
-use Rattle.scratch.specs.Stands.{Stands}
-use Rattle.scratch.specs.Work.{work_from}
+use Rattle.scratch.specs.kept.Stands.{Stands}
+use Rattle.scratch.specs.kept.Work.{work_from}
 use Rattle.scratch.proofs.continuing.run_on.Given as goal
 
 -- the moments below `t` are done

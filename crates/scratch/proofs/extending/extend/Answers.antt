@@ -1,7 +1,7 @@
 use Rattle.std.proofs.Common.{◌≡◌, ◌+◌, ◌++◌, subst, suc, arith}
 use Rattle.design.specs.Keys.{netlist}
-use Rattle.scratch.specs.Stands.{Stands}
-use Rattle.scratch.specs.Work.{work_from}
+use Rattle.scratch.specs.kept.Stands.{Stands}
+use Rattle.scratch.specs.kept.Work.{work_from}
 use Rattle.scratch.proofs.Asked.{err_on, ok_on}
 use Rattle.scratch.proofs.extending.extend.Goals as goal
 

@@ -1,5 +1,5 @@
 use Rattle.std.proofs.Common.{◌≡◌, take}
-use Rattle.scratch.specs.Kept.{currents_of}
+use Rattle.scratch.specs.kept.Kept.{currents_of}
 use Rattle.scratch.proofs.moment.find_currents.Given as goal
 
 -- the current values so far

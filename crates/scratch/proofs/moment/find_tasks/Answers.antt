@@ -1,7 +1,7 @@
 use Rattle.std.proofs.Common.{◌<◌, ◌≤◌, ◌∙◌, ap, refl, map, length, arith}
 use Rattle.std.proofs.lemmas.List.{map-append}
 use Rattle.std.proofs.lemmas.Option.{slice_get_read}
-use Rattle.scratch.specs.Kept.{evaluation_from}
+use Rattle.scratch.specs.kept.Kept.{evaluation_from}
 use Rattle.scratch.proofs.Lists.{zip_next, zip_whole}
 use Rattle.scratch.proofs.moment.find_tasks.Goals as goal
 

@@ -1,6 +1,6 @@
 use Rattle.std.proofs.Common.{◌≡◌, map, take}
 use Rattle.std.specs.List.{zip}
-use Rattle.scratch.specs.Kept.{evaluation_from}
+use Rattle.scratch.specs.kept.Kept.{evaluation_from}
 use Rattle.scratch.proofs.moment.find_tasks.Given as goal
 
 -- the tasks of the cells so far

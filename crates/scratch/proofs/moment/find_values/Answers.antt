@@ -4,7 +4,7 @@ use Rattle.std.proofs.lemmas.List.{length-map, map-append}
 use Rattle.std.proofs.lemmas.Option.{slice_get_read, slice_get-map}
 use Rattle.smallvec.specs.SmallVec.{SmallVec}
 use Rattle.design.specs.Keys.{netlist}
-use Rattle.scratch.specs.Kept.{net_from}
+use Rattle.scratch.specs.kept.Kept.{net_from}
 use Rattle.scratch.proofs.Lists.{zip_next, zip_whole}
 use Rattle.scratch.proofs.moment.find_values.Goals as goal
 

@@ -1,7 +1,7 @@
 use Rattle.std.proofs.Common.{◌≡◌, map, take}
 use Rattle.std.specs.List.{zip}
 use Rattle.design.specs.Keys.{netlist}
-use Rattle.scratch.specs.Kept.{net_from}
+use Rattle.scratch.specs.kept.Kept.{net_from}
 use Rattle.scratch.proofs.moment.find_values.Given as goal
 
 -- the values of the nets so far

@@ -1,5 +1,5 @@
 use Rattle.std.proofs.Common.{◌≡◌, take}
-use Rattle.scratch.specs.Kept.{values_at}
+use Rattle.scratch.specs.kept.Kept.{values_at}
 use Rattle.scratch.proofs.moment.gather.Given as goal
 
 -- the values so far

@@ -2,11 +2,11 @@ use Rattle.std.proofs.Common.{◌≡◌, ◌<◌, ◌≤◌, ◌∙◌, ap, sym,
 use Rattle.std.specs.Option.{option_map_or}
 use Rattle.std.specs.Prelude.{nat_eq}
 use Rattle.std.proofs.lemmas.Option.{slice_get_read}
-use Rattle.event_queue.specs.Noted.{IsAdded, noted}
+use Rattle.event_queue.specs.kept.Noted.{IsAdded, noted}
 use Rattle.fourstate.specs.declared.value.Value.{Value}
 use Rattle.gatestep.specs.Step.{State}
 use Rattle.gatestep.specs.Tasks.{PendingFrom}
-use Rattle.scratch.specs.Places.{has, pends_at}
+use Rattle.scratch.specs.kept.Places.{has, pends_at}
 use Rattle.scratch.proofs.Among.{nat_beyond}
 use Rattle.scratch.proofs.Notes.{elsewhere, event_noted, keeps, none_here}
 use Rattle.scratch.proofs.Passing.{in_list}

@@ -1,7 +1,7 @@
 use Rattle.std.proofs.Common.{◌≡◌, ◌<◌, ℕ, true, [], All}
 use Rattle.gatestep.specs.Tasks.{PendingFrom}
-use Rattle.event_queue.specs.Noted.{noted}
-use Rattle.scratch.specs.Places.{has, pends_at}
+use Rattle.event_queue.specs.kept.Noted.{noted}
+use Rattle.scratch.specs.kept.Places.{has, pends_at}
 use Rattle.scratch.proofs.noting.list_events.Given as goal
 
 -- the events so far

@@ -1,8 +1,8 @@
 use Rattle.std.proofs.Common.{◌≡◌, ◌<◌, ◌+◌, ◌∙◌, ap, sym, subst, ℕ, true, ◌⊎◌, inl, inr, List, arith}
-use Rattle.event_queue.specs.Noted.{noted}
+use Rattle.event_queue.specs.kept.Noted.{noted}
 use Rattle.design.specs.Keys.{netlist}
 use Rattle.design.specs.Netlist.{NetEntry, has_point}
-use Rattle.scratch.specs.Places.{IsNotedWithin, Keeps, point_at}
+use Rattle.scratch.specs.kept.Places.{IsNotedWithin, Keeps, point_at}
 use Rattle.scratch.proofs.Notes.{within_on}
 use Rattle.scratch.proofs.Passing.{in_list}
 use Rattle.scratch.proofs.noting.list_points.Goals as goal

@@ -1,7 +1,7 @@
 use Rattle.std.proofs.Common.{◌≡◌, ◌<◌, ◌≤◌, ◌+◌, ℕ, true, []}
-use Rattle.event_queue.specs.Noted.{noted}
+use Rattle.event_queue.specs.kept.Noted.{noted}
 use Rattle.design.specs.Keys.{netlist}
-use Rattle.scratch.specs.Places.{IsNotedWithin, point_at}
+use Rattle.scratch.specs.kept.Places.{IsNotedWithin, point_at}
 use Rattle.scratch.proofs.noting.list_points.Given as goal
 
 -- the points of the nets so far

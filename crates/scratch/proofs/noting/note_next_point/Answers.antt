@@ -1,6 +1,7 @@
 use Rattle.std.proofs.Common.{◌≡◌, ◌<◌, ◌≤◌, ◌∙◌, ap, sym, Some, true, false, arith}
 use Rattle.std.specs.Option.{option_map_or}
-use Rattle.design.specs.Netlist.{has_point, next_point}
+use Rattle.design.specs.Netlist.{has_point}
+use Rattle.design.specs.kept.Netlist.{next_point}
 use Rattle.scratch.proofs.Among.{nat_beyond}
 use Rattle.scratch.proofs.Notes.{elsewhere, is_noted, next_is_first, next_is_later, none_later}
 use Rattle.scratch.proofs.noting.note_next_point.Goals as goal

@@ -1,7 +1,7 @@
 use Rattle.std.proofs.Common.{◌≡◌, map, All}
 use Rattle.gatestep.specs.Tasks.{PendingFrom}
 use Rattle.design.specs.Keys.{netlist}
-use Rattle.scratch.specs.Plain.{values_at, moments}
+use Rattle.scratch.specs.kept.Plain.{values_at, moments}
 use Rattle.scratch.specs.Run.{state_before}
 use Rattle.scratch.proofs.plain.values.Given as goal
 

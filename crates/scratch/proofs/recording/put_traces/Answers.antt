@@ -1,6 +1,6 @@
 use Rattle.std.proofs.Common.{◌≡◌, ◌∙◌, ap, sym, refl, [], Some, length, slice_get, append-nil, arith}
 use Rattle.std.proofs.lemmas.Grind.{common_steps}
-use Rattle.catalog.specs.Catalog.{keys_of}
+use Rattle.catalog.specs.kept.Catalog.{keys_of}
 use Rattle.scratch.proofs.Keyed.{none_left, none_under, put_last}
 use Rattle.scratch.proofs.recording.put_traces.Goals as goal
 

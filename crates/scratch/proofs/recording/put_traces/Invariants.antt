@@ -1,7 +1,7 @@
 use Rattle.std.proofs.Common.{◌≡◌, ◌++◌, ℕ, List, drop, length, vec_len}
 use Rattle.gatestep.specs.Step.{State}
-use Rattle.catalog.specs.Catalog.{keys_of}
-use Rattle.scratch.specs.Recordings.{AreUnder}
+use Rattle.catalog.specs.kept.Catalog.{keys_of}
+use Rattle.scratch.specs.kept.Recordings.{AreUnder}
 use Rattle.scratch.proofs.recording.put_traces.Given as goal
 
 -- the traces from some place on stand under their keys, and those before it are left

@@ -1,5 +1,5 @@
 use Rattle.std.proofs.Common.{◌≡◌, take}
-use Rattle.scratch.specs.Kept.{currents_of, values_at}
+use Rattle.scratch.specs.kept.Kept.{currents_of, values_at}
 use Rattle.scratch.proofs.resolving.gather_currents.Given as goal
 
 -- the values so far

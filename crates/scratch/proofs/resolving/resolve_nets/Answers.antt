@@ -5,9 +5,9 @@ use Rattle.std.proofs.lemmas.List.{take_all}
 use Rattle.std.proofs.lemmas.Option.{slice_get-get_or, slice_get_read, slice_get_past}
 use Rattle.fourstate.specs.Values.{same_value}
 use Rattle.design.specs.Keys.{netlist}
-use Rattle.design.specs.Places.{driver_places}
-use Rattle.scratch.specs.Places.{changes_at, has}
-use Rattle.scratch.specs.Recorded.{recorded_below}
+use Rattle.design.specs.kept.Places.{driver_places}
+use Rattle.scratch.specs.kept.Places.{changes_at, has}
+use Rattle.scratch.specs.kept.Recorded.{recorded_below}
 use Rattle.scratch.specs.Run.{value}
 use Rattle.scratch.proofs.Between.{finish}
 use Rattle.scratch.proofs.Lists.{some_at, take_next}

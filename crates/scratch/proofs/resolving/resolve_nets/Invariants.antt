@@ -1,7 +1,7 @@
 use Rattle.std.proofs.Common.{take}
 use Rattle.design.specs.Keys.{netlist}
-use Rattle.scratch.specs.Kept.{currents_of}
-use Rattle.scratch.specs.Tallies.{Counts}
+use Rattle.scratch.specs.kept.Kept.{currents_of}
+use Rattle.scratch.specs.kept.Tallies.{Counts}
 use Rattle.scratch.proofs.NetSteps.{Part}
 use Rattle.scratch.proofs.resolving.resolve_nets.Given as goal
 

@@ -3,9 +3,9 @@ use Rattle.std.proofs.lemmas.List.{length-map}
 use Rattle.std.proofs.lemmas.Option.{slice_get_read, slice_get_within}
 use Rattle.fourstate.specs.Nets.{net_of}
 use Rattle.design.specs.Keys.{netlist}
-use Rattle.design.specs.Places.{driver_places}
-use Rattle.scratch.specs.Kept.{currents_of, driven_kind, net_from, values_at}
-use Rattle.scratch.specs.Tally.{tally_of}
+use Rattle.design.specs.kept.Places.{driver_places}
+use Rattle.scratch.specs.kept.Kept.{currents_of, driven_kind, net_from, values_at}
+use Rattle.scratch.specs.kept.Tally.{tally_of}
 use Rattle.scratch.proofs.Counting.{counts_kept}
 use Rattle.scratch.proofs.Lists.{if_there, some_at}
 use Rattle.scratch.proofs.NetSteps.{driven_is, drivers_at, kind_there, lone_gives, lone_there, stimulus_is}

@@ -2,7 +2,7 @@ use Rattle.std.proofs.Common.{◌∙◌, ◌++◌, ◌∷◌, [], ap, map, arith
 use Rattle.std.proofs.lemmas.List.{take_all}
 use Rattle.design.specs.Keys.{netlist}
 use Rattle.waveform.specs.Timelines.{entries_until}
-use Rattle.scratch.specs.Run.{trace_of}
+use Rattle.scratch.specs.kept.Run.{trace_of}
 use Rattle.scratch.proofs.Copies.{one_found, whole_trace}
 use Rattle.scratch.proofs.resuming.copy_traces.Goals as goal
 

@@ -1,6 +1,6 @@
 use Rattle.std.proofs.Common.{◌≡◌, map, take}
 use Rattle.design.specs.Keys.{netlist}
-use Rattle.scratch.specs.Run.{trace_of}
+use Rattle.scratch.specs.kept.Run.{trace_of}
 use Rattle.scratch.proofs.resuming.copy_traces.Given as goal
 
 -- the traces of the gates so far

@@ -3,7 +3,7 @@ use Rattle.std.specs.Option.{option_map_or}
 use Rattle.std.proofs.lemmas.List.{take_all}
 use Rattle.design.specs.Keys.{netlist}
 use Rattle.waveform.specs.Timelines.{entries_until}
-use Rattle.scratch.specs.Recorded.{recorded_below}
+use Rattle.scratch.specs.kept.Recorded.{recorded_below}
 use Rattle.scratch.specs.Run.{wave_of}
 use Rattle.scratch.proofs.Copies.{copied_wave, one_found}
 use Rattle.scratch.proofs.NetSteps.{listed_at}

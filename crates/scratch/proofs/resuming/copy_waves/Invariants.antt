@@ -1,6 +1,6 @@
 use Rattle.std.proofs.Common.{◌≡◌, map, take, suc}
 use Rattle.design.specs.Keys.{netlist}
-use Rattle.scratch.specs.Recorded.{recorded_below}
+use Rattle.scratch.specs.kept.Recorded.{recorded_below}
 use Rattle.scratch.proofs.resuming.copy_waves.Given as goal
 
 -- what is copied of the waves of the nets so far

@@ -1,12 +1,12 @@
 use Rattle.std.proofs.Common.{◌≡◌, ◌+◌, ◌∙◌, ap, map, sym, subst, suc, All, arith}
-use Rattle.event_queue.specs.Noted.{noted}
+use Rattle.event_queue.specs.kept.Noted.{noted}
 use Rattle.gatestep.specs.Step.{due, initial}
 use Rattle.gatestep.specs.Tasks.{PendingFrom}
 use Rattle.design.specs.Keys.{netlist}
 use Rattle.waveform.specs.Timelines.{value_by}
-use Rattle.scratch.specs.Places.{Announces, has, pends_at, point_at}
+use Rattle.scratch.specs.kept.Places.{Announces, has, pends_at, point_at}
 use Rattle.scratch.specs.Run.{state_before}
-use Rattle.scratch.specs.Tallies.{Counts}
+use Rattle.scratch.specs.kept.Tallies.{Counts}
 use Rattle.scratch.proofs.Copies.{last_states}
 use Rattle.scratch.proofs.Runs.{ready_all}
 use Rattle.scratch.proofs.resuming.resume.Goals as goal

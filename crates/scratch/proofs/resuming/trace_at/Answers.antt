@@ -1,5 +1,5 @@
 use Rattle.std.proofs.Common.{◌∙◌, ap, sym}
-use Rattle.design.specs.Keys.{gate_by_key}
+use Rattle.design.specs.kept.Keys.{gate_by_key}
 use Rattle.std.specs.Option.{option_copied}
 use Rattle.scratch.proofs.Copies.{trace_there}
 use Rattle.scratch.proofs.resuming.trace_at.Goals as goal

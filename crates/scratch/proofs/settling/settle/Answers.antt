@@ -4,15 +4,16 @@ use Rattle.std.proofs.lemmas.List.{length-map, take_all}
 use Rattle.std.proofs.lemmas.Option.{slice_get-get_or, slice_get_read, slice_get_within}
 use Rattle.std.proofs.Math.ListN.{set}
 use Rattle.std.specs.Prelude.{◌&&◌}
-use Rattle.event_queue.specs.Noted.{noted}
+use Rattle.event_queue.specs.kept.Noted.{noted}
 use Rattle.fourstate.specs.declared.value.Value.{Value}
 use Rattle.gatestep.specs.Step.{due}
-use Rattle.waveform.specs.Changes.{trace_below}
-use Rattle.waveform.specs.Entries.{CanStore, same_state}
-use Rattle.waveform.specs.Timelines.{pushed}
+use Rattle.waveform.specs.kept.Changes.{trace_below}
+use Rattle.waveform.specs.Entries.{same_state}
+use Rattle.waveform.specs.kept.Entries.{CanStore}
+use Rattle.waveform.specs.kept.Timelines.{pushed}
 use Rattle.design.specs.Keys.{netlist}
 use Rattle.design.specs.Netlist.{GateEntry}
-use Rattle.scratch.specs.Places.{AreRising, Covers, has, pends_at}
+use Rattle.scratch.specs.kept.Places.{AreRising, Covers, has, pends_at}
 use Rattle.scratch.specs.Run.{state_after, state_before}
 use Rattle.scratch.specs.Work.{is_stirred}
 use Rattle.scratch.proofs.Among.{nat_beyond, once}

@@ -1,9 +1,9 @@
 use Rattle.std.proofs.Common.{◌≡◌, ◌<◌, ◌+◌, ℕ, [], map, take, length, slice_get}
 use Rattle.std.specs.Prelude.{◌&&◌}
-use Rattle.event_queue.specs.Noted.{noted}
-use Rattle.waveform.specs.Changes.{trace_below}
+use Rattle.event_queue.specs.kept.Noted.{noted}
+use Rattle.waveform.specs.kept.Changes.{trace_below}
 use Rattle.design.specs.Keys.{netlist}
-use Rattle.scratch.specs.Places.{Covers, Keeps, has, pends_at}
+use Rattle.scratch.specs.kept.Places.{Covers, Keeps, has, pends_at}
 use Rattle.scratch.specs.Run.{state_after, state_before}
 use Rattle.scratch.proofs.Between.{Between}
 use Rattle.scratch.proofs.settling.settle.Given as goal

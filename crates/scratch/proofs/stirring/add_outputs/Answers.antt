@@ -1,5 +1,5 @@
 use Rattle.std.proofs.lemmas.Option.{slice_get-get_or}
-use Rattle.scratch.specs.Kept.{output_at}
+use Rattle.scratch.specs.kept.Kept.{output_at}
 use Rattle.scratch.proofs.Among.{members_more}
 use Rattle.scratch.proofs.stirring.add_outputs.Goals as goal
 

@@ -1,8 +1,8 @@
 use Rattle.std.proofs.Common.{◌≡◌, ℕ, take}
 use Rattle.std.specs.Prelude.{◌||◌}
 use Rattle.std.specs.List.{list_any}
-use Rattle.scratch.specs.Kept.{output_at}
-use Rattle.scratch.specs.Places.{has}
+use Rattle.scratch.specs.kept.Kept.{output_at}
+use Rattle.scratch.specs.kept.Places.{has}
 use Rattle.scratch.proofs.stirring.add_outputs.Given as goal
 
 -- the outputs so far

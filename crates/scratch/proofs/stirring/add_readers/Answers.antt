@@ -1,8 +1,8 @@
 use Rattle.std.proofs.Common.{◌∙◌, ap, Bool}
 use Rattle.std.specs.Prelude.{◌||◌}
 use Rattle.std.specs.List.{list_any}
-use Rattle.scratch.specs.Kept.{places_at}
-use Rattle.scratch.specs.Places.{has}
+use Rattle.scratch.specs.kept.Kept.{places_at}
+use Rattle.scratch.specs.kept.Places.{has}
 use Rattle.scratch.proofs.stirring.add_readers.Goals as goal
 
 pub returns-clause-all : goal.returns-clause-all

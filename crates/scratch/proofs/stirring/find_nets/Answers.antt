@@ -1,10 +1,10 @@
 use Rattle.std.proofs.Common.{◌≡◌, ◌∙◌, ◌++◌, ap, Result, Ok, Err, OnOk, arith}
 use Rattle.std.specs.List.{list_any}
 use Rattle.std.specs.Prelude.{◌||◌}
-use Rattle.event_queue.specs.Noted.{noted}
+use Rattle.event_queue.specs.kept.Noted.{noted}
 use Rattle.design.specs.Keys.{netlist}
-use Rattle.scratch.specs.Kept.{output_at}
-use Rattle.scratch.specs.Places.{has, point_at}
+use Rattle.scratch.specs.kept.Kept.{output_at}
+use Rattle.scratch.specs.kept.Places.{has, point_at}
 use Rattle.scratch.proofs.Notes.{announced, none_early}
 use Rattle.scratch.proofs.stirring.find_nets.Goals as goal
 

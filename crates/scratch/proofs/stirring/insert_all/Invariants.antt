@@ -1,7 +1,7 @@
 use Rattle.std.proofs.Common.{◌≡◌, ℕ, take}
 use Rattle.std.specs.Prelude.{◌||◌}
-use Rattle.bit_set.specs.Words.{has_bit}
-use Rattle.scratch.specs.Places.{has}
+use Rattle.bit_set.specs.kept.Words.{has_bit}
+use Rattle.scratch.specs.kept.Places.{has}
 use Rattle.scratch.proofs.stirring.insert_all.Given as goal
 
 -- the places so far

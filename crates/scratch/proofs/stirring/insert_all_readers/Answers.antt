@@ -1,6 +1,6 @@
 use Rattle.std.proofs.lemmas.Option.{slice_get-get_or}
-use Rattle.bit_set.specs.Words.{has_bit}
-use Rattle.scratch.specs.Kept.{places_at}
+use Rattle.bit_set.specs.kept.Words.{has_bit}
+use Rattle.scratch.specs.kept.Kept.{places_at}
 use Rattle.scratch.proofs.Among.{bits_more}
 use Rattle.scratch.proofs.stirring.insert_all_readers.Goals as goal
 

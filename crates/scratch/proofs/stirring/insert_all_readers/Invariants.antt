@@ -1,9 +1,9 @@
 use Rattle.std.proofs.Common.{◌≡◌, ℕ, take}
 use Rattle.std.specs.Prelude.{◌||◌}
 use Rattle.std.specs.List.{list_any}
-use Rattle.bit_set.specs.Words.{has_bit}
-use Rattle.scratch.specs.Kept.{places_at}
-use Rattle.scratch.specs.Places.{has}
+use Rattle.bit_set.specs.kept.Words.{has_bit}
+use Rattle.scratch.specs.kept.Kept.{places_at}
+use Rattle.scratch.specs.kept.Places.{has}
 use Rattle.scratch.proofs.stirring.insert_all_readers.Given as goal
 
 -- the readers so far

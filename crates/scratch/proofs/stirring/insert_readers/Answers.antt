@@ -1,8 +1,8 @@
 use Rattle.std.proofs.Common.{◌∙◌, sym, ap, Bool, get_or, take, nat_eq}
 use Rattle.std.specs.Prelude.{◌||◌}
-use Rattle.bit_set.specs.Words.{has_bit}
+use Rattle.bit_set.specs.kept.Words.{has_bit}
 use Rattle.bit_set.proofs.Numbers.{has_next}
-use Rattle.scratch.specs.Places.{has}
+use Rattle.scratch.specs.kept.Places.{has}
 use Rattle.scratch.proofs.Among.{or_assoc}
 use Rattle.scratch.proofs.stirring.insert_readers.Goals as goal
 

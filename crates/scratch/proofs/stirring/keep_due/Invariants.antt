@@ -1,6 +1,6 @@
 use Rattle.std.proofs.Common.{◌≡◌, take}
 use Rattle.std.specs.List.{filter}
-use Rattle.scratch.specs.Places.{is_due_at}
+use Rattle.scratch.specs.kept.Places.{is_due_at}
 use Rattle.scratch.proofs.stirring.keep_due.Given as goal
 
 -- the due places so far

@@ -2,10 +2,10 @@ use Rattle.std.proofs.Common.{◌≡◌, ◌+◌, ◌<◌, ◌∙◌, ◌++◌, 
 use Rattle.std.specs.Prelude.{nat_eq, ◌||◌}
 use Rattle.std.proofs.lemmas.List.{take_all}
 use Rattle.std.proofs.lemmas.Option.{slice_get-get_or}
-use Rattle.event_queue.specs.Noted.{noted}
+use Rattle.event_queue.specs.kept.Noted.{noted}
 use Rattle.design.specs.Keys.{netlist}
 use Rattle.design.specs.Netlist.{NetEntry}
-use Rattle.scratch.specs.Places.{IsNotedWithin, Keeps, has, point_at}
+use Rattle.scratch.specs.kept.Places.{IsNotedWithin, Keeps, has, point_at}
 use Rattle.scratch.proofs.Among.{has_more, nat_same, or_false}
 use Rattle.scratch.proofs.Lists.{take_next}
 use Rattle.scratch.proofs.Notes.{within_on}

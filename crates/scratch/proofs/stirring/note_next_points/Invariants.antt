@@ -1,7 +1,7 @@
 use Rattle.std.proofs.Common.{◌≡◌, ◌<◌, ◌≤◌, ◌+◌, ℕ, true, take}
-use Rattle.event_queue.specs.Noted.{noted}
+use Rattle.event_queue.specs.kept.Noted.{noted}
 use Rattle.design.specs.Keys.{netlist}
-use Rattle.scratch.specs.Places.{IsNotedWithin, Keeps, has, point_at}
+use Rattle.scratch.specs.kept.Places.{IsNotedWithin, Keeps, has, point_at}
 use Rattle.scratch.proofs.stirring.note_next_points.Given as goal
 
 -- the next points of the nets so far

@@ -1,6 +1,6 @@
 use Rattle.std.proofs.Common.{◌≡◌, ℕ, Some, length, slice_get}
-use Rattle.scratch.specs.Kept.{places_at, values_at}
-use Rattle.scratch.specs.Tally.{tally_of}
+use Rattle.scratch.specs.kept.Kept.{places_at, values_at}
+use Rattle.scratch.specs.kept.Tally.{tally_of}
 use Rattle.scratch.specs.declared.tally.Tally.{Tally}
 use Rattle.scratch.proofs.tallies.count_each.Given as goal
 

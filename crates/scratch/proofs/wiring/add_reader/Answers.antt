@@ -2,8 +2,8 @@ use Rattle.std.proofs.Common.{◌∙◌, ap, sym, refl, length, arith}
 use Rattle.std.specs.Prelude.{nat_eq, ◌||◌, ◌&&◌}
 use Rattle.std.proofs.lemmas.Grind.{common_steps}
 use Rattle.std.proofs.lemmas.Option.{slice_get_read}
-use Rattle.scratch.specs.Kept.{is_at, places_at}
-use Rattle.scratch.specs.Places.{has}
+use Rattle.scratch.specs.kept.Kept.{is_at, places_at}
+use Rattle.scratch.specs.kept.Places.{has}
 use Rattle.scratch.proofs.Readers.{push_reader}
 use Rattle.scratch.proofs.wiring.add_reader.Goals as goal
 

@@ -1,8 +1,8 @@
 use Rattle.std.proofs.Common.{◌≡◌, ◌<◌, ℕ, take, length}
 use Rattle.std.specs.Prelude.{nat_eq, ◌||◌, ◌&&◌}
 use Rattle.std.specs.List.{list_any}
-use Rattle.scratch.specs.Kept.{is_at, places_at}
-use Rattle.scratch.specs.Places.{has}
+use Rattle.scratch.specs.kept.Kept.{is_at, places_at}
+use Rattle.scratch.specs.kept.Places.{has}
 use Rattle.scratch.proofs.wiring.add_readers.Given as goal
 
 -- the inputs so far

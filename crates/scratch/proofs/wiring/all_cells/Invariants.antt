@@ -1,6 +1,6 @@
 use Rattle.std.proofs.Common.{◌≡◌, map, take}
 use Rattle.design.specs.Keys.{netlist}
-use Rattle.scratch.specs.Kept.{cell_of}
+use Rattle.scratch.specs.kept.Kept.{cell_of}
 use Rattle.scratch.proofs.wiring.all_cells.Given as goal
 
 -- the cells so far

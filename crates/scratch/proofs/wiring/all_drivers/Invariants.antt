@@ -1,6 +1,6 @@
 use Rattle.std.proofs.Common.{◌≡◌, map, take}
 use Rattle.design.specs.Keys.{netlist}
-use Rattle.design.specs.Places.{driver_places}
+use Rattle.design.specs.kept.Places.{driver_places}
 use Rattle.scratch.proofs.wiring.all_drivers.Given as goal
 
 -- the drivers of the nets so far

@@ -1,6 +1,6 @@
 use Rattle.std.proofs.Common.{◌≡◌, map, take}
 use Rattle.design.specs.Keys.{netlist}
-use Rattle.scratch.specs.Kept.{driven_kind}
+use Rattle.scratch.specs.kept.Kept.{driven_kind}
 use Rattle.scratch.proofs.wiring.all_kinds.Given as goal
 
 -- the kinds of the nets so far

@@ -2,7 +2,7 @@ use Rattle.std.proofs.Common.{◌≡◌, ◌<◌, ◌∙◌, ap, refl, length, a
 use Rattle.std.proofs.lemmas.List.{length-map, map-append}
 use Rattle.std.proofs.lemmas.Option.{slice_get_read}
 use Rattle.design.specs.Keys.{netlist}
-use Rattle.scratch.specs.Kept.{lone_driver, lone_place}
+use Rattle.scratch.specs.kept.Kept.{lone_driver, lone_place}
 use Rattle.scratch.proofs.Lists.{take_next}
 use Rattle.scratch.proofs.NetSteps.{drivers_at}
 use Rattle.scratch.proofs.wiring.all_lone_drivers.Goals as goal

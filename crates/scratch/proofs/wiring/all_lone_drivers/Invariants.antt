@@ -1,6 +1,6 @@
 use Rattle.std.proofs.Common.{◌≡◌, map, take}
 use Rattle.design.specs.Keys.{netlist}
-use Rattle.scratch.specs.Kept.{lone_driver}
+use Rattle.scratch.specs.kept.Kept.{lone_driver}
 use Rattle.scratch.proofs.wiring.all_lone_drivers.Given as goal
 
 -- the lone drivers of the nets so far

@@ -4,7 +4,7 @@ use Rattle.std.specs.List.{position_from}
 use Rattle.design.specs.Keys.{entry_in, name_of, netlist}
 use Rattle.design.specs.Names.{same_name}
 use Rattle.design.specs.Netlist.{GateEntry}
-use Rattle.design.specs.Places.{place_of}
+use Rattle.design.specs.kept.Places.{place_of}
 use Rattle.scratch.proofs.Lists.{take_next}
 use Rattle.scratch.proofs.Readers.{driven_are, outputs_are}
 use Rattle.scratch.proofs.wiring.all_outputs.Goals as goal

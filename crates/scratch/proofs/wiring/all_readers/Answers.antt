@@ -4,9 +4,9 @@ use Rattle.std.specs.List.{list_any}
 use Rattle.std.specs.Option.{option_map_or}
 use Rattle.std.proofs.lemmas.Option.{slice_get_read}
 use Rattle.design.specs.Keys.{netlist}
-use Rattle.scratch.specs.Cells.{CellRecord}
-use Rattle.scratch.specs.Kept.{is_at, places_at}
-use Rattle.scratch.specs.Places.{has}
+use Rattle.scratch.specs.kept.Cells.{CellRecord}
+use Rattle.scratch.specs.kept.Kept.{is_at, places_at}
+use Rattle.scratch.specs.kept.Places.{has}
 use Rattle.scratch.proofs.Readers.{none_first, one_cell_more, readers_are}
 use Rattle.scratch.proofs.wiring.all_readers.Goals as goal
 

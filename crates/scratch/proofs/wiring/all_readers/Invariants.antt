@@ -3,9 +3,9 @@ use Rattle.std.specs.Prelude.{◌&&◌}
 use Rattle.std.specs.List.{list_any}
 use Rattle.std.specs.Option.{option_map_or}
 use Rattle.design.specs.Keys.{netlist}
-use Rattle.scratch.specs.Cells.{CellRecord}
-use Rattle.scratch.specs.Kept.{is_at, places_at}
-use Rattle.scratch.specs.Places.{has}
+use Rattle.scratch.specs.kept.Cells.{CellRecord}
+use Rattle.scratch.specs.kept.Kept.{is_at, places_at}
+use Rattle.scratch.specs.kept.Places.{has}
 use Rattle.scratch.proofs.wiring.all_readers.Given as goal
 
 -- the readers among the cells so far

@@ -1,9 +1,10 @@
 use Rattle.std.proofs.Common.{◌≡◌, ℕ, List, [], Option, Some, None, IfSome, map, take, ap, ◌∙◌, arith}
 use Rattle.std.specs.Option.{option_map_or}
 use Rattle.std.proofs.lemmas.List.{take_all}
-use Rattle.design.specs.Keys.{name_of, net_by_key, netlist}
+use Rattle.design.specs.Keys.{name_of, netlist}
+use Rattle.design.specs.kept.Keys.{net_by_key}
 use Rattle.design.specs.Netlist.{NetEntry}
-use Rattle.design.specs.Places.{driver_places, place_of}
+use Rattle.design.specs.kept.Places.{driver_places, place_of}
 use Rattle.scratch.proofs.Lists.{same_put}
 use Rattle.scratch.proofs.wiring.drivers_of.Goals as goal
 

@@ -1,5 +1,5 @@
 use Rattle.std.proofs.Common.{◌≡◌, Some, map, take}
-use Rattle.design.specs.Places.{place_of}
+use Rattle.design.specs.kept.Places.{place_of}
 use Rattle.scratch.proofs.wiring.drivers_of.Given as goal
 
 -- the places so far

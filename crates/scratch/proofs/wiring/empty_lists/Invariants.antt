@@ -1,6 +1,6 @@
 use Rattle.std.proofs.Common.{◌≡◌, ℕ, false, length}
-use Rattle.scratch.specs.Kept.{places_at}
-use Rattle.scratch.specs.Places.{has}
+use Rattle.scratch.specs.kept.Kept.{places_at}
+use Rattle.scratch.specs.kept.Places.{has}
 use Rattle.scratch.proofs.wiring.empty_lists.Given as goal
 
 -- the lists so far

@@ -1,7 +1,7 @@
 use Rattle.std.proofs.Common.{◌≤◌, ◌+◌, ◌-◌, suc}
 use Rattle.devices.specs.Outgoing.{Adds}
 use Rattle.vcd.specs.Changes.{lines_below}
-use Rattle.vcd.specs.Kept.{IsAhead}
+use Rattle.vcd.specs.kept.Kept.{IsAhead}
 use Rattle.vcd.proofs.moments.moments.Given as goal
 
 abbrev pub invariant-loop-t : goal.invariant-loop-t

@@ -1,6 +1,6 @@
 use Rattle.std.proofs.Common.{◌≡◌, ◌∙◌, ap, sym}
 use Rattle.vcd.specs.Changes.{change_line, value_line}
-use Rattle.vcd.specs.Waves.{wave_in}
+use Rattle.vcd.specs.kept.Waves.{wave_in}
 use Rattle.vcd.proofs.WaveLemmas.{line_of, next_of, some_left}
 use Rattle.vcd.proofs.upcoming.pass_change.Goals as goal
 

@@ -5,7 +5,7 @@ use Rattle.vtext.specs.declared.fault.ReadFaultKind.{ReadFaultKind}
 use Rattle.vtext.specs.Modules.{ModuleEntry}
 use Rattle.elaboration.specs.Ports.{fault_at}
 use Rattle.elaboration.specs.Scopes.{nets_of, scopes_of}
-use Rattle.elaboration.specs.SoundScopes.{IsSoundScope}
+use Rattle.elaboration.specs.kept.SoundScopes.{IsSoundScope}
 use Rattle.vread.specs.LateFaults.{scopes_fault}
 use Rattle.vread.proofs.DesignLemmas.{top_is_sound}
 use Rattle.vread.proofs.FaultLemmas.{late_is}

@@ -6,7 +6,7 @@ use Rattle.elaboration.specs.Ports.{fault_at}
 use Rattle.elaboration.specs.Scopes.{nets_of}
 use Rattle.vread.specs.LateFaults.{scopes_fault}
 use Rattle.vread.specs.Netlists.{netlist_of}
-use Rattle.vread.specs.Parts.{kept_fault}
+use Rattle.vread.specs.kept.Parts.{kept_fault}
 use Rattle.vread.proofs.DesignLemmas.{top_sound}
 use Rattle.vread.proofs.FaultLemmas.{fault_same, late_is}
 use Rattle.vread.proofs.build.design_of_scopes.Goals as goal

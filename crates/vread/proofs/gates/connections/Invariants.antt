@@ -1,7 +1,8 @@
 use Rattle.std.proofs.Common.{◌≡◌, All, length, map, take}
-use Rattle.design.specs.Keys.{IsThere, connection_in, netlist}
-use Rattle.elaboration.specs.Numbered.{ref_at}
-use Rattle.vread.specs.Parts.{connection_of}
+use Rattle.design.specs.Keys.{connection_in, netlist}
+use Rattle.design.specs.kept.Keys.{IsThere}
+use Rattle.elaboration.specs.kept.Numbered.{ref_at}
+use Rattle.vread.specs.kept.Parts.{connection_of}
 use Rattle.vread.proofs.gates.connections.Given as goal
 
 abbrev pub invariant-loop-input : goal.invariant-loop-input

@@ -3,8 +3,8 @@ use Rattle.std.specs.Prelude.{flat_map}
 use Rattle.std.proofs.lemmas.List.{at_drop_all, at_drop_more}
 use Rattle.design.specs.Keys.{netlist}
 use Rattle.design.specs.Netlist as netlists
-use Rattle.elaboration.specs.Numbered.{PlacedScope}
-use Rattle.vread.specs.Parts.{AreDistinctGates, AreFitGates, kept_gates}
+use Rattle.elaboration.specs.kept.Numbered.{PlacedScope}
+use Rattle.vread.specs.kept.Parts.{AreDistinctGates, AreFitGates, kept_gates}
 use Rattle.vread.proofs.FitLemmas.{gates_part}
 use Rattle.vread.proofs.GrowLemmas.{gates_end, gates_more, gates_others, same_nets}
 use Rattle.vread.proofs.gates.with_gates.Goals as goal

@@ -1,7 +1,7 @@
 use Rattle.std.proofs.Common.{◌≡◌, ◌++◌, drop}
 use Rattle.std.specs.Prelude.{flat_map}
 use Rattle.design.specs.Keys.{netlist}
-use Rattle.vread.specs.Parts.{kept_gates}
+use Rattle.vread.specs.kept.Parts.{kept_gates}
 use Rattle.vread.proofs.gates.with_gates.Given as goal
 
 abbrev pub invariant-loop-scope : goal.invariant-loop-scope

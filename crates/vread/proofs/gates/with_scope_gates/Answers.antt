@@ -3,7 +3,7 @@ use Rattle.std.proofs.lemmas.List.{at_drop_all, at_drop_more}
 use Rattle.design.specs.Keys.{netlist}
 use Rattle.design.specs.Netlist as netlists
 use Rattle.vtext.specs.Modules.{GateEntry, ModuleEntry}
-use Rattle.vread.specs.Parts.{AreDistinctGates, IsFitGate, kept_gate, kept_gates}
+use Rattle.vread.specs.kept.Parts.{AreDistinctGates, IsFitGate, kept_gate, kept_gates}
 use Rattle.vread.proofs.FitLemmas.{gate_absent, gate_room, gates_part}
 use Rattle.vread.proofs.GrowLemmas.{gates_end, gates_more, gates_others, same_nets}
 use Rattle.vread.proofs.gates.with_scope_gates.Goals as goal

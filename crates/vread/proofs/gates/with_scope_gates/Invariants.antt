@@ -1,6 +1,6 @@
 use Rattle.std.proofs.Common.{◌≡◌, ◌++◌, drop, map}
 use Rattle.design.specs.Keys.{netlist}
-use Rattle.vread.specs.Parts.{kept_gate}
+use Rattle.vread.specs.kept.Parts.{kept_gate}
 use Rattle.vread.proofs.gates.with_scope_gates.Given as goal
 
 abbrev pub invariant-loop-gate : goal.invariant-loop-gate

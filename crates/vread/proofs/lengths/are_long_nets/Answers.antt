@@ -1,5 +1,5 @@
 use Rattle.std.proofs.Common.{sym, ◌∙◌, arith}
-use Rattle.vread.specs.Parts.{is_long_net}
+use Rattle.vread.specs.kept.Parts.{is_long_net}
 use Rattle.vread.proofs.PairLemmas.{any_here, any_nets_end, any_past, blank_slot, of_scope}
 use Rattle.vread.proofs.lengths.are_long_nets.Goals as goal
 

@@ -1,5 +1,5 @@
 use Rattle.std.proofs.Common.{◌≡◌, drop}
-use Rattle.vread.specs.Parts.{any_slot, is_long_net}
+use Rattle.vread.specs.kept.Parts.{any_slot, is_long_net}
 use Rattle.vread.proofs.lengths.are_long_nets.Given as goal
 
 abbrev pub invariant-loop-place : goal.invariant-loop-place

@@ -3,7 +3,7 @@ use Rattle.std.specs.Vec.Iter.{into_iter_items}
 use Rattle.std.proofs.lemmas.List.{nil_from_length}
 use Rattle.design.specs.Keys.{netlist}
 use Rattle.design.specs.Netlist.{NetEntry, with_net}
-use Rattle.vread.specs.Parts.{AreFitNets}
+use Rattle.vread.specs.kept.Parts.{AreFitNets}
 use Rattle.vread.proofs.FitLemmas.{fit_part, net_absent, net_room}
 use Rattle.vread.proofs.GrowLemmas.{nets_end, nets_more, nets_others}
 use Rattle.vread.proofs.nets.with_all.Goals as goal

@@ -3,7 +3,7 @@ use Rattle.std.specs.Prelude.{flat_map}
 use Rattle.design.specs.Keys.{netlist}
 use Rattle.design.specs.Names.{is_name}
 use Rattle.design.specs.Netlist.{NetEntry}
-use Rattle.vread.specs.Parts.{kept_nets}
+use Rattle.vread.specs.kept.Parts.{kept_nets}
 use Rattle.vread.proofs.NewNetLemmas.{all_right}
 use Rattle.vread.proofs.nets.with_nets.Goals as goal
 

@@ -4,7 +4,7 @@ use Rattle.design.specs.Netlist.{NetEntry}
 use Rattle.vtext.specs.Bits.{bit_bytes}
 use Rattle.vtext.specs.Names.{name_at}
 use Rattle.vtext.specs.Ranges.{indexes_from, width}
-use Rattle.vread.specs.Parts.{AreNamed, bits_nets, run_net}
+use Rattle.vread.specs.kept.Parts.{AreNamed, bits_nets, run_net}
 use Rattle.vread.proofs.NewNetLemmas.{all_right, bit_first, no_bit, part_end, part_more}
 use Rattle.std.proofs.lemmas.List.Elements.{All-head}
 use Rattle.vread.proofs.new_nets.add_bits.Goals as goal

@@ -2,7 +2,7 @@ use Rattle.std.proofs.Common.{◌≡◌, ◌++◌, ◌-◌, map}
 use Rattle.vtext.specs.Bits.{bit_bytes}
 use Rattle.vtext.specs.Names.{name_at}
 use Rattle.vtext.specs.Ranges.{indexes_from, width}
-use Rattle.vread.specs.Parts.{AreNamed, bits_nets, run_net}
+use Rattle.vread.specs.kept.Parts.{AreNamed, bits_nets, run_net}
 use Rattle.vread.proofs.new_nets.add_bits.Given as goal
 
 abbrev pub invariant-loop-place : goal.invariant-loop-place

@@ -4,7 +4,7 @@ use Rattle.design.specs.Names.{is_name}
 use Rattle.design.specs.Netlist.{NetEntry}
 use Rattle.vtext.specs.declared.range.Range.{Range}
 use Rattle.vtext.specs.Names.{name_at}
-use Rattle.vread.specs.Parts.{AreNamed, run_net, run_nets}
+use Rattle.vread.specs.kept.Parts.{AreNamed, run_net, run_nets}
 use Rattle.vread.proofs.new_nets.add_run.Goals as goal
 
 pub add_own_net-requires : goal.add_own_net-requires

@@ -1,7 +1,7 @@
 use Rattle.std.proofs.Common.{◌+◌, ◌++◌, List, IsTrue, drop, get_or, refl, sym, ap, subst, ◌∙◌, arith}
 use Rattle.design.specs.Names.{is_name}
 use Rattle.design.specs.Netlist.{NetEntry}
-use Rattle.vread.specs.Parts.{AreNamed, kept_nets, slot_nets, slots_nets}
+use Rattle.vread.specs.kept.Parts.{AreNamed, kept_nets, slot_nets, slots_nets}
 use Rattle.vread.proofs.FitLemmas.{all_left}
 use Rattle.vread.proofs.NewNetLemmas.{all_right, no_net, no_slot, of_scope, part_end, part_more, slot_first}
 use Rattle.vread.proofs.PairLemmas.{blank_slot}

@@ -1,5 +1,5 @@
 use Rattle.std.proofs.Common.{◌≡◌, ◌++◌, drop}
-use Rattle.vread.specs.Parts.{AreNamed, slots_nets}
+use Rattle.vread.specs.kept.Parts.{AreNamed, slots_nets}
 use Rattle.vread.proofs.new_nets.add_scope_nets.Given as goal
 
 abbrev pub invariant-loop-place : goal.invariant-loop-place

@@ -2,7 +2,7 @@ use Rattle.std.proofs.Common.{◌+◌, ◌++◌, List, IsTrue, drop, sym, ap, su
 use Rattle.std.specs.Prelude.{flat_map}
 use Rattle.design.specs.Names.{is_name}
 use Rattle.design.specs.Netlist.{NetEntry}
-use Rattle.vread.specs.Parts.{AreNamed, kept_nets}
+use Rattle.vread.specs.kept.Parts.{AreNamed, kept_nets}
 use Rattle.vread.proofs.FitLemmas.{all_left}
 use Rattle.vread.proofs.NewNetLemmas.{all_right, no_scope, part_end, part_more, scope_first}
 use Rattle.vread.proofs.new_nets.nets_of.Goals as goal

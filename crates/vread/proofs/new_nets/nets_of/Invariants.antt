@@ -1,6 +1,6 @@
 use Rattle.std.proofs.Common.{◌≡◌, ◌++◌, drop}
 use Rattle.std.specs.Prelude.{flat_map}
-use Rattle.vread.specs.Parts.{AreNamed, kept_nets}
+use Rattle.vread.specs.kept.Parts.{AreNamed, kept_nets}
 use Rattle.vread.proofs.new_nets.nets_of.Given as goal
 
 abbrev pub invariant-loop-scope : goal.invariant-loop-scope

@@ -1,6 +1,6 @@
 use Rattle.std.proofs.Common.{◌≡◌, ◌-◌, ◌<◌, ℕ, List, false, true, get_or, sym, ap, subst, ◌∙◌, arith}
 use Rattle.vtext.specs.Modules.{InstanceEntry, ModuleEntry}
-use Rattle.vread.specs.Searches.{AreAlike, any_inside, is_wanted, path_after}
+use Rattle.vread.specs.kept.Searches.{AreAlike, any_inside, is_wanted, path_after}
 use Rattle.vread.proofs.SearchLemmas.{alike_same, any_flat, any_here, found_inside, inside_none, inside_some, none_inside, none_next}
 use Rattle.vread.proofs.search.+any_below.Goals as goal
 

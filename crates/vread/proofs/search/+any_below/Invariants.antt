@@ -1,6 +1,6 @@
 use Rattle.std.proofs.Common.{◌≡◌, ◌-◌, ◌<◌, ℕ, false, get_or}
 use Rattle.vtext.specs.Modules.{InstanceEntry}
-use Rattle.vread.specs.Searches.{any_inside}
+use Rattle.vread.specs.kept.Searches.{any_inside}
 use Rattle.vread.proofs.search.+any_below.Given as goal
 
 abbrev pub invariant-loop-place : goal.invariant-loop-place

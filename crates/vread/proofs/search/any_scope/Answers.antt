@@ -1,7 +1,7 @@
 use Rattle.std.proofs.Common.{ap, ◌∙◌}
 use Rattle.elaboration.specs.declared.limits.TheConstants.{MAX_DEPTH}
-use Rattle.elaboration.specs.Numbered.{PlacedScope}
-use Rattle.vread.specs.Searches.{any_below, any_scope}
+use Rattle.elaboration.specs.kept.Numbered.{PlacedScope}
+use Rattle.vread.specs.kept.Searches.{any_below, any_scope}
 use Rattle.vread.proofs.search.any_scope.Goals as goal
 
 pub returns : goal.returns

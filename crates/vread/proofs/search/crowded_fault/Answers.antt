@@ -1,7 +1,7 @@
 use Rattle.std.proofs.Common.{ℕ, List, All, sym, ◌∙◌}
 use Rattle.vtext.specs.Modules.{ModuleEntry}
-use Rattle.vtext.specs.Sound.{IsSoundModule}
-use Rattle.elaboration.specs.Numbered.{AreDistinct}
+use Rattle.vtext.specs.kept.Sound.{IsSoundModule}
+use Rattle.elaboration.specs.kept.Numbered.{AreDistinct}
 use Rattle.vread.proofs.SearchLemmas.{long_is, many_is, port_is}
 use Rattle.vread.proofs.search.crowded_fault.Goals as goal
 

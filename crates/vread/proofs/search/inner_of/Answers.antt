@@ -2,7 +2,7 @@ use Rattle.std.proofs.Common.{nat_eq, subst, sym}
 use Rattle.std.specs.Prelude.{IfSome, Option}
 use Rattle.std.proofs.lemmas.Map.Entries.{All-lookup}
 use Rattle.vtext.specs.Modules.{ModuleEntry}
-use Rattle.elaboration.specs.Numbered.{AreDistinct}
+use Rattle.elaboration.specs.kept.Numbered.{AreDistinct}
 use Rattle.vread.proofs.search.inner_of.Goals as goal
 
 pub inner_alone-requires : goal.inner_alone-requires

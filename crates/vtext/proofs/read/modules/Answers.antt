@@ -1,5 +1,5 @@
 use Rattle.std.proofs.Common.{inr}
-use Rattle.vtext.specs.Readings.{view}
+use Rattle.vtext.specs.kept.Readings.{view}
 use Rattle.vtext.proofs.ReadLemmas.{refused, said_good, says}
 use Rattle.vtext.proofs.read.modules.Goals as goal
 

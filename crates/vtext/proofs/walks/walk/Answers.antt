@@ -2,7 +2,8 @@ use Rattle.std.proofs.Common.{◌≡◌, ◌+◌, length, ap, refl, sym, subst, 
 use Rattle.vtext.specs.declared.cause.Cause.TheVariants.{Syntax}
 use Rattle.vtext.specs.declared.parser_state.ParserState.{ParserState}
 use Rattle.vtext.specs.declared.parser_state.ParserState.TheVariants.{Outside}
-use Rattle.vtext.specs.Readings.{Reading, view}
+use Rattle.vtext.specs.Readings.{Reading}
+use Rattle.vtext.specs.kept.Readings.{view}
 use Rattle.vtext.specs.Walks.{IsFault, Leads, start, word_at}
 use Rattle.vtext.proofs.SoundWalks.{room_left}
 use Rattle.vtext.proofs.WalkLemmas.{ended, refused_at, refused_end, turned}

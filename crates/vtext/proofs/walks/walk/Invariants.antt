@@ -1,5 +1,5 @@
 use Rattle.std.proofs.Common.{take}
-use Rattle.vtext.specs.Readings.{view}
+use Rattle.vtext.specs.kept.Readings.{view}
 use Rattle.vtext.specs.Walks.{Leads, start, word_at}
 use Rattle.vtext.proofs.walks.walk.Given as goal
 

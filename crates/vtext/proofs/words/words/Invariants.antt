@@ -1,6 +1,6 @@
 use Rattle.std.proofs.Common.{◌≡◌, ◌≤◌, ◌-◌, length}
-use Rattle.vtext.specs.Keywords.{meanings_of}
-use Rattle.vtext.specs.Words.{AreWithin}
+use Rattle.vtext.specs.kept.Keywords.{meanings_of}
+use Rattle.vtext.specs.kept.Words.{AreWithin}
 use Rattle.vtext.proofs.WordLemmas.{SoFar}
 use Rattle.vtext.proofs.words.words.Given as goal
 

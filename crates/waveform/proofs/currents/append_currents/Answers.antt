@@ -1,8 +1,8 @@
 use Rattle.std.proofs.Common.{◌≡◌, ◌<◌, ◌+◌, ◌-◌, ◌∙◌, ℕ, List, [], ◌∷◌, length, map, take, drop, get_or, ap, sym, subst, arith}
 use Rattle.std.proofs.lemmas.List.{drop_more, drop_all}
 use Rattle.gatestep.specs.Step.{State, due}
-use Rattle.waveform.specs.Changes.{state_at}
-use Rattle.waveform.specs.Currents.{Gives, currents}
+use Rattle.waveform.specs.kept.Changes.{state_at}
+use Rattle.waveform.specs.kept.Currents.{Gives, currents}
 use Rattle.waveform.specs.Entries.{same_state}
 use Rattle.waveform.specs.Timelines.{entries_after, entries_until}
 use Rattle.waveform.proofs.Falling.{as_stored, gives_to_the_end, gives_until_next, next_below, next_lies, others_after, stands_there}

@@ -1,7 +1,8 @@
 use Rattle.std.proofs.Common.{◌≡◌, ◌<◌, ◌≤◌, ◌-◌, drop}
 use Rattle.gatestep.specs.Step.{due}
-use Rattle.waveform.specs.Changes.{state_at, wave_changes_below}
-use Rattle.waveform.specs.Currents.{currents}
+use Rattle.waveform.specs.Changes.{wave_changes_below}
+use Rattle.waveform.specs.kept.Changes.{state_at}
+use Rattle.waveform.specs.kept.Currents.{currents}
 use Rattle.waveform.specs.Timelines.{entries_after}
 use Rattle.waveform.proofs.currents.append_currents.Given as goal
 

@@ -1,11 +1,11 @@
 use Rattle.std.proofs.Common.{◌≡◌, ◌∙◌, ◌++◌, ◌∷◌, [], false, Some, None, ap, sym, arith}
 use Rattle.std.specs.Prelude.{if◌then◌else◌}
 use Rattle.fourstate.specs.Values.{same_value}
-use Rattle.fourstate.specs.ValueLaws.{is_same}
+use Rattle.fourstate.specs.kept.ValueLaws.{is_same}
 use Rattle.waveform.specs.Changes.{wave_changes_below}
-use Rattle.waveform.specs.Currents.{currents}
+use Rattle.waveform.specs.kept.Currents.{currents}
 use Rattle.waveform.specs.Entries.{standing}
-use Rattle.waveform.specs.Timelines.{is_reached}
+use Rattle.waveform.specs.kept.Timelines.{is_reached}
 use Rattle.waveform.proofs.Falling.{changes_early_on, event_due, event_of_same, event_past, event_to_come, none_pending, not_reached, with_pending}
 use Rattle.waveform.proofs.currents.append_event.Goals.{else-from-time-via-then-from-time+then-time-end+else-not-is_same, else-from-time-via-then-from-time+else-time-end, else-from-time-via-else-from-time}
 use Rattle.waveform.proofs.currents.append_event.Goals as goal

@@ -1,7 +1,7 @@
 use Rattle.std.proofs.Common.{ℕ, nat_le, map, subst, sym}
 use Rattle.std.specs.List.{All}
 use Rattle.std.proofs.lemmas.List.Elements.{All-filter}
-use Rattle.waveform.specs.Timelines.{IsTimeline}
+use Rattle.waveform.specs.kept.Timelines.{IsTimeline}
 use Rattle.waveform.proofs.Turns.{until_timeline}
 use Rattle.waveform.proofs.entries.up_to.Goals as goal
 

@@ -1,5 +1,5 @@
 use Rattle.std.proofs.Common.{◌≡◌, true, not, get_or, sym}
-use Rattle.waveform.specs.Marks.{mark_of}
+use Rattle.waveform.specs.kept.Marks.{mark_of}
 use Rattle.waveform.proofs.Marking.{none_in_block, not_true}
 use Rattle.waveform.proofs.marks.first_in_block.Goals as goal
 

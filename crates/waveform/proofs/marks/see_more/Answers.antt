@@ -1,6 +1,6 @@
 use Rattle.std.proofs.Common.{◌≡◌, ◌∙◌, ◌<◌, ◌+◌, ◌*◌, ◌/◌, ℕ, true, get_or, length, map, set, subst, sym}
 use Rattle.std.proofs.lemmas.List.{length-set}
-use Rattle.waveform.specs.Marks.{mark_of}
+use Rattle.waveform.specs.kept.Marks.{mark_of}
 use Rattle.waveform.proofs.Marking.{seen_more}
 use Rattle.waveform.proofs.marks.see_more.Goals as goal
 

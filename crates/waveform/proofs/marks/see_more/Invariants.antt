@@ -1,5 +1,5 @@
 use Rattle.std.proofs.Common.{◌≡◌, ◌*◌, ◌/◌, ◌<◌, ℕ, true, map, length, slice_index_or}
-use Rattle.waveform.specs.Marks.{mark_of}
+use Rattle.waveform.specs.kept.Marks.{mark_of}
 use Rattle.waveform.proofs.marks.see_more.Given as goal
 
 -- the digits of the entries before `place` are seen

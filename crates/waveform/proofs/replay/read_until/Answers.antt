@@ -1,6 +1,6 @@
 use Rattle.std.proofs.Common.{◌≡◌, ◌<◌, ◌≤◌, ◌+◌, ◌-◌, ◌*◌, ◌/◌, ◌∙◌, sym, subst, ℕ, List, map, length, arith}
 use Rattle.event_queue.specs.declared.page.TheConstants.{PAGE}
-use Rattle.waveform.specs.Paging.{AreInHand, HaveValues, readings}
+use Rattle.waveform.specs.kept.Paging.{AreInHand, HaveValues, readings}
 use Rattle.waveform.proofs.PagedLines.{in_time, map_map, starts_later, values_kept, values_passed}
 use Rattle.waveform.proofs.replay.read_until.Goals as goal
 

@@ -1,6 +1,6 @@
 use Rattle.std.proofs.Common.{◌≡◌, ◌<◌, ◌≤◌, ◌-◌, ℕ, [], map}
-use Rattle.event_queue.specs.Noted.{noted}
-use Rattle.waveform.specs.Paging.{AreInHand, HaveValues, readings}
+use Rattle.event_queue.specs.kept.Noted.{noted}
+use Rattle.waveform.specs.kept.Paging.{AreInHand, HaveValues, readings}
 use Rattle.waveform.proofs.replay.read_until.Given as goal
 
 -- the moments so far; the pages below `next` are read

@@ -1,5 +1,5 @@
 use Rattle.std.proofs.Common.{◌-◌, ◌+◌, length}
-use Rattle.waveform.specs.Tables.{IsUnchanged}
+use Rattle.waveform.specs.kept.Tables.{IsUnchanged}
 use Rattle.waveform.proofs.table.grow.Given as goal
 
 abbrev pub invariant-loop-lines : goal.invariant-loop-lines

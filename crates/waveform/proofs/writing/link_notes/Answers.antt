@@ -1,7 +1,7 @@
 use Rattle.std.proofs.Common.{◌≡◌, ◌∙◌, ◌+◌, ◌-◌, ◌<◌, ℕ, [], ap, sym, subst, arith, drop, get_or, length, replicate}
 use Rattle.std.proofs.lemmas.List.{drop_all, get_or-replicate, length-replicate, length-set}
-use Rattle.waveform.specs.Links.{IsChain}
-use Rattle.waveform.specs.Notes.{entries_at}
+use Rattle.waveform.specs.kept.Links.{IsChain}
+use Rattle.waveform.specs.kept.Notes.{entries_at}
 use Rattle.waveform.proofs.Chains.{chains_more}
 use Rattle.waveform.proofs.writing.link_notes.Goals as goal
 

@@ -1,6 +1,6 @@
 use Rattle.std.proofs.Common.{◌≡◌, ◌<◌, ℕ, length, drop, slice_index_or}
-use Rattle.waveform.specs.Links.{IsChain}
-use Rattle.waveform.specs.Notes.{entries_at}
+use Rattle.waveform.specs.kept.Links.{IsChain}
+use Rattle.waveform.specs.kept.Notes.{entries_at}
 use Rattle.waveform.proofs.writing.link_notes.Given as goal
 
 -- the notes from `i` on are linked

@@ -1,7 +1,7 @@
 use Rattle.std.proofs.Common.{◌≡◌, ◌∙◌, refl, ◌-◌, ◌≤◌, ◌++◌, sym, subst, length, map, arith, get_or}
 use Rattle.std.proofs.lemmas.List.{get_or_default}
-use Rattle.waveform.specs.Links.{IsChain}
-use Rattle.waveform.specs.Notes.{entries_at}
+use Rattle.waveform.specs.kept.Links.{IsChain}
+use Rattle.waveform.specs.kept.Notes.{entries_at}
 use Rattle.waveform.proofs.Remaining.{Turn, after_turn, end, fewer_after_turn, turn, within}
 use Rattle.waveform.proofs.writing.write_line.Goals as goal
 

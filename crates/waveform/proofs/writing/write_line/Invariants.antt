@@ -1,5 +1,5 @@
 use Rattle.std.proofs.Common.{◌++◌, length, map}
-use Rattle.waveform.specs.Notes.{entries_at}
+use Rattle.waveform.specs.kept.Notes.{entries_at}
 use Rattle.waveform.proofs.Remaining.{Remains, left_from}
 use Rattle.waveform.proofs.writing.write_line.Given as goal
 

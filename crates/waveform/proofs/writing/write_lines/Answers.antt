@@ -1,5 +1,5 @@
 use Rattle.std.proofs.Common.{◌<◌, ◌≤◌, arith, length, map}
-use Rattle.waveform.specs.Notes.{noted}
+use Rattle.waveform.specs.kept.Notes.{noted}
 use Rattle.waveform.proofs.Written.{all_written, line_follow, none_written, one_line_more}
 use Rattle.waveform.proofs.writing.write_lines.Goals as goal
 

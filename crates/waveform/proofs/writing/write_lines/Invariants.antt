@@ -1,5 +1,5 @@
 use Rattle.std.proofs.Common.{map}
-use Rattle.waveform.specs.Notes.{noted}
+use Rattle.waveform.specs.kept.Notes.{noted}
 use Rattle.waveform.proofs.Written.{AreWritten}
 use Rattle.waveform.proofs.writing.write_lines.Given as goal
 

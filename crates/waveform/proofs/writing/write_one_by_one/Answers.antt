@@ -1,8 +1,8 @@
 use Rattle.std.proofs.Common.{◌≡◌, ◌∙◌, ◌<◌, ◌+◌, ap, sym, subst, refl, All, map, drop, slice_index_or, [], ◌∷◌, ◌++◌, arith}
 use Rattle.std.proofs.lemmas.List.{drop_more, drop_all, get_or_default}
 use Rattle.std.specs.Prelude.{slice_set}
-use Rattle.waveform.specs.Notes.{AreNoted, MayBeNoted, noted, with_note, with_notes}
-use Rattle.waveform.specs.Timelines.{is_reached}
+use Rattle.waveform.specs.kept.Notes.{AreNoted, MayBeNoted, noted, with_note, with_notes}
+use Rattle.waveform.specs.kept.Timelines.{is_reached}
 use Rattle.waveform.proofs.writing.write_one_by_one.Goals as goal
 
 pub loop-i-init : goal.loop-i-init

@@ -1,5 +1,5 @@
 use Rattle.std.proofs.Common.{◌≡◌, map, drop}
-use Rattle.waveform.specs.Notes.{AreNoted, noted, with_notes}
+use Rattle.waveform.specs.kept.Notes.{AreNoted, noted, with_notes}
 use Rattle.waveform.proofs.writing.write_one_by_one.Given as goal
 
 -- what is left of the notes may be written, and then all are

@@ -1,5 +1,5 @@
-use Rattle.catalog.specs.Slots.{slot_at}
-use Rattle.catalog.specs.Found.{found}
+use Rattle.catalog.specs.kept.Slots.{slot_at}
+use Rattle.catalog.specs.kept.Found.{found}
 use Rattle.catalog.proofs.ChangeLemmas.{table_close}
 use Rattle.catalog.proofs.catalog.Catalog.close_up.Goals as goal
 

@@ -1,5 +1,5 @@
 use Rattle.std.proofs.Common.{◌∙◌, sym}
-use Rattle.catalog.specs.Slots.{slot_at}
+use Rattle.catalog.specs.kept.Slots.{slot_at}
 use Rattle.catalog.proofs.TableLemmas.{by_slot, no_slot}
 use Rattle.catalog.proofs.catalog.Catalog.get.Goals as goal
 

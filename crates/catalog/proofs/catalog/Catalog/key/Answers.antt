@@ -1,7 +1,7 @@
 use Rattle.std.proofs.Common.{◌≡◌, ◌∙◌, Some, None, true, false, option_map, sym, ap}
 use Rattle.catalog.specs.Catalog.{record_at, same_name}
-use Rattle.catalog.specs.Columns.{entries_in}
-use Rattle.catalog.specs.Found.{found}
+use Rattle.catalog.specs.kept.Columns.{entries_in}
+use Rattle.catalog.specs.kept.Found.{found}
 use Rattle.catalog.proofs.TableLemmas.{key_gone, key_none, key_other, key_same, table_distinct}
 use Rattle.catalog.proofs.catalog.Catalog.key.Goals as goal
 

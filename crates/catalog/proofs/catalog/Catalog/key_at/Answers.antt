@@ -1,7 +1,8 @@
 use Rattle.std.proofs.Common.{◌≡◌, ◌∙◌, Some, option_map, sym, ap}
 use Rattle.std.proofs.lemmas.Option.{none-some, same_Some}
-use Rattle.catalog.specs.Catalog.{place_of, record_at}
-use Rattle.catalog.specs.Columns.{entries_in}
+use Rattle.catalog.specs.Catalog.{record_at}
+use Rattle.catalog.specs.kept.Catalog.{place_of}
+use Rattle.catalog.specs.kept.Columns.{entries_in}
 use Rattle.catalog.proofs.EntryLemmas.{entry_at}
 use Rattle.catalog.proofs.ListLemmas.{slice_get_some}
 use Rattle.catalog.proofs.TableLemmas.{table_distinct}

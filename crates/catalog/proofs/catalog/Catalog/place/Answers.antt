@@ -1,7 +1,7 @@
 use Rattle.std.proofs.Common.{◌≡◌, ◌∙◌, Some, is_some, sym, ap}
-use Rattle.catalog.specs.Catalog.{place_of}
-use Rattle.catalog.specs.Columns.{entries_in}
-use Rattle.catalog.specs.Slots.{slot_at}
+use Rattle.catalog.specs.kept.Catalog.{place_of}
+use Rattle.catalog.specs.kept.Columns.{entries_in}
+use Rattle.catalog.specs.kept.Slots.{slot_at}
 use Rattle.catalog.proofs.EntryLemmas.{place_facts}
 use Rattle.catalog.proofs.TableLemmas.{by_slot, no_slot}
 use Rattle.catalog.proofs.catalog.Catalog.place.Goals as goal

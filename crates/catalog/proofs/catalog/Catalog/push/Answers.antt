@@ -1,9 +1,10 @@
 use Rattle.std.proofs.Common.{◌≡◌, ℕ, ◌+◌, ◌∷◌, ◌++◌, [], Some, None, sym, ap, ◌∙◌, subst, if◌then◌else◌, rules}
-use Rattle.catalog.specs.Catalog.{key_named, same_name}
-use Rattle.catalog.specs.Columns.{entries_in}
-use Rattle.catalog.specs.Slots.{slot_at}
-use Rattle.catalog.specs.Found.{found}
-use Rattle.catalog.specs.Table.{IsTable}
+use Rattle.catalog.specs.Catalog.{same_name}
+use Rattle.catalog.specs.kept.Catalog.{key_named}
+use Rattle.catalog.specs.kept.Columns.{entries_in}
+use Rattle.catalog.specs.kept.Slots.{slot_at}
+use Rattle.catalog.specs.kept.Found.{found}
+use Rattle.catalog.specs.kept.Table.{IsTable}
 use Rattle.catalog.proofs.CellLemmas.{entries_push}
 use Rattle.catalog.proofs.ChangeLemmas.{table_push}
 use Rattle.catalog.proofs.TableLemmas.{no_slot, table_distinct}

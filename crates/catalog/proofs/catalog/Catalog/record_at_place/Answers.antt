@@ -1,7 +1,7 @@
 use Rattle.std.proofs.Common.{◌≡◌, ◌∙◌, Some, option_map, sym, ap}
 use Rattle.std.proofs.lemmas.Option.{none-some, same_Some}
 use Rattle.std.specs.Option.{option_copied}
-use Rattle.catalog.specs.Columns.{entries_in}
+use Rattle.catalog.specs.kept.Columns.{entries_in}
 use Rattle.catalog.proofs.EntryLemmas.{entry_at}
 use Rattle.catalog.proofs.ListLemmas.{slice_get_some}
 use Rattle.catalog.proofs.TableLemmas.{table_distinct}

@@ -1,11 +1,12 @@
 use Rattle.std.proofs.Common.{◌≡◌, ◌∙◌, ℕ, Some, IfSome, is_some, sym, ap, subst}
 use Rattle.std.proofs.lemmas.Bool.{both_ways}
 use Rattle.std.specs.List.{slice_set}
-use Rattle.catalog.specs.Catalog.{record_at, with_record}
-use Rattle.catalog.specs.Columns.{entries_in}
-use Rattle.catalog.specs.Slots.{slot_at}
-use Rattle.catalog.specs.Found.{found}
-use Rattle.catalog.specs.Table.{IsTable}
+use Rattle.catalog.specs.Catalog.{record_at}
+use Rattle.catalog.specs.kept.Catalog.{with_record}
+use Rattle.catalog.specs.kept.Columns.{entries_in}
+use Rattle.catalog.specs.kept.Slots.{slot_at}
+use Rattle.catalog.specs.kept.Found.{found}
+use Rattle.catalog.specs.kept.Table.{IsTable}
 use Rattle.catalog.proofs.CellLemmas.{apart_from_placed, entries_set}
 use Rattle.catalog.proofs.ChangeLemmas.{table_set}
 use Rattle.catalog.proofs.TableLemmas.{by_slot, no_slot, table_distinct}

@@ -1,7 +1,7 @@
 use Rattle.std.proofs.Common.{◌≡◌, ◌∙◌, ◌<◌, None, IfOk, length, ap, subst, arith}
 use Rattle.std.specs.List.{insert, slice_set}
-use Rattle.catalog.specs.Columns.{cell_at}
-use Rattle.catalog.specs.Gaps.{Splits, gaps_from}
+use Rattle.catalog.specs.kept.Columns.{cell_at}
+use Rattle.catalog.specs.kept.Gaps.{Splits, gaps_from}
 use Rattle.catalog.proofs.GapLemmas.{gap_low, gaps_clear, some_cell}
 use Rattle.catalog.proofs.order.Order.gaps_with.Goals as goal
 

@@ -1,6 +1,6 @@
 use Rattle.std.proofs.Common.{◌∙◌, ◌+◌, ◌<◌, length, subst, arith}
-use Rattle.catalog.specs.Columns.{entries_in}
-use Rattle.catalog.specs.Gaps.{AreCounts}
+use Rattle.catalog.specs.kept.Columns.{entries_in}
+use Rattle.catalog.specs.kept.Gaps.{AreCounts}
 use Rattle.catalog.proofs.CellLemmas.{cell_within}
 use Rattle.catalog.proofs.GapLemmas.{index_by_counts}
 use Rattle.catalog.proofs.ListLemmas.{slice_get_some}

@@ -1,6 +1,6 @@
 use Rattle.std.proofs.Common.{subst, arith}
-use Rattle.catalog.specs.Columns.{cell_at}
-use Rattle.catalog.specs.Gaps.{Splits}
+use Rattle.catalog.specs.kept.Columns.{cell_at}
+use Rattle.catalog.specs.kept.Gaps.{Splits}
 use Rattle.catalog.proofs.GapLemmas.{place_counted, some_cell}
 use Rattle.catalog.proofs.order.Order.place_at.Goals as goal
 

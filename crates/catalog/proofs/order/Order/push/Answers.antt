@@ -1,5 +1,5 @@
 use Rattle.std.proofs.Common.{◌∙◌, sym, ap}
-use Rattle.catalog.specs.Gaps.{gaps_from}
+use Rattle.catalog.specs.kept.Gaps.{gaps_from}
 use Rattle.catalog.proofs.GapLemmas.{gaps_push}
 use Rattle.catalog.proofs.order.Order.push.Goals as goal
 

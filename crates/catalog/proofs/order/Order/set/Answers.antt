@@ -1,6 +1,6 @@
 use Rattle.std.proofs.Common.{◌∙◌, sym, ap}
-use Rattle.catalog.specs.Columns.{cell_at}
-use Rattle.catalog.specs.Gaps.{gaps_from}
+use Rattle.catalog.specs.kept.Columns.{cell_at}
+use Rattle.catalog.specs.kept.Gaps.{gaps_from}
 use Rattle.catalog.proofs.GapLemmas.{gaps_set, some_cell}
 use Rattle.catalog.proofs.order.Order.set.Goals as goal
 

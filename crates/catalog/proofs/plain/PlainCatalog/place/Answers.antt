@@ -1,5 +1,5 @@
 use Rattle.std.proofs.Common.{◌≡◌}
-use Rattle.catalog.specs.Catalog.{place_of}
+use Rattle.catalog.specs.kept.Catalog.{place_of}
 use Rattle.catalog.proofs.EntryLemmas.{place_facts}
 use Rattle.catalog.proofs.plain.PlainCatalog.place.Goals as goal
 

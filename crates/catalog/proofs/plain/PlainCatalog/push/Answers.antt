@@ -1,5 +1,5 @@
 use Rattle.std.proofs.Common.{◌≡◌, ◌+◌, ◌∷◌, ◌++◌, [], sym, ap, ◌∙◌, subst, rules}
-use Rattle.catalog.specs.Kept.{AreKept}
+use Rattle.catalog.specs.kept.Kept.{AreKept}
 use Rattle.catalog.proofs.EntryLemmas.{named_none, record_at_above}
 use Rattle.catalog.proofs.KeptLemmas.{kept_push}
 use Rattle.catalog.proofs.plain.PlainCatalog.push.Goals as goal

@@ -1,7 +1,7 @@
 use Rattle.std.proofs.Common.{◌≡◌, ◌==◌, Some, None, sym, ap, ◌∙◌, subst, arith}
 use Rattle.std.specs.List.{position_from}
-use Rattle.catalog.specs.Catalog.{without_key}
-use Rattle.catalog.specs.Kept.{AreKept}
+use Rattle.catalog.specs.kept.Catalog.{without_key}
+use Rattle.catalog.specs.kept.Kept.{AreKept}
 use Rattle.catalog.proofs.EntryLemmas.{some_there}
 use Rattle.catalog.proofs.ListLemmas.{position_within, position_none}
 use Rattle.catalog.proofs.KeptLemmas.{kept_without, entry_without}

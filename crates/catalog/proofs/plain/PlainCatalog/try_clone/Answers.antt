@@ -1,6 +1,6 @@
 use Rattle.std.proofs.Common.{◌≡◌, sym, ◌∙◌, subst}
 use Rattle.std.proofs.lemmas.List.Elements.{same_from_all_zip}
-use Rattle.catalog.specs.Kept.{AreKept}
+use Rattle.catalog.specs.kept.Kept.{AreKept}
 use Rattle.catalog.proofs.plain.PlainCatalog.try_clone.Goals as goal
 
 pub invariant_of-result : goal.invariant_of-result

@@ -1,6 +1,6 @@
 use Rattle.std.proofs.Common.{◌≡◌, ℕ, ◌<◌, Some}
-use Rattle.catalog.specs.Blocks.{index_in}
-use Rattle.catalog.specs.Slots.{slot_at}
+use Rattle.catalog.specs.kept.Blocks.{index_in}
+use Rattle.catalog.specs.kept.Slots.{slot_at}
 use Rattle.catalog.proofs.NumberLemmas.{AreNumbered}
 use Rattle.catalog.proofs.slots.Slots.number.Given as goal
 

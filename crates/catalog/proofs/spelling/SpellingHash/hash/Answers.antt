@@ -1,5 +1,5 @@
 use Rattle.std.proofs.Common.{sym, ◌∙◌}
-use Rattle.catalog.specs.Spellings.{input_of}
+use Rattle.catalog.specs.kept.Spellings.{input_of}
 use Rattle.catalog.proofs.spelling.SpellingHash.hash.Goals as goal
 
 pub returns-then-is_short : goal.returns-then-is_short

@@ -1,6 +1,6 @@
 use Rattle.std.proofs.Common.{◌∙◌, ◌/◌, ◌%◌, sym, ap, arith, length, get_or}
 use Rattle.std.specs.Option.{option_copied}
-use Rattle.chunked.specs.Chunks.{row_in}
+use Rattle.chunked.specs.kept.Chunks.{row_in}
 use Rattle.chunked.specs.declared.branch.TheConstants.{BRANCH}
 use Rattle.chunked.proofs.ChunkLemmas.{chunk_get, chunk_past}
 use Rattle.chunked.proofs.list.Chunked.get.Goals as goal

@@ -3,7 +3,7 @@ use Rattle.std.proofs.lemmas.List.{length-set}
 use Rattle.std.proofs.lemmas.Result.{IfOk-from_err}
 use Rattle.std.specs.List.{slice_set}
 use Rattle.std.specs.Result.{is_ok}
-use Rattle.chunked.specs.Chunks.{row_in, rows_of}
+use Rattle.chunked.specs.kept.Chunks.{row_in, rows_of}
 use Rattle.chunked.specs.declared.branch.TheConstants.{BRANCH}
 use Rattle.chunked.proofs.ChunkLemmas.{chunk_at, chunk_get, chunk_same, chunk_set, chunk_within}
 use Rattle.chunked.proofs.LendingLemmas.{at_err, error_of}

@@ -1,6 +1,6 @@
 use Rattle.std.proofs.Common.{◌∙◌, ◌≡◌, ◌/◌, ◌%◌, ◌+◌, ◌-◌, ◌++◌, ℕ, sym, ap, arith, length, replicate, rules}
 use Rattle.std.proofs.lemmas.List.{length-append, length-replicate}
-use Rattle.chunked.specs.Chunks.{row_in, rows_of}
+use Rattle.chunked.specs.kept.Chunks.{row_in, rows_of}
 use Rattle.chunked.specs.declared.branch.TheConstants.{BRANCH}
 use Rattle.chunked.specs.declared.chunk.TheConstants.{CHUNK}
 use Rattle.chunked.proofs.ChunkLemmas.{chunk_append, chunk_rest, chunk_same, on_err}

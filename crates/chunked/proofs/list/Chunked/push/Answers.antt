@@ -1,6 +1,6 @@
 use Rattle.std.proofs.Common.{◌∙◌, ◌≡◌, ◌/◌, ◌%◌, ◌+◌, ◌∷◌, ◌++◌, [], sym, ap, arith, length, rules}
 use Rattle.std.proofs.lemmas.List.{length_push}
-use Rattle.chunked.specs.Chunks.{row_in, rows_of}
+use Rattle.chunked.specs.kept.Chunks.{row_in, rows_of}
 use Rattle.chunked.specs.declared.branch.TheConstants.{BRANCH}
 use Rattle.chunked.proofs.ChunkLemmas.{chunk_push, chunk_same, on_err}
 use Rattle.chunked.proofs.list.Chunked.push.Goals as goal

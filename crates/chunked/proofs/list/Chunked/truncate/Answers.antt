@@ -1,7 +1,7 @@
 use Rattle.std.proofs.Common.{◌∙◌, ◌≡◌, ◌/◌, ◌%◌, ◌<◌, ◌+◌, suc, sym, ap, subst, arith, length, take}
 use Rattle.std.proofs.lemmas.List.{length-take-le}
 use Rattle.std.specs.List.{slice_set}
-use Rattle.chunked.specs.Chunks.{AreFull, row_in, rows_of}
+use Rattle.chunked.specs.kept.Chunks.{AreFull, row_in, rows_of}
 use Rattle.chunked.specs.declared.branch.TheConstants.{BRANCH}
 use Rattle.chunked.proofs.ChunkLemmas.{chunk_at, chunk_cut, chunk_same, on_err}
 use Rattle.chunked.proofs.list.Chunked.truncate.Goals as goal

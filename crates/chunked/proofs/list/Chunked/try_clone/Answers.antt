@@ -1,5 +1,5 @@
 use Rattle.std.proofs.Common.{◌∙◌, sym, ap, length}
-use Rattle.chunked.specs.Chunks.{row_in}
+use Rattle.chunked.specs.kept.Chunks.{row_in}
 use Rattle.chunked.specs.declared.branch.TheConstants.{BRANCH}
 use Rattle.chunked.proofs.ChunkLemmas.{chunks_same}
 use Rattle.chunked.proofs.list.Chunked.try_clone.Goals as goal

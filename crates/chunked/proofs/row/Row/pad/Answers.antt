@@ -1,6 +1,6 @@
 use Rattle.std.proofs.Common.{◌∙◌, ◌≡◌, ◌≤◌, ◌/◌, ◌%◌, ◌+◌, ◌++◌, ℕ, sym, ap, arith, length, replicate, rules, subst}
 use Rattle.std.proofs.lemmas.List.{length-append, length-replicate}
-use Rattle.chunked.specs.Chunks.{items_in, items_of}
+use Rattle.chunked.specs.kept.Chunks.{items_in, items_of}
 use Rattle.chunked.specs.declared.chunk.TheConstants.{CHUNK}
 use Rattle.chunked.proofs.ChunkLemmas.{chunk_append, chunk_rest, chunk_same, on_err}
 use Rattle.chunked.proofs.row.Row.pad.Goals as goal

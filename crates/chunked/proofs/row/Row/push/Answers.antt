@@ -1,6 +1,6 @@
 use Rattle.std.proofs.Common.{◌∙◌, ◌≡◌, ◌/◌, ◌%◌, ◌+◌, ◌∷◌, ◌++◌, [], sym, ap, arith, length, rules}
 use Rattle.std.proofs.lemmas.List.{length_push}
-use Rattle.chunked.specs.Chunks.{items_in, items_of}
+use Rattle.chunked.specs.kept.Chunks.{items_in, items_of}
 use Rattle.chunked.specs.declared.chunk.TheConstants.{CHUNK}
 use Rattle.chunked.proofs.ChunkLemmas.{chunk_push, chunk_same, on_err}
 use Rattle.chunked.proofs.row.Row.push.Goals as goal

@@ -1,5 +1,5 @@
 use Rattle.std.proofs.Common.{◌∙◌, sym, ap, length}
-use Rattle.chunked.specs.Chunks.{items_in}
+use Rattle.chunked.specs.kept.Chunks.{items_in}
 use Rattle.chunked.specs.declared.chunk.TheConstants.{CHUNK}
 use Rattle.chunked.proofs.ChunkLemmas.{chunks_same}
 use Rattle.chunked.proofs.row.RowClone.clone.Goals as goal

@@ -1,5 +1,5 @@
 use Rattle.gatestep.specs.Step.{advance}
-use Rattle.scratch.specs.Run.{IsRun}
+use Rattle.scratch.specs.kept.Run.{IsRun}
 use Rattle.core_tests.proofs.reruns.random.follow.Given as goal
 
 -- the run is that of the design

@@ -1,9 +1,10 @@
 use Rattle.std.proofs.Common.{◌≡◌, Some, ap, length, arith, ◌∙◌}
-use Rattle.catalog.specs.Catalog.{record_at, with_record}
+use Rattle.catalog.specs.Catalog.{record_at}
+use Rattle.catalog.specs.kept.Catalog.{with_record}
 use Rattle.design.specs.Keys.{netlist}
 use Rattle.design.specs.Netlist.{point_total}
-use Rattle.design.specs.Records.{HasRoom, IsNetChange, net_changed}
-use Rattle.design.specs.Shown.{design_of}
+use Rattle.design.specs.kept.Records.{HasRoom, IsNetChange, net_changed}
+use Rattle.design.specs.kept.Shown.{design_of}
 use Rattle.design.proofs.NetLemmas.{change_keeps_input, change_keeps_name, changed_count, kept_net_changed, netlist_net_put, points_counted_in}
 use Rattle.design.proofs.design.Design.change_net.Goals as goal
 

@@ -1,6 +1,7 @@
 use Rattle.std.proofs.Common.{ℕ, IsSome, All, List, sym, subst, ◌∙◌}
 use Rattle.catalog.specs.Catalog.{record_at}
-use Rattle.design.specs.Keys.{KeyedGate, reads_key}
+use Rattle.design.specs.Keys.{KeyedGate}
+use Rattle.design.specs.kept.Keys.{reads_key}
 use Rattle.design.proofs.LookLemmas.{keys_known}
 use Rattle.design.proofs.design.Design.fanout.Goals as goal
 

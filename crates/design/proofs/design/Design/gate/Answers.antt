@@ -1,6 +1,6 @@
 use Rattle.std.proofs.Common.{is_some, option_map, ap, sym, ◌∙◌}
 use Rattle.design.specs.Keys.{KeyedGate, entry_in, netlist}
-use Rattle.design.specs.Shown.{design_of}
+use Rattle.design.specs.kept.Shown.{design_of}
 use Rattle.design.proofs.ByNameLemmas.{gate_named_is, has_gate_is}
 use Rattle.design.proofs.LookLemmas.{has_named, none_named, record_named}
 use Rattle.design.proofs.design.Design.gate.Goals as goal

@@ -1,6 +1,7 @@
 use Rattle.std.proofs.Common.{option_map, ap, ◌∙◌}
-use Rattle.design.specs.Keys.{IsConnected, entry_in}
-use Rattle.design.specs.Shown.{design_of}
+use Rattle.design.specs.Keys.{entry_in}
+use Rattle.design.specs.kept.Keys.{IsConnected}
+use Rattle.design.specs.kept.Shown.{design_of}
 use Rattle.catalog.specs.Catalog.{records_of}
 use Rattle.design.proofs.ByNameLemmas.{all_at, gate_at_is}
 use Rattle.design.proofs.DesignLemmas.{gate_count_is}

@@ -1,6 +1,7 @@
 use Rattle.std.proofs.Common.{sym, refl}
-use Rattle.design.specs.Keys.{IsConnected, KeyedGate}
-use Rattle.design.specs.Shown.{design_of}
+use Rattle.design.specs.Keys.{KeyedGate}
+use Rattle.design.specs.kept.Keys.{IsConnected}
+use Rattle.design.specs.kept.Shown.{design_of}
 use Rattle.design.proofs.DesignLemmas.{each_connected}
 use Rattle.design.proofs.EntryLemmas.{found}
 use Rattle.design.proofs.LookLemmas.{not_missing}

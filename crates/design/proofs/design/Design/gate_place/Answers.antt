@@ -2,7 +2,7 @@ use Rattle.std.proofs.Common.{is_some, option_map, ap, sym, ◌∙◌}
 use Rattle.std.proofs.lemmas.Option.{IfSome_then}
 use Rattle.design.specs.Keys.{KeyedGate, entry_in, netlist}
 use Rattle.design.specs.Names.{same_name}
-use Rattle.design.specs.Shown.{design_of}
+use Rattle.design.specs.kept.Shown.{design_of}
 use Rattle.design.proofs.ByNameLemmas.{gate_at_is, gate_named_is, gate_position_is, has_gate_is}
 use Rattle.design.proofs.EntryLemmas.{keys_apart}
 use Rattle.design.proofs.LookLemmas.{has_named, if_none, none_named, none_position, place_named, position_is_some, position_missing, record_named}

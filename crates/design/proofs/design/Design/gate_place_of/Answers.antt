@@ -1,7 +1,7 @@
 use Rattle.std.proofs.Common.{is_some, ap, ◌∙◌}
 use Rattle.design.specs.Keys.{netlist}
 use Rattle.design.proofs.LookLemmas.{place_there}
-use Rattle.design.specs.Shown.{design_of}
+use Rattle.design.specs.kept.Shown.{design_of}
 use Rattle.design.proofs.DesignLemmas.{gate_count_is}
 use Rattle.design.proofs.design.Design.gate_place_of.Goals as goal
 

@@ -1,6 +1,6 @@
 use Rattle.std.proofs.Common.{is_some, sym, ap, ◌∙◌}
 use Rattle.design.specs.Keys.{KeyedGate, netlist}
-use Rattle.design.specs.Shown.{design_of}
+use Rattle.design.specs.kept.Shown.{design_of}
 use Rattle.design.proofs.ByNameLemmas.{has_gate_is}
 use Rattle.design.proofs.LookLemmas.{has_named}
 use Rattle.design.proofs.design.Design.has_gate.Goals as goal

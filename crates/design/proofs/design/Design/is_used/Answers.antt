@@ -1,6 +1,6 @@
 use Rattle.std.proofs.Common.{◌≡◌, Some, sym, ◌∙◌}
 use Rattle.catalog.specs.Catalog.{record_at}
-use Rattle.design.specs.Shown.{design_of}
+use Rattle.design.specs.kept.Shown.{design_of}
 use Rattle.design.proofs.LookLemmas.{some_is}
 use Rattle.design.proofs.UseLemmas.{used_by_driver, used_by_reader}
 use Rattle.design.proofs.design.Design.is_used.Goals as goal

@@ -1,4 +1,4 @@
-use Rattle.design.specs.Shown.{design_of}
+use Rattle.design.specs.kept.Shown.{design_of}
 use Rattle.design.proofs.ByNameLemmas.{drivers_by_key, gate_by_name, named_by_key}
 use Rattle.design.proofs.design.Design.names_are_keys.Goals as goal
 

@@ -1,5 +1,5 @@
 use Rattle.design.specs.Keys.{netlist}
-use Rattle.design.specs.Shown.{design_of}
+use Rattle.design.specs.kept.Shown.{design_of}
 use Rattle.design.proofs.DesignLemmas.{net_count_is}
 use Rattle.design.proofs.design.Design.net_key_at.Goals as goal
 

@@ -3,7 +3,7 @@ use Rattle.std.proofs.lemmas.Option.{IfSome_then}
 use Rattle.design.specs.Keys.{netlist}
 use Rattle.design.specs.Netlist.{NetEntry}
 use Rattle.design.specs.Names.{same_name}
-use Rattle.design.specs.Shown.{design_of}
+use Rattle.design.specs.kept.Shown.{design_of}
 use Rattle.design.proofs.EntryLemmas.{keys_apart}
 use Rattle.design.proofs.LookLemmas.{has_named, if_none, none_named, none_position, place_named, position_is_some, position_missing, record_named}
 use Rattle.design.proofs.DesignLemmas.{net_count_is}

@@ -1,4 +1,4 @@
-use Rattle.design.specs.Shown.{design_of}
+use Rattle.design.specs.kept.Shown.{design_of}
 use Rattle.design.proofs.PlaceByNameLemmas.{driver_places_by_key, net_place_by_key}
 use Rattle.design.proofs.design.Design.places_are_keys.Goals as goal
 

@@ -1,7 +1,7 @@
 use Rattle.std.proofs.Common.{ap, sym, ◌∙◌}
-use Rattle.catalog.specs.Catalog.{keys_of}
+use Rattle.catalog.specs.kept.Catalog.{keys_of}
 use Rattle.design.specs.Keys.{KeyedGate, netlist}
-use Rattle.design.specs.Shown.{design_of}
+use Rattle.design.specs.kept.Shown.{design_of}
 use Rattle.design.proofs.ByNameLemmas.{has_gate_is}
 use Rattle.design.proofs.DesignLemmas.{cleared_is_kept}
 use Rattle.design.proofs.GateLemmas.{kept_gate_added, kept_in_order, netlist_gate_added}

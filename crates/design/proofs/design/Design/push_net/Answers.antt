@@ -2,7 +2,7 @@ use Rattle.std.proofs.Common.{Some, ap, ◌∙◌}
 use Rattle.catalog.specs.Catalog.{record_at}
 use Rattle.design.specs.Keys.{netlist}
 use Rattle.design.specs.Netlist.{NetEntry, with_net}
-use Rattle.design.specs.Shown.{design_of}
+use Rattle.design.specs.kept.Shown.{design_of}
 use Rattle.design.proofs.ChangeLemmas.{record_pushed}
 use Rattle.design.proofs.DesignLemmas.{cleared_is_kept}
 use Rattle.design.proofs.LookLemmas.{not_named}

@@ -1,8 +1,8 @@
 use Rattle.std.proofs.Common.{◌≡◌, Some, is_some, ap, ◌∙◌}
 use Rattle.catalog.specs.Catalog.{record_at}
 use Rattle.design.specs.Keys.{KeyedGate, netlist}
-use Rattle.design.specs.Records.{IsInPlaceOf}
-use Rattle.design.specs.Shown.{design_of}
+use Rattle.design.specs.kept.Records.{IsInPlaceOf}
+use Rattle.design.specs.kept.Shown.{design_of}
 use Rattle.design.proofs.GateLemmas.{kept_gate_put, netlist_gate_put}
 use Rattle.design.proofs.LookLemmas.{some_of}
 use Rattle.design.proofs.design.Design.put_gate.Goals as goal

@@ -1,8 +1,9 @@
 use Rattle.std.proofs.Common.{◌≡◌, Some, ap, ◌∙◌}
 use Rattle.catalog.specs.Catalog.{record_at}
-use Rattle.design.specs.Keys.{drives_key, netlist, reads_key}
-use Rattle.design.specs.Lists.{AreChanged, without_key}
-use Rattle.design.specs.Shown.{design_of}
+use Rattle.design.specs.Keys.{netlist}
+use Rattle.design.specs.kept.Keys.{drives_key, reads_key}
+use Rattle.design.specs.kept.Lists.{AreChanged, without_key}
+use Rattle.design.specs.kept.Shown.{design_of}
 use Rattle.design.proofs.GateLemmas.{kept_gate_removed, netlist_gate_removed}
 use Rattle.design.proofs.LookLemmas.{some_is}
 use Rattle.design.proofs.design.Design.remove_gate.Goals as goal

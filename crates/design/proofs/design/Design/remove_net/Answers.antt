@@ -2,7 +2,7 @@ use Rattle.std.proofs.Common.{◌≡◌, ◌+◌, ◌-◌, Some, is_some, length
 use Rattle.catalog.specs.Catalog.{record_at}
 use Rattle.design.specs.Keys.{netlist}
 use Rattle.design.specs.Netlist.{NetEntry, is_used}
-use Rattle.design.specs.Shown.{design_of}
+use Rattle.design.specs.kept.Shown.{design_of}
 use Rattle.design.proofs.ChangeLemmas.{sum_without}
 use Rattle.design.proofs.DesignLemmas.{net_keys_apart}
 use Rattle.design.proofs.NetLemmas.{kept_net_removed, netlist_net_removed}

@@ -1,11 +1,13 @@
 use Rattle.std.proofs.Common.{◌≡◌, Some, IsTrue, length, List, ℕ, map, ap, refl, ◌∙◌}
 use Rattle.fourstate.specs.Gates.{takes_inputs}
-use Rattle.catalog.specs.Catalog.{keys_of, record_at, with_record}
-use Rattle.design.specs.Keys.{KeyedGate, connection_in, drives_key, name_of, netlist, reads_key}
-use Rattle.design.specs.Lists.{AreChanged, with_key_in, without_key}
+use Rattle.catalog.specs.Catalog.{record_at}
+use Rattle.catalog.specs.kept.Catalog.{keys_of, with_record}
+use Rattle.design.specs.Keys.{KeyedGate, connection_in, name_of, netlist}
+use Rattle.design.specs.kept.Keys.{drives_key, reads_key}
+use Rattle.design.specs.kept.Lists.{AreChanged, with_key_in, without_key}
 use Rattle.design.specs.Netlist.{GateEntry}
-use Rattle.design.specs.Records.{gate_with_wiring}
-use Rattle.design.specs.Shown.{design_of}
+use Rattle.design.specs.kept.Records.{gate_with_wiring}
+use Rattle.design.specs.kept.Shown.{design_of}
 use Rattle.design.proofs.GateLemmas.{kept_gate_rewired, kept_in_order, netlist_gate_put}
 use Rattle.design.proofs.LookLemmas.{some_of}
 use Rattle.design.proofs.design.Design.rewire.Goals as goal

@@ -1,5 +1,5 @@
 use Rattle.std.proofs.Common.{◌≡◌, take}
-use Rattle.design.specs.Lists.{without_key}
+use Rattle.design.specs.kept.Lists.{without_key}
 use Rattle.design.proofs.few.Few.remove.Given as goal
 
 -- the keys so far, without the one

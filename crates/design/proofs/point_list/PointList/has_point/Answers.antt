@@ -1,7 +1,7 @@
 use Rattle.std.proofs.Common.{◌≡◌, ◌<◌, ◌∙◌, ap, length}
-use Rattle.design.specs.Lawful.{AreRising}
+use Rattle.design.specs.kept.Lawful.{AreRising}
 use Rattle.design.specs.Netlist.{has_point}
-use Rattle.design.specs.Pieces.{IsHome, points_in, points_of}
+use Rattle.design.specs.kept.Pieces.{IsHome, points_in, points_of}
 use Rattle.design.proofs.PieceLemmas.{home_has, rising_in}
 use Rattle.design.proofs.point_list.PointList.has_point.Goals as goal
 

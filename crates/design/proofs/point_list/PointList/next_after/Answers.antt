@@ -2,9 +2,9 @@ use Rattle.std.proofs.Common.{◌≡◌, ◌<◌, ◌+◌, ◌∙◌, ap, sym, l
 use Rattle.std.specs.List.{find}
 use Rattle.std.specs.Option.{option_map}
 use Rattle.fourstate.specs.declared.value.Value.{Value}
-use Rattle.design.specs.Lawful.{AreRising}
-use Rattle.design.specs.Netlist.{next_point}
-use Rattle.design.specs.Pieces.{IsHome, first_in, points_in, points_of}
+use Rattle.design.specs.kept.Lawful.{AreRising}
+use Rattle.design.specs.kept.Netlist.{next_point}
+use Rattle.design.specs.kept.Pieces.{IsHome, first_in, points_in, points_of}
 use Rattle.design.proofs.NextLemmas.{home_next, or_else}
 use Rattle.design.proofs.PieceLemmas.{rising_in}
 use Rattle.design.proofs.point_list.PointList.next_after.Goals as goal

@@ -1,7 +1,7 @@
 use Rattle.std.proofs.Common.{◌≡◌, ◌<◌, ◌∙◌, ap, length}
-use Rattle.design.specs.Lawful.{AreRising}
+use Rattle.design.specs.kept.Lawful.{AreRising}
 use Rattle.design.specs.Netlist.{stimulus}
-use Rattle.design.specs.Pieces.{HasBegun, IsHome, begins_by, points_in, points_of}
+use Rattle.design.specs.kept.Pieces.{HasBegun, IsHome, begins_by, points_in, points_of}
 use Rattle.design.proofs.PieceLemmas.{home_stimulus, rising_in}
 use Rattle.design.proofs.point_list.PointList.value_at.Goals as goal
 

@@ -1,7 +1,7 @@
 use Rattle.std.proofs.Common.{◌≡◌, ◌+◌, ◌∙◌, Bool, true, false, not, cond, ap, length, refl, rules, arith}
-use Rattle.design.specs.Lawful.{AreRising}
+use Rattle.design.specs.kept.Lawful.{AreRising}
 use Rattle.design.specs.Netlist.{has_point}
-use Rattle.design.specs.Pieces.{points_of}
+use Rattle.design.specs.kept.Pieces.{points_of}
 use Rattle.design.proofs.PointLemmas.{count_set}
 use Rattle.design.proofs.point_list.PointList.with_point.Goals as goal
 use mir.Val.{bool_byte}

@@ -1,5 +1,5 @@
 use Rattle.std.proofs.Common.{◌∙◌, ap, sym, length}
-use Rattle.design.specs.Pieces.{points_in}
+use Rattle.design.specs.kept.Pieces.{points_in}
 use Rattle.design.proofs.PieceLemmas.{pieces_same}
 use Rattle.design.proofs.point_list.PointListClone.clone.Goals as goal
 

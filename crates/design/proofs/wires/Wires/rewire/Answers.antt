@@ -1,5 +1,5 @@
-use Rattle.catalog.specs.Catalog.{keys_of}
-use Rattle.design.specs.Keys.{drives_key, reads_key}
+use Rattle.catalog.specs.kept.Catalog.{keys_of}
+use Rattle.design.specs.kept.Keys.{drives_key, reads_key}
 use Rattle.design.proofs.WiringLemmas.{left_in_order}
 use Rattle.design.proofs.wires.Wires.rewire.Goals as goal
 

@@ -10,6 +10,6 @@ invariant_of-self g c =
     let pieces = c.self.inside.came.pieces in
     let piece = take c.in-Some.n c.take.new.buffer in
     rw (c.add.ensures, concat_last pieces piece) (
-      consumes_both (g.R.Source.remaining start) (g.R.Source.remaining _) (g.R.Source.remaining c.take.new.self) (concat pieces) piece was.0 c.in-Some.ensures.1,
-      c.in-Some.ensures.3 ∙ ap (λ (before : List (List ℕ)). before ++ piece ∷ []) was.1 ∙ append_assoc (g.R.Source.taken start) pieces (piece ∷ []),
+      consumes_both (g.R.Source.remaining start) (g.R.Source.remaining _) (g.R.Source.remaining c.take.new.self) (concat pieces) piece was.0 c.in-Some.ensures.bytes,
+      c.in-Some.ensures.piece ∙ ap (λ (before : List (List ℕ)). before ++ piece ∷ []) was.1 ∙ append_assoc (g.R.Source.taken start) pieces (piece ∷ []),
     )

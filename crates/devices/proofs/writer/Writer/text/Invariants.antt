@@ -1,5 +1,6 @@
 use Rattle.std.proofs.Common.{◌≤◌, ◌-◌, length, take}
-use Rattle.devices.specs.Outgoing.{Adds, StaysStopped}
+use Rattle.devices.specs.Outgoing.{Adds}
+use Rattle.devices.specs.kept.Outgoing.{StaysStopped}
 use Rattle.devices.proofs.writer.Writer.text.Given as goal
 
 -- the first bytes were added

@@ -1,5 +1,5 @@
 use Rattle.std.proofs.Common.{refl}
-use Rattle.design.specs.Records.{gate_with_wiring}
+use Rattle.design.specs.kept.Records.{gate_with_wiring}
 use Rattle.edits.proofs.TouchLemmas.{gate_rewired}
 use Rattle.edits.proofs.changes.gates.rewire.Goals as goal
 

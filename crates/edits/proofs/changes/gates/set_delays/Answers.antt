@@ -1,5 +1,5 @@
 use Rattle.std.proofs.Common.{refl}
-use Rattle.design.specs.Records.{gate_with_delays}
+use Rattle.design.specs.kept.Records.{gate_with_delays}
 use Rattle.edits.proofs.TouchLemmas.{gate_set}
 use Rattle.edits.proofs.changes.gates.set_delays.Goals as goal
 

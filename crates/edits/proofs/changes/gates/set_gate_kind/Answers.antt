@@ -1,7 +1,7 @@
 use Rattle.std.proofs.Common.{IsTrue, length, refl}
 use Rattle.fourstate.specs.Gates.{takes_inputs}
-use Rattle.design.specs.Keys.{gate_by_key}
-use Rattle.design.specs.Records.{gate_with_kind}
+use Rattle.design.specs.kept.Keys.{gate_by_key}
+use Rattle.design.specs.kept.Records.{gate_with_kind}
 use Rattle.edits.proofs.TouchLemmas.{gate_set, there_of}
 use Rattle.edits.proofs.changes.gates.set_gate_kind.Goals as goal
 

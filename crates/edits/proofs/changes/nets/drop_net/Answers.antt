@@ -1,5 +1,6 @@
 use Rattle.std.proofs.Common.{◌≡◌, false, refl}
-use Rattle.design.specs.Keys.{net_by_key, netlist}
+use Rattle.design.specs.Keys.{netlist}
+use Rattle.design.specs.kept.Keys.{net_by_key}
 use Rattle.design.specs.Netlist.{is_used, without_net}
 use Rattle.edits.proofs.TouchLemmas.{net_dropped, there_of}
 use Rattle.edits.proofs.changes.nets.drop_net.Goals as goal

@@ -1,7 +1,7 @@
 use Rattle.std.proofs.Common.{refl}
 use Rattle.design.specs.Keys.{netlist}
 use Rattle.design.specs.Netlist.{with_net_kind}
-use Rattle.design.specs.Records.{net_with_kind}
+use Rattle.design.specs.kept.Records.{net_with_kind}
 use Rattle.edits.proofs.TouchLemmas.{net_replaced}
 use Rattle.edits.proofs.changes.nets.set_net_kind.Goals as goal
 

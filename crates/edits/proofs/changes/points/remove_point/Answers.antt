@@ -1,7 +1,8 @@
 use Rattle.std.proofs.Common.{◌≡◌, true, refl}
-use Rattle.design.specs.Keys.{net_by_key, netlist}
+use Rattle.design.specs.Keys.{netlist}
+use Rattle.design.specs.kept.Keys.{net_by_key}
 use Rattle.design.specs.Netlist.{has_point, without_point}
-use Rattle.design.specs.Records.{net_without_point}
+use Rattle.design.specs.kept.Records.{net_without_point}
 use Rattle.edits.proofs.TouchLemmas.{net_replaced, there_of}
 use Rattle.edits.proofs.changes.points.remove_point.Goals as goal
 

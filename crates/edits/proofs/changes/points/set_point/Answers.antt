@@ -1,5 +1,6 @@
 use Rattle.std.proofs.Common.{◌≡◌, true, refl}
-use Rattle.design.specs.Keys.{net_by_key, netlist}
+use Rattle.design.specs.Keys.{netlist}
+use Rattle.design.specs.kept.Keys.{net_by_key}
 use Rattle.design.specs.Netlist.{net_with_point, with_point}
 use Rattle.edits.proofs.TouchLemmas.{net_replaced, there_of}
 use Rattle.edits.proofs.changes.points.set_point.Goals as goal

@@ -1,5 +1,6 @@
 use Rattle.std.proofs.Common.{◌≡◌, All, length, map, take}
-use Rattle.design.specs.Keys.{IsThere, connection_in}
+use Rattle.design.specs.Keys.{connection_in}
+use Rattle.design.specs.kept.Keys.{IsThere}
 use Rattle.edits.specs.Edits.{connection_of}
 use Rattle.edits.proofs.changes.wiring.terminals.Given as goal
 

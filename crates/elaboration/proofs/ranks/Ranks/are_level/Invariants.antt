@@ -1,6 +1,6 @@
 use Rattle.std.proofs.Common.{◌≡◌, false, take}
 use Rattle.std.specs.List.{list_any}
-use Rattle.elaboration.specs.Ranks.{is_level}
+use Rattle.elaboration.specs.kept.Ranks.{is_level}
 use Rattle.elaboration.proofs.ranks.Ranks.are_level.Given as goal
 
 abbrev pub invariant-loop-instance : goal.invariant-loop-instance

@@ -2,7 +2,7 @@ use Rattle.std.proofs.Common.{◌≡◌, ◌||◌, ℕ, Bool, List, get_or, sym,
 use Rattle.std.proofs.lemmas.List.Folds.{list_any_at, list_any_more}
 use Rattle.std.specs.List.{list_any}
 use Rattle.vtext.specs.Modules.{InstanceEntry, ModuleEntry}
-use Rattle.elaboration.specs.Ranks.{is_lower, rank_of}
+use Rattle.elaboration.specs.kept.Ranks.{is_lower, rank_of}
 use Rattle.elaboration.proofs.PortLemmas.{blank}
 use Rattle.elaboration.proofs.ranks.Ranks.fall.Goals as goal
 

@@ -1,5 +1,5 @@
 use Rattle.std.proofs.Common.{◌≡◌, false, take}
-use Rattle.elaboration.specs.Ranks.{fall}
+use Rattle.elaboration.specs.kept.Ranks.{fall}
 use Rattle.elaboration.proofs.ranks.Ranks.fall.Given as goal
 
 abbrev pub invariant-loop-place : goal.invariant-loop-place

@@ -1,7 +1,7 @@
 use Rattle.std.proofs.Common.{ℕ, List, sym, ap, ◌∙◌}
 use Rattle.std.specs.List.{list_any}
 use Rattle.vtext.specs.Modules.{InstanceEntry}
-use Rattle.elaboration.specs.Ranks.{is_level}
+use Rattle.elaboration.specs.kept.Ranks.{is_level}
 use Rattle.elaboration.proofs.RankLemmas.{no_module, not_recursive}
 use Rattle.elaboration.proofs.ranks.Ranks.may_recur.Goals as goal
 

@@ -1,5 +1,5 @@
 use Rattle.std.proofs.Common.{ℕ, List, ap, ◌∙◌}
-use Rattle.elaboration.specs.Ranks.{fall}
+use Rattle.elaboration.specs.kept.Ranks.{fall}
 use Rattle.elaboration.proofs.RankLemmas.{no_ranks}
 use Rattle.elaboration.proofs.ranks.Ranks.of.Goals as goal
 

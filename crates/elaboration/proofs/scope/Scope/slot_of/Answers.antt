@@ -1,7 +1,7 @@
 use Rattle.std.proofs.Common.{ap, ◌∙◌}
 use Rattle.std.specs.Prelude.{option_and_then, slice_get}
 use Rattle.vtext.specs.Modules.{ModuleEntry}
-use Rattle.vtext.specs.Nets.{place_of}
+use Rattle.vtext.specs.kept.Nets.{place_of}
 use Rattle.elaboration.proofs.SlotLemmas.{slot_found}
 use Rattle.elaboration.proofs.scope.Scope.slot_of.Goals as goal
 

@@ -4,7 +4,7 @@ use Rattle.std.specs.List.{slice_get}
 use Rattle.std.specs.Map.{lookup}
 use Rattle.std.proofs.lemmas.Option.{get_or_from_slice_get}
 use Rattle.vtext.specs.Modules.{InstanceEntry}
-use Rattle.elaboration.specs.Numbered.{PlacedScope, SoFar, Start, inner_start, placed, with_instance, with_scope, with_scopes}
+use Rattle.elaboration.specs.kept.Numbered.{PlacedScope, SoFar, Start, inner_start, placed, with_instance, with_scope, with_scopes}
 use Rattle.elaboration.proofs.ScopeLemmas.{instance_none, instance_some, rest_past, scopes_end, scopes_flat, scopes_keep, scopes_whole}
 use Rattle.elaboration.proofs.scopes.Scopes.+add_all.Goals as goal
 use Rattle.elaboration.proofs.scopes.Scopes.+add_all.Goals.{in-Some+in_ok-add_all, in_default}

@@ -1,7 +1,7 @@
 use Rattle.std.proofs.Common.{◌≡◌, ◌-◌, ◌<◌, ◌≤◌, Some, take}
 use Rattle.std.specs.Prelude.{fold}
 use Rattle.std.specs.List.{slice_get}
-use Rattle.elaboration.specs.Numbered.{placed, with_instance, with_scope}
+use Rattle.elaboration.specs.kept.Numbered.{placed, with_instance, with_scope}
 use Rattle.elaboration.proofs.scopes.Scopes.+add_all.Given as goal
 
 abbrev pub invariant-loop-instance : goal.invariant-loop-instance

@@ -1,6 +1,6 @@
 use Rattle.std.proofs.Common.{nat_eq}
 use Rattle.vtext.specs.Modules.{ModuleEntry}
-use Rattle.elaboration.specs.Numbered.{AreDistinct}
+use Rattle.elaboration.specs.kept.Numbered.{AreDistinct}
 use Rattle.elaboration.proofs.PairLemmas.{found_holds}
 use Rattle.elaboration.proofs.scopes.Scopes.start_of.Goals as goal
 

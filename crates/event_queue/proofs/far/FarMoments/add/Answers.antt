@@ -2,7 +2,7 @@ use Rattle.std.proofs.Common.{◌≡◌, ◌≢◌, ◌++◌, ◌∷◌, ◌∙�
 use Rattle.std.specs.BTreeMap.{get}
 use Rattle.std.specs.Option.{is_some}
 use Rattle.std.specs.Ordering.{nat_cmp}
-use Rattle.event_queue.specs.Noted.{AreSame, IsAdded}
+use Rattle.event_queue.specs.kept.Noted.{AreSame, IsAdded}
 use Rattle.event_queue.proofs.Moments.{added, filled, items, kept, not_empty, seen, some_there}
 use Rattle.event_queue.proofs.far.FarMoments.add.Goals as goal
 

@@ -1,5 +1,5 @@
 use Rattle.std.proofs.Common.{subst, refl, None}
-use Rattle.event_queue.specs.Noted.{IsTaken}
+use Rattle.event_queue.specs.kept.Noted.{IsTaken}
 use Rattle.event_queue.proofs.Moments.{filled, seen, taken}
 use Rattle.event_queue.proofs.far.FarMoments.clear.Goals as goal
 

@@ -1,5 +1,5 @@
 use Rattle.std.proofs.Common.{◌∙◌, ap, sym}
-use Rattle.event_queue.specs.Noted.{noted}
+use Rattle.event_queue.specs.kept.Noted.{noted}
 use Rattle.event_queue.proofs.Moments.{items, noted_is}
 use Rattle.event_queue.proofs.far.FarMoments.numbers.Goals as goal
 

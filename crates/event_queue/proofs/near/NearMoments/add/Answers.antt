@@ -1,5 +1,5 @@
 use Rattle.std.proofs.Common.{sym, subst}
-use Rattle.event_queue.specs.Lists.{IsFirst}
+use Rattle.event_queue.specs.kept.Lists.{IsFirst}
 use Rattle.event_queue.proofs.Changes.{first_added, first_same}
 use Rattle.event_queue.proofs.near.NearMoments.add.Goals as goal
 

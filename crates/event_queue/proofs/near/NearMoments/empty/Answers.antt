@@ -1,6 +1,6 @@
 use Rattle.std.proofs.Common.{◌∙◌, ap, sym, subst}
-use Rattle.event_queue.specs.Lists.{IsFirst}
-use Rattle.event_queue.specs.Noted.{noted}
+use Rattle.event_queue.specs.kept.Lists.{IsFirst}
+use Rattle.event_queue.specs.kept.Noted.{noted}
 use Rattle.event_queue.proofs.Changes.{nothing_taken}
 use Rattle.event_queue.proofs.near.NearMoments.empty.Goals as goal
 

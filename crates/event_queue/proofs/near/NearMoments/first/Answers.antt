@@ -1,5 +1,5 @@
 use Rattle.std.proofs.Common.{subst}
-use Rattle.event_queue.specs.Lists.{IsFirst}
+use Rattle.event_queue.specs.kept.Lists.{IsFirst}
 use Rattle.event_queue.proofs.near.NearMoments.first.Goals as goal
 
 pub returns-clause-noted : goal.returns-clause-noted

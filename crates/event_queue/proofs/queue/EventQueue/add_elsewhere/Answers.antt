@@ -1,6 +1,6 @@
 use Rattle.std.proofs.Common.{subst, refl}
-use Rattle.event_queue.specs.Noted.{AreSame, IsAdded}
-use Rattle.event_queue.specs.Lists.{joined}
+use Rattle.event_queue.specs.kept.Noted.{AreSame, IsAdded}
+use Rattle.event_queue.specs.kept.Lists.{joined}
 use Rattle.event_queue.proofs.Changes.{added_after, by_err, by_ok, held_err, joined_ahead, joined_behind, joined_same, same_after}
 use Rattle.event_queue.proofs.queue.EventQueue.add_elsewhere.Goals as goal
 

@@ -1,5 +1,5 @@
 use Rattle.std.proofs.Common.{◌≡◌, ◌≢◌, ◌<◌, ◌∙◌, ap, sym, subst, ℕ, [], arith}
-use Rattle.event_queue.specs.Noted.{noted}
+use Rattle.event_queue.specs.kept.Noted.{noted}
 use Rattle.event_queue.proofs.Changes.{by_none, by_some, lesser, none_both, none_first, none_second}
 use Rattle.event_queue.proofs.queue.EventQueue.first.Goals as goal
 

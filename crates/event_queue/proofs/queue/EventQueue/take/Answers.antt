@@ -1,6 +1,6 @@
 use Rattle.std.proofs.Common.{◌++◌, ◌∙◌, ap, sym, subst, refl, length, arith}
-use Rattle.event_queue.specs.Noted.{IsTaken, noted}
-use Rattle.event_queue.specs.Lists.{joined}
+use Rattle.event_queue.specs.kept.Noted.{IsTaken, noted}
+use Rattle.event_queue.specs.kept.Lists.{joined}
 use Rattle.event_queue.proofs.Changes.{exchanged, joined_taken, noted_joined, nothing_taken}
 use Rattle.event_queue.proofs.Rows.{emptied}
 use Rattle.event_queue.proofs.queue.EventQueue.take.Goals as goal

@@ -1,6 +1,6 @@
 use Rattle.std.proofs.Common.{◌≡◌, ◌∙◌, ap, sym, subst, true, IfOk}
-use Rattle.event_queue.specs.Noted.{IsAdded, noted}
-use Rattle.event_queue.specs.Lists.{in_ring}
+use Rattle.event_queue.specs.kept.Noted.{IsAdded, noted}
+use Rattle.event_queue.specs.kept.Lists.{in_ring}
 use Rattle.event_queue.proofs.Changes.{held_err}
 use Rattle.event_queue.proofs.Rows.{beside, is_beside, lists_of, one_added, one_same, whole_lists}
 use Rattle.event_queue.proofs.row.Row.add.Goals as goal

@@ -1,6 +1,6 @@
 use Rattle.std.proofs.Common.{◌∙◌, ◌%◌, ap, sym, subst}
-use Rattle.event_queue.specs.Noted.{IsTaken, noted}
-use Rattle.event_queue.specs.Lists.{in_ring}
+use Rattle.event_queue.specs.kept.Noted.{IsTaken, noted}
+use Rattle.event_queue.specs.kept.Lists.{in_ring}
 use Rattle.event_queue.proofs.Changes.{nothing_taken}
 use Rattle.event_queue.proofs.Rows.{beside, is_beside, lists_of, near, one_taken, past, whole_lists}
 use Rattle.event_queue.proofs.row.Row.empty.Goals as goal

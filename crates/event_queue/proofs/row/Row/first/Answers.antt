@@ -1,5 +1,5 @@
 use Rattle.std.proofs.Common.{◌∙◌, ap, sym, inl, inr, arith}
-use Rattle.event_queue.specs.Noted.{noted}
+use Rattle.event_queue.specs.kept.Noted.{noted}
 use Rattle.event_queue.proofs.Rows.{beside, either, lists_of, whole_lists}
 use Rattle.event_queue.proofs.row.Row.first.Goals as goal
 

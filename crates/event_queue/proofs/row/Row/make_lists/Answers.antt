@@ -1,5 +1,5 @@
 use Rattle.std.proofs.Common.{◌≡◌, ◌∙◌, ap, sym, length, arith}
-use Rattle.event_queue.specs.Noted.{noted}
+use Rattle.event_queue.specs.kept.Noted.{noted}
 use Rattle.event_queue.proofs.Rows.{emptied, each_empty, lists_of, none_noted, past, whole_lists}
 use Rattle.event_queue.proofs.row.Row.make_lists.Goals as goal
 

@@ -1,5 +1,5 @@
 use Rattle.std.proofs.Common.{◌∙◌, ◌%◌, [], ap, sym, get_or}
-use Rattle.event_queue.specs.Noted.{noted}
+use Rattle.event_queue.specs.kept.Noted.{noted}
 use Rattle.event_queue.proofs.Rows.{beside, is_beside, lists_of, near, nth, past, whole_lists}
 use Rattle.event_queue.proofs.row.Row.numbers.Goals as goal
 

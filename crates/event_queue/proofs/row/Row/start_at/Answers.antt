@@ -1,6 +1,6 @@
 use Rattle.std.proofs.Common.{◌∙◌, ap, subst}
-use Rattle.event_queue.specs.Noted.{AreSame, noted}
-use Rattle.event_queue.specs.Lists.{in_ring}
+use Rattle.event_queue.specs.kept.Noted.{AreSame, noted}
+use Rattle.event_queue.specs.kept.Lists.{in_ring}
 use Rattle.event_queue.proofs.Rows.{lists_of, row_started, whole_lists}
 use Rattle.event_queue.proofs.row.Row.start_at.Goals as goal
 

@@ -2,7 +2,7 @@ use Rattle.std.proofs.Common.{◌≡◌, sym, ap, ◌∙◌, take, All, arith}
 use Rattle.std.proofs.lemmas.Grind.{common_steps}
 use Rattle.std.proofs.lemmas.List.Elements.{All-more, All-same}
 use Rattle.floor.proofs.Standing.{all_are_answered}
-use Rattle.floor.specs.Pieces.{all_answered}
+use Rattle.floor.specs.kept.Pieces.{all_answered}
 use Rattle.floor.specs.declared.stage.Stage.TheVariants as stage
 use Rattle.floor.proofs.floor.Floor.all_answered.Goals as goal
 

@@ -3,7 +3,7 @@ use Rattle.std.proofs.lemmas.Grind.{common_steps}
 use Rattle.floor.proofs.Standing.{count_of_pieces}
 use Rattle.floor.proofs.Changes.{out_of, out_not_all, answer_fits, after_answer, never_given}
 use Rattle.floor.proofs.Finishing.{held, one_written}
-use Rattle.floor.specs.Pieces.{fail_reply, answer_reply, after, Answer, first_task}
+use Rattle.floor.specs.kept.Pieces.{fail_reply, answer_reply, after, Answer, first_task}
 use Rattle.floor.specs.declared.stage.Stage.TheVariants as stage
 use Rattle.floor.proofs.floor.Floor.answer.Goals.{in-Some, in_default}
 use Rattle.floor.proofs.floor.Floor.answer.Goals as goal

@@ -1,7 +1,7 @@
 use Rattle.std.proofs.Common.{◌≡◌, ◌<◌, length, get_or, sym, ap, ◌∙◌, arith}
 use Rattle.std.proofs.lemmas.Grind.{common_steps}
 use Rattle.floor.proofs.Changes.{awaited_at}
-use Rattle.floor.specs.Pieces.{fail_reply}
+use Rattle.floor.specs.kept.Pieces.{fail_reply}
 use Rattle.floor.specs.declared.stage.Stage.TheVariants.{Waiting, Out, Answered, Failed}
 use Rattle.floor.proofs.floor.Floor.awaited.Goals as goal
 

@@ -5,7 +5,7 @@ use Rattle.std.specs.Option.{option_map_or}
 use Rattle.floor.specs.contracts.floor.Floor.{the_view}
 use Rattle.floor.proofs.Standing.{count_of_pieces}
 use Rattle.floor.proofs.Changes.{stage_set, waits_not_all, never_none, dealt_piece}
-use Rattle.floor.specs.Pieces.{Dealing, Out, first_waiting, after, Deal}
+use Rattle.floor.specs.kept.Pieces.{Dealing, Out, first_waiting, after, Deal}
 use Rattle.floor.specs.declared.stage.Stage.TheVariants as stage
 use Rattle.floor.proofs.floor.Floor.deal.Goals as goal
 

@@ -1,7 +1,7 @@
 use Rattle.std.proofs.Common.{◌≡◌, length, sym, ap, ◌∙◌, set, slice_get, All, Some, is_none}
 use Rattle.std.proofs.lemmas.List.{length-set}
 use Rattle.floor.proofs.Changes.{stage_set, out_of, out_not_all, never_none, after_fail}
-use Rattle.floor.specs.Pieces.{fail_reply, after, Fail}
+use Rattle.floor.specs.kept.Pieces.{fail_reply, after, Fail}
 use Rattle.floor.specs.declared.stage.Stage.TheVariants as stage
 use Rattle.floor.proofs.floor.Floor.fail.Goals as goal
 

@@ -1,6 +1,6 @@
 use Rattle.std.proofs.Common.{option_map, sym, ap, ◌∙◌}
 use Rattle.floor.proofs.Finishing.{held, given_on, none_kept}
-use Rattle.floor.specs.Pieces.{Finish, all_answered, finished, after}
+use Rattle.floor.specs.kept.Pieces.{Finish, all_answered, finished, after}
 use Rattle.floor.proofs.floor.Floor.finish.Goals as goal
 
 pub returns-clause-answers : goal.returns-clause-answers

@@ -2,7 +2,7 @@ use Rattle.std.proofs.Common.{◌≡◌, ◌≢◌, sym, ap, ◌∙◌, take, le
 use Rattle.std.proofs.lemmas.Grind.{common_steps}
 use Rattle.std.proofs.lemmas.List.Elements.{All-same}
 use Rattle.floor.proofs.Standing.{none_waits}
-use Rattle.floor.specs.Pieces.{first_waiting}
+use Rattle.floor.specs.kept.Pieces.{first_waiting}
 use Rattle.floor.specs.declared.stage.Stage.TheVariants as stage
 use Rattle.floor.proofs.floor.Floor.first_waiting.Goals as goal
 

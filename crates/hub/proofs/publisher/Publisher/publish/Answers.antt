@@ -1,7 +1,7 @@
 use Rattle.std.proofs.Common.{◌∙◌, List, [], ap, subst, sym}
 use Rattle.std.proofs.lemmas.List.{append-nil}
 use Rattle.hubcore.specs.Lists.{EntryRecord, StartsWith}
-use Rattle.hub.specs.Issues.{issue_of}
+use Rattle.hub.specs.kept.Issues.{issue_of}
 use Rattle.hub.proofs.Beginnings.{starts_same}
 use Rattle.hub.proofs.Keeping.{follows_from}
 use Rattle.hub.proofs.publisher.Publisher.publish.Goals as goal

@@ -2,7 +2,8 @@ use Rattle.std.proofs.Common.{◌≡◌, ◌<◌, length, sym, ap, ◌∙◌, su
 use Rattle.std.specs.List.{slice_get}
 use Rattle.std.proofs.lemmas.List.Elements.{All-set}
 use Rattle.std.proofs.lemmas.Option.{slice_get_read}
-use Rattle.hubcore.specs.States.{ViewerRecord, IsWithin}
+use Rattle.hubcore.specs.States.{ViewerRecord}
+use Rattle.hubcore.specs.kept.States.{IsWithin}
 use Rattle.hubcore.specs.Steps.{releases, with_viewer}
 use Rattle.hubcore.specs.declared.reply.Reply.TheVariants.{Done}
 use Rattle.hubcore.proofs.Releases.{release_within, releases_done}

@@ -2,7 +2,7 @@
 use Rattle.std.proofs.Common.{[], ◌∷◌, refl}
 use Rattle.std.proofs.raw_atomic.Walks.{proved}
 use Rattle.std.specs.Thread.{IsSync}
-use Rattle.parstep.specs.Shares.{Shares}
+use Rattle.parstep.specs.kept.Shares.{Shares}
 use mir.Syntax.{Args, a_type}
 use mir.MapTy.{inst_fn}
 use base.Fml.{ftrue}

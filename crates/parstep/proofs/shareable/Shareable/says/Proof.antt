@@ -1,7 +1,7 @@
 -- `says` reads the fact that the struct keeps, and leaves the struct as it is.
 use Rattle.std.proofs.Common.{List, [], ◌∷◌, refl}
 use Rattle.std.proofs.raw_atomic.Walks.{proved}
-use Rattle.parstep.specs.Shares.{Shares}
+use Rattle.parstep.specs.kept.Shares.{Shares}
 use mir.Syntax.{Args, a_type, named}
 use mir.MapTy.{inst_fn}
 use mir.Val.{Val, vunit}

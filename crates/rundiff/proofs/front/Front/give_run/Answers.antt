@@ -3,8 +3,8 @@ use Rattle.std.specs.BTreeSet.{contains}
 use Rattle.std.specs.Ordering.{nat_cmp}
 use Rattle.fourstate.specs.declared.value.Value.{Value}
 use Rattle.gatestep.specs.Step.{State}
-use Rattle.waveform.specs.Tables.{line_at}
-use Rattle.rundiff.specs.Finishing.{AreCleared}
+use Rattle.waveform.specs.kept.Tables.{line_at}
+use Rattle.rundiff.specs.kept.Finishing.{AreCleared}
 use Rattle.rundiff.proofs.Finished.{traces_right, waves_right}
 use Rattle.rundiff.proofs.front.Front.give_run.Goals as goal
 

@@ -1,9 +1,9 @@
 use Rattle.std.proofs.Common.{◌≡◌, ◌<◌, ◌≤◌, ◌∙◌, ap, sym, suc, ℕ, List, true, false, inl, arith}
-use Rattle.event_queue.specs.Noted.{noted}
+use Rattle.event_queue.specs.kept.Noted.{noted}
 use Rattle.design.specs.Keys.{netlist}
-use Rattle.rundiff.specs.Fronts.{live_in}
-use Rattle.rundiff.specs.Inputs.{IsSameInput}
-use Rattle.rundiff.specs.Places.{is_among}
+use Rattle.rundiff.specs.kept.Fronts.{live_in}
+use Rattle.rundiff.specs.kept.Inputs.{IsSameInput}
+use Rattle.rundiff.specs.kept.Places.{is_among}
 use Rattle.rundiff.proofs.Leaps.{leap_agrees, leap_along, leap_free, leap_idle, leap_noted, leap_trace, leap_wave, off_on}
 use Rattle.rundiff.proofs.front.Front.leap.Goals as goal
 

@@ -1,6 +1,6 @@
 use Rattle.std.proofs.Common.{◌≡◌, suc}
 use Rattle.design.specs.Keys.{netlist}
-use Rattle.rundiff.specs.Fronts.{IsFront}
+use Rattle.rundiff.specs.kept.Fronts.{IsFront}
 use Rattle.rundiff.proofs.front.Front.let_go.Given as goal
 
 -- the front stays right

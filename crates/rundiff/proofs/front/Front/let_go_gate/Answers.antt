@@ -6,17 +6,17 @@ use Rattle.std.specs.Ordering.{nat_cmp}
 use Rattle.fourstate.specs.declared.value.Value.{Value}
 use Rattle.fourstate.specs.Values.{same_value}
 use Rattle.gatestep.specs.Step.{State, due}
-use Rattle.event_queue.specs.Noted.{noted}
+use Rattle.event_queue.specs.kept.Noted.{noted}
 use Rattle.design.specs.Connections.{to_net}
 use Rattle.design.specs.Keys.{netlist}
 use Rattle.waveform.specs.Entries.{same_state, standing}
-use Rattle.waveform.specs.Patches.{Keeps, PatchRecord}
-use Rattle.waveform.specs.Timelines.{end_of}
+use Rattle.waveform.specs.kept.Patches.{Keeps, PatchRecord}
+use Rattle.waveform.specs.kept.Timelines.{end_of}
 use Rattle.scratch.specs.Run.{state_after, value}
-use Rattle.rundiff.specs.Fronts.{GoesAlong, IsFree, IsOwn, named_state}
-use Rattle.rundiff.specs.Kept.{read_at}
-use Rattle.rundiff.specs.PlaceMaps.{kept_at}
-use Rattle.rundiff.specs.Places.{gate_at, net_at}
+use Rattle.rundiff.specs.kept.Fronts.{GoesAlong, IsFree, IsOwn, named_state}
+use Rattle.rundiff.specs.kept.Kept.{read_at}
+use Rattle.rundiff.specs.kept.PlaceMaps.{kept_at}
+use Rattle.rundiff.specs.kept.Places.{gate_at, net_at}
 use Rattle.rundiff.proofs.Leaving.{left_now, noted_less, stays_off, taken_off}
 use Rattle.rundiff.proofs.Sets.{test_is}
 use Rattle.rundiff.proofs.Steps.{same_place}

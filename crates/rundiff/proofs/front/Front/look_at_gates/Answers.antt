@@ -1,22 +1,23 @@
 use Rattle.std.proofs.Common.{◌≡◌, ◌∙◌, ◌≤◌, ap, sym, subst, refl, suc, ℕ, List, All, Bool, true, false, not, map, length, Option, arith}
 use Rattle.std.specs.Prelude.{◌&&◌}
-use Rattle.rundiff.specs.PlaceMaps.{kept_at}
+use Rattle.rundiff.specs.kept.PlaceMaps.{kept_at}
 use Rattle.std.specs.BTreeSet.{contains}
 use Rattle.std.specs.List.{filter}
 use Rattle.std.specs.Option.{ForSome}
 use Rattle.std.specs.Ordering.{nat_cmp}
 use Rattle.std.proofs.lemmas.List.{length-map}
-use Rattle.event_queue.specs.Noted.{noted}
+use Rattle.event_queue.specs.kept.Noted.{noted}
 use Rattle.gatestep.specs.Step.{State, due}
 use Rattle.gatestep.specs.Tasks.{PendingFrom}
 use Rattle.design.specs.Keys.{netlist}
-use Rattle.waveform.specs.Entries.{CanStore, same_state}
-use Rattle.waveform.specs.Patches.{Keeps, PatchRecord}
-use Rattle.waveform.specs.Timelines.{end_of}
+use Rattle.waveform.specs.Entries.{same_state}
+use Rattle.waveform.specs.kept.Entries.{CanStore}
+use Rattle.waveform.specs.kept.Patches.{Keeps, PatchRecord}
+use Rattle.waveform.specs.kept.Timelines.{end_of}
 use Rattle.scratch.specs.Run.{state_after}
 use Rattle.rundiff.specs.Dirty.{working_at}
-use Rattle.rundiff.specs.Fronts.{ArePlaces, IsFree, IsOwn, is_working, named_state}
-use Rattle.rundiff.specs.Places.{gate_at, is_among, is_live}
+use Rattle.rundiff.specs.kept.Fronts.{ArePlaces, IsFree, IsOwn, is_working, named_state}
+use Rattle.rundiff.specs.kept.Places.{gate_at, is_among, is_live}
 use Rattle.scratch.specs.Work.{is_stirred, task_at}
 use Rattle.rundiff.proofs.Awaited.{looked_noted}
 use Rattle.rundiff.proofs.ByPlace.{map_twice}

@@ -1,20 +1,20 @@
 use Rattle.std.proofs.Common.{◌≡◌, ◌∙◌, ◌<◌, ap, sym, subst, refl, suc, ℕ, List, true, false, length, not, Option, ◌⊎◌, inl, inr, ⊎_elim, arith}
 use Rattle.std.specs.Prelude.{◌&&◌, ◌||◌, AllPairs}
-use Rattle.rundiff.specs.PlaceMaps.{kept_at}
+use Rattle.rundiff.specs.kept.PlaceMaps.{kept_at}
 use Rattle.std.specs.BTreeSet.{contains}
 use Rattle.std.specs.Ordering.{nat_cmp}
 use Rattle.fourstate.specs.declared.value.Value.{Value}
 use Rattle.fourstate.specs.Values.{same_value}
 use Rattle.design.specs.Connections.{to_net}
 use Rattle.design.specs.Keys.{netlist}
-use Rattle.event_queue.specs.Noted.{noted}
+use Rattle.event_queue.specs.kept.Noted.{noted}
 use Rattle.waveform.specs.Entries.{standing}
-use Rattle.waveform.specs.Patches.{Keeps, PatchRecord}
+use Rattle.waveform.specs.kept.Patches.{Keeps, PatchRecord}
 use Rattle.scratch.specs.Run.{value}
-use Rattle.rundiff.specs.Fronts.{GoesAlong, IsAlike, IsFree, IsOwn}
-use Rattle.rundiff.specs.Places.{is_among, net_at}
-use Rattle.rundiff.specs.Kept.{read_at}
-use Rattle.rundiff.specs.Steady.{IsSteady}
+use Rattle.rundiff.specs.kept.Fronts.{GoesAlong, IsAlike, IsFree, IsOwn}
+use Rattle.rundiff.specs.kept.Places.{is_among, net_at}
+use Rattle.rundiff.specs.kept.Kept.{read_at}
+use Rattle.rundiff.specs.kept.Steady.{IsSteady}
 use Rattle.rundiff.proofs.Alike.{alike_grows}
 use Rattle.rundiff.proofs.Awaiting.{noted_now}
 use Rattle.rundiff.proofs.LookedAt.{IsPassed, alike_all, calm_all, own_all, passed_by, wave_all}

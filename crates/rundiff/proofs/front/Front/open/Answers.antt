@@ -4,15 +4,15 @@ use Rattle.std.specs.Option.{option_map_or}
 use Rattle.std.specs.Ordering.{nat_cmp}
 use Rattle.fourstate.specs.Values.{same_value}
 use Rattle.gatestep.specs.Step.{State, due}
-use Rattle.event_queue.specs.Noted.{noted}
+use Rattle.event_queue.specs.kept.Noted.{noted}
 use Rattle.design.specs.Connections.{to_net}
 use Rattle.design.specs.Keys.{netlist}
 use Rattle.waveform.specs.Entries.{same_state, standing}
-use Rattle.waveform.specs.Patches.{Keeps, PatchRecord}
+use Rattle.waveform.specs.kept.Patches.{Keeps, PatchRecord}
 use Rattle.scratch.specs.Run.{state_after, value}
-use Rattle.rundiff.specs.Fronts.{named_state}
-use Rattle.rundiff.specs.Places.{gate_at, is_among, net_at}
-use Rattle.rundiff.specs.Kept.{read_at}
+use Rattle.rundiff.specs.kept.Fronts.{named_state}
+use Rattle.rundiff.specs.kept.Places.{gate_at, is_among, net_at}
+use Rattle.rundiff.specs.kept.Kept.{read_at}
 use Rattle.rundiff.proofs.Awaited.{opened_noted}
 use Rattle.rundiff.proofs.FirstLive.{first_closed}
 use Rattle.rundiff.proofs.Sets.{or_first}

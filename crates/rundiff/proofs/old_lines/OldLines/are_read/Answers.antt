@@ -3,9 +3,9 @@ use Rattle.std.proofs.lemmas.Option.{slice_get_read}
 use Rattle.std.specs.Prelude.{slice_get}
 use Rattle.fourstate.specs.declared.value.Value.{Value}
 use Rattle.fourstate.specs.Values.{same_value}
-use Rattle.scratch.specs.Kept.{input_value}
+use Rattle.scratch.specs.kept.Kept.{input_value}
 use Rattle.scratch.specs.declared.wiring.Input.{Input}
-use Rattle.rundiff.specs.OldLines.{former_value}
+use Rattle.rundiff.specs.kept.OldLines.{former_value}
 use Rattle.rundiff.proofs.Known.{match_more, mismatch}
 use Rattle.rundiff.proofs.old_lines.OldLines.are_read.Goals as goal
 

@@ -1,8 +1,8 @@
 use Rattle.std.proofs.Common.{◌≡◌, true, map, take}
 use Rattle.std.specs.Cmp.Lexicographic.{pointwise}
 use Rattle.fourstate.specs.Values.{same_value}
-use Rattle.scratch.specs.Kept.{input_value}
-use Rattle.rundiff.specs.OldLines.{former_value}
+use Rattle.scratch.specs.kept.Kept.{input_value}
+use Rattle.rundiff.specs.kept.OldLines.{former_value}
 use Rattle.rundiff.proofs.old_lines.OldLines.are_read.Given as goal
 
 -- the inputs so far read the same

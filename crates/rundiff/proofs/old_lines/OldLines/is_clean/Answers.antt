@@ -2,13 +2,13 @@ use Rattle.std.proofs.Common.{◌≡◌, ◌∙◌, ◌<◌, ap, sym, subst, len
 use Rattle.gatestep.specs.Step.{Evaluation}
 use Rattle.design.specs.Keys.{netlist}
 use Rattle.design.specs.Netlist.{is_readable}
-use Rattle.scratch.specs.Cells.{CellRecord}
-use Rattle.scratch.specs.Kept.{input_value}
+use Rattle.scratch.specs.kept.Cells.{CellRecord}
+use Rattle.scratch.specs.kept.Kept.{input_value}
 use Rattle.scratch.specs.Run.{state_before}
 use Rattle.scratch.specs.Work.{task_at}
 use Rattle.rundiff.specs.Dirty.{is_new}
-use Rattle.rundiff.specs.OldLines.{HasWave, former_value}
-use Rattle.rundiff.specs.Places.{blank_gate, gate_at}
+use Rattle.rundiff.specs.kept.OldLines.{HasWave, former_value}
+use Rattle.rundiff.specs.kept.Places.{blank_gate, gate_at}
 use Rattle.rundiff.proofs.Driven.{read_get}
 use Rattle.rundiff.proofs.EachPlace.{holds_at}
 use Rattle.rundiff.proofs.Lists.{all_pass}

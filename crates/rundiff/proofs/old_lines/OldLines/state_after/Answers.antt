@@ -1,6 +1,6 @@
 use Rattle.std.proofs.Common.{◌∙◌, suc, arith}
 use Rattle.design.specs.Keys.{netlist}
-use Rattle.rundiff.specs.Places.{gate_at}
+use Rattle.rundiff.specs.kept.Places.{gate_at}
 use Rattle.rundiff.proofs.Clean.{clean_after}
 use Rattle.rundiff.proofs.OneGate.{clean_known, clean_within}
 use Rattle.rundiff.proofs.ReadBefore.{state_read}

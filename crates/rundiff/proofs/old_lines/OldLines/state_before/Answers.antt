@@ -1,5 +1,5 @@
 use Rattle.std.proofs.Common.{◌≡◌, ◌∙◌, ◌-◌, ap, suc, arith}
-use Rattle.rundiff.specs.OldLines.{former_state}
+use Rattle.rundiff.specs.kept.OldLines.{former_state}
 use Rattle.rundiff.proofs.old_lines.OldLines.state_before.Goals as goal
 
 pub returns : goal.returns

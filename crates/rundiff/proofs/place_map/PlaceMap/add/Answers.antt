@@ -1,5 +1,5 @@
 use Rattle.std.proofs.Common.{◌∙◌, arith}
-use Rattle.rundiff.specs.PlaceMaps.{number_at}
+use Rattle.rundiff.specs.kept.PlaceMaps.{number_at}
 use Rattle.rundiff.proofs.Items.{item_added, others_stay}
 use Rattle.rundiff.proofs.place_map.PlaceMap.add.Goals as goal
 

@@ -1,7 +1,7 @@
 use Rattle.std.proofs.Common.{◌∙◌, ap, sym, ℕ, List, length, arith}
 use Rattle.std.specs.Prelude.{nat_eq, slice_get}
 use Rattle.std.proofs.lemmas.Option.{slice_get_past}
-use Rattle.rundiff.specs.Places.{is_among}
+use Rattle.rundiff.specs.kept.Places.{is_among}
 use Rattle.rundiff.proofs.Driven.{read_get}
 use Rattle.rundiff.proofs.Items.{is_past, no_item, number_itself, some_item}
 use Rattle.rundiff.proofs.Sets.{or_second}

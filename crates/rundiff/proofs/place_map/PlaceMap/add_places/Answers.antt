@@ -1,5 +1,5 @@
 use Rattle.std.proofs.Common.{arith}
-use Rattle.rundiff.specs.PlaceMaps.{number_at}
+use Rattle.rundiff.specs.kept.PlaceMaps.{number_at}
 use Rattle.rundiff.proofs.Items.{none_kept, one_more}
 use Rattle.rundiff.proofs.place_map.PlaceMap.add_places.Goals as goal
 

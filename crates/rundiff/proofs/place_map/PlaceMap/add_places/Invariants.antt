@@ -1,6 +1,6 @@
 use Rattle.std.proofs.Common.{◌≡◌, ◌<◌, ℕ, All, true}
 use Rattle.std.specs.Prelude.{IfSome, slice_get}
-use Rattle.rundiff.specs.Places.{is_among}
+use Rattle.rundiff.specs.kept.Places.{is_among}
 use Rattle.rundiff.proofs.place_map.PlaceMap.add_places.Given as goal
 
 -- the places of the items so far are added

@@ -1,7 +1,7 @@
 use Rattle.std.proofs.Common.{◌∙◌, subst}
-use Rattle.catalog.specs.Catalog.{keys_of}
+use Rattle.catalog.specs.kept.Catalog.{keys_of}
 use Rattle.design.specs.Keys.{netlist}
-use Rattle.scratch.specs.Recordings.{AreUnder}
+use Rattle.scratch.specs.kept.Recordings.{AreUnder}
 use Rattle.scratch.proofs.Keyed.{traces_under, waves_under}
 use Rattle.scratch.proofs.engine.Engine.finish.Goals as goal
 

@@ -2,7 +2,7 @@ use Rattle.std.proofs.Common.{◌≡◌, ◌+◌, ◌∙◌, subst, arith}
 use Rattle.std.specs.Prelude.{◌-◌}
 use Rattle.design.specs.Keys.{netlist}
 use Rattle.scratch.specs.Run.{state_before}
-use Rattle.scratch.specs.Tallies.{Counts}
+use Rattle.scratch.specs.kept.Tallies.{Counts}
 use Rattle.scratch.specs.Work.{is_stirred}
 use Rattle.scratch.proofs.Passing.{as_many_values}
 use Rattle.scratch.proofs.Counting.{settled_currents}

@@ -2,12 +2,12 @@ use Rattle.std.proofs.Common.{◌≡◌, ◌∙◌, ap, sym, subst, length, Bool
 use Rattle.std.specs.Prelude.{not, ◌&&◌, ◌||◌}
 use Rattle.std.specs.List.{filter, list_any}
 use Rattle.std.proofs.lemmas.List.{length-map}
-use Rattle.event_queue.specs.Noted.{noted}
+use Rattle.event_queue.specs.kept.Noted.{noted}
 use Rattle.design.specs.Keys.{netlist}
-use Rattle.scratch.specs.Kept.{currents_of, output_at, places_at}
-use Rattle.scratch.specs.Places.{has, is_due_at, passing, pends_at}
+use Rattle.scratch.specs.kept.Kept.{currents_of, output_at, places_at}
+use Rattle.scratch.specs.kept.Places.{has, is_due_at, passing, pends_at}
 use Rattle.scratch.specs.Run.{state_before}
-use Rattle.scratch.specs.Tallies.{Counts}
+use Rattle.scratch.specs.kept.Tallies.{Counts}
 use Rattle.scratch.specs.Work.{is_stirred}
 use Rattle.scratch.proofs.Notes.{later_covered, none_early}
 use Rattle.scratch.proofs.Runs.{ready_all}

@@ -2,7 +2,7 @@ use Rattle.std.proofs.Common.{◌∙◌, sym, subst, map, All}
 use Rattle.gatestep.specs.Step.{initial}
 use Rattle.gatestep.specs.Tasks.{PendingFrom}
 use Rattle.design.specs.Keys.{netlist}
-use Rattle.scratch.specs.Tallies.{Counts}
+use Rattle.scratch.specs.kept.Tallies.{Counts}
 use Rattle.scratch.proofs.Runs.{all_map}
 use Rattle.scratch.proofs.opening.Opening.before.Goals as goal
 

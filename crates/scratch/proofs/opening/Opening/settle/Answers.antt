@@ -1,12 +1,12 @@
 use Rattle.std.proofs.Common.{◌≡◌, ◌∷◌, ◌∙◌, ap, sym, subst, [], map, All, arith}
-use Rattle.event_queue.specs.Noted.{noted}
+use Rattle.event_queue.specs.kept.Noted.{noted}
 use Rattle.gatestep.specs.Tasks.{PendingFrom}
 use Rattle.design.specs.Keys.{netlist}
-use Rattle.scratch.specs.Places.{has, pends_at}
+use Rattle.scratch.specs.kept.Places.{has, pends_at}
 use Rattle.waveform.specs.Changes.{wave_changes_below}
-use Rattle.scratch.specs.Recorded.{recorded_below}
+use Rattle.scratch.specs.kept.Recorded.{recorded_below}
 use Rattle.scratch.specs.Run.{state_after, state_before, value}
-use Rattle.scratch.specs.Tallies.{Counts}
+use Rattle.scratch.specs.kept.Tallies.{Counts}
 use Rattle.scratch.proofs.Lists.{map_alike}
 use Rattle.scratch.proofs.Moments.{map_twice}
 use Rattle.scratch.proofs.Recorded.{recorded_first}

@@ -1,7 +1,7 @@
 use Rattle.std.proofs.Common.{◌≡◌, ◌∙◌, ap}
 use Rattle.design.specs.Keys.{netlist}
-use Rattle.scratch.specs.Kept.{places_at, values_at}
-use Rattle.scratch.specs.Tally.{tally_of}
+use Rattle.scratch.specs.kept.Kept.{places_at, values_at}
+use Rattle.scratch.specs.kept.Tally.{tally_of}
 use Rattle.scratch.proofs.Counting.{listed_drivers}
 use Rattle.scratch.proofs.tallies.Tallies.count.Goals as goal
 

@@ -1,7 +1,7 @@
 use Rattle.std.proofs.Common.{◌≡◌, take, length, slice_get}
 use Rattle.design.specs.Keys.{netlist}
-use Rattle.scratch.specs.Kept.{currents_of}
-use Rattle.scratch.specs.Tallies.{AreTallies}
+use Rattle.scratch.specs.kept.Kept.{currents_of}
+use Rattle.scratch.specs.kept.Tallies.{AreTallies}
 use Rattle.scratch.proofs.Between.{Between}
 use Rattle.scratch.proofs.tallies.Tallies.follow.Given as goal
 

@@ -4,8 +4,8 @@ use Rattle.std.proofs.lemmas.Grind.{common_steps}
 use Rattle.std.proofs.lemmas.Option.{slice_get-get_or, slice_get_past, slice_get_read, slice_get_within}
 use Rattle.fourstate.specs.declared.value.Value.TheVariants.{One, Unknown, Zero}
 use Rattle.design.specs.Keys.{netlist}
-use Rattle.scratch.specs.Places.{has}
-use Rattle.scratch.specs.Tally.{times}
+use Rattle.scratch.specs.kept.Places.{has}
+use Rattle.scratch.specs.kept.Tally.{times}
 use Rattle.scratch.proofs.Counting.{all_kept, all_moved, ones_fit, ones_low, other_net, tally_there, unknowns_fit, unknowns_low, zeros_fit, zeros_low}
 use Rattle.scratch.proofs.tallies.Tallies.recount.Goals as goal
 

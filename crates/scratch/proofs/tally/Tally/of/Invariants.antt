@@ -1,6 +1,6 @@
 use Rattle.std.proofs.Common.{◌≡◌, take}
-use Rattle.scratch.specs.Kept.{values_at}
-use Rattle.scratch.specs.Tally.{tally_of}
+use Rattle.scratch.specs.kept.Kept.{values_at}
+use Rattle.scratch.specs.kept.Tally.{tally_of}
 use Rattle.scratch.proofs.tally.Tally.of.Given as goal
 
 -- the drivers so far

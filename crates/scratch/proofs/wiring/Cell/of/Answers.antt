@@ -2,7 +2,7 @@ use Rattle.std.proofs.Common.{◌≡◌, map, take, sym, ap, ◌∙◌, arith}
 use Rattle.std.proofs.lemmas.List.{take_all}
 use Rattle.design.specs.declared.terminal.Terminal.{Terminal}
 use Rattle.design.specs.Keys.{connection_in, netlist}
-use Rattle.scratch.specs.Kept.{input_of}
+use Rattle.scratch.specs.kept.Kept.{input_of}
 use Rattle.scratch.proofs.Moments.{map_twice}
 use Rattle.scratch.proofs.wiring.Cell.of.Goals as goal
 

@@ -1,6 +1,6 @@
 use Rattle.std.proofs.Common.{◌≡◌, map, take}
 use Rattle.design.specs.Keys.{connection_in, netlist}
-use Rattle.scratch.specs.Kept.{input_of}
+use Rattle.scratch.specs.kept.Kept.{input_of}
 use Rattle.scratch.proofs.wiring.Cell.of.Given as goal
 
 -- the inputs so far

@@ -1,6 +1,7 @@
 use Rattle.std.proofs.Common.{◌≡◌, ◌++◌, length}
 use Rattle.std.specs.Prelude.{option_map}
-use Rattle.session.specs.Pins.{ArePins, pins_of}
+use Rattle.session.specs.Pins.{pins_of}
+use Rattle.session.specs.kept.Pins.{ArePins}
 use Rattle.session.proofs.commands.pins.make_pins.Given as goal
 
 -- the pins so far stand before those of the words that are left

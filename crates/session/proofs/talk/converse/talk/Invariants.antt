@@ -1,4 +1,4 @@
-use Rattle.session.specs.Talk.{SameSink, SameSource, Waits}
+use Rattle.session.specs.kept.Talk.{SameSink, SameSource, Waits}
 use Rattle.session.proofs.talk.converse.talk.Given as goal
 
 -- the session goes on, and all that it has written so far went out

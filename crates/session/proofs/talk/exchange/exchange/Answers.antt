@@ -1,5 +1,5 @@
 use Rattle.std.proofs.Common.{◌≤◌, length, refl, sym, ◌∙◌, arith}
-use Rattle.devices.specs.Incoming.{text_of}
+use Rattle.devices.specs.kept.Incoming.{text_of}
 use Rattle.session.specs.declared.talk.exchange.TheConstants.{PIECE}
 use Rattle.session.proofs.ExchangeLemmas.{came, covered_by, cut_by, cut_short, finished, has_quit, read_failed, read_more, sent_by, text_moved, went_on}
 use Rattle.session.proofs.talk.exchange.exchange.Goals as goal

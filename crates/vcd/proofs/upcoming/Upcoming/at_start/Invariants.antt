@@ -1,6 +1,6 @@
 use Rattle.std.proofs.Common.{◌≡◌, ◌<◌, ℕ, length}
-use Rattle.vcd.specs.Kept.{lefts}
-use Rattle.vcd.specs.Waves.{wave_in}
+use Rattle.vcd.specs.kept.Kept.{lefts}
+use Rattle.vcd.specs.kept.Waves.{wave_in}
 use Rattle.vcd.proofs.upcoming.Upcoming.at_start.Given as goal
 
 abbrev pub invariant-loop-place : goal.invariant-loop-place

@@ -1,6 +1,6 @@
 use Rattle.std.proofs.Common.{◌≡◌, ◌<◌, ◌*◌, ◌-◌, ℕ, length, arith}
 use Rattle.std.specs.Prelude.{min}
-use Rattle.vcd.specs.Kept.{lines_from}
+use Rattle.vcd.specs.kept.Kept.{lines_from}
 use Rattle.vcd.proofs.UpcomingLemmas.{lines_of_block, lines_whole}
 use Rattle.vcd.proofs.Ways.{both}
 use Rattle.vcd.proofs.upcoming.Upcoming.pass.Goals as goal

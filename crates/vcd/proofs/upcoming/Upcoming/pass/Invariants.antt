@@ -1,7 +1,7 @@
 use Rattle.std.proofs.Common.{◌*◌, length}
 use Rattle.std.specs.Prelude.{min}
 use Rattle.devices.specs.Outgoing.{Adds}
-use Rattle.vcd.specs.Kept.{IsAhead, lines_from}
+use Rattle.vcd.specs.kept.Kept.{IsAhead, lines_from}
 use Rattle.vcd.proofs.upcoming.Upcoming.pass.Given as goal
 
 abbrev pub invariant-loop-block : goal.invariant-loop-block

@@ -1,4 +1,4 @@
-use Rattle.vcd.specs.Kept.{IsPassing}
+use Rattle.vcd.specs.kept.Kept.{IsPassing}
 use Rattle.vcd.proofs.upcoming.Upcoming.pass_nets.Given as goal
 
 abbrev pub invariant-loop-i : goal.invariant-loop-i

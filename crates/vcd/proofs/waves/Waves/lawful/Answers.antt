@@ -3,7 +3,7 @@ use Rattle.fourstate.specs.Values.{same_value}
 use Rattle.gatestep.specs.Step.{advance}
 use Rattle.design.specs.Netlist.{Netlist}
 use Rattle.waveform.specs.Entries.{standing}
-use Rattle.waveform.specs.Timelines.{IsTimeline}
+use Rattle.waveform.specs.kept.Timelines.{IsTimeline}
 use Rattle.scratch.specs.Run.{value}
 use Rattle.vcd.proofs.ListLemmas.{each_mapped}
 use Rattle.vcd.proofs.waves.Waves.lawful.Goals as goal

@@ -1,4 +1,4 @@
-use Rattle.vtext.specs.Readings.{view}
+use Rattle.vtext.specs.kept.Readings.{view}
 use Rattle.vtext.proofs.GateLemmas.{parts_more}
 use Rattle.vtext.proofs.draft.Draft.add_parts.Goals as goal
 

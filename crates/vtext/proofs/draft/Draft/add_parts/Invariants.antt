@@ -1,6 +1,6 @@
 use Rattle.std.proofs.Common.{◌≡◌, ◌++◌, take}
 use Rattle.vtext.specs.Instances.{part_gates}
-use Rattle.vtext.specs.Readings.{view}
+use Rattle.vtext.specs.kept.Readings.{view}
 use Rattle.vtext.proofs.draft.Draft.add_parts.Given as goal
 
 abbrev pub invariant-loop-i : goal.invariant-loop-i

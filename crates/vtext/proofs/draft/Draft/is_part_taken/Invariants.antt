@@ -1,6 +1,6 @@
 use Rattle.std.proofs.Common.{◌≡◌}
 use Rattle.vtext.specs.GateNames.{is_part_taken}
-use Rattle.vtext.specs.Readings.{view}
+use Rattle.vtext.specs.kept.Readings.{view}
 use Rattle.vtext.proofs.draft.Draft.is_part_taken.Given as goal
 
 abbrev pub invariant-loop-part : goal.invariant-loop-part

@@ -1,7 +1,7 @@
 use Rattle.std.proofs.Common.{◌≡◌, ℕ, true, List, Option, unwrap_or, ap, sym, ◌∙◌}
 use Rattle.vtext.specs.declared.net.Net.{Net}
 use Rattle.vtext.specs.Nets.{blank, is_used, net_of}
-use Rattle.vtext.specs.Readings.{view}
+use Rattle.vtext.specs.kept.Readings.{view}
 use Rattle.vtext.proofs.InsertLemmas.{use_again}
 use Rattle.vtext.proofs.draft.Draft.note_net.Goals as goal
 

@@ -2,7 +2,7 @@ use Rattle.std.proofs.Common.{◌≡◌, ◌≤◌, ◌^◌, List, ℕ, length, 
 use Rattle.std.proofs.lemmas.Grind.{common_steps}
 use Rattle.catalog.specs.declared.spelling.Spelling.{Spelling}
 use Rattle.vtext.specs.Names.{with_name}
-use Rattle.vtext.specs.Recents.{AreRight}
+use Rattle.vtext.specs.kept.Recents.{AreRight}
 use Rattle.vtext.proofs.NameLemmas.{text_added}
 use Rattle.vtext.proofs.NotedLemmas.{right_with}
 use Rattle.vtext.proofs.NumberLemmas.{text_number}

@@ -1,5 +1,5 @@
 use Rattle.std.proofs.Common.{◌≡◌, true, sym, ◌∙◌, refl, arith}
-use Rattle.catalog.specs.Spellings.{is_short}
+use Rattle.catalog.specs.kept.Spellings.{is_short}
 use Rattle.vtext.proofs.NotedLemmas.{right_of}
 use Rattle.vtext.proofs.recent.Noted.new.Goals as goal
 

@@ -1,5 +1,5 @@
 use Rattle.std.proofs.Common.{ℕ, List, All}
-use Rattle.vtext.specs.Recents.{AreRight, IsRight}
+use Rattle.vtext.specs.kept.Recents.{AreRight, IsRight}
 use Rattle.vtext.proofs.recent.Recent.grow.Given as goal
 
 abbrev pub invariant-copies : goal.invariant-copies

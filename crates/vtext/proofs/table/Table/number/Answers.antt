@@ -1,6 +1,7 @@
 use Rattle.std.proofs.Common.{◌≡◌, length, sym, ap, ◌∙◌, arith}
 use Rattle.std.proofs.lemmas.List.{length-map}
-use Rattle.vtext.specs.Keywords.{meanings_of, plain_word}
+use Rattle.vtext.specs.Keywords.{plain_word}
+use Rattle.vtext.specs.kept.Keywords.{meanings_of}
 use Rattle.vtext.proofs.TableLemmas.{meanings_more, number_is_new, number_is_old}
 use Rattle.vtext.proofs.table.Table.number.Goals as goal
 

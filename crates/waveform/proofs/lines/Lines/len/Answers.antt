@@ -1,5 +1,5 @@
 use Rattle.std.proofs.Common.{◌∙◌, sym, map}
-use Rattle.waveform.specs.Notes.{noted}
+use Rattle.waveform.specs.kept.Notes.{noted}
 use Rattle.waveform.proofs.Noting.{length_with_notes}
 use Rattle.waveform.proofs.lines.Lines.len.Goals as goal
 

@@ -1,6 +1,6 @@
 use Rattle.std.proofs.Common.{◌≡◌, ◌∙◌, ap, sym, subst, map, [], ◌∷◌}
 use Rattle.std.proofs.lemmas.List.{map-append}
-use Rattle.waveform.specs.Notes.{AreNoted, MayBeNoted, noted, with_note, with_notes}
+use Rattle.waveform.specs.kept.Notes.{AreNoted, MayBeNoted, noted, with_note, with_notes}
 use Rattle.waveform.proofs.Noting.{one_more, one_more_noted}
 use Rattle.waveform.proofs.lines.Lines.note.Goals as goal
 use Rattle.waveform.proofs.lines.Lines.note.Goals.{then-len-self+in_ok-write, else-len-self}

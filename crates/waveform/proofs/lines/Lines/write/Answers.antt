@@ -1,6 +1,6 @@
 use Rattle.std.proofs.Common.{◌≡◌, ◌∙◌, ap, map}
 use Rattle.std.proofs.lemmas.Result.{on_ok_weaker}
-use Rattle.waveform.specs.Notes.{noted, with_notes}
+use Rattle.waveform.specs.kept.Notes.{noted, with_notes}
 use Rattle.waveform.proofs.lines.Lines.write.Goals as goal
 
 pub returns : goal.returns

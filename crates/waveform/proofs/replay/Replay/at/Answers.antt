@@ -1,7 +1,7 @@
 use Rattle.std.proofs.Common.{◌≡◌, ◌<◌, ◌∙◌, ap, ℕ, suc, List, [], map, length, get_or, arith}
 use Rattle.std.proofs.lemmas.List.{length-map}
 use Rattle.waveform.specs.Timelines.{value_by}
-use Rattle.waveform.specs.Paging.{readings}
+use Rattle.waveform.specs.kept.Paging.{readings}
 use Rattle.waveform.proofs.PagedLines.{map_map}
 use Rattle.waveform.proofs.PagedValues.{value_is}
 use Rattle.waveform.proofs.replay.Replay.at.Goals as goal

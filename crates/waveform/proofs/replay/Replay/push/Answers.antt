@@ -1,8 +1,8 @@
 use Rattle.std.proofs.Common.{◌≡◌, ◌∙◌, ap, sym, subst, ℕ, List, [], ◌∷◌, ◌++◌, map, length, arith}
 use Rattle.std.proofs.lemmas.List.{length-map, map-append}
-use Rattle.event_queue.specs.Noted.{IsAdded}
-use Rattle.waveform.specs.Paging.{IsInOrder, readings}
-use Rattle.waveform.specs.Timelines.{IsTimeline}
+use Rattle.event_queue.specs.kept.Noted.{IsAdded}
+use Rattle.waveform.specs.kept.Paging.{IsInOrder, readings}
+use Rattle.waveform.specs.kept.Timelines.{IsTimeline}
 use Rattle.waveform.proofs.PagedLines.{line_added}
 use Rattle.waveform.proofs.replay.Replay.push.Goals as goal
 

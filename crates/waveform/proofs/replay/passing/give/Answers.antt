@@ -2,7 +2,7 @@ use Rattle.std.proofs.Common.{◌≡◌, ◌<◌, ◌≤◌, ◌∙◌, ap, refl
 use Rattle.std.specs.List.{last_or}
 use Rattle.std.specs.Vec.{vec_len}
 use Rattle.std.proofs.lemmas.Option.{slice_get_read}
-use Rattle.waveform.specs.Paging.{items_of}
+use Rattle.waveform.specs.kept.Paging.{items_of}
 use Rattle.waveform.proofs.PagedValues.{given_item, passed_over}
 use Rattle.std.proofs.lemmas.List.{take_all}
 use Rattle.waveform.proofs.replay.passing.give.Goals as goal

@@ -1,7 +1,7 @@
 use Rattle.std.proofs.Common.{◌≡◌, ◌<◌, ℕ, map, take, slice_get}
 use Rattle.std.specs.List.{last_or}
 use Rattle.std.specs.Vec.{vec_len}
-use Rattle.waveform.specs.Paging.{items_of}
+use Rattle.waveform.specs.kept.Paging.{items_of}
 use Rattle.waveform.proofs.replay.passing.give.Given as goal
 
 -- the items so far

@@ -1,6 +1,6 @@
 use Rattle.std.proofs.Common.{◌≡◌, ◌≤◌}
 use Rattle.std.specs.Vec.{vec_len}
-use Rattle.waveform.specs.Paging.{AreGivenOn, IsPassed}
+use Rattle.waveform.specs.kept.Paging.{AreGivenOn, IsPassed}
 use Rattle.waveform.proofs.replay.passing.pass.Given as goal
 
 -- the moments so far

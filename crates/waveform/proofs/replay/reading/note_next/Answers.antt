@@ -1,8 +1,8 @@
 use Rattle.std.proofs.Common.{◌≡◌, ◌*◌, ◌/◌, ◌∙◌, ap, sym, refl, subst, ◌≤◌, arith}
 use Rattle.std.proofs.lemmas.Option.{slice_get_read, slice_get_within}
 use Rattle.event_queue.specs.declared.page.TheConstants.{PAGE}
-use Rattle.event_queue.specs.Noted.{noted}
-use Rattle.waveform.specs.Paging.{IsIn}
+use Rattle.event_queue.specs.kept.Noted.{noted}
+use Rattle.waveform.specs.kept.Paging.{IsIn}
 use Rattle.waveform.proofs.PagedRows.{elsewhere, is_noted, kept, some_same}
 use Rattle.waveform.proofs.replay.reading.note_next.Goals as goal
 

@@ -1,7 +1,7 @@
 use Rattle.std.proofs.Common.{◌≡◌, ◌≢◌, ◌<◌, ◌≤◌, ◌+◌, ◌-◌, ℕ, length}
-use Rattle.event_queue.specs.Pages.{items_at}
+use Rattle.event_queue.specs.kept.Pages.{items_at}
 use Rattle.event_queue.specs.declared.page.TheConstants.{PAGE}
-use Rattle.waveform.specs.Paging.{IsRead, IsUnreadFrom, items_of}
+use Rattle.waveform.specs.kept.Paging.{IsRead, IsUnreadFrom, items_of}
 use Rattle.waveform.proofs.replay.reading.read_entries.Given as goal
 
 -- the entries so far

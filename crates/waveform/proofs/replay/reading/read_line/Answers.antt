@@ -2,7 +2,7 @@ use Rattle.std.proofs.Common.{◌≡◌, ◌<◌, ◌≤◌, ◌∙◌, ap, sym,
 use Rattle.std.proofs.lemmas.List.{length-map, map-set}
 use Rattle.std.proofs.lemmas.Option.{slice_get-map, slice_get_read}
 use Rattle.std.specs.Prelude.{option_map}
-use Rattle.waveform.specs.Paging.{AreReadOn, IsUnreadFrom, readings}
+use Rattle.waveform.specs.kept.Paging.{AreReadOn, IsUnreadFrom, readings}
 use Rattle.waveform.proofs.PagedLines.{line_read, no_line_read}
 use Rattle.waveform.proofs.PagedRows.{some_same}
 use Rattle.waveform.proofs.replay.reading.read_line.Goals as goal

@@ -1,6 +1,6 @@
 use Rattle.std.proofs.Common.{◌≡◌, ◌+◌, sym, subst, ◌∷◌, drop, get_or}
 use Rattle.std.proofs.lemmas.Option.{slice_get-get_or}
-use Rattle.waveform.specs.Paging.{AreInTime, AreReadOn, readings}
+use Rattle.waveform.specs.kept.Paging.{AreInTime, AreReadOn, readings}
 use Rattle.waveform.proofs.PagedLines.{read_then, same_entries}
 use Rattle.waveform.proofs.PagedRows.{drop_one}
 use Rattle.waveform.proofs.replay.reading.read_lines.Goals as goal

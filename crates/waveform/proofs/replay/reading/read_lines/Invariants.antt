@@ -1,5 +1,5 @@
 use Rattle.std.proofs.Common.{drop}
-use Rattle.waveform.specs.Paging.{AreReadOn, readings}
+use Rattle.waveform.specs.kept.Paging.{AreReadOn, readings}
 use Rattle.waveform.proofs.replay.reading.read_lines.Given as goal
 
 -- the places so far

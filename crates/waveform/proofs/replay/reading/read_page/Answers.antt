@@ -1,6 +1,6 @@
 use Rattle.std.proofs.Common.{◌∙◌, ap, sym, ◌++◌}
-use Rattle.event_queue.specs.Noted.{noted}
-use Rattle.waveform.specs.Paging.{readings}
+use Rattle.event_queue.specs.kept.Noted.{noted}
+use Rattle.waveform.specs.kept.Paging.{readings}
 use Rattle.waveform.proofs.PagedLines.{map_map, page_in_hand, page_taken, unread_lines}
 use Rattle.waveform.proofs.replay.reading.read_page.Goals as goal
 

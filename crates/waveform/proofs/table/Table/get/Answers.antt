@@ -1,7 +1,7 @@
 use Rattle.std.proofs.Common.{◌∙◌, None, Some, ap, unwrap_or}
 use Rattle.std.proofs.lemmas.Option.{unwrap_or-slice_get}
 use Rattle.std.specs.Option.{option_copied}
-use Rattle.waveform.specs.Tables.{line_at}
+use Rattle.waveform.specs.kept.Tables.{line_at}
 use Rattle.waveform.proofs.table.Table.get.Goals as goal
 
 pub returns-in_err-get : goal.returns-in_err-get

@@ -2,8 +2,8 @@ use Rattle.std.proofs.Common.{ℕ, map, ◌≡◌, ◌∙◌, ◌<◌, sym, subs
 use Rattle.std.specs.List.{All}
 use Rattle.waveform.proofs.Drifts.{Drifts}
 use Rattle.waveform.proofs.Marking.{pushed_marks}
-use Rattle.waveform.specs.Marks.{AreMarks}
-use Rattle.waveform.specs.Timelines.{IsTimeline, pushed, is_reached}
+use Rattle.waveform.specs.kept.Marks.{AreMarks}
+use Rattle.waveform.specs.kept.Timelines.{IsTimeline, pushed, is_reached}
 use Rattle.waveform.proofs.Pushes.{pushed_all, pushed_timeline}
 use Rattle.waveform.proofs.timeline.Timeline.append.Goals as goal
 

@@ -1,9 +1,10 @@
 use Rattle.std.proofs.Common.{◌≡◌, ℕ, map, sym, subst}
 use Rattle.std.specs.List.{All}
 use Rattle.std.proofs.lemmas.List.Elements.{All-filter}
-use Rattle.waveform.specs.Timelines.{IsTimeline, entries_until}
+use Rattle.waveform.specs.Timelines.{entries_until}
+use Rattle.waveform.specs.kept.Timelines.{IsTimeline}
 use Rattle.waveform.proofs.Marking.{no_marks}
-use Rattle.waveform.specs.Marks.{AreMarks}
+use Rattle.waveform.specs.kept.Marks.{AreMarks}
 use Rattle.waveform.proofs.Turns.{until_timeline}
 use Rattle.waveform.proofs.timeline.Timeline.cut.Goals as goal
 

@@ -2,12 +2,13 @@ use Rattle.std.proofs.Common.{◌≡◌, ℕ, ◌<◌, map, sym, subst}
 use Rattle.std.specs.List.{All}
 use Rattle.std.proofs.lemmas.List.Elements.{All-filter}
 use Rattle.waveform.proofs.Drifts.{Drifts}
-use Rattle.waveform.specs.Joins.{joined}
-use Rattle.waveform.specs.Timelines.{IsTimeline, entries_after, entries_until, pushed, value_by}
+use Rattle.waveform.specs.kept.Joins.{joined}
+use Rattle.waveform.specs.Timelines.{entries_after, entries_until, value_by}
+use Rattle.waveform.specs.kept.Timelines.{IsTimeline, pushed}
 use Rattle.waveform.proofs.Ends.{below_end, joined_end}
 use Rattle.waveform.proofs.Joins.{joined_timeline, joined_all, joined_value}
 use Rattle.waveform.proofs.Marking.{marks_kept, pushed_marks}
-use Rattle.waveform.specs.Marks.{AreMarks}
+use Rattle.waveform.specs.kept.Marks.{AreMarks}
 use Rattle.waveform.proofs.Pushes.{ends_before}
 use Rattle.waveform.proofs.Splices.{value_can_store}
 use Rattle.waveform.proofs.Turns.{until_timeline}

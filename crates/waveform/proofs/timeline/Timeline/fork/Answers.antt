@@ -4,8 +4,9 @@ use Rattle.std.proofs.Math.Seq.{take-append_seam}
 use Rattle.std.proofs.lemmas.List.{length-map}
 use Rattle.waveform.proofs.Ends.{until_end}
 use Rattle.waveform.proofs.Turns.{until_then_after}
-use Rattle.waveform.specs.Marks.{AreMarks}
-use Rattle.waveform.specs.Timelines.{IsTimeline, entries_after, entries_until}
+use Rattle.waveform.specs.kept.Marks.{AreMarks}
+use Rattle.waveform.specs.Timelines.{entries_after, entries_until}
+use Rattle.waveform.specs.kept.Timelines.{IsTimeline}
 use Rattle.waveform.proofs.timeline.Timeline.fork.Goals as goal
 
 pub invariant_of-result : goal.invariant_of-result

@@ -2,8 +2,8 @@ use Rattle.std.proofs.Common.{ℕ, map, ◌<◌, sym, subst}
 use Rattle.std.specs.List.{All}
 use Rattle.waveform.proofs.Drifts.{Drifts}
 use Rattle.waveform.proofs.Marking.{pushed_marks}
-use Rattle.waveform.specs.Marks.{AreMarks}
-use Rattle.waveform.specs.Timelines.{IsTimeline}
+use Rattle.waveform.specs.kept.Marks.{AreMarks}
+use Rattle.waveform.specs.kept.Timelines.{IsTimeline}
 use Rattle.waveform.proofs.Pushes.{ends_before, pushed_all, pushed_timeline, pushed_value}
 use Rattle.waveform.proofs.timeline.Timeline.push.Goals as goal
 

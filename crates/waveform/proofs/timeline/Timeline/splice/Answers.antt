@@ -1,10 +1,10 @@
 use Rattle.std.proofs.Common.{◌≡◌, ℕ, map, sym, subst}
 use Rattle.std.specs.List.{All}
 use Rattle.waveform.proofs.Drifts.{Drifts}
-use Rattle.waveform.specs.Joins.{spliced}
-use Rattle.waveform.specs.Timelines.{IsTimeline}
+use Rattle.waveform.specs.kept.Joins.{spliced}
+use Rattle.waveform.specs.kept.Timelines.{IsTimeline}
 use Rattle.waveform.proofs.Marking.{no_marks}
-use Rattle.waveform.specs.Marks.{AreMarks}
+use Rattle.waveform.specs.kept.Marks.{AreMarks}
 use Rattle.waveform.proofs.Splices.{spliced_timeline, spliced_can_store, spliced_value}
 use Rattle.waveform.proofs.timeline.Timeline.splice.Goals as goal
 

@@ -1,6 +1,6 @@
 use Rattle.std.proofs.Common.{◌++◌, List, ℕ, take, subst}
 use Rattle.std.proofs.lemmas.List.{take_all}
-use Rattle.session.specs.Talk.{Going}
+use Rattle.session.specs.kept.Talk.{Going}
 use Rattle.session.proofs.TalkLemmas.{goes_further, quits_early, same_sink_through}
 use Rattle.session.proofs.talk.feed.Session.feed.Goals as goal
 

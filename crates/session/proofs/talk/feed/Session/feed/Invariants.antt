@@ -1,6 +1,6 @@
 use Rattle.std.proofs.Common.{ℕ, List, ◌++◌, take}
 use Rattle.session.specs.State.{SessionState}
-use Rattle.session.specs.Talk.{Going, SameSink}
+use Rattle.session.specs.kept.Talk.{Going, SameSink}
 use Rattle.session.proofs.talk.feed.Session.feed.Given as goal
 
 -- the session goes on behind the bytes so far

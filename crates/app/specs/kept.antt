@@ -1,0 +1,5 @@
+pub mod ArgsFaults
+pub mod Complaints
+pub mod Programs
+pub mod Refusals
+pub mod Start

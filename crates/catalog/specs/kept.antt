@@ -1,0 +1,10 @@
+pub mod Blocks
+pub mod Catalog
+pub mod Columns
+pub mod Found
+pub mod Gaps
+pub mod Hashers
+pub mod Kept
+pub mod Slots
+pub mod Spellings
+pub mod Table

@@ -1,0 +1,10 @@
+pub mod ChangeLemmas
+pub mod EndLemmas
+pub mod EventLemmas
+pub mod GateLemmas
+pub mod InputLemmas
+pub mod LineLemmas
+pub mod MomentLemmas
+pub mod NameLemmas
+pub mod ReachLemmas
+pub mod TurnLemmas

@@ -1,0 +1,13 @@
+pub mod Kept
+pub mod KeyLists
+pub mod Keys
+pub mod Lawful
+pub mod Lists
+pub mod NameTexts
+pub mod Netlist
+pub mod Pieces
+pub mod Places
+pub mod PointPlaces
+pub mod Records
+pub mod Shared
+pub mod Shown

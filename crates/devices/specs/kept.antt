@@ -1,0 +1,4 @@
+pub mod Devices
+pub mod Incoming
+pub mod Outgoing
+pub mod Traffic

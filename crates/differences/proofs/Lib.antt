@@ -1,0 +1,9 @@
+pub mod ApartLemmas
+pub mod FirstLemmas
+pub mod FoundLemmas
+pub mod MomentLemmas
+pub mod NameLemmas
+pub mod OrderLemmas
+pub mod SinceLemmas
+pub mod StepLemmas
+pub mod WholeLemmas

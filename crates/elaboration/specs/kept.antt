@@ -1,0 +1,4 @@
+pub mod Elaborations
+pub mod Numbered
+pub mod Ranks
+pub mod SoundScopes

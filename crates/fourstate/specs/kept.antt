@@ -1,0 +1,12 @@
+pub mod DelayLaws
+pub mod Delays
+pub mod GateLaws
+pub mod KeptDelays
+pub mod NetLaws
+pub mod Nets
+pub mod PlaneLaws
+pub mod Planes
+pub mod Rules
+pub mod Summaries
+pub mod ValueLaws
+pub mod Values

@@ -1,0 +1,4 @@
+pub mod Desks
+pub mod Histories
+pub mod Issues
+pub mod Rules

@@ -1,0 +1,4 @@
+pub mod Classes
+pub mod Lexemes
+pub mod Spaces
+pub mod Texts

@@ -1,0 +1,4 @@
+pub mod Dealt
+pub mod Sends
+pub mod Shares
+pub mod Workers

@@ -1,0 +1,4 @@
+pub mod CommandLaws
+pub mod Endings
+pub mod Files
+pub mod TextLaws

@@ -1,0 +1,49 @@
+use Rattle.std.proofs.Common.{◌≡◌, ◌-◌, ◌++◌, ◌∙◌, ap, refl, subst, ℕ, suc, arith}
+use Rattle.std.proofs.lemmas.Grind.{common_steps}
+use Rattle.design.specs.Keys.{netlist}
+use Rattle.rundiff.specs.Dirty.{rework_below}
+use Rattle.resim.specs.kept.Reruns.{Reruns}
+use Rattle.resim.proofs.Asked.{stopped}
+use Rattle.resim.proofs.Changes.{all_changed, no_value, where_ok}
+use Rattle.resim.proofs.level.follow_beside.Goals as goal
+
+pub returns-in_err-next : goal.returns-in_err-next
+returns-in_err-next g c =
+    let answer = g.S.Stepper.answer in let old = c.args.former.now.old.now in let new = c.args.former.now.new.now in
+    let asked = g.S.Stepper.asked in let losses = g.S.Stepper.losses in
+    record {
+      reruns =
+          stopped answer old new (asked c.args.stepper.now) (asked c.follow_until.new.stepper) (losses c.args.stepper.now) (losses c.args.stepper.now) (losses c.follow_until.new.stepper)
+          ℕ c.in_err-next.field-0.0 c.from_residual-in_err-next.result c.from_residual-in_err-next.ensures.1 c.in_err-next.ensures.part refl c.in_err-next.ensures.lost;
+      changed = no_value _ c.from_residual-in_err-next.result (λ f. f ≡ c.in_err-next.field-0.0) c.from_residual-in_err-next.ensures.1;
+    }
+
+pub returns-then-next-horizon : goal.returns-then-next-horizon
+returns-then-next-horizon g c =
+    let answer = g.S.Stepper.answer in let old = netlist c.args.former.now.old.now in let new = netlist c.args.former.now.new.now in
+    let asked = g.S.Stepper.asked in let losses = g.S.Stepper.losses in
+    let last : c.in_ok-next.next ≡ suc new.horizon = let is = c.horizon.ensures.horizon in let past = c.if-next-horizon.true in let within = c.in_ok-next.ensures.within in omega arith in
+    record {
+      reruns = record {
+        run = c.in_ok-finish.ensures.run;
+        asked = c.in_ok-next.ensures.asked ∙ ap (λ n. asked c.args.stepper.now ++ rework_below answer old new n) last;
+        part = tt;
+        lost = grind (arith, common_steps);
+      };
+      changed = c.in_ok-finish.ensures.changed;
+    }
+
+pub returns : goal.returns
+returns g c =
+    let answer = g.S.Stepper.answer in let old = c.args.former.now.old.now in let new = c.args.former.now.new.now in
+    let asked = g.S.Stepper.asked in let losses = g.S.Stepper.losses in
+    let same : losses c.follow_until.new.stepper ≡ losses c.args.stepper.now = grind (arith, common_steps) in
+    let begun = c.in_ok-next.ensures.begun in
+    let at : c.in_ok-next.next ≡ suc (c.in_ok-next.next - 1) = omega (arith, begun) in
+    record {
+      reruns =
+          subst (λ l. Reruns answer old new (asked c.args.stepper.now) (asked c.widen.new.stepper) l (losses c.widen.new.stepper) c.widen.result) same
+          (c.widen.ensures.reruns (asked c.args.stepper.now)
+          (c.in_ok-next.ensures.asked ∙ ap (λ n. asked c.args.stepper.now ++ rework_below answer (netlist old) (netlist new) n) at));
+      changed = where_ok c.widen.result (all_changed answer old new);
+    }

@@ -1,0 +1,10 @@
+pub mod Changed
+pub mod Finishing
+pub mod Fronts
+pub mod Inputs
+pub mod Kept
+pub mod Noting
+pub mod OldLines
+pub mod PlaceMaps
+pub mod Places
+pub mod Steady

@@ -1,0 +1,15 @@
+pub mod Cells
+pub mod HorizonLaws
+pub mod Kept
+pub mod Lost
+pub mod PackedInputs
+pub mod Places
+pub mod Plain
+pub mod Quiet
+pub mod Recorded
+pub mod Recordings
+pub mod Run
+pub mod Stands
+pub mod Tallies
+pub mod Tally
+pub mod Work

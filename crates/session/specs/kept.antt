@@ -1,0 +1,13 @@
+pub mod Held
+pub mod Kept
+pub mod LineReadings
+pub mod Opening
+pub mod Outcomes
+pub mod Pins
+pub mod Refused
+pub mod SessionFaults
+pub mod State
+pub mod Talk
+pub mod ToolAnswers
+pub mod Words
+pub mod WordsAtFault

@@ -1,0 +1,4 @@
+pub mod Details
+pub mod Known
+pub mod Parts
+pub mod Searches

@@ -1,0 +1,9 @@
+pub mod Keywords
+pub mod Nets
+pub mod Readings
+pub mod Recents
+pub mod Refusals
+pub mod Sound
+pub mod Turns
+pub mod Walks
+pub mod Words

@@ -1,0 +1,17 @@
+pub mod Changes
+pub mod Currents
+pub mod Digits
+pub mod Entries
+pub mod Joins
+pub mod Links
+pub mod Marks
+pub mod Notes
+pub mod Paging
+pub mod Patches
+pub mod Replays
+pub mod Runs
+pub mod SampleLaws
+pub mod StoredChanges
+pub mod Tables
+pub mod Timelines
+pub mod TraceEntries
