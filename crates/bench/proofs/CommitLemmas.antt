@@ -1,6 +1,5 @@
 -- Refused commits.
 use Rattle.std.proofs.Common.{◌≡◌, ◌≢◌, ◌⊎◌, ◌+◌, ◌++◌, ℕ, suc, Bool, true, false, if◌then◌else◌, List, refl, sym, inl, inr, arith}
-use Rattle.std.proofs.lemmas.List.{append-nil}
 use Rattle.std.specs.Prelude.{Result, Ok, Err, IfErr, OnErr}
 use Rattle.gatestep.specs.Step.{Evaluation, advance}
 use Rattle.design.specs.Netlist.{Netlist}
@@ -13,6 +12,8 @@ use Rattle.bench.specs.Benches.{SnapshotRecord}
 use Rattle.bench.specs.Commits.{commit_of}
 use Rattle.bench.specs.Refusals.{MayRefuse, loses_a_worker}
 use Rattle.bench.specs.kept.Refusals.{IsRefusal}
+use Rattle.scratch.specs.Asked.{IsAskedInSomeOrder}
+use Rattle.scratch.specs.kept.Grown.{all_is_part, grown_none}
 use Rattle.resim.specs.Reruns.{HasGrownInPart}
 use Rattle.bench.specs.Work.{AskedByRefused, rework_of}
 
@@ -34,15 +35,15 @@ no_loss place fault commit.WorkerLost losses is = absurd is
 -- What was asked in vain.
 
 pub asked_nothing : (old : Netlist) (made : Result Netlist (ℕ × EditFault)) (asked : List (Evaluation × ℕ)) → AskedByRefused old made asked asked
-asked_nothing old (Ok d) asked = (0, omega arith, sym (append-nil asked))
+asked_nothing old (Ok d) asked = grown_none asked (rework_of old d)
 asked_nothing old (Err refused) asked = refl
 
 pub asked_part : (old : Netlist) (made : Result Netlist (ℕ × EditFault)) (d : Netlist) (before now : List (Evaluation × ℕ)) → made ≡ Ok d
     → HasGrownInPart advance old d before now → AskedByRefused old made before now
 asked_part old made d before now is part = rw is part
 
-pub asked_all : (old new : Netlist) (before now : List (Evaluation × ℕ)) → now ≡ before ++ rework_of old new → HasGrownInPart advance old new before now
-asked_all old new before now is = (suc new.horizon, omega arith, is)
+pub asked_all : (old new : Netlist) (before now : List (Evaluation × ℕ)) → IsAskedInSomeOrder before now (rework_of old new) → HasGrownInPart advance old new before now
+asked_all old new before now all = all_is_part before now (rework_of old new) all
 
 -- A commit's refusal is never that memory ran out.
 pub refused_for : (last : Bool) (made : Result Netlist (ℕ × EditFault)) → IfErr made (λ refused. refused.1 ≢ OutOfMemory)

@@ -1,12 +1,13 @@
 //! A design that commits change, and its snapshots.
 
-ghost use Rattle.std.specs.Prelude.{◌≡◌, ◌<◌, ◌+◌, ◌-◌, ◌^◌, ◌⊎◌, ◌++◌, ℕ, List, false, None, Ok, Err, IfErr, IfOk, IfSome, OnErr, OnOk, MatchResult, if◌then◌else◌, length, slice_get};
+ghost use Rattle.std.specs.Prelude.{◌≡◌, ◌<◌, ◌+◌, ◌-◌, ◌^◌, ◌⊎◌, ℕ, List, false, None, Ok, Err, IfErr, IfOk, IfSome, OnErr, OnOk, MatchResult, if◌then◌else◌, length, slice_get};
 ghost use Rattle.std.specs.Arc.{arc_value};
 ghost use Rattle.gatestep.specs.Step.{advance};
 ghost use Rattle.design.specs.Keys.{netlist};
 ghost use Rattle.design.specs.Netlist.{net_named};
 ghost use Rattle.edits.specs.kept.Touched.{IsTouched};
 ghost use Rattle.scratch.specs.kept.Lost as lost;
+ghost use Rattle.scratch.specs.Asked.{IsAskedInSomeOrder};
 ghost use Rattle.scratch.specs.kept.Run.{IsRun};
 ghost use Rattle.rundiff.specs.kept.Changed.{AreChanged};
 ghost use Rattle.resim.specs.kept.Changes.{has_changed};
@@ -16,7 +17,7 @@ ghost use Rattle.bench.specs.Commits.{commit_of};
 ghost use Rattle.bench.specs.Refusals.{LeavesBehind, MayRefuse, loses_a_worker};
 ghost use Rattle.bench.specs.kept.Refusals.{IsRefusal};
 ghost use Rattle.bench.specs.kept.Since.{HasSince, KeepsName, since_name};
-ghost use Rattle.bench.specs.Work.{AskedByRefused, rework_of, work_of};
+ghost use Rattle.bench.specs.Work.{AskedByAccepted, AskedByRefused, work_of};
 
 use crate::fault::CommitFault;
 use crate::simulated::Simulated;
@@ -70,7 +71,7 @@ impl<S: Stepper + Drop> Bench<S> {
     pub fn open(alloc: Global, design: Design, stepper: S) -> Result<Bench<S>, StepFault>
         requires { S.answer ≡ advance }
         ensures snapshot { IfOk result (λ bench. bench.snapshot ≡ snapshot_of 0 (netlist design)) }
-        ensures asked { IfOk result (λ bench. bench.asked ≡ S.asked stepper ++ work_of (netlist design)) }
+        ensures asked { IfOk result (λ bench. IsAskedInSomeOrder (S.asked stepper) bench.asked (work_of (netlist design))) }
         ensures since { IfOk result (λ bench. (name : List ℕ) → since_of bench name ≡ 0) }
         ensures losses { IfOk result (λ bench. bench.losses ≡ S.losses stepper) }
         ensures lost { IfErr result (LeavesBehind S.losses (S.losses stepper)) }
@@ -105,7 +106,7 @@ impl<S: Stepper + Drop> Bench<S> {
         ensures past { (held : SnapshotRecord) → IsPast self.old held → IsPast self.new held }
 
         // What the stepper was asked.
-        ensures asked { OnOk result (self.new.asked ≡ self.old.asked ++ rework_of self.old.snapshot.design self.new.snapshot.design) }
+        ensures asked { OnOk result (AskedByAccepted self.old.snapshot.design self.new.snapshot.design self.old.asked self.new.asked) }
         ensures part { OnErr result (AskedByRefused self.old.snapshot.design
             (commit_of self.old.snapshot.version self.old.snapshot.design edits.now) self.old.asked self.new.asked) }
         ensures lost { self.new.losses ≡ self.old.losses + (if loses_a_worker result then 1 else 0) }
@@ -184,7 +185,7 @@ fn next_of<S: Stepper>(
     ensures snapshot { IfOk result (λ next. arc_value next.1 ≡ snapshot_of version (netlist made.0)) }
     ensures since { OnOk result ((name : List ℕ) → HasSince version old.now.design made.0 since.old since.new name) }
     ensures same { OnErr result ((name : List ℕ) → since_name since.new old.now.design name ≡ since_name since.old old.now.design name) }
-    ensures asked { OnOk result (S.asked stepper.new ≡ S.asked stepper.old ++ rework_of (netlist old.now.design) (netlist made.0)) }
+    ensures asked { OnOk result (AskedByAccepted (netlist old.now.design) (netlist made.0) (S.asked stepper.old) (S.asked stepper.new)) }
     ensures part { OnErr result (HasGrownInPart advance (netlist old.now.design) (netlist made.0) (S.asked stepper.old) (S.asked stepper.new)) }
     ensures lost { S.losses stepper.new ≡ S.losses stepper.old + (if lost.loses_a_worker result then 1 else 0) }
 {

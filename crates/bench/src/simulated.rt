@@ -1,16 +1,17 @@
 //! A design with its run.
 
-ghost use Rattle.std.specs.Prelude.{◌≡◌, ◌+◌, ◌++◌, IfOk, OnErr, OnOk, if◌then◌else◌};
+ghost use Rattle.std.specs.Prelude.{◌≡◌, ◌+◌, IfOk, OnErr, OnOk, if◌then◌else◌};
 ghost use Rattle.std.specs.Arc.{arc_value};
 ghost use Rattle.gatestep.specs.Step.{advance};
 ghost use Rattle.design.specs.Keys.{netlist};
 ghost use Rattle.edits.specs.kept.Touched.{IsTouched};
 ghost use Rattle.scratch.specs.kept.Lost as lost;
+ghost use Rattle.scratch.specs.Asked.{IsAskedInSomeOrder};
 ghost use Rattle.scratch.specs.kept.Run.{IsRun};
 ghost use Rattle.rundiff.specs.kept.Changed.{AreChanged};
 ghost use Rattle.resim.specs.kept.Changes.{has_changed};
 ghost use Rattle.resim.specs.Reruns.{HasGrownInPart};
-ghost use Rattle.bench.specs.Work.{rework_of, work_of};
+ghost use Rattle.bench.specs.Work.{AskedByAccepted, work_of};
 
 use design::Design;
 use edits::Touched;
@@ -40,7 +41,7 @@ impl Simulated {
         requires { S.answer ≡ advance }
         ensures design { IfOk result (λ made. (arc_value made).design ≡ design) }
         ensures run { IfOk result (λ made. IsRun advance (arc_value made).design (arc_value made).run) }
-        ensures asked { OnOk result (S.asked stepper.new ≡ S.asked stepper.old ++ work_of (netlist design)) }
+        ensures asked { OnOk result (IsAskedInSomeOrder (S.asked stepper.old) (S.asked stepper.new) (work_of (netlist design))) }
         ensures lost { S.losses stepper.new ≡ S.losses stepper.old + (if lost.loses_a_worker result then 1 else 0) }
     {
         let run = simulate(alloc, &design, stepper)?;
@@ -49,7 +50,6 @@ impl Simulated {
 
     /// The design which edits made of an old one, with its run, which the stepper makes here from the old one's; and which nets
     /// may have changed.
-    #[tactic(auto, using(crate::proofs::CommitLemmas::asked_all))]
     pub fn from<S: Stepper>(
         alloc: Global,
         old: &Simulated,
@@ -63,7 +63,7 @@ impl Simulated {
         ensures design { IfOk result (λ next. (arc_value next).design ≡ made.0) }
         ensures run { IfOk result (λ next. IsRun advance (arc_value next).design (arc_value next).run) }
         ensures changed { OnOk result (AreChanged advance old.now.design made.0 (has_changed changed.new)) }
-        ensures asked { OnOk result (S.asked stepper.new ≡ S.asked stepper.old ++ rework_of (netlist old.now.design) (netlist made.0)) }
+        ensures asked { OnOk result (AskedByAccepted (netlist old.now.design) (netlist made.0) (S.asked stepper.old) (S.asked stepper.new)) }
         ensures part { OnErr result (HasGrownInPart advance (netlist old.now.design) (netlist made.0)
             (S.asked stepper.old) (S.asked stepper.new)) }
         ensures lost { S.losses stepper.new ≡ S.losses stepper.old + (if lost.loses_a_worker result then 1 else 0) }

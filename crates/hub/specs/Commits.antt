@@ -5,7 +5,7 @@ use Rattle.edits.specs.declared.edit.Edit.{Edit}
 use Rattle.bench.specs.Benches.{SnapshotRecord, snapshot_of}
 use Rattle.bench.specs.Commits.{after, commit_of, committed}
 use Rattle.bench.specs.Refusals.{MayRefuse}
-use Rattle.bench.specs.Work.{AskedByRefused, rework_of}
+use Rattle.bench.specs.Work.{AskedByAccepted, AskedByRefused}
 use Rattle.bench.specs.declared.fault.CommitFault.{CommitFault}
 use Rattle.hubcore.specs.Lists.{EntryRecord, commits_of, entry, lists_of}
 
@@ -34,5 +34,5 @@ pub record IsReply (s : SnapshotRecord) (edits : List Edit) (reply : Result ℕ 
 -- a stepper was asked for a commit of these edits to a snapshot, answered so: an accepted one asks for the run of its design, a
 -- refused one for a part of that, or nothing
 abbrev pub AskedByCommit : SnapshotRecord → List Edit → Result ℕ CommitFault → (before now : List (Evaluation × ℕ)) → Type 0
-AskedByCommit s edits (Ok version) before now = now ≡ before ++ rework_of s.design (committed s.design edits)
+AskedByCommit s edits (Ok version) before now = AskedByAccepted s.design (committed s.design edits) before now
 AskedByCommit s edits (Err fault) before now = AskedByRefused s.design (commit_of s.version s.design edits) before now

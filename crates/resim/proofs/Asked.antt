@@ -1,6 +1,7 @@
 -- What a run beside an old one has asked of its stepper, and what it promises where it ends.
-use Rattle.std.proofs.Common.{◌≡◌, ◌≤◌, ◌∙◌, ap, sym, subst, refl, ℕ, suc, List, [], ◌∷◌, ◌+◌, ◌++◌, append_assoc, map, Result, Ok, Err, IfOk, OnErr, if◌then◌else◌, inl, inr, arith}
+use Rattle.std.proofs.Common.{◌≡◌, ◌<◌, ◌≤◌, ◌⊎◌, ◌∙◌, ap, sym, subst, refl, ℕ, zero, suc, List, [], ◌∷◌, ◌+◌, ◌++◌, append_assoc, append-nil, map, Result, Ok, Err, IfOk, OnErr, if◌then◌else◌, inl, inr, arith}
 use Rattle.std.specs.Result.{IsErrAnd}
+use Rattle.std.proofs.lemmas.Bool.{cases_lt}
 use Rattle.gatestep.specs.Step.{State, Evaluation}
 use Rattle.gatestep.specs.declared.fault.StepFault.{StepFault}
 use Rattle.gatestep.specs.declared.fault.StepFault.TheVariants.{OutOfMemory, WorkerLost}
@@ -9,7 +10,9 @@ use Rattle.design.specs.Netlist.{GateEntry, Netlist}
 use Rattle.waveform.specs.kept.Runs.{RunRecord}
 use Rattle.scratch.specs.kept.Lost.{loses_a_worker}
 use Rattle.scratch.specs.Run.{state_after}
+use Rattle.scratch.specs.Asked.{IsAskedInPart}
 use Rattle.scratch.specs.Work.{task_at}
+use Rattle.scratch.specs.kept.Grown.{grown_first}
 use Rattle.scratch.specs.kept.Work.{HasGrownOrNot}
 use Rattle.rundiff.specs.Dirty.{rework_at, rework_below}
 use Rattle.rundiff.specs.kept.Fronts.{IsFront}
@@ -27,6 +30,27 @@ module _ (answer : Evaluation → ℕ → State) (d : Netlist) (t : ℕ) where
       answers ≡ map (λ task. answer task t) asked → taken ≡ answers → taken ≡ map (λ g. state_after answer d g t) gates
   answers_are gates tasks asked answers taken are all given same = same ∙ given ∙ ap (map (λ task. answer task t)) (all ∙ are) ∙ states_are gates
 
+module _ (answer : Evaluation → ℕ → State) (old new : Netlist) where
+  begins_by : (n m : ℕ) → ((n ≤ m) → (rest : List (Evaluation × ℕ)) × (rework_below answer old new m ≡ rework_below answer old new n ++ rest)) → (m < n) ⊎ (n ≤ m) → n ≤ suc m →
+      (rest : List (Evaluation × ℕ)) × (rework_below answer old new (suc m) ≡ rework_below answer old new n ++ rest)
+  begins_by n m before (inl high) le =
+      let same : suc m ≡ n = omega arith in
+      ([], ap (rework_below answer old new) same ∙ sym (append-nil (rework_below answer old new n)))
+  begins_by n m before (inr low) le =
+      let to = before low in
+      (to.0 ++ rework_at answer old new m, ap (λ l. l ++ rework_at answer old new m) to.1 ∙ append_assoc (rework_below answer old new n) to.0 (rework_at answer old new m))
+
+  -- the work of the moments below one begins that of the moments below a later one
+  begins : (n m : ℕ) → n ≤ m → (rest : List (Evaluation × ℕ)) × (rework_below answer old new m ≡ rework_below answer old new n ++ rest)
+  begins n zero le = let same : 0 ≡ n = omega arith in ([], ap (rework_below answer old new) same ∙ sym (append-nil (rework_below answer old new n)))
+  begins n (suc m) le = begins_by n m (begins n m) (cases_lt m n) le
+
+  -- a fault came when the moments below n were done
+  pub ended : (base now : List (Evaluation × ℕ)) (n : ℕ) → n ≤ suc new.horizon → now ≡ base ++ rework_below answer old new n → HasGrownInPart answer old new base now
+  ended base now n low is =
+      let whole = begins n (suc new.horizon) low in
+      subst (IsAskedInPart base now) (sym whole.1) (grown_first base now (rework_below answer old new n) whole.0 is)
+
 module _ (answer : Evaluation → ℕ → State) (old new : Netlist) (base before after : List (Evaluation × ℕ)) (t : ℕ) (was : before ≡ base ++ rework_below answer old new t) where
   -- the work of t more
   pub one_more : after ≡ before ++ rework_at answer old new t → after ≡ base ++ rework_below answer old new (suc t)
@@ -34,8 +58,8 @@ module _ (answer : Evaluation → ℕ → State) (old new : Netlist) (base befor
 
   -- a fault came at t
   pub part : t ≤ new.horizon → HasGrownOrNot before after (rework_at answer old new t) → HasGrownInPart answer old new base after
-  part within (inl same) = (t, omega arith, same ∙ was)
-  part within (inr more) = (suc t, omega arith, one_more more)
+  part within (inl same) = ended answer old new base after t (omega arith) (same ∙ was)
+  part within (inr more) = ended answer old new base after (suc t) (omega arith) (one_more more)
 
 pub held_err : {A E P : Type 0} (r : Result A E) → P → OnErr r P
 held_err (Ok x) p = tt
@@ -77,7 +101,12 @@ stopped answer old new before now losses lost_before lost A e (Err f) is grown s
 pub refused : (answer : Evaluation → ℕ → State) (old new : Keyed) (before now : List (Evaluation × ℕ)) (losses n : ℕ) (r : Result RunRecord StepFault) →
     IsErrAnd r (λ f. f ≡ OutOfMemory) → n ≤ suc (netlist new).horizon → now ≡ before ++ rework_below answer (netlist old) (netlist new) n → Reruns answer old new before now losses losses r
 refused answer old new before now losses n r is within asked =
-    stopped answer old new before now losses losses losses (Unit {0}) OutOfMemory r is (n, within, asked) refl (omega arith)
+    stopped answer old new before now losses losses losses (Unit {0}) OutOfMemory r is (ended answer (netlist old) (netlist new) before now n within asked) refl (omega arith)
+
+-- what is promised where memory ran out before anything was asked
+pub unasked : (answer : Evaluation → ℕ → State) (old new : Keyed) (asked : List (Evaluation × ℕ)) (losses : ℕ) (r : Result RunRecord StepFault) →
+    IsErrAnd r (λ f. f ≡ OutOfMemory) → Reruns answer old new asked asked losses losses r
+unasked answer old new asked losses r is = refused answer old new asked asked losses 0 r is (omega arith) (sym (append-nil asked))
 
 -- a front that is right at a moment, where that is known by another name
 pub front_at : (answer : Evaluation → ℕ → State) (old new : Netlist) (front : Front) (n m : ℕ) → m ≡ n → IsFront answer old new front n → IsFront answer old new front m

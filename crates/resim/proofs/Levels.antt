@@ -9,11 +9,13 @@ use Rattle.edits.specs.declared.touched.Touched.{Touched}
 use Rattle.waveform.specs.kept.Runs.{RunRecord}
 use Rattle.scratch.specs.kept.Lost.{loses_a_worker}
 use Rattle.scratch.specs.kept.Run.{IsRun}
+use Rattle.scratch.specs.Asked.{IsAskedInPart, IsAskedInSomeOrder}
+use Rattle.scratch.specs.kept.Grown.{grown_then, part_of_more, part_then}
 use Rattle.scratch.specs.kept.Work.{work_from}
 use Rattle.rundiff.specs.Dirty.{rework_below}
 use Rattle.resim.specs.Reruns.{HasGrownInPart}
 use Rattle.resim.specs.kept.Reruns.{IsTouchedIfKnown, Reruns}
-use Rattle.resim.proofs.Reworks.{new_alike, old_alike, past, reached}
+use Rattle.resim.proofs.Reworks.{new_alike, old_alike, past}
 
 on_ok : {A E P Q : Type 0} (r : Result A E) → (P → Q) → OnOk r P → OnOk r Q
 on_ok (Ok x) f p = f p
@@ -59,8 +61,8 @@ module _ (old new former : Keyed) (h : ℕ) (is : former ≡ record old { horizo
     pub cut_reruns : (before now : List (Evaluation × ℕ)) (losses lost : ℕ) (r : Result RunRecord StepFault) → Reruns answer former new before now losses lost r → Reruns answer old new before now losses lost r
     cut_reruns before now losses lost r made = record {
       run = made.run;
-      asked = on_ok r (λ all. all ∙ ap (λ l. before ++ l) (cut_alike (suc (netlist new).horizon) (omega arith))) made.asked;
-      part = on_err r (λ part. (part.0, part.1, part.2 ∙ ap (λ l. before ++ l) (cut_alike part.0 part.1))) made.part;
+      asked = on_ok r (subst (IsAskedInSomeOrder before now) (cut_alike (suc (netlist new).horizon) (omega arith))) made.asked;
+      part = on_err r (subst (IsAskedInPart before now) (cut_alike (suc (netlist new).horizon) (omega arith))) made.part;
       lost = made.lost;
     }
 
@@ -79,37 +81,53 @@ module _ (old new level : Keyed) (is : level ≡ record new { horizon = (netlist
       (record { nets_stay = same.nets_stay; drivers_stay = same.drivers_stay; gates_stay = same.gates_stay; names_stay = same.names_stay })
 
   module _ (answer : Evaluation → ℕ → State) (later : (netlist old).horizon ≤ (netlist new).horizon) (before middle : List (Evaluation × ℕ)) where
-    level_alike : (n : ℕ) → rework_below answer (netlist old) (netlist level) n ≡ rework_below answer (netlist old) (netlist new) n
-    level_alike n = ap (λ d. rework_below answer (netlist old) d n) level_is ∙ new_alike answer (netlist old) (netlist new) (netlist old).horizon n
+    early : List (Evaluation × ℕ)
+    early = rework_below answer (netlist old) (netlist new) (suc (netlist old).horizon)
+
+    late : List (Evaluation × ℕ)
+    late = work_from answer (netlist new) (suc (netlist old).horizon) (suc (netlist new).horizon)
+
+    -- what is asked up to the old horizon
+    early_is : rework_below answer (netlist old) (netlist level) (suc (netlist level).horizon) ≡ early
+    unfolding early
+    early_is =
+        ap (λ d. rework_below answer (netlist old) d (suc (netlist level).horizon)) level_is
+        ∙ new_alike answer (netlist old) (netlist new) (netlist old).horizon (suc (netlist level).horizon)
+        ∙ ap (λ h. rework_below answer (netlist old) (netlist new) (suc h)) level_horizon
+
+    -- and past it
+    late_is : work_from answer (netlist new) (suc (netlist level).horizon) (suc (netlist new).horizon) ≡ late
+    unfolding late
+    late_is = ap (λ h. work_from answer (netlist new) (suc h) (suc (netlist new).horizon)) level_horizon
+
+    whole : rework_below answer (netlist old) (netlist new) (suc (netlist new).horizon) ≡ early ++ late
+    unfolding early late
+    whole = past answer (netlist old) (netlist new) (suc (netlist new).horizon) (omega arith)
 
     -- a fault came up to the old horizon
     pub level_part : HasGrownInPart answer (netlist old) (netlist level) before middle → HasGrownInPart answer (netlist old) (netlist new) before middle
-    level_part part = let same = level_horizon in (part.0, (let low = part.1 in grind (arith)), part.2 ∙ ap (λ l. before ++ l) (level_alike part.0))
+    level_part part =
+        subst (IsAskedInPart before middle) (sym whole) (part_of_more before middle early late (subst (IsAskedInPart before middle) early_is part))
 
-    module _ (asked : middle ≡ before ++ rework_below answer (netlist old) (netlist level) (suc (netlist level).horizon)) (now : List (Evaluation × ℕ)) where
-      joined : (n : ℕ) → now ≡ middle ++ work_from answer (netlist new) (suc (netlist level).horizon) n →
-          now ≡ before ++ (rework_below answer (netlist old) (netlist new) (suc (netlist old).horizon) ++ work_from answer (netlist new) (suc (netlist old).horizon) n)
-      joined n more =
-          more ∙ ap (λ l. l ++ work_from answer (netlist new) (suc (netlist level).horizon) n) (asked ∙ ap (λ l. before ++ l) (level_alike (suc (netlist level).horizon)))
-          ∙ ap (λ h. (before ++ rework_below answer (netlist old) (netlist new) (suc h)) ++ work_from answer (netlist new) (suc h) n) level_horizon
-          ∙ append_assoc before (rework_below answer (netlist old) (netlist new) (suc (netlist old).horizon)) (work_from answer (netlist new) (suc (netlist old).horizon) n)
+    module _ (asked : IsAskedInSomeOrder before middle (rework_below answer (netlist old) (netlist level) (suc (netlist level).horizon))) (now : List (Evaluation × ℕ)) where
+      first : IsAskedInSomeOrder before middle early
+      first = subst (IsAskedInSomeOrder before middle) early_is asked
 
       -- what is asked up to the old horizon and then past it is all
-      past_asked : now ≡ middle ++ work_from answer (netlist new) (suc (netlist level).horizon) (suc (netlist new).horizon) →
-          now ≡ before ++ rework_below answer (netlist old) (netlist new) (suc (netlist new).horizon)
+      past_asked : IsAskedInSomeOrder middle now (work_from answer (netlist new) (suc (netlist level).horizon) (suc (netlist new).horizon)) →
+          IsAskedInSomeOrder before now (rework_below answer (netlist old) (netlist new) (suc (netlist new).horizon))
       past_asked more =
-          joined (suc (netlist new).horizon) more ∙ ap (λ l. before ++ l) (sym (past answer (netlist old) (netlist new) (suc (netlist new).horizon) (omega arith)))
+          subst (IsAskedInSomeOrder before now) (sym whole) (grown_then before middle now early late first (subst (IsAskedInSomeOrder middle now) late_is more))
 
       -- a fault came past the old horizon
-      past_part : (n : ℕ) × (n ≤ suc (netlist new).horizon) × (now ≡ middle ++ work_from answer (netlist new) (suc (netlist level).horizon) n) → HasGrownInPart answer (netlist old) (netlist new) before now
+      past_part : IsAskedInPart middle now (work_from answer (netlist new) (suc (netlist level).horizon) (suc (netlist new).horizon)) → HasGrownInPart answer (netlist old) (netlist new) before now
       past_part part =
-          let at = reached answer (netlist old) (netlist new) (netlist new).horizon part.0 later part.1 in
-          (at.0, at.1, joined part.0 part.2 ∙ ap (λ l. before ++ l) at.2)
+          subst (IsAskedInPart before now) (sym whole) (part_then before middle now early late first (subst (IsAskedInPart middle now) late_is part))
 
     -- the run up to the old horizon goes on past it
     pub extended : (made : RunRecord) (losses between : ℕ) → Reruns answer old level before middle losses between (Ok made) → (now : List (Evaluation × ℕ)) (lost : ℕ) (r : Result RunRecord StepFault) →
-        IfOk r (IsRun answer new) → OnOk r (now ≡ middle ++ work_from answer (netlist new) (suc (netlist level).horizon) (suc (netlist new).horizon)) →
-        OnErr r ((n : ℕ) × (n ≤ suc (netlist new).horizon) × (now ≡ middle ++ work_from answer (netlist new) (suc (netlist level).horizon) n)) →
+        IfOk r (IsRun answer new) → OnOk r (IsAskedInSomeOrder middle now (work_from answer (netlist new) (suc (netlist level).horizon) (suc (netlist new).horizon))) →
+        OnErr r (IsAskedInPart middle now (work_from answer (netlist new) (suc (netlist level).horizon) (suc (netlist new).horizon))) →
         lost ≡ between + (if loses_a_worker r then 1 else 0) → Reruns answer old new before now losses lost r
     extended made losses between up_to now lost r run asked part count = record {
       run = run;

@@ -76,22 +76,3 @@ module _ (answer : Evaluation → ℕ → State) (old new : Netlist) where
   pub past : (n : ℕ) → suc old.horizon ≤ n → rework_below answer old new n ≡ rework_below answer old new (suc old.horizon) ++ work_from answer new (suc old.horizon) n
   past zero low = absurd (omega arith)
   past (suc t) low = below_by t (nat_le (suc old.horizon) t) refl (λ le. past t le) (omega arith)
-
-  none_by : (t : ℕ) (b : Bool) → nat_le (suc old.horizon) t ≡ b → t ≤ old.horizon → cond b (work_from answer new (suc old.horizon) t ++ work_at answer new t) [] ≡ []
-  none_by t true over low = absurd (let le : suc old.horizon ≤ t = grind (arith, nat_tests) in omega arith)
-  none_by t false under low = refl
-
-  none_before : (n : ℕ) → n ≤ suc old.horizon → work_from answer new (suc old.horizon) n ≡ []
-  none_before zero low = refl
-  none_before (suc t) low = none_by t (nat_le (suc old.horizon) t) refl (omega arith)
-
-  reached_by : (last n : ℕ) → old.horizon ≤ last → n ≤ suc last → (n < suc old.horizon) ⊎ (suc old.horizon ≤ n) →
-      (m : ℕ) × (m ≤ suc last) × (rework_below answer old new (suc old.horizon) ++ work_from answer new (suc old.horizon) n ≡ rework_below answer old new m)
-  reached_by last n later within (inr le) = (n, within, sym (past n le))
-  reached_by last n later within (inl lt) =
-      (suc old.horizon, omega arith, ap (λ l. rework_below answer old new (suc old.horizon) ++ l) (none_before n (omega arith)) ∙ append-nil (rework_below answer old new (suc old.horizon)))
-
-  -- what a run from the old horizon on asks up to some moment
-  pub reached : (last n : ℕ) → old.horizon ≤ last → n ≤ suc last →
-      (m : ℕ) × (m ≤ suc last) × (rework_below answer old new (suc old.horizon) ++ work_from answer new (suc old.horizon) n ≡ rework_below answer old new m)
-  reached last n later within = reached_by last n later within (cases_lt n (suc old.horizon))

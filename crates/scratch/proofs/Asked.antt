@@ -1,12 +1,14 @@
 -- What is asked from one moment on.
-use Rattle.std.proofs.Common.{◌≡◌, ◌<◌, ◌≤◌, ◌∙◌, sym, ap, refl, Bool, true, false, cond, ℕ, zero, suc, List, [], ◌++◌, append_assoc, append-nil, arith, ◌⊎◌, inl, inr, Result, Ok, Err, OnErr, OnOk}
+use Rattle.std.proofs.Common.{◌≡◌, ◌<◌, ◌≤◌, ◌∙◌, sym, ap, subst, refl, Bool, true, false, cond, ℕ, zero, suc, List, [], ◌++◌, append_assoc, append-nil, arith, ◌⊎◌, inl, inr, Result, Ok, Err, OnErr, OnOk}
 use Rattle.std.specs.Prelude.{nat_le}
 use Rattle.std.proofs.lemmas.Bool.{cases_lt}
 use Rattle.std.proofs.lemmas.Bool.Decides.{nat_tests}
 use Rattle.std.proofs.lemmas.List.{append_cancel_left}
 use Rattle.gatestep.specs.Step.{State, Evaluation}
 use Rattle.design.specs.Netlist.{Netlist}
+use Rattle.scratch.specs.Asked.{IsAskedInPart}
 use Rattle.scratch.specs.Work.{work_at, work_below}
+use Rattle.scratch.specs.kept.Grown.{grown_first}
 use Rattle.scratch.specs.kept.Work.{HasGrownOrNot, work_from}
 
 -- what follows from what an answer says
@@ -17,6 +19,11 @@ ok_on (Err e) follows p = p
 pub err_on : {A E : Type 0} {P Q : Type 0} (r : Result A E) → (P → Q) → OnErr r P → OnErr r Q
 err_on (Ok x) follows p = p
 err_on (Err e) follows p = follows p
+
+-- what holds of a fault
+pub held_err : {A E : Type 0} {P : Type 0} (r : Result A E) → P → OnErr r P
+held_err (Ok x) p = tt
+held_err (Err e) p = p
 
 holds : (n t : ℕ) → n ≤ t → nat_le n t ≡ true
 holds n t le = grind (arith, nat_tests)
@@ -51,6 +58,13 @@ module _ (answer : Evaluation → ℕ → State) (d : Netlist) where
           ∙ append_assoc (work_below answer d n) (work_from answer d n m) (work_at answer d m)
           ∙ ap (λ l. work_below answer d n ++ l) (sym (grown n m low))
 
+  -- and so is that from some moment on
+  pub parted : (s n m : ℕ) → s ≤ n → n ≤ m → work_from answer d s m ≡ work_from answer d s n ++ work_from answer d n m
+  parted s n m low high =
+      append_cancel_left (work_below answer d s) (work_from answer d s m) (work_from answer d s n ++ work_from answer d n m)
+      (sym (whole s m (omega arith)) ∙ whole n m high ∙ ap (λ l. l ++ work_from answer d n m) (whole s n low)
+      ∙ append_assoc (work_below answer d s) (work_from answer d s n) (work_from answer d n m))
+
   -- moments that ask nothing
   pub unmoved : (a n u : ℕ) → a ≤ n → n ≤ u → work_below answer d u ≡ work_below answer d n → work_from answer d a u ≡ work_from answer d a n
   unmoved a n u low high idle =
@@ -81,3 +95,18 @@ module _ (answer : Evaluation → ℕ → State) (d : Netlist) where
     from_scratch more =
         more ∙ ap (λ l. l ++ work_from answer d 1 n) was
         ∙ append_assoc base (work_at answer d 0) (work_from answer d 1 n) ∙ ap (λ l. base ++ l) (sym (whole 1 n begun))
+
+  -- What was asked where a run ended early, of all that is asked up to the moment m.
+  module _ (base now : List (Evaluation × ℕ)) (m : ℕ) where
+    -- it ended at the moment n
+    pub early : (n : ℕ) → n ≤ m → now ≡ base ++ work_below answer d n → IsAskedInPart base now (work_below answer d m)
+    early n low is = subst (IsAskedInPart base now) (sym (whole n m low)) (grown_first base now (work_below answer d n) (work_from answer d n m) is)
+
+    -- it began at the moment s and ended at n
+    pub early_from : (s n : ℕ) → s ≤ n → n ≤ m → now ≡ base ++ work_from answer d s n → IsAskedInPart base now (work_from answer d s m)
+    early_from s n begun low is = subst (IsAskedInPart base now) (sym (parted s n m begun low)) (grown_first base now (work_from answer d s n) (work_from answer d n m) is)
+
+  -- it ended at the moment 0
+  pub early_at_first : (base now : List (Evaluation × ℕ)) (m : ℕ) → 0 < m → HasGrownOrNot base now (work_at answer d 0) → IsAskedInPart base now (work_below answer d m)
+  early_at_first base now m some (inl same) = early base now m 0 (omega arith) (same ∙ sym (append-nil base))
+  early_at_first base now m some (inr more) = early base now m 1 (omega arith) more

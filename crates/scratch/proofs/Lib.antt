@@ -4,6 +4,7 @@ pub mod Between
 pub mod Complete
 pub mod Copies
 pub mod Counting
+pub mod Counts
 pub mod GateSteps
 pub mod Keyed
 pub mod Later

@@ -1,3 +1,4 @@
+pub mod Asked
 pub mod Run
 pub mod Work
 pub mod kept

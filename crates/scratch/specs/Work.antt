@@ -1,4 +1,4 @@
--- What a run asks of its stepper: moment after moment the gates that are stirred, in the order of the gates.
+-- What a run asks of its stepper: at each moment the gates that are stirred, in some order.
 use Rattle.std.specs.Prelude.{◌||◌, Bool, true, false, not, ℕ, zero, suc, nat_le, List, [], ◌++◌, map}
 use Rattle.std.specs.Cmp.Lexicographic.{pointwise}
 use Rattle.std.specs.List.{filter}

@@ -1,4 +1,5 @@
 pub mod Cells
+pub mod Grown
 pub mod HorizonLaws
 pub mod Kept
 pub mod Lost

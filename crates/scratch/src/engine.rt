@@ -14,6 +14,7 @@ ghost use Rattle.scratch.specs.kept.Work.{HasGrownOrNot};
 
 use crate::asking::ask;
 use crate::completing::complete_waves;
+use crate::finishing::run_of_lines;
 use crate::opening::Opening;
 use crate::recording::Recording;
 use crate::resolving::resolve_nets;
@@ -307,8 +308,6 @@ impl Engine {
         let mut waves = self.waves.finish()?;
         let traces = self.traces.finish()?;
         complete_waves::<S>(design, wiring, traces.as_slice(), &mut waves)?;
-        let recording = Recording { waves, traces };
-        let run = recording.finish(alloc, design)?;
-        Ok(run)
+        run_of_lines::<S>(alloc, design, waves, traces)
     }
 }

@@ -1,11 +1,12 @@
 //! The run of a design up to a later horizon.
 
-ghost use Rattle.std.specs.Prelude.{◌≡◌, ◌≤◌, ◌++◌, ℕ, suc, IfOk, OnErr, OnOk};
+ghost use Rattle.std.specs.Prelude.{◌≡◌, ◌≤◌, suc, IfOk, OnErr, OnOk};
 ghost use Rattle.design.specs.Keys.{netlist};
 ghost use Rattle.scratch.specs.kept.Kept.{IsWiring};
 ghost use Rattle.scratch.specs.kept.Lost.{CountsLoss};
 ghost use Rattle.scratch.specs.kept.Run.{IsRun};
 ghost use Rattle.scratch.specs.kept.Stands.{Stands};
+ghost use Rattle.scratch.specs.Asked.{IsAskedInPart, IsAskedInSomeOrder};
 ghost use Rattle.scratch.specs.kept.Work.{work_from};
 
 use crate::continuing::run_on;
@@ -19,7 +20,7 @@ use waveform::Run;
 
 /// The run of a design from the run of the same design up to an earlier horizon: only the moments after that one are gone
 /// through. `OutOfMemory` where an allocation was refused, here or in a step; `WorkerLost` where a step answered so: then what
-/// was asked is the work up to some moment.
+/// was asked is a part of the work of these moments.
 pub fn extend<S: Stepper>(
     alloc: Global,
     former: &Design,
@@ -31,10 +32,10 @@ pub fn extend<S: Stepper>(
     requires later { (netlist former.now).horizon ≤ (netlist design.now).horizon }
     requires run { IsRun S.answer former.now run.now }
     ensures run { IfOk result (IsRun S.answer design.now) }
-    ensures asked { OnOk result (S.asked stepper.new ≡ S.asked stepper.old
-        ++ work_from S.answer (netlist design.now) (suc (netlist former.now).horizon) (suc (netlist design.now).horizon)) }
-    ensures part { OnErr result ((n : ℕ) × (n ≤ suc (netlist design.now).horizon)
-        × (S.asked stepper.new ≡ S.asked stepper.old ++ work_from S.answer (netlist design.now) (suc (netlist former.now).horizon) n)) }
+    ensures asked { OnOk result (IsAskedInSomeOrder (S.asked stepper.old) (S.asked stepper.new)
+        (work_from S.answer (netlist design.now) (suc (netlist former.now).horizon) (suc (netlist design.now).horizon))) }
+    ensures part { OnErr result (IsAskedInPart (S.asked stepper.old) (S.asked stepper.new)
+        (work_from S.answer (netlist design.now) (suc (netlist former.now).horizon) (suc (netlist design.now).horizon))) }
     ensures lost { CountsLoss (S.losses stepper.old) (S.losses stepper.new) result }
 {
     let wiring = wire(alloc, design)?;

@@ -1,5 +1,5 @@
 -- What a rerun is, whether or not it is known what edits touched.
-use Rattle.std.specs.Prelude.{◌≡◌, ◌++◌, ℕ, suc, List, Option, Result, IfOk, OnErr, OnOk}
+use Rattle.std.specs.Prelude.{ℕ, suc, List, Option, Result, IfOk, OnErr, OnOk}
 use Rattle.std.specs.Borrow.{Bor}
 use Rattle.std.specs.Option.{ForSome}
 use Rattle.gatestep.specs.Step.{State, Evaluation}
@@ -9,6 +9,7 @@ use Rattle.edits.specs.kept.Touched.{IsTouched}
 use Rattle.edits.specs.declared.touched.Touched.{Touched}
 use Rattle.waveform.specs.kept.Runs.{RunRecord}
 use Rattle.scratch.specs.kept.Lost.{CountsLoss}
+use Rattle.scratch.specs.Asked.{IsAskedInSomeOrder}
 use Rattle.scratch.specs.kept.Run.{IsRun}
 use Rattle.rundiff.specs.Dirty.{rework_below}
 use Rattle.resim.specs.Reruns.{HasGrownInPart}
@@ -21,9 +22,9 @@ pub record Reruns (answer : Evaluation → ℕ → State) (old new : Keyed) (bef
   -- the run is that of the new design
   pub run : IfOk result (IsRun answer new)
   -- where there is a run, the stepper was asked at each moment up to the horizon for the gates that are dirty and stirred,
-  -- each once, in the order of the gates, and for nothing else
-  pub asked : OnOk result (now ≡ before ++ rework_below answer (netlist old) (netlist new) (suc (netlist new).horizon))
-  -- where a fault came, it was asked for those of the moments below some moment
+  -- each once, in some order, and for nothing else
+  pub asked : OnOk result (IsAskedInSomeOrder before now (rework_below answer (netlist old) (netlist new) (suc (netlist new).horizon)))
+  -- where a fault came, it was asked for a part of that
   pub part : OnErr result (HasGrownInPart answer (netlist old) (netlist new) before now)
   -- the fault is that a worker was lost exactly where the stepper lost one
   pub lost : CountsLoss losses losses_now result

@@ -1,3 +1,4 @@
+use Rattle.resim.proofs.Asked.{unasked}
 use Rattle.resim.proofs.Levels.{cut_horizon, cut_reruns, cut_run, cut_touched, is_early}
 use Rattle.resim.proofs.other_horizon.rerun_shorter.Goals as goal
 
@@ -24,3 +25,13 @@ returns g c =
           (g.S.Stepper.asked c.args.stepper.now) (g.S.Stepper.asked c.rerun_level.new.stepper) (g.S.Stepper.losses c.args.stepper.now) (g.S.Stepper.losses c.rerun_level.new.stepper)
           c.rerun_level.result c.rerun_level.ensures.reruns;
     }
+
+pub returns-in_err-short : goal.returns-in_err-short
+returns-in_err-short g c = record {
+  reruns = unasked g.S.Stepper.answer c.args.old.now c.args.new.now (g.S.Stepper.asked c.args.stepper.now) (g.S.Stepper.losses c.args.stepper.now) c.from_residual.result c.from_residual.ensures.1;
+}
+
+pub returns-in_err-former : goal.returns-in_err-former
+returns-in_err-former g c = record {
+  reruns = unasked g.S.Stepper.answer c.args.old.now c.args.new.now (g.S.Stepper.asked c.args.stepper.now) (g.S.Stepper.losses c.args.stepper.now) c.from_residual-in_err-former.result c.from_residual-in_err-former.ensures.1;
+}

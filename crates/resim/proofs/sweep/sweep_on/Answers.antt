@@ -2,6 +2,7 @@ use Rattle.std.proofs.Common.{◌≡◌, ◌≤◌, ◌++◌, ◌∙◌, sym, ap
 use Rattle.std.proofs.lemmas.Grind.{common_steps}
 use Rattle.design.specs.Keys.{netlist}
 use Rattle.scratch.specs.kept.Stands.{Stands}
+use Rattle.scratch.specs.kept.Grown.{grown_all}
 use Rattle.rundiff.specs.Dirty.{rework_below}
 use Rattle.resim.specs.kept.Reruns.{Reruns}
 use Rattle.resim.proofs.Asked.{one_more, part, refused, stopped}
@@ -77,7 +78,9 @@ returns g c =
     record {
       reruns = λ was began. record {
         run = c.in_ok-finish.ensures;
-        asked = c.loop-t.invariant.asked was began ∙ ap (λ n. was ++ rework_below answer old new n) last;
+        asked =
+            grown_all was (g.S.Stepper.asked c.loop-t.stepper) (rework_below answer old new (suc new.horizon))
+            (c.loop-t.invariant.asked was began ∙ ap (λ n. was ++ rework_below answer old new n) last);
         part = tt;
         lost = let same = c.loop-t.invariant.losses in omega (arith, same);
       };

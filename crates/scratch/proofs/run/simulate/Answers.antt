@@ -1,18 +1,11 @@
-use Rattle.std.proofs.Common.{suc, arith}
+use Rattle.std.proofs.Common.{suc}
 use Rattle.design.specs.Keys.{netlist}
-use Rattle.scratch.proofs.Asked.{err_on, from_scratch, ok_on}
+use Rattle.scratch.specs.Work.{work_below}
+use Rattle.scratch.specs.kept.Grown.{grown_none}
+use Rattle.scratch.proofs.Asked.{held_err}
 use Rattle.scratch.proofs.run.simulate.Goals as goal
 
-pub returns-clause-asked : goal.returns-clause-asked
-returns-clause-asked g c =
-    let asked = g.S.Stepper.asked in let d = netlist c.args.design.now in
-    ok_on c.run_on.result
-    (λ more. from_scratch g.S.Stepper.answer d (asked c.args.stepper.now) (asked c.open.new.stepper) (asked c.run_on.new.stepper) (suc d.horizon) (omega arith) c.in_ok-engine.ensures.asked more)
-    c.run_on.ensures.asked
-
-pub returns-clause-part : goal.returns-clause-part
-returns-clause-part g c =
-    let asked = g.S.Stepper.asked in let d = netlist c.args.design.now in
-    err_on c.run_on.result
-    (λ some. (some.0, some.2, from_scratch g.S.Stepper.answer d (asked c.args.stepper.now) (asked c.open.new.stepper) (asked c.run_on.new.stepper) some.0 some.1 c.in_ok-engine.ensures.asked some.3))
-    c.run_on.ensures.part
+pub returns-in_err-wiring-clause-part : goal.returns-in_err-wiring-clause-part
+returns-in_err-wiring-clause-part g c =
+    let d = netlist c.args.design.now in
+    held_err c.from_residual.result (grown_none (g.S.Stepper.asked c.args.stepper.now) (work_below g.S.Stepper.answer d (suc d.horizon)))

@@ -1,0 +1,29 @@
+//! The run that its lines make.
+
+ghost use Rattle.std.specs.Prelude.{◌≡◌, map, IfOk};
+ghost use Rattle.design.specs.Keys.{netlist};
+ghost use Rattle.scratch.specs.Run.{wave_of};
+ghost use Rattle.scratch.specs.kept.Run.{IsRun, trace_of};
+
+use crate::recording::Recording;
+use design::Design;
+use gatestep::Stepper;
+use std::alloc::{AllocError, Global};
+use waveform::{Run, Trace, Wave};
+
+/// The run of the design, from the wave of each net, in the order of the nets, and the trace of each gate's driver, in the order
+/// of the gates.
+pub fn run_of_lines<S: Stepper>(
+    alloc: Global,
+    design: &Design,
+    waves: Vec<Wave>,
+    traces: Vec<Trace>,
+) -> Result<Run, AllocError>
+    requires waves { waves.items ≡ map (wave_of S.answer (netlist design.now)) (netlist design.now).nets }
+    requires traces { traces.items ≡ map (trace_of S.answer (netlist design.now)) (netlist design.now).gates }
+    ensures { IfOk result (IsRun S.answer design.now) }
+{
+    let recording = Recording { waves, traces };
+    let run = recording.finish(alloc, design)?;
+    Ok(run)
+}
