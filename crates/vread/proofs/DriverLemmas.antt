@@ -44,26 +44,6 @@ before_driven false true c d e is = absurd (cc)
 before_driven false false true d e is = absurd (cc)
 before_driven false false false d e is = (refl, refl)
 
--- no fault of too many nets is for a driven input
-pub crowded_is_other : (a b d e : Bool) → is_driven_input (chain a b true d e) ≡ false
-crowded_is_other true b d e = refl
-crowded_is_other false true d e = refl
-crowded_is_other false false d e = refl
-
-pub crowded_names_nothing : (list : ModuleList) (top : ModuleEntry) → MAX_NETS < length (nets_of list.names list.modules top) → scopes_party list top (late.scopes_fault list.names list.modules top) ≡ []
-crowded_names_nothing list top many =
-    let test : nat_lt MAX_NETS (length (nets_of list.names list.modules top)) ≡ true = grind (arith, nat_tests) in
-    let a = list_any (late.is_port_wrong list.names list.modules) (scopes_of list.names list.modules top) in
-    let b = list_any (late.is_long_named list.names list.modules) (scopes_of list.names list.modules top) in
-    let d = nat_lt MAX_GATES (length (gates_of list.names list.modules top)) in
-    let e = list_any (late.is_input_driven list.names list.modules) (scopes_of list.names list.modules top) in
-    ap (λ (c : Bool). scopes_party list top (chain a b c d e)) test
-    ∙ ap (λ (driven : Bool). cond driven (option_map_or driver_text (first_driver list.names list.modules (scopes_of list.names list.modules top)) []) []) (crowded_is_other a b d e)
-
--- modules with a fault of their own name nothing as a design
-pub own_fault_names_nothing : (text : List ℕ) (list : ModuleList) (fault : ReadFault) → elaboration_fault text list.modules ≡ Some fault → design_party text list ≡ []
-own_fault_names_nothing text list fault is = ap (λ (f : Option ReadFault). party_by list f (top_of list.modules)) is
-
 -- A design that modules make.
 module _ (text : List ℕ) (list : ModuleList) (design : Elaborated) (is : IsElaboration text list design) (known : Known list design.top.1)
     (driven : is_driven_input (late.scopes_fault list.names list.modules design.top.1) ≡ true) where
