@@ -1,0 +1,6 @@
+pub mod Gates
+pub mod Known
+pub mod Line
+pub mod Readers
+pub mod Walks
+pub mod Waves
