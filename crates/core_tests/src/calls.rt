@@ -38,6 +38,18 @@ pub fn simulated<S: Stepper>(
     simulate(alloc, design, stepper).expect(rt, "a run")
 }
 
+/// The run of a design, gate after gate where none lies on a loop.
+pub fn simulated_in_order<S: Stepper>(
+    rt: &impl Abort,
+    alloc: Global,
+    design: &Design,
+    stepper: &mut S,
+) -> Run
+    ensures { IsRun S.answer design.now result }
+{
+    ordering::simulate(alloc, design, stepper).expect(rt, "a run")
+}
+
 /// The run of a design from that of a former one.
 pub fn rerun(
     rt: &impl Abort,

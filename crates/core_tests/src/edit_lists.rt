@@ -1,7 +1,7 @@
 //! Lists of edits, worked out by hand.
 
 mod accepted;
-pub mod lines;
+pub mod edit_lines;
 mod refused;
 mod shown;
 mod touched;

@@ -18,6 +18,8 @@ mod edit_lists;
 #[cfg(test)]
 mod editors;
 #[cfg(test)]
+mod orders;
+#[cfg(test)]
 mod pools;
 #[cfg(test)]
 mod reruns;

@@ -1,7 +1,7 @@
 //! Runs with an earlier horizon, worked out by hand.
 
 use crate::compare::equal;
-use crate::edit_lists::lines::design_of;
+use crate::edit_lists::edit_lines::design_of;
 use design::Design;
 use gatestep::Serial;
 use resim::shorten;

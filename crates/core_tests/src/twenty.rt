@@ -1,6 +1,6 @@
 //! A design of which 20 gates are stirred at a moment.
 
-use crate::edit_lists::lines::{edit, edits, made_of};
+use crate::edit_lists::edit_lines::{edit, edits, made_of};
 use design::Design;
 use std::alloc::Global;
 use std::process::Abort;

@@ -1,7 +1,7 @@
 //! Benches of lines, and what their snapshots are asked.
 
 use crate::compare::equal;
-use crate::edit_lists::lines::{design_of, edits};
+use crate::edit_lists::edit_lines::{design_of, edits};
 use crate::waves::text_of;
 use bench::{Bench, CommitFault, Snapshot};
 use gatestep::{Serial, Stepper};

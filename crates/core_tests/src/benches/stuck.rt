@@ -3,7 +3,7 @@
 use super::opened::{check, check_commit};
 use crate::compare::equal;
 use crate::counting::Counting;
-use crate::edit_lists::lines::design_of;
+use crate::edit_lists::edit_lines::design_of;
 use crate::twenty::twenty;
 use bench::{Bench, CommitFault};
 use edits::EditFault;

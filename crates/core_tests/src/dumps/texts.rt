@@ -2,7 +2,7 @@
 
 use crate::benches::opened::{commit, open};
 use crate::compare::equal;
-use crate::edit_lists::lines::empty;
+use crate::edit_lists::edit_lines::empty;
 use bench::{Bench, Snapshot};
 use design::{Design, Name, NameHasher};
 use devices::Device;

@@ -1,7 +1,7 @@
 //! What accepted edits do.
 
 use crate::compare::equal;
-use crate::edit_lists::lines::{carried_out, design_of, edit, edits, empty};
+use crate::edit_lists::edit_lines::{carried_out, design_of, edit, edits, empty};
 use crate::edit_lists::shown::show;
 use design::Design;
 use edits::{Edit, MAX_EDITS};

@@ -1,7 +1,7 @@
 //! Why edits are refused: each cause, and beside it an edit that is accepted.
 
 use crate::compare::equal;
-use crate::edit_lists::lines::{carried_out, design_of, edit, edits, outcome, refused};
+use crate::edit_lists::edit_lines::{carried_out, design_of, edit, edits, outcome, refused};
 use crate::edit_lists::shown::show;
 use design::{Design, MAX_GATES, MAX_NETS, MAX_POINTS};
 use edits::EditFault::{

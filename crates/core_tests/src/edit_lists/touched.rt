@@ -1,7 +1,7 @@
 //! What lists of edits touch.
 
 use crate::compare::equal;
-use crate::edit_lists::lines::{design_of, edits};
+use crate::edit_lists::edit_lines::{design_of, edits};
 use design::{Design, GateKey, NetKey};
 use edits::apply_all_with_touched;
 use std::alloc::Global;

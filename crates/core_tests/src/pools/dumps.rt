@@ -6,7 +6,7 @@ ghost use Rattle.parstep.specs.declared.limits.TheConstants.{MAX_WORKERS};
 
 use crate::compare::equal;
 use crate::dumps::many::times;
-use crate::edit_lists::lines::{design_of, edit};
+use crate::edit_lists::edit_lines::{design_of, edit};
 use bench::Bench;
 use devices::Device;
 use edits::Edit;

@@ -3,7 +3,7 @@
 use super::lost::{LOST, check as check_step, two_workers};
 use crate::benches::opened::{check, check_commit};
 use crate::compare::equal;
-use crate::edit_lists::lines::design_of;
+use crate::edit_lists::edit_lines::design_of;
 use bench::{Bench, CommitFault};
 use gatestep::Stepper;
 use std::alloc::Global;

@@ -3,7 +3,7 @@
 use super::ways::{Asked, asked_at};
 use crate::calls::simulated;
 use crate::compare::equal;
-use crate::edit_lists::lines::{edit, edits, made_of};
+use crate::edit_lists::edit_lines::{edit, edits, made_of};
 use design::Design;
 use gatestep::Serial;
 use resim::Limit;

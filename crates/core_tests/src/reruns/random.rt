@@ -12,7 +12,7 @@ use crate::calls;
 use crate::compare::equal;
 use crate::counting::Counting;
 use crate::dice::Dice;
-use crate::edit_lists::lines::{design_of, edit};
+use crate::edit_lists::edit_lines::{design_of, edit};
 use design::Design;
 use edits::{Edit, EditFault, Touched, apply_all_with_touched};
 use gatestep::Serial;

@@ -6,7 +6,7 @@ ghost use Rattle.scratch.specs.kept.Run.{IsRun};
 use crate::calls::{changed, followed, rerun, simulated};
 use crate::compare::equal;
 use crate::counting::Counting;
-use crate::edit_lists::lines::{edits, made_of};
+use crate::edit_lists::edit_lines::{edits, made_of};
 use crate::twenty::twenty;
 use crate::waves::{Named, check_waves};
 use design::Design;

@@ -8,7 +8,7 @@ use super::random::check_run;
 use crate::calls::{changed, followed, rerun, simulated};
 use crate::compare::equal;
 use crate::counting::Counting;
-use crate::edit_lists::lines::{edit, edits, made_of};
+use crate::edit_lists::edit_lines::{edit, edits, made_of};
 use design::Design;
 use gatestep::Serial;
 use resim::Limit;

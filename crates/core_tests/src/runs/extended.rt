@@ -5,7 +5,7 @@ ghost use Rattle.std.specs.Prelude.{◌≡◌};
 use crate::calls::simulated;
 use crate::compare::equal;
 use crate::counting::Counting;
-use crate::edit_lists::lines::design_of;
+use crate::edit_lists::edit_lines::design_of;
 use crate::waves::{Named, check_waves};
 use design::Design;
 use fourstate::MAX_TIME;

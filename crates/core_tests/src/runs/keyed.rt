@@ -5,7 +5,7 @@ ghost use Rattle.scratch.specs.kept.Run.{IsRun};
 
 use crate::calls::simulated;
 use crate::compare::equal;
-use crate::edit_lists::lines::{carried_out, design_of, edits};
+use crate::edit_lists::edit_lines::{carried_out, design_of, edits};
 use crate::waves::{check_waves, text_of};
 use design::{Design, GateKey, NetKey};
 use fourstate::Value::{One, Unknown};

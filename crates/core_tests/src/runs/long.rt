@@ -2,7 +2,7 @@
 
 use crate::calls::simulated;
 use crate::compare::equal;
-use crate::edit_lists::lines::design_of;
+use crate::edit_lists::edit_lines::design_of;
 use fourstate::Value;
 use gatestep::Serial;
 use scratch::wave_named;

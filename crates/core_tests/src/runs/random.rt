@@ -1,19 +1,27 @@
 //! Runs of random designs with gates and nets of every kind, beside two reference implementations: the one of `reruns`, and
 //! the one whose contract is the definition.
 
-use crate::calls::simulated;
+ghost use Rattle.std.specs.Prelude.{◌<◌, ◌≤◌};
+
+use crate::calls::{simulated, simulated_in_order};
 use crate::compare::equal;
+use crate::counting::Counting;
 use crate::dice::Dice;
-use crate::edit_lists::lines::{carried_out, empty, word};
+use crate::edit_lists::edit_lines::{carried_out, empty, word};
 use crate::reruns::plain::{Row, rows};
 use crate::reruns::random::check_run;
 use design::Design;
 use edits::{Edit, Pin, Pins};
 use fourstate::{DelayTimes, GateKind, NetKind, Value, takes_off};
 use gatestep::Serial;
+use ordering::find_order;
 use scratch::plain::values;
+use scratch::wire;
 use std::alloc::Global;
 use std::process::Abort;
+
+/// More tasks than a moment has.
+const NEVER_DEALT: usize = 1_000;
 
 const INPUTS: [&str; 2] = ["a", "b"];
 
@@ -34,10 +42,14 @@ fn point(rt: &impl Abort, alloc: Global, dice: &mut Dice, net: &str) -> Edit {
     }
 }
 
-fn pins(rt: &impl Abort, alloc: Global, dice: &mut Dice, count: u64) -> Pins {
+/// Pins at the first nets of all, as many as `among` says.
+fn pins(rt: &impl Abort, alloc: Global, dice: &mut Dice, among: u64, count: u64) -> Pins
+    requires few { among ≤ 6 }
+    requires some { 0 < among }
+{
     let mut pins = Pins::new(alloc);
     for _ in 0..count {
-        let net = word(rt, alloc, BOTH[dice.below(6) as usize]);
+        let net = word(rt, alloc, BOTH[dice.below(among) as usize]);
         pins.push(Pin::Net(net)).expect(rt, "one pin more");
     }
     pins
@@ -53,8 +65,11 @@ fn delays(dice: &mut Dice, kind: GateKind) -> DelayTimes {
     }
 }
 
-fn gate(rt: &impl Abort, alloc: Global, dice: &mut Dice, name: &str) -> Edit {
+/// A gate of any kind; where it has to come in order, it reads inputs and nets that stand before the one that it drives.
+fn gate(rt: &impl Abort, alloc: Global, dice: &mut Dice, name: &str, in_order: bool) -> Edit {
     let kind = GateKind::ALL[dice.below(12) as usize];
+    let output = dice.below(4);
+    let among = if in_order { 2 + output } else { 6 };
     let count = match kind {
         GateKind::Buf | GateKind::Not => 1,
         _ => 2,
@@ -63,8 +78,8 @@ fn gate(rt: &impl Abort, alloc: Global, dice: &mut Dice, name: &str) -> Edit {
         name: word(rt, alloc, name),
         kind,
         delays: delays(dice, kind),
-        output: word(rt, alloc, NETS[dice.below(4) as usize]),
-        inputs: pins(rt, alloc, dice, count),
+        output: word(rt, alloc, NETS[output as usize]),
+        inputs: pins(rt, alloc, dice, among, count),
     }
 }
 
@@ -85,7 +100,7 @@ fn add_nets(rt: &impl Abort, alloc: Global, dice: &mut Dice, edits: &mut Vec<Edi
 }
 
 /// Nets and gates of any kind, six points for each input, and the horizon 60.
-fn random_edits(rt: &impl Abort, alloc: Global, seed: u64) -> Vec<Edit> {
+fn random_edits(rt: &impl Abort, alloc: Global, seed: u64, in_order: bool) -> Vec<Edit> {
     let mut dice = Dice(seed);
     let mut edits = Vec::new(alloc);
     add_nets(rt, alloc, &mut dice, &mut edits);
@@ -94,7 +109,7 @@ fn random_edits(rt: &impl Abort, alloc: Global, seed: u64) -> Vec<Edit> {
         add(rt, &mut edits, point);
     }
     for name in GATES {
-        let gate = gate(rt, alloc, &mut dice, name);
+        let gate = gate(rt, alloc, &mut dice, name, in_order);
         add(rt, &mut edits, gate);
     }
     add(rt, &mut edits, Edit::Horizon { time: 60 });
@@ -121,14 +136,52 @@ fn check(rt: &impl Abort, alloc: Global, design: &Design) {
     drop(run);
 }
 
-fn check_seed(rt: &impl Abort, alloc: Global, seed: u64) {
-    let edits = random_edits(rt, alloc, seed);
+/// A design of random edits.
+fn random_design(rt: &impl Abort, alloc: Global, seed: u64, in_order: bool) -> Design {
+    let edits = random_edits(rt, alloc, seed, in_order);
     let start = empty(rt, alloc);
     let design = carried_out(rt, alloc, &start, &edits);
     drop(start);
     drop(edits);
+    design
+}
+
+fn check_seed(rt: &impl Abort, alloc: Global, seed: u64) {
+    let design = random_design(rt, alloc, seed, false);
     check(rt, alloc, &design);
     drop(design);
+}
+
+/// The gates of the design have an order.
+fn check_order(rt: &impl Abort, alloc: Global, design: &Design) {
+    let wiring = wire(alloc, design).expect(rt, "room");
+    let order = find_order(alloc, design, &wiring).expect(rt, "room");
+    equal(rt, "an order", order.is_some(), true);
+    drop(order);
+    drop(wiring);
+}
+
+/// A run gate after gate has the values of the rows, and asks as many tasks as the one moment after moment.
+fn check_in_order(rt: &impl Abort, alloc: Global, seed: u64) {
+    let design = random_design(rt, alloc, seed, true);
+    check_order(rt, alloc, &design);
+    let mut beside = Counting::new(NEVER_DEALT);
+    drop(simulated(rt, alloc, &design, &mut beside));
+    let mut stepper = Counting::new(NEVER_DEALT);
+    let run = simulated_in_order(rt, alloc, &design, &mut stepper);
+    equal(rt, (seed, "tasks"), stepper.tasks(rt), beside.tasks(rt));
+    let rows = rows(rt, alloc, &design);
+    check_run(rt, &design, &run, rows.as_slice());
+    drop(rows);
+    drop(run);
+    drop(design);
+}
+
+#[test]
+fn a_run_gate_after_gate_has_the_values_of_each_moment(rt: HostRuntime) {
+    for seed in [1, 2, 3, 5, 8, 13, 21, 34] {
+        check_in_order(&rt, rt.alloc(), seed);
+    }
 }
 
 #[test]

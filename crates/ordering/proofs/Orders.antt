@@ -1,0 +1,124 @@
+-- An order of the gates has each of them once.
+use Rattle.std.proofs.Common.{◌≡◌, ◌<◌, ◌∙◌, sym, ap, subst, refl, Bool, true, false, not, ℕ, zero, suc, List, [], ◌∷◌, ◌++◌, length, Option, Some, None, slice_get, arith}
+use Rattle.std.specs.Prelude.{IsPermutation, nat_eq, ◌||◌, ◌&&◌}
+use Rattle.std.specs.Cmp.{both_ways}
+use Rattle.std.specs.List.{flat_map, list_all}
+use Rattle.std.specs.Option.{option_map_or}
+use Rattle.std.proofs.lemmas.Bool.Decides.{nat_tests}
+use Rattle.std.proofs.lemmas.List.Folds.{list_all-append}
+use Rattle.std.proofs.lemmas.List.Sorted.{IsPermutation-trans}
+use Rattle.std.proofs.lemmas.Option.{slice_get_within}
+use Rattle.gatestep.specs.Step.{State, Evaluation}
+use Rattle.design.specs.Netlist.{Netlist}
+use Rattle.waveform.specs.Timelines.{moments}
+use Rattle.scratch.specs.Asked.{IsPart}
+use Rattle.scratch.specs.Work.{work_below}
+use Rattle.scratch.specs.kept.Kept.{input_of}
+use Rattle.scratch.specs.kept.Places.{has}
+use Rattle.ordering.specs.kept.Gates.{IsBeginning, gate_work, gates_work}
+use Rattle.ordering.specs.kept.Order.{is_order, is_ready, may_come, may_follow, order_work}
+use Rattle.ordering.proofs.Columns.{below_by_gates}
+use Rattle.ordering.proofs.Places.{AreApart, below, below_apart, by_places, has_more, itself, left_off, or_true, same, same_work}
+
+-- Both of two are so.
+pub first_of_both : (a b : Bool) → (a && b) ≡ true → a ≡ true
+first_of_both true b h = refl
+first_of_both false b h = h
+
+pub second_of_both : (a b : Bool) → (a && b) ≡ true → b ≡ true
+second_of_both true b h = h
+second_of_both false b h = absurd (cc)
+
+not_on : (b : Bool) → not b ≡ true → b ≡ false
+not_on true h = absurd (cc)
+not_on false h = refl
+
+is_there : {X : Type 0} (p : X → Bool) (o : Option X) → option_map_or p o false ≡ true → (x : X) × (o ≡ Some x)
+is_there p None h = absurd (cc)
+is_there p (Some x) h = (x, refl)
+
+module _ (d : Netlist) where
+  -- a gate that may come is there, and not done
+  pub comes_anew : (is_done : ℕ → Bool) (k : ℕ) → may_come d is_done k ≡ true → is_done k ≡ false
+  comes_anew is_done k h = not_on (is_done k) (first_of_both (not (is_done k)) _ h)
+
+  pub comes_within : (is_done : ℕ → Bool) (k : ℕ) → may_come d is_done k ≡ true → k < length d.gates
+  comes_within is_done k h =
+      let found = is_there (λ g. list_all (λ c. is_ready d is_done (input_of d c)) g.inputs) (slice_get d.gates k) (second_of_both (not (is_done k)) _ h) in
+      slice_get_within d.gates k found.0 found.1
+
+  -- the gates that follow are not done
+  follow_anew : (done ks : List ℕ) → may_follow d done ks ≡ true → (k : ℕ) → has k ks ≡ true → has k done ≡ false
+  follow_anew done [] h k on = absurd (cc)
+  follow_anew done (j ∷ ks) h k on = by (nat_eq k j) refl (λ later there. follow_anew (done ++ j ∷ []) ks later k there)
+    where
+      come : may_come d (λ p. has p done) j ≡ true
+      come = first_of_both (may_come d (λ p. has p done) j) (may_follow d (done ++ j ∷ []) ks) h
+
+      by : (b : Bool) → nat_eq k j ≡ b → (may_follow d (done ++ j ∷ []) ks ≡ true → has k ks ≡ true → has k (done ++ j ∷ []) ≡ false) → has k done ≡ false
+      by true is rest = ap (λ z. has z done) (same k j is) ∙ comes_anew (λ p. has p done) j come
+      by false is rest =
+          let later = second_of_both (may_come d (λ p. has p done) j) (may_follow d (done ++ j ∷ []) ks) h in
+          left_off (has k done) (nat_eq k j) (sym (has_more k j done) ∙ rest later (sym (ap (λ (b : Bool). b || has k ks) is) ∙ on))
+
+  follow_apart : (done ks : List ℕ) → may_follow d done ks ≡ true → AreApart ks
+  follow_apart done [] h = tt
+  follow_apart done (j ∷ ks) h = (by (has j ks) refl, follow_apart (done ++ j ∷ []) ks later)
+    where
+      later : may_follow d (done ++ j ∷ []) ks ≡ true
+      later = second_of_both (may_come d (λ p. has p done) j) (may_follow d (done ++ j ∷ []) ks) h
+
+      by : (b : Bool) → has j ks ≡ b → has j ks ≡ false
+      by true is =
+          let off = follow_anew (done ++ j ∷ []) ks later j is in
+          let on : has j (done ++ j ∷ []) ≡ true = has_more j j done ∙ ap (λ (b : Bool). has j done || b) (itself j) ∙ or_true (has j done) in
+          absurd (cc)
+      by false is = is
+
+  follow_within : (done ks : List ℕ) → may_follow d done ks ≡ true → (k : ℕ) → has k ks ≡ true → k < length d.gates
+  follow_within done [] h k on = absurd (cc)
+  follow_within done (j ∷ ks) h k on = by (nat_eq k j) refl (λ later there. follow_within (done ++ j ∷ []) ks later k there)
+    where
+      by : (b : Bool) → nat_eq k j ≡ b → (may_follow d (done ++ j ∷ []) ks ≡ true → has k ks ≡ true → k < length d.gates) → k < length d.gates
+      by true is rest =
+          let low = comes_within (λ p. has p done) j (first_of_both (may_come d (λ p. has p done) j) (may_follow d (done ++ j ∷ []) ks) h) in
+          subst (λ z. z < length d.gates) (sym (same k j is)) low
+      by false is rest =
+          let later = second_of_both (may_come d (λ p. has p done) j) (may_follow d (done ++ j ∷ []) ks) h in
+          rest later (sym (ap (λ (b : Bool). b || has k ks) is) ∙ on)
+
+pub all_below : (p : ℕ → Bool) (n : ℕ) → list_all p (moments n) ≡ true → (k : ℕ) → k < n → p k ≡ true
+all_below p zero h k low = absurd (omega arith)
+all_below p (suc n) h k low = by (nat_eq k n) refl (all_below p n)
+  where
+    parts : (list_all p (moments n) && list_all p (n ∷ [])) ≡ true
+    parts = sym (list_all-append p (moments n) (n ∷ [])) ∙ h
+
+    by : (b : Bool) → nat_eq k n ≡ b → (list_all p (moments n) ≡ true → (k : ℕ) → k < n → p k ≡ true) → p k ≡ true
+    by true is rest = ap p (same k n is) ∙ first_of_both (p n) true (second_of_both (list_all p (moments n)) (p n && true) parts)
+    by false is rest =
+        let less : k < n = grind (arith, nat_tests) in
+        rest (first_of_both (list_all p (moments n)) (p n && true) parts) k less
+
+module _ (answer : Evaluation → ℕ → State) (d : Netlist) (n : ℕ) (order : List ℕ) (ordered : is_order d order ≡ true) where
+  follows : may_follow d [] order ≡ true
+  follows = first_of_both (may_follow d [] order) (list_all (λ k. has k order) (moments (length d.gates))) ordered
+
+  all : list_all (λ k. has k order) (moments (length d.gates)) ≡ true
+  all = second_of_both (may_follow d [] order) (list_all (λ k. has k order) (moments (length d.gates))) ordered
+
+  has_each : (k : ℕ) → has k (moments (length d.gates)) ≡ has k order
+  has_each k =
+      both_ways (has k (moments (length d.gates))) (has k order)
+      (λ h. all_below (λ k. has k order) (length d.gates) all k (let low = sym (below k (length d.gates)) ∙ h in grind (arith, nat_tests)))
+      (λ h. below k (length d.gates) ∙ (let low = follow_within d [] order follows k h in grind (arith, nat_tests)))
+
+  pub work_ordered : IsPermutation (work_below answer d n) (order_work answer d n order)
+  work_ordered =
+      let gates : flat_map (λ k. option_map_or (λ g. gate_work answer d g n) (slice_get d.gates k) []) (moments (length d.gates)) ≡ gates_work answer d n d.gates = by_places (λ g. gate_work answer d g n) d.gates in
+      IsPermutation-trans (work_below answer d n) (gates_work answer d n d.gates) (order_work answer d n order) (below_by_gates answer d n)
+      (subst (λ l. IsPermutation l (order_work answer d n order)) gates
+      (same_work (λ k. option_map_or (λ g. gate_work answer d g n) (slice_get d.gates k) []) (moments (length d.gates)) order (below_apart (length d.gates)) (follow_apart d [] order follows) has_each))
+
+  pub begun_in_order : (piece : List (Evaluation × ℕ)) → IsBeginning piece (order_work answer d n order) → IsPart piece (work_below answer d n)
+  begun_in_order piece begun = (begun.0, subst (λ l. IsPermutation (work_below answer d n) l) begun.1 work_ordered)

@@ -1,0 +1,13 @@
+//! The gates of a design one after another, each after all that drive what it reads.
+#![tactic(auto)]
+
+mod checking;
+mod finding;
+mod following;
+pub mod laws;
+mod run;
+
+pub use checking::is_ordered;
+pub use finding::find_order;
+pub use following::run_in_order;
+pub use run::simulate;
