@@ -48,6 +48,7 @@ LIBRARY = {
     "is_ok": "says that there is an answer, and no refusal",
     "is_some": "says that something is there",
     "IsOk": "says that there is an answer, and no refusal",
+    "IsPermutation": "says that two lists have the same elements, each as often, in whatever order",
     "last_or": "is the last element, or a value in place of none",
     "length": "",
     "List": "",
