@@ -19,7 +19,7 @@ use waveform::Run;
 
 /// The run of the new design by this stepper, from the run of the old one: at each moment only gates that are dirty and stirred
 /// are evaluated. It goes through the whole design, and the runs share nothing. `OutOfMemory` where an allocation was refused,
-/// here or in a step; `WorkerLost` where a step answered so: then what was asked is the work up to some moment.
+/// here or in a step; `WorkerLost` where a step answered so: then what was asked is a part of that.
 pub fn rerun<S: Stepper>(
     alloc: Global,
     old: &Design,
