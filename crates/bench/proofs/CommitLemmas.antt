@@ -1,5 +1,5 @@
 -- Refused commits.
-use Rattle.std.proofs.Common.{◌≡◌, ◌≢◌, ◌⊎◌, ◌+◌, ◌++◌, ℕ, suc, Bool, true, false, if◌then◌else◌, List, refl, sym, inl, inr, arith}
+use Rattle.std.proofs.Common.{◌≡◌, ◌≢◌, ◌⊎◌, ◌+◌, ℕ, Bool, true, false, if◌then◌else◌, List, refl, inl, inr, arith}
 use Rattle.std.specs.Prelude.{Result, Ok, Err, IfErr, OnErr}
 use Rattle.gatestep.specs.Step.{Evaluation, advance}
 use Rattle.design.specs.Netlist.{Netlist}

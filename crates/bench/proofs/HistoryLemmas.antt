@@ -1,6 +1,6 @@
 -- Commits one after another, accepted and refused.
-use Rattle.std.proofs.Common.{◌≡◌, ◌+◌, ◌++◌, ℕ, suc, zero, Bool, true, false, cond, List, [], ◌∷◌, fold, length, refl, sym, ap, subst, ◌∙◌, arith}
-use Rattle.std.specs.Prelude.{Result, Ok, Err, nat_eq}
+use Rattle.std.proofs.Common.{◌≡◌, ◌+◌, ◌++◌, ℕ, Bool, true, false, cond, List, [], ◌∷◌, length, refl, sym, ap, subst, ◌∙◌, arith}
+use Rattle.std.specs.Prelude.{Result, Ok, Err}
 use Rattle.design.specs.Netlist.{Netlist}
 use Rattle.edits.specs.declared.edit.Edit.{Edit}
 use Rattle.edits.specs.declared.fault.EditFault.{EditFault}
@@ -8,7 +8,7 @@ use Rattle.edits.specs.declared.fault.EditFault.TheVariants.{TooMany}
 use Rattle.edits.specs.Batches.{batch}
 use Rattle.bench.specs.declared.fault.CommitFault.{CommitFault}
 use Rattle.bench.specs.Benches.{SnapshotRecord}
-use Rattle.bench.specs.Commits.{after, commit_of, committed}
+use Rattle.bench.specs.Commits.{after, committed}
 use Rattle.bench.specs.Histories.{LeadOn, Leads, accepted}
 
 made_is : (last : Bool) (made : Result Netlist (ℕ × EditFault)) (d new : Netlist) → cond {A = Result Netlist (ℕ × EditFault)} last (Err (0, TooMany)) made ≡ Ok new → made ≡ Ok new

@@ -19,6 +19,8 @@ pub struct Counting {
     steps: u64,
     stepped: u64,
     alone: u64,
+    latest: u64,
+    went_back: bool,
     ghost lost: { is_lost ≡ nat_lt 0 history.losses },
 }
 
@@ -39,12 +41,19 @@ impl Counting {
             steps: 0,
             stepped: 0,
             alone: 0,
+            latest: 0,
+            went_back: false,
         }
     }
 
     /// The steps that were made, the tasks in them all, and those that were asked alone.
     pub fn asked(&self) -> (u64, u64, u64) {
         (self.steps, self.stepped, self.alone)
+    }
+
+    /// Whether a task was asked alone at a moment before that of the one asked alone before it.
+    pub fn went_back(&self) -> bool {
+        self.went_back
     }
 
     /// How many tasks were asked. No step was without one, and where all are dealt none was asked alone.
@@ -84,6 +93,8 @@ impl Stepper for Counting {
 
     fn evaluate(&mut self, task: &Task, t: u64) -> Driver {
         self.alone = self.alone.saturating_add(1);
+        self.went_back = self.went_back || t < self.latest;
+        self.latest = t;
         self.history.add_one(task, t);
         next(task, t)
     }

@@ -11,7 +11,7 @@ use Rattle.design.specs.Netlist.{GateEntry, Netlist}
 use Rattle.waveform.specs.Timelines.{moments}
 use Rattle.scratch.specs.Work.{is_stirred, stirred_at, task_at, work_at, work_below}
 use Rattle.scratch.specs.kept.Work.{work_from}
-use Rattle.ordering.specs.kept.Gates.{gates_work, gates_work_from, moments_from}
+use Rattle.ordering.specs.kept.Gates.{gate_work, gate_work_at, gate_work_from, gates_work, gates_work_from, moments_from}
 
 pub map_twice : {A B C : Type 0} (f : A → B) (g : B → C) (xs : List A) → map g (map f xs) ≡ map (λ x. g (f x)) xs
 map_twice f g [] = refl
@@ -92,6 +92,17 @@ none_before a (suc t) early =
     ∙ ap (λ l. l ++ filter (λ t. nat_le a t) (t ∷ [])) (none_before a t (omega arith))
     ∙ ap (λ (b : Bool). cond b (t ∷ []) []) (passes a t early)
 
+starts : (t : ℕ) → nat_le 0 t ≡ true
+starts t = grind (arith, nat_tests)
+
+-- all moments are from 0 on
+pub all_moments : (n : ℕ) → moments_from 0 n ≡ moments n
+all_moments zero = refl
+all_moments (suc n) =
+    filter-append (λ t. nat_le 0 t) (moments n) (n ∷ [])
+    ∙ ap (λ l. l ++ filter (λ t. nat_le 0 t) (n ∷ [])) (all_moments n)
+    ∙ ap (λ (b : Bool). moments n ++ cond b (n ∷ []) []) (starts n)
+
 module _ (answer : Evaluation → ℕ → State) (d : Netlist) where
   abbrev p : GateEntry → ℕ → Bool
   p g t = is_stirred answer d g t
@@ -127,3 +138,14 @@ module _ (answer : Evaluation → ℕ → State) (d : Netlist) where
 
   pub from_by_gates : (a n : ℕ) → IsPermutation (work_from answer d a n) (gates_work_from answer d a n d.gates)
   from_by_gates a n = subst (λ l. IsPermutation l (gates_work_from answer d a n d.gates)) (sym (from_is a n)) (rows_are_columns p f d.gates (moments_from a n))
+
+  -- the work of the whole run is that from moment 0 on
+  pub all_from : (n : ℕ) → work_below answer d n ≡ work_from answer d 0 n
+  all_from zero = refl
+  all_from (suc n) =
+      ap (λ l. l ++ work_at answer d n) (all_from n)
+      ∙ sym (ap (λ (b : Bool). cond b (work_from answer d 0 n ++ work_at answer d n) []) (starts n))
+
+  -- and that of a gate
+  pub gate_from_start : (g : GateEntry) (n : ℕ) → gate_work answer d g n ≡ gate_work_from answer d g 0 n
+  gate_from_start g n = sym (ap (gate_work_at answer d g) (all_moments n))

@@ -1,6 +1,7 @@
 pub mod Asked
 pub mod Columns
 pub mod Counts
+pub mod EarlierTraces
 pub mod Marks
 pub mod Orders
 pub mod Places

@@ -12,12 +12,12 @@ use Rattle.gatestep.specs.Step.{State, Evaluation}
 use Rattle.design.specs.Netlist.{Netlist}
 use Rattle.waveform.specs.Timelines.{moments}
 use Rattle.scratch.specs.Asked.{IsPart}
-use Rattle.scratch.specs.Work.{work_below}
 use Rattle.scratch.specs.kept.Kept.{input_of}
 use Rattle.scratch.specs.kept.Places.{has}
-use Rattle.ordering.specs.kept.Gates.{IsBeginning, gate_work, gates_work}
-use Rattle.ordering.specs.kept.Order.{is_order, is_ready, may_come, may_follow, order_work}
-use Rattle.ordering.proofs.Columns.{below_by_gates}
+use Rattle.scratch.specs.kept.Work.{work_from}
+use Rattle.ordering.specs.kept.Gates.{IsBeginning, gate_work_from, gates_work_from}
+use Rattle.ordering.specs.kept.Order.{is_order, is_ready, may_come, may_follow, order_work_from}
+use Rattle.ordering.proofs.Columns.{from_by_gates}
 use Rattle.ordering.proofs.Places.{AreApart, below, below_apart, by_places, has_more, itself, left_off, or_true, same, same_work}
 
 -- Both of two are so.
@@ -100,7 +100,7 @@ all_below p (suc n) h k low = by (nat_eq k n) refl (all_below p n)
         let less : k < n = grind (arith, nat_tests) in
         rest (first_of_both (list_all p (moments n)) (p n && true) parts) k less
 
-module _ (answer : Evaluation → ℕ → State) (d : Netlist) (n : ℕ) (order : List ℕ) (ordered : is_order d order ≡ true) where
+module _ (answer : Evaluation → ℕ → State) (d : Netlist) (a n : ℕ) (order : List ℕ) (ordered : is_order d order ≡ true) where
   follows : may_follow d [] order ≡ true
   follows = first_of_both (may_follow d [] order) (list_all (λ k. has k order) (moments (length d.gates))) ordered
 
@@ -113,12 +113,13 @@ module _ (answer : Evaluation → ℕ → State) (d : Netlist) (n : ℕ) (order 
       (λ h. all_below (λ k. has k order) (length d.gates) all k (let low = sym (below k (length d.gates)) ∙ h in grind (arith, nat_tests)))
       (λ h. below k (length d.gates) ∙ (let low = follow_within d [] order follows k h in grind (arith, nat_tests)))
 
-  pub work_ordered : IsPermutation (work_below answer d n) (order_work answer d n order)
+  pub work_ordered : IsPermutation (work_from answer d a n) (order_work_from answer d a n order)
   work_ordered =
-      let gates : flat_map (λ k. option_map_or (λ g. gate_work answer d g n) (slice_get d.gates k) []) (moments (length d.gates)) ≡ gates_work answer d n d.gates = by_places (λ g. gate_work answer d g n) d.gates in
-      IsPermutation-trans (work_below answer d n) (gates_work answer d n d.gates) (order_work answer d n order) (below_by_gates answer d n)
-      (subst (λ l. IsPermutation l (order_work answer d n order)) gates
-      (same_work (λ k. option_map_or (λ g. gate_work answer d g n) (slice_get d.gates k) []) (moments (length d.gates)) order (below_apart (length d.gates)) (follow_apart d [] order follows) has_each))
+      let gates : flat_map (λ k. option_map_or (λ g. gate_work_from answer d g a n) (slice_get d.gates k) []) (moments (length d.gates)) ≡ gates_work_from answer d a n d.gates =
+      by_places (λ g. gate_work_from answer d g a n) d.gates in
+      IsPermutation-trans (work_from answer d a n) (gates_work_from answer d a n d.gates) (order_work_from answer d a n order) (from_by_gates answer d a n)
+      (subst (λ l. IsPermutation l (order_work_from answer d a n order)) gates
+      (same_work (λ k. option_map_or (λ g. gate_work_from answer d g a n) (slice_get d.gates k) []) (moments (length d.gates)) order (below_apart (length d.gates)) (follow_apart d [] order follows) has_each))
 
-  pub begun_in_order : (piece : List (Evaluation × ℕ)) → IsBeginning piece (order_work answer d n order) → IsPart piece (work_below answer d n)
-  begun_in_order piece begun = (begun.0, subst (λ l. IsPermutation (work_below answer d n) l) begun.1 work_ordered)
+  pub begun_in_order : (piece : List (Evaluation × ℕ)) → IsBeginning piece (order_work_from answer d a n order) → IsPart piece (work_from answer d a n)
+  begun_in_order piece begun = (begun.0, subst (λ l. IsPermutation (work_from answer d a n) l) begun.1 work_ordered)

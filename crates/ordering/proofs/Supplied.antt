@@ -18,12 +18,12 @@ use Rattle.scratch.specs.kept.Cells.{CellRecord}
 use Rattle.scratch.specs.kept.Kept.{cell_of, input_of}
 use Rattle.scratch.specs.kept.Places.{has}
 use Rattle.scratch.specs.kept.Run.{trace_of}
-use Rattle.lines.specs.kept.Known.{AreSupplied, AreTraced, IsTraced}
+use Rattle.gateline.specs.kept.Known.{AreSupplied, AreTraced, IsTraced}
 use Rattle.waveform.specs.Timelines.{moments}
 use Rattle.ordering.specs.kept.Gates.{IsBeginning}
 use Rattle.ordering.specs.kept.Order.{is_order, is_ready, may_come, may_follow}
 use Rattle.ordering.proofs.Orders.{all_below, first_of_both, second_of_both}
-use Rattle.ordering.proofs.Places.{has_more, itself, same}
+use Rattle.ordering.proofs.Places.{has_more, itself, same, there}
 
 module _ (answer : Evaluation → ℕ → State) (d : Netlist) (traces : List (List (ℕ × State))) (f : ℕ → Bool) (come : (p : ℕ) → f p ≡ true → IsTraced answer d traces p) where
   traced_each : (places : List ℕ) → list_all f places ≡ true → AreTraced answer d traces places
@@ -69,29 +69,31 @@ set_apart (w ∷ xs) zero (suc k) x h = refl
 set_apart (w ∷ xs) (suc p) zero x h = refl
 set_apart (w ∷ xs) (suc p) (suc k) x h = set_apart xs p k x (grind (arith, nat_tests))
 
-module _ (answer : Evaluation → ℕ → State) (d : Netlist) (traces : List (List (ℕ × State))) (k : ℕ) (trace : List (ℕ × State)) (low : k < length traces) where
-  module _ (is : IfSome (slice_get d.gates k) (λ g. trace ≡ trace_of answer d g)) (within : k < length d.gates) where
-    new_by : (o : Option GateEntry) → slice_get d.gates k ≡ o → IfSome o (λ g. trace ≡ trace_of answer d g) → k < length d.gates → Some trace ≡ option_map (trace_of answer d) o
-    new_by None at same within = absurd (let x = there d.gates k within in let e = x.1 in cc)
+module _ (answer : Evaluation → ℕ → State) (d : Netlist) (traces new : List (List (ℕ × State))) (k : ℕ) (many : length traces ≡ length d.gates) (within : k < length d.gates) where
+  module _ (is : IfSome (slice_get d.gates k) (λ g. new ≡ set traces k (trace_of answer d g))) where
+    written : (g : GateEntry) × (slice_get d.gates k ≡ Some g) × (new ≡ set traces k (trace_of answer d g))
+    written = by (slice_get d.gates k) refl is
       where
-        there : {X : Type 0} (xs : List X) (i : ℕ) → i < length xs → (x : X) × (slice_get xs i ≡ Some x)
-        there [] i low = absurd (omega arith)
-        there (x ∷ xs) zero low = (x, refl)
-        there (x ∷ xs) (suc i) low = there xs i (omega arith)
-    new_by (Some g) at same within = ap (λ x. Some x) same
+        by : (o : Option GateEntry) → slice_get d.gates k ≡ o → IfSome o (λ g. new ≡ set traces k (trace_of answer d g)) →
+            (g : GateEntry) × (slice_get d.gates k ≡ Some g) × (new ≡ set traces k (trace_of answer d g))
+        by None at is = absurd (let x = there d.gates k within in let e = x.1 in cc)
+        by (Some g) at is = (g, at, is)
 
-    new_traced : IsTraced answer d (set traces k trace) k
-    new_traced = set_here traces k trace low ∙ new_by (slice_get d.gates k) refl is within ∙ sym (slice_get-map (trace_of answer d) d.gates k)
+    new_traced : IsTraced answer d new k
+    new_traced =
+        let low : k < length traces = omega arith in
+        ap (λ l. slice_get l k) written.2 ∙ set_here traces k (trace_of answer d written.0) low ∙ sym (ap (option_map (trace_of answer d)) written.1)
+        ∙ sym (slice_get-map (trace_of answer d) d.gates k)
 
     -- with its trace one gate more is traced
-    pub one_traced : (done : List ℕ) → ((p : ℕ) → has p done ≡ true → IsTraced answer d traces p) → (p : ℕ) → has p (done ++ k ∷ []) ≡ true → IsTraced answer d (set traces k trace) p
+    pub one_traced : (done : List ℕ) → ((p : ℕ) → has p done ≡ true → IsTraced answer d traces p) → (p : ℕ) → has p (done ++ k ∷ []) ≡ true → IsTraced answer d new p
     one_traced done before p on = by (nat_eq p k) refl
       where
-        by : (b : Bool) → nat_eq p k ≡ b → IsTraced answer d (set traces k trace) p
+        by : (b : Bool) → nat_eq p k ≡ b → IsTraced answer d new p
         by true e = let at = same p k e in rw at new_traced
         by false e =
             let earlier : has p done ≡ true = sym (or_off (has p done) (nat_eq p k) e) ∙ sym (has_more p k done) ∙ on in
-            set_apart traces k p trace e ∙ before p earlier
+            ap (λ l. slice_get l p) written.2 ∙ set_apart traces k p (trace_of answer d written.0) e ∙ before p earlier
           where
             or_off : (a b : Bool) → b ≡ false → (a || b) ≡ a
             or_off true b h = refl
@@ -147,3 +149,11 @@ if_there o x P e p = rw e p
 pub on_ok : {A E : Type 0} {P : Type 0} (r : Result A E) → P → OnOk r P
 on_ok (Ok x) p = p
 on_ok (Err e) p = tt
+
+pub ok_on : {A E : Type 0} {P Q : Type 0} (r : Result A E) → (P → Q) → OnOk r P → OnOk r Q
+ok_on (Ok x) follows p = follows p
+ok_on (Err e) follows p = p
+
+pub err_on : {A E : Type 0} {P Q : Type 0} (r : Result A E) → (P → Q) → OnErr r P → OnErr r Q
+err_on (Ok x) follows p = p
+err_on (Err e) follows p = follows p

@@ -1,2 +1,4 @@
+pub mod Earlier
 pub mod Gates
+pub mod Lines
 pub mod Order

@@ -10,6 +10,10 @@ use design::Design;
 use scratch::{Input, PackedInput, Wiring};
 use std::alloc::{AllocError, Global};
 
+/// The most drivers that a net has in a design that goes gate after gate (own). The wave of a net is merged from what its drivers
+/// give, in work that grows with the drivers times their changes; a run by moments keeps a count of each value instead.
+const MOST_DRIVERS: usize = 16;
+
 /// What has not come yet.
 #[derive(Drop)]
 struct Missing {
@@ -20,8 +24,8 @@ struct Missing {
 }
 
 /// An order of the gates in which each comes after all that drive what it reads (own): a gate comes as soon as the last of
-/// those has come. `None` where not all come, as in a design with a loop. Its work and memory follow the number of gates and
-/// connections.
+/// those has come. `None` where not all come, as in a design with a loop, and where a net has so many drivers that a run by
+/// moments is better (`MOST_DRIVERS`). Its work and memory follow the number of gates and connections.
 pub fn find_order(
     alloc: Global,
     design: &Design,
@@ -30,11 +34,24 @@ pub fn find_order(
     requires { IsWiring (netlist design.now) wiring.now }
     ensures { IfOk result (λ found. IfSome found (λ order. is_order (netlist design.now) order.items ≡ true)) }
 {
+    if !have_few_drivers(wiring) {
+        return Ok(None);
+    }
     let order = list_ready(alloc, wiring)?;
     if !is_ordered(alloc, design, wiring, order.as_slice())? {
         return Ok(None);
     }
     Ok(Some(order))
+}
+
+/// No net has more than `MOST_DRIVERS` drivers.
+fn have_few_drivers(wiring: &Wiring) -> bool {
+    for places in &wiring.drivers {
+        if places.len() > MOST_DRIVERS {
+            return false;
+        }
+    }
+    true
 }
 
 /// The gates, each as soon as all that drive what it reads have come; those on a loop, and behind one, never come.

@@ -1,23 +1,121 @@
-//! The run of a design gate after gate.
+//! The gates of an order, followed one after another.
 
-ghost use Rattle.std.specs.Prelude.{◌≡◌, ◌≢◌, ◌++◌, ℕ, [], true, suc, List, Some, length, map, slice_get, IfOk, OnOk, OnErr};
+ghost use Rattle.std.specs.Prelude.{◌≡◌, ◌≢◌, ◌<◌, ◌≤◌, ◌++◌, ℕ, [], true, suc, List, Some, length, map, slice_get, slice_set, IfOk, IfSome, OnOk, OnErr};
 ghost use Rattle.gatestep.specs.Step.{Evaluation};
 ghost use Rattle.design.specs.Keys.{netlist};
-ghost use Rattle.lines.specs.kept.Known.{AreFound, IsTraced};
+ghost use Rattle.gateline.specs.kept.Known.{AreFound, AreKnown, AreSupplied, IsTraced};
 ghost use Rattle.scratch.specs.kept.Kept.{IsWiring};
 ghost use Rattle.scratch.specs.kept.Places.{has};
 ghost use Rattle.scratch.specs.Run.{wave_of};
 ghost use Rattle.scratch.specs.kept.Run.{IsRun, trace_of};
-ghost use Rattle.ordering.specs.kept.Gates.{IsBeginning};
-ghost use Rattle.ordering.specs.kept.Order.{is_order, may_follow, order_work};
+ghost use Rattle.ordering.specs.kept.Earlier.{IsEarlier, begin_after};
+ghost use Rattle.ordering.specs.kept.Gates.{IsBeginning, gate_work_from};
+ghost use Rattle.ordering.specs.kept.Lines.{Fit};
+ghost use Rattle.ordering.specs.kept.Order.{is_order, may_follow, order_work_from};
 
+use crate::earlier::{EarlierRun, former_trace};
+use crate::lines::{Lines, open_lines};
 use design::Design;
-use fourstate::Value;
-use gatestep::{Driver, Stepper};
-use lines::{find_inputs, find_rest, run_gate};
-use scratch::{Wiring, run_of_lines};
+use gateline::{find_inputs, find_rest, resume_gate, run_gate};
+use gatestep::Stepper;
+use scratch::{Cell, Wiring, run_of_lines};
 use std::alloc::{AllocError, Global};
-use waveform::{Run, Sample, Timeline, Trace, Wave};
+use waveform::{Run, Trace};
+
+/// The trace of the gate at a place in the order of the gates up to the horizon, where the waves of all nets that it reads are
+/// found: followed from moment 0 on, or from the end of an earlier run. It fails where memory runs out.
+fn follow_gate<S: Stepper>(
+    alloc: Global,
+    design: &Design,
+    wiring: &Wiring,
+    lines: &Lines,
+    earlier: Option<EarlierRun>,
+    place: usize,
+    stepper: &mut S,
+) -> Result<Trace, AllocError>
+    requires none_lost { S.losses stepper.old ≡ 0 }
+    requires wired { IsWiring (netlist design.now) wiring.now }
+    requires earlier { IfSome earlier (IsEarlier S.answer design.now) }
+    requires there { place < length (netlist design.now).gates }
+    requires known { IfSome (slice_get wiring.now.cells.items place) (λ cell. AreKnown S.answer (netlist design.now) lines.now.waves.items cell.inputs) }
+    ensures trace { IfOk result (λ trace. IfSome (slice_get (netlist design.now).gates place) (λ g. trace ≡ trace_of S.answer (netlist design.now) g)) }
+    ensures asked { OnOk result (IfSome (slice_get (netlist design.now).gates place) (λ g. S.asked stepper.new ≡ S.asked stepper.old
+        ++ gate_work_from S.answer (netlist design.now) g (begin_after earlier.entry) (suc (netlist design.now).horizon))) }
+    ensures part { OnErr result (IfSome (slice_get (netlist design.now).gates place) (λ g. (n : ℕ) × (n ≤ suc (netlist design.now).horizon)
+        × (S.asked stepper.new ≡ S.asked stepper.old ++ gate_work_from S.answer (netlist design.now) g (begin_after earlier.entry) n))) }
+    ensures lost { S.losses stepper.new ≡ S.losses stepper.old }
+{
+    let waves = lines.waves.as_slice();
+    match earlier {
+        None => run_gate(alloc, design, wiring, waves, &lines.table, place, stepper),
+        Some(run) => {
+            let former = former_trace::<S>(design, run, place);
+            resume_gate(alloc, design, wiring, waves, &lines.table, former, stepper)
+        }
+    }
+}
+
+/// Finds the waves that a gate reads, those that are not found yet, where the traces of all that drives their nets are found. It
+/// fails where memory runs out; the waves that were found by then stay.
+fn find_read<S: Stepper>(
+    alloc: Global,
+    design: &Design,
+    wiring: &Wiring,
+    cell: &Cell,
+    lines: &mut Lines,
+) -> Result<(), AllocError>
+    requires wired { IsWiring (netlist design.now) wiring.now }
+    requires supplied { AreSupplied S.answer (netlist design.now) lines.old.traces.items cell.now.inputs }
+    requires fit { Fit (netlist design.now) lines.old }
+    requires found { AreFound S.answer (netlist design.now) lines.old.found.items lines.old.waves.items }
+    ensures fit { Fit (netlist design.now) lines.new }
+    ensures found { AreFound S.answer (netlist design.now) lines.new.found.items lines.new.waves.items }
+    ensures known { OnOk result (AreKnown S.answer (netlist design.now) lines.new.waves.items cell.now.inputs) }
+    ensures traces { lines.new.traces ≡ lines.old.traces }
+{
+    find_inputs::<S>(
+        alloc,
+        design,
+        wiring,
+        lines.traces.as_slice(),
+        cell,
+        lines.found.as_mut_slice(),
+        lines.waves.as_mut_slice(),
+    )
+}
+
+/// Follows the gate at a place in the order of the gates, and finds before each wave that it reads and that is not found yet. It
+/// fails where memory runs out; then what was asked is what is asked of the gate up to some moment.
+fn follow_one<S: Stepper>(
+    alloc: Global,
+    design: &Design,
+    wiring: &Wiring,
+    earlier: Option<EarlierRun>,
+    place: usize,
+    lines: &mut Lines,
+    stepper: &mut S,
+) -> Result<(), AllocError>
+    requires none_lost { S.losses stepper.old ≡ 0 }
+    requires wired { IsWiring (netlist design.now) wiring.now }
+    requires earlier { IfSome earlier (IsEarlier S.answer design.now) }
+    requires there { place < length (netlist design.now).gates }
+    requires supplied { IfSome (slice_get wiring.now.cells.items place) (λ cell. AreSupplied S.answer (netlist design.now) lines.old.traces.items cell.inputs) }
+    requires fit { Fit (netlist design.now) lines.old }
+    requires found { AreFound S.answer (netlist design.now) lines.old.found.items lines.old.waves.items }
+    ensures fit { OnOk result (Fit (netlist design.now) lines.new) }
+    ensures found { OnOk result (AreFound S.answer (netlist design.now) lines.new.found.items lines.new.waves.items) }
+    ensures trace { OnOk result (IfSome (slice_get (netlist design.now).gates place) (λ g. lines.new.traces.items ≡ slice_set lines.old.traces.items place (trace_of S.answer (netlist design.now) g))) }
+    ensures asked { OnOk result (IfSome (slice_get (netlist design.now).gates place) (λ g. S.asked stepper.new ≡ S.asked stepper.old
+        ++ gate_work_from S.answer (netlist design.now) g (begin_after earlier.entry) (suc (netlist design.now).horizon))) }
+    ensures part { OnErr result (IfSome (slice_get (netlist design.now).gates place) (λ g. (n : ℕ) × (n ≤ suc (netlist design.now).horizon)
+        × (S.asked stepper.new ≡ S.asked stepper.old ++ gate_work_from S.answer (netlist design.now) g (begin_after earlier.entry) n))) }
+    ensures lost { S.losses stepper.new ≡ S.losses stepper.old }
+{
+    find_read::<S>(alloc, design, wiring, &wiring.cells[place], lines)?;
+    let trace = follow_gate(alloc, design, wiring, lines, earlier, place, stepper)?;
+    lines.traces[place] = trace;
+    Ok(())
+}
 
 /// Follows the gates of an order one after another, and finds each wave when it is first read. It fails where memory runs out;
 /// then what was asked is a beginning of what is asked of these gates.
@@ -25,31 +123,36 @@ fn follow_each<S: Stepper>(
     alloc: Global,
     design: &Design,
     wiring: &Wiring,
+    earlier: Option<EarlierRun>,
     order: &[u32],
-    found: &mut [bool],
-    waves: &mut [Wave],
-    traces: &mut [Trace],
+    lines: &mut Lines,
     stepper: &mut S,
 ) -> Result<(), AllocError>
     requires none_lost { S.losses stepper.old ≡ 0 }
     requires wired { IsWiring (netlist design.now) wiring.now }
+    requires earlier { IfSome earlier (IsEarlier S.answer design.now) }
     requires follow { may_follow (netlist design.now) [] order.now ≡ true }
-    requires marks { length found.old ≡ length (netlist design.now).nets }
-    requires lines { length waves.old ≡ length (netlist design.now).nets }
-    requires many { length traces.old ≡ length (netlist design.now).gates }
-    requires found { AreFound S.answer (netlist design.now) found.old waves.old }
-    ensures found { OnOk result (AreFound S.answer (netlist design.now) found.new waves.new) }
-    ensures traced { OnOk result ((p : ℕ) → has p order.now ≡ true → IsTraced S.answer (netlist design.now) traces.new p) }
-    ensures asked { OnOk result (S.asked stepper.new ≡ S.asked stepper.old ++ order_work S.answer (netlist design.now) (suc (netlist design.now).horizon) order.now) }
-    ensures part { OnErr result ((piece : List (Evaluation × ℕ)) × IsBeginning piece (order_work S.answer (netlist design.now) (suc (netlist design.now).horizon) order.now)
+    requires fit { Fit (netlist design.now) lines.old }
+    requires found { AreFound S.answer (netlist design.now) lines.old.found.items lines.old.waves.items }
+    ensures fit { OnOk result (Fit (netlist design.now) lines.new) }
+    ensures found { OnOk result (AreFound S.answer (netlist design.now) lines.new.found.items lines.new.waves.items) }
+    ensures traced { OnOk result ((p : ℕ) → has p order.now ≡ true → IsTraced S.answer (netlist design.now) lines.new.traces.items p) }
+    ensures asked { OnOk result (S.asked stepper.new ≡ S.asked stepper.old ++ order_work_from S.answer (netlist design.now) (begin_after earlier.entry) (suc (netlist design.now).horizon) order.now) }
+    ensures part { OnErr result ((piece : List (Evaluation × ℕ))
+        × IsBeginning piece (order_work_from S.answer (netlist design.now) (begin_after earlier.entry) (suc (netlist design.now).horizon) order.now)
         × (S.asked stepper.new ≡ S.asked stepper.old ++ piece)) }
     ensures lost { S.losses stepper.new ≡ S.losses stepper.old }
 {
     for place in order {
-        let place = *place as usize;
-        let cell = &wiring.cells[place];
-        find_inputs::<S>(alloc, design, wiring, traces, cell, found, waves)?;
-        traces[place] = run_gate(alloc, design, wiring, waves, place, stepper)?;
+        follow_one(
+            alloc,
+            design,
+            wiring,
+            earlier,
+            *place as usize,
+            lines,
+            stepper,
+        )?;
     }
     Ok(())
 }
@@ -60,76 +163,59 @@ fn fill_lines<S: Stepper>(
     alloc: Global,
     design: &Design,
     wiring: &Wiring,
+    earlier: Option<EarlierRun>,
     order: &[u32],
-    found: &mut [bool],
-    waves: &mut [Wave],
-    traces: &mut [Trace],
+    lines: &mut Lines,
     stepper: &mut S,
 ) -> Result<(), AllocError>
     requires none_lost { S.losses stepper.old ≡ 0 }
     requires wired { IsWiring (netlist design.now) wiring.now }
+    requires earlier { IfSome earlier (IsEarlier S.answer design.now) }
     requires order { is_order (netlist design.now) order.now ≡ true }
-    requires marks { length found.old ≡ length (netlist design.now).nets }
-    requires lines { length waves.old ≡ length (netlist design.now).nets }
-    requires many { length traces.old ≡ length (netlist design.now).gates }
-    requires none { (m : ℕ) → slice_get found.old m ≢ Some true }
-    ensures waves { OnOk result (waves.new ≡ map (wave_of S.answer (netlist design.now)) (netlist design.now).nets) }
-    ensures traces { OnOk result (traces.new ≡ map (trace_of S.answer (netlist design.now)) (netlist design.now).gates) }
-    ensures asked { OnOk result (S.asked stepper.new ≡ S.asked stepper.old ++ order_work S.answer (netlist design.now) (suc (netlist design.now).horizon) order.now) }
-    ensures part { OnErr result ((piece : List (Evaluation × ℕ)) × IsBeginning piece (order_work S.answer (netlist design.now) (suc (netlist design.now).horizon) order.now)
+    requires fit { Fit (netlist design.now) lines.old }
+    requires none { (m : ℕ) → slice_get lines.old.found.items m ≢ Some true }
+    ensures waves { OnOk result (lines.new.waves.items ≡ map (wave_of S.answer (netlist design.now)) (netlist design.now).nets) }
+    ensures traces { OnOk result (lines.new.traces.items ≡ map (trace_of S.answer (netlist design.now)) (netlist design.now).gates) }
+    ensures asked { OnOk result (S.asked stepper.new ≡ S.asked stepper.old ++ order_work_from S.answer (netlist design.now) (begin_after earlier.entry) (suc (netlist design.now).horizon) order.now) }
+    ensures part { OnErr result ((piece : List (Evaluation × ℕ))
+        × IsBeginning piece (order_work_from S.answer (netlist design.now) (begin_after earlier.entry) (suc (netlist design.now).horizon) order.now)
         × (S.asked stepper.new ≡ S.asked stepper.old ++ piece)) }
     ensures lost { S.losses stepper.new ≡ S.losses stepper.old }
 {
-    follow_each(alloc, design, wiring, order, found, waves, traces, stepper)?;
-    find_rest::<S>(alloc, design, wiring, traces, found, waves)
+    follow_each(alloc, design, wiring, earlier, order, lines, stepper)?;
+    find_rest::<S>(
+        alloc,
+        design,
+        wiring,
+        lines.traces.as_slice(),
+        lines.found.as_mut_slice(),
+        lines.waves.as_mut_slice(),
+    )
 }
 
-/// So many lines that stand for none.
-fn blank_lines<V: Sample>(
-    alloc: Global,
-    count: usize,
-    value: V,
-) -> Result<Vec<Timeline<V>>, AllocError>
-    requires { V.can_store 0 value }
-    ensures { IfOk result (λ lines. length lines.items ≡ count) }
-{
-    let mut lines = Vec::with_capacity(alloc, count)?;
-    for _ in 0..count {
-        lines.push(Timeline::open(alloc, value)?)?;
-    }
-    Ok(lines)
-}
-
-/// The run of the design by this stepper, gate after gate in this order. It fails where memory runs out; then what was asked is a
-/// beginning of what is asked of the gates in this order.
+/// The run of the design by this stepper, gate after gate in this order, from moment 0 on or from the end of an earlier run. It
+/// fails where memory runs out; then what was asked is a beginning of what is asked of the gates in this order.
 pub fn run_in_order<S: Stepper>(
     alloc: Global,
     design: &Design,
     wiring: &Wiring,
+    earlier: Option<EarlierRun>,
     order: &[u32],
     stepper: &mut S,
 ) -> Result<Run, AllocError>
     requires none_lost { S.losses stepper.old ≡ 0 }
     requires wired { IsWiring (netlist design.now) wiring.now }
+    requires earlier { IfSome earlier (IsEarlier S.answer design.now) }
     requires order { is_order (netlist design.now) order.now ≡ true }
     ensures run { IfOk result (IsRun S.answer design.now) }
-    ensures asked { OnOk result (S.asked stepper.new ≡ S.asked stepper.old ++ order_work S.answer (netlist design.now) (suc (netlist design.now).horizon) order.now) }
-    ensures part { OnErr result ((piece : List (Evaluation × ℕ)) × IsBeginning piece (order_work S.answer (netlist design.now) (suc (netlist design.now).horizon) order.now)
+    ensures asked { OnOk result (S.asked stepper.new ≡ S.asked stepper.old ++ order_work_from S.answer (netlist design.now) (begin_after earlier.entry) (suc (netlist design.now).horizon) order.now) }
+    ensures part { OnErr result ((piece : List (Evaluation × ℕ))
+        × IsBeginning piece (order_work_from S.answer (netlist design.now) (begin_after earlier.entry) (suc (netlist design.now).horizon) order.now)
         × (S.asked stepper.new ≡ S.asked stepper.old ++ piece)) }
     ensures lost { S.losses stepper.new ≡ S.losses stepper.old }
 {
-    let mut found = vec![in alloc; false; design.net_count()]?;
-    let mut waves = blank_lines(alloc, design.net_count(), Value::Unknown)?;
-    let mut traces = blank_lines(alloc, design.gate_count(), Driver::start())?;
-    fill_lines(
-        alloc,
-        design,
-        wiring,
-        order,
-        found.as_mut_slice(),
-        waves.as_mut_slice(),
-        traces.as_mut_slice(),
-        stepper,
-    )?;
+    let mut lines = open_lines(alloc, design)?;
+    fill_lines(alloc, design, wiring, earlier, order, &mut lines, stepper)?;
+    let Lines { waves, traces, .. } = lines;
     run_of_lines::<S>(alloc, design, waves, traces)
 }

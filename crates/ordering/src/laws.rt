@@ -8,7 +8,7 @@ ghost use Rattle.scratch.specs.Asked.{IsPart};
 ghost use Rattle.scratch.specs.Work.{work_below};
 ghost use Rattle.scratch.specs.kept.Work.{work_from};
 ghost use Rattle.ordering.specs.kept.Gates.{IsBeginning, gates_work, gates_work_from, stirred_pairs};
-ghost use Rattle.ordering.specs.kept.Order.{is_order, order_work};
+ghost use Rattle.ordering.specs.kept.Order.{is_order, order_work_from};
 
 use gatestep::Stepper;
 
@@ -20,17 +20,19 @@ pub fn work_by_gates<S: Stepper>()
     ensures from { (d : Netlist) (a n : ℕ) → IsPermutation (work_from S.answer d a n) (gates_work_from S.answer d a n d.gates) }
 {}
 
-/// The work of the gates in an order is that of the run in another one.
-#[tactic(auto, using(crate::proofs::Orders::work_ordered))]
+/// The work of the gates in an order is that of the run in another one, also of a run that goes on from a moment; and from
+/// moment 0 on it is that of the whole run.
+#[tactic(auto, using(crate::proofs::Orders::work_ordered, crate::proofs::Columns::all_from))]
 pub fn work_in_order<S: Stepper>()
-    ensures { (d : Netlist) (n : ℕ) (order : List ℕ) → is_order d order ≡ true
-        → IsPermutation (work_below S.answer d n) (order_work S.answer d n order) }
+    ensures from { (d : Netlist) (a n : ℕ) (order : List ℕ) → is_order d order ≡ true
+        → IsPermutation (work_from S.answer d a n) (order_work_from S.answer d a n order) }
+    ensures below { (d : Netlist) (n : ℕ) → work_below S.answer d n ≡ work_from S.answer d 0 n }
 {}
 
 /// A beginning of the work of the gates in an order is a part of that of the run.
 pub fn beginning_is_part<S: Stepper>()
-    ensures { (d : Netlist) (n : ℕ) (order : List ℕ) (piece : List (Evaluation × ℕ)) → is_order d order ≡ true
-        → IsBeginning piece (order_work S.answer d n order) → IsPart piece (work_below S.answer d n) }
+    ensures { (d : Netlist) (a n : ℕ) (order : List ℕ) (piece : List (Evaluation × ℕ)) → is_order d order ≡ true
+        → IsBeginning piece (order_work_from S.answer d a n order) → IsPart piece (work_from S.answer d a n) }
 {}
 
 /// Nothing is asked twice, and nothing is left out. Of a list that is the work of a run in some order as many entries pass a test

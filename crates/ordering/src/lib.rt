@@ -2,12 +2,17 @@
 #![tactic(auto)]
 
 mod checking;
+mod earlier;
+mod extending;
 mod finding;
 mod following;
 pub mod laws;
+mod lines;
 mod run;
 
 pub use checking::is_ordered;
+pub use earlier::EarlierRun;
+pub use extending::extend;
 pub use finding::find_order;
 pub use following::run_in_order;
 pub use run::simulate;

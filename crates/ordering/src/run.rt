@@ -17,11 +17,11 @@ use scratch::{Wiring, simulate_wired, wire};
 use std::alloc::Global;
 use waveform::Run;
 
-/// The run of the design by this stepper, from moment 0 to the horizon, both included: only changes are stored. Where the gates
-/// stand in an order in which each comes after all that drive what it reads, and no task is dealt to others, one gate after
-/// another is followed over all of time (own); else the run goes from one moment to the next. Each gate is asked at the
-/// moments at which it is stirred, once, and at no others; in which order is not said. `OutOfMemory` where an allocation was
-/// refused, here or in a step; `WorkerLost` where a step answered so: then what was asked is a part of that.
+/// The run of the design by this stepper, from moment 0 to the horizon, both included: only changes are stored. Where an order
+/// is found in which each gate comes after all that drive what it reads, there are moments after 0, and no task is dealt to
+/// others, one gate after another is followed over all of time (own); else the run goes from one moment to the next. Each gate
+/// is asked at the moments at which it is stirred, once, and at no others; in which order is not said. `OutOfMemory` where an
+/// allocation was refused, here or in a step; `WorkerLost` where a step answered so: then what was asked is a part of that.
 pub fn simulate<S: Stepper>(
     alloc: Global,
     design: &Design,
@@ -35,7 +35,7 @@ pub fn simulate<S: Stepper>(
     ensures lost { CountsLoss (S.losses stepper.old) (S.losses stepper.new) result }
 {
     let wiring = wire(alloc, design)?;
-    if stepper.deals(1) {
+    if stepper.deals(1) || design.horizon() == 0 {
         return simulate_wired(alloc, design, &wiring, stepper);
     }
     match find_order(alloc, design, &wiring)? {
@@ -62,5 +62,5 @@ fn simulate_by_gates<S: Stepper>(
         (work_below S.answer (netlist design.now) (suc (netlist design.now).horizon))) }
     ensures lost { CountsLoss (S.losses stepper.old) (S.losses stepper.new) result }
 {
-    Ok(run_in_order(alloc, design, wiring, order, stepper)?)
+    Ok(run_in_order(alloc, design, wiring, None, order, stepper)?)
 }

@@ -1,5 +1,5 @@
 -- Designs that differ in the horizon, and what a run of one beside another asks.
-use Rattle.std.proofs.Common.{◌≡◌, ◌≤◌, ◌∙◌, ap, sym, subst, refl, ℕ, suc, List, ◌+◌, ◌++◌, append_assoc, Option, Bor, Result, Ok, Err, IfOk, OnErr, OnOk, if◌then◌else◌, arith}
+use Rattle.std.proofs.Common.{◌≡◌, ◌≤◌, ◌∙◌, ap, sym, subst, refl, ℕ, suc, List, ◌+◌, ◌++◌, Option, Bor, Result, Ok, Err, IfOk, OnErr, OnOk, if◌then◌else◌, arith}
 use Rattle.gatestep.specs.Step.{State, Evaluation}
 use Rattle.gatestep.specs.declared.fault.StepFault.{StepFault}
 use Rattle.design.specs.Keys.{Keyed, netlist}

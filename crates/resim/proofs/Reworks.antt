@@ -1,8 +1,7 @@
 -- What is evaluated beside a former run, where a horizon is another.
-use Rattle.std.proofs.Common.{◌≡◌, ◌<◌, ◌≤◌, ◌∙◌, ap, sym, refl, Bool, true, false, ℕ, zero, suc, [], ◌++◌, append_assoc, append-nil, map, cond, ◌⊎◌, inl, inr, arith}
+use Rattle.std.proofs.Common.{◌≡◌, ◌<◌, ◌≤◌, ◌∙◌, ap, sym, refl, Bool, true, false, ℕ, zero, suc, [], ◌++◌, append_assoc, append-nil, map, cond, arith}
 use Rattle.std.specs.Prelude.{◌&&◌, ◌||◌, nat_le, not}
 use Rattle.std.specs.List.{filter}
-use Rattle.std.proofs.lemmas.Bool.{cases_lt}
 use Rattle.std.proofs.lemmas.Bool.Decides.{nat_tests}
 use Rattle.gatestep.specs.Record.{at_moment}
 use Rattle.gatestep.specs.Step.{State, Evaluation}

@@ -12,7 +12,7 @@ use crate::level::rerun_level;
 use design::Design;
 use edits::Touched;
 use gatestep::{StepFault, Stepper};
-use scratch::extend;
+use ordering::extend;
 use std::alloc::{AllocError, Global};
 use waveform::Run;
 

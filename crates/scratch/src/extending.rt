@@ -12,22 +12,25 @@ ghost use Rattle.scratch.specs.kept.Work.{work_from};
 use crate::continuing::run_on;
 use crate::engine::Engine;
 use crate::resuming::resume;
-use crate::wiring::{Wiring, wire};
+use crate::wiring::Wiring;
 use design::Design;
 use gatestep::{StepFault, Stepper};
 use std::alloc::{AllocError, Global};
 use waveform::Run;
 
-/// The run of a design from the run of the same design up to an earlier horizon: only the moments after that one are gone
-/// through. `OutOfMemory` where an allocation was refused, here or in a step; `WorkerLost` where a step answered so: then what
-/// was asked is a part of the work of these moments.
+/// The run of a design from the run of the same design up to an earlier horizon, where the connections are at hand: only the
+/// moments after that one are gone through, from one at which something happens to the next. `OutOfMemory` where an allocation
+/// was refused, here or in a step; `WorkerLost` where a step answered so: then what was asked is a part of the work of these
+/// moments.
 pub fn extend<S: Stepper>(
     alloc: Global,
     former: &Design,
     run: &Run,
     design: &Design,
+    wiring: &Wiring,
     stepper: &mut S,
 ) -> Result<Run, StepFault>
+    requires wired { IsWiring (netlist design.now) wiring.now }
     requires same { former.now ≡ record design.now { horizon = former.now.horizon } }
     requires later { (netlist former.now).horizon ≤ (netlist design.now).horizon }
     requires run { IsRun S.answer former.now run.now }
@@ -38,10 +41,9 @@ pub fn extend<S: Stepper>(
         (work_from S.answer (netlist design.now) (suc (netlist former.now).horizon) (suc (netlist design.now).horizon))) }
     ensures lost { CountsLoss (S.losses stepper.old) (S.losses stepper.new) result }
 {
-    let wiring = wire(alloc, design)?;
-    let engine = resume_later::<S>(alloc, former, run, design, &wiring)?;
+    let engine = resume_later::<S>(alloc, former, run, design, wiring)?;
     let start = former.horizon() + 1;
-    run_on(alloc, design, &wiring, engine, start, stepper)
+    run_on(alloc, design, wiring, engine, start, stepper)
 }
 
 /// What stands after the last moment of the run of a design, for the same design with another horizon. It shares nothing with

@@ -30,6 +30,7 @@ pub use finishing::run_of_lines;
 pub use moment::{read_input, task_at};
 pub use opening::Opening;
 pub use packed_input::PackedInput;
+pub use resuming::trace_at;
 pub use run::{simulate, simulate_wired};
 pub use waves::{wave_at, wave_named};
 pub use wiring::{Cell, Input, Wiring, wire};

@@ -142,7 +142,7 @@ fn copy_traces<S: Stepper>(
 }
 
 /// The trace of the gate at a place in the order of the design's gates.
-fn trace_at<'a>(design: &Design, run: &'a Run, place: usize) -> &'a Trace
+pub fn trace_at<'a>(design: &Design, run: &'a Run, place: usize) -> &'a Trace
     requires run { IsSomeRun design.now run.now }
     requires within { place < length (netlist design.now).gates }
     ensures { (answer : Evaluation → ℕ → State) → IsRun answer design.now run.now →

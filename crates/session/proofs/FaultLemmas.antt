@@ -1,5 +1,5 @@
 -- Words at fault.
-use Rattle.std.proofs.Common.{◌≡◌, ◌≢◌, ℕ, List, Bool, true, false, cond, Option, None, Some, Result, Ok, Err, refl, sym, ap, ◌∙◌, arith, eqb}
+use Rattle.std.proofs.Common.{◌≡◌, ◌≢◌, ℕ, List, Bool, true, false, cond, None, Err, refl, ap, ◌∙◌, eqb}
 use Rattle.std.specs.Prelude.{◌-◌, ◌^◌}
 use Rattle.design.specs.Netlist.{Netlist}
 use Rattle.edits.specs.declared.edit.Edit.{Edit}

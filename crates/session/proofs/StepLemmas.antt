@@ -1,5 +1,5 @@
 -- What no command changes.
-use Rattle.std.proofs.Common.{◌≡◌, ℕ, List, ◌∷◌, [], Bool, true, false, cond, Option, None, Some, Result, Ok, Err, refl, ap, subst}
+use Rattle.std.proofs.Common.{◌≡◌, ℕ, List, ◌∷◌, [], Bool, true, false, cond, Option, None, Some, Result, Ok, Err, refl, subst}
 use Rattle.std.specs.Prelude.{IfOk}
 use Rattle.design.specs.Netlist.{Netlist}
 use Rattle.edits.specs.declared.edit.Edit.{Edit}
@@ -14,7 +14,7 @@ use Rattle.session.specs.declared.replies.refusal.Refusal.{Refusal}
 use Rattle.session.specs.EditLines.{edit_of}
 use Rattle.session.specs.Held.{held_as, hold_fault}
 use Rattle.session.specs.Refused.{Comes, left_by}
-use Rattle.session.specs.State.{Answers, Concludes, Replies, RepliesWith, Results, SessionState}
+use Rattle.session.specs.State.{Answers, Concludes, Replies, Results, SessionState}
 use Rattle.session.specs.Standing.{with_batch}
 use Rattle.session.specs.Steps.{abort_step, batch_step, begin_step, commit_result, edit_step, free_step, has_room, hold_step, step}
 use Rattle.session.specs.ToolCommands.{request_by}

@@ -1,6 +1,8 @@
 //! Runs that go on to a later horizon, worked out by hand.
 
 ghost use Rattle.std.specs.Prelude.{◌≡◌};
+ghost use Rattle.gatestep.specs.Step.{advance};
+ghost use Rattle.scratch.specs.kept.Run.{IsRun};
 
 use crate::calls::simulated;
 use crate::compare::equal;
@@ -10,9 +12,10 @@ use crate::waves::{Named, check_waves};
 use design::Design;
 use fourstate::MAX_TIME;
 use gatestep::Serial;
-use scratch::extend;
+use ordering::extend;
 use std::alloc::Global;
 use std::process::Abort;
+use waveform::Run;
 
 /// The same design with another horizon.
 fn ending_at(rt: &impl Abort, design: &Design, horizon: u64) -> Design
@@ -21,6 +24,25 @@ fn ending_at(rt: &impl Abort, design: &Design, horizon: u64) -> Design
     assert!(rt; horizon <= MAX_TIME);
     let copy = design.try_clone().expect(rt, "a copy");
     copy.set_horizon(horizon)
+}
+
+/// The run of the design that goes on from its run up to an earlier horizon; the stepper is asked for what comes after that alone.
+pub fn longer(
+    rt: &impl Abort,
+    alloc: Global,
+    design: &Design,
+    horizon: u64,
+    stepper: &mut Counting,
+) -> Run
+    ensures { IsRun advance design.now result }
+{
+    let former = ending_at(rt, design, horizon);
+    assert!(rt; former.horizon() <= design.horizon());
+    let run = simulated(rt, alloc, &former, &mut Serial::new());
+    let longer = extend(alloc, &former, &run, design, stepper).expect(rt, "a longer run");
+    drop(run);
+    drop(former);
+    longer
 }
 
 /// Runs the design up to an earlier horizon and from there to its own: then the waves are these, and after the earlier one
@@ -33,19 +55,14 @@ fn check_design(
     waves: &[Named<'_>],
     asked: (u64, u64),
 ) {
-    let former = ending_at(rt, design, horizon);
-    assert!(rt; former.horizon() <= design.horizon());
-    let run = simulated(rt, alloc, &former, &mut Serial::new());
     for (least_dealt, asked) in [(0, (asked.0, asked.1, 0)), (usize::MAX, (0, 0, asked.1))] {
         let mut stepper = Counting::new(least_dealt);
-        let longer = extend(alloc, &former, &run, design, &mut stepper).expect(rt, "a longer run");
-        equal(rt, "horizon", longer.horizon(), design.horizon());
-        check_waves(rt, alloc, design, &longer, waves);
-        drop(longer);
+        let run = longer(rt, alloc, design, horizon, &mut stepper);
+        equal(rt, "horizon", run.horizon(), design.horizon());
+        check_waves(rt, alloc, design, &run, waves);
+        drop(run);
         equal(rt, ("asked", least_dealt), stepper.asked(), asked);
     }
-    drop(run);
-    drop(former);
 }
 
 fn check(

@@ -10,6 +10,7 @@ use crate::dice::Dice;
 use crate::edit_lists::edit_lines::{carried_out, empty, word};
 use crate::reruns::plain::{Row, rows};
 use crate::reruns::random::check_run;
+use crate::runs::extended::longer;
 use design::Design;
 use edits::{Edit, Pin, Pins};
 use fourstate::{DelayTimes, GateKind, NetKind, Value, takes_off};
@@ -170,11 +171,34 @@ fn check_in_order(rt: &impl Abort, alloc: Global, seed: u64) {
     let mut stepper = Counting::new(NEVER_DEALT);
     let run = simulated_in_order(rt, alloc, &design, &mut stepper);
     equal(rt, (seed, "tasks"), stepper.tasks(rt), beside.tasks(rt));
+    equal(rt, (seed, "went back"), stepper.went_back(), true);
     let rows = rows(rt, alloc, &design);
     check_run(rt, &design, &run, rows.as_slice());
+    check_longer(rt, alloc, &design, rows.as_slice());
     drop(rows);
     drop(run);
     drop(design);
+}
+
+/// From each of these moments on a run goes on to the values of the rows: gate after gate where at least as many moments come.
+/// That is seen where much is left to be asked.
+fn check_longer(rt: &impl Abort, alloc: Global, design: &Design, rows: &[Row]) {
+    let moments = [
+        (0, Some(true)),
+        (1, Some(true)),
+        (30, None),
+        (31, Some(false)),
+        (60, Some(false)),
+    ];
+    for (horizon, went_back) in moments {
+        let mut stepper = Counting::new(NEVER_DEALT);
+        let run = longer(rt, alloc, design, horizon, &mut stepper);
+        check_run(rt, design, &run, rows);
+        drop(run);
+        if let Some(went_back) = went_back {
+            equal(rt, (horizon, "went back"), stepper.went_back(), went_back);
+        }
+    }
 }
 
 #[test]

@@ -1,19 +1,11 @@
 -- What a run asks, gate after gate.
-use Rattle.std.specs.Prelude.{◌≡◌, ◌&&◌, Bool, ℕ, nat_le, List, ◌++◌, map, sum_by, count_by}
-use Rattle.std.specs.List.{filter, flat_map}
+use Rattle.std.specs.Prelude.{◌≡◌, ◌&&◌, Bool, ℕ, List, ◌++◌, sum_by, count_by}
+use Rattle.std.specs.List.{flat_map}
 use Rattle.gatestep.specs.Step.{State, Evaluation}
 use Rattle.design.specs.Netlist.{GateEntry, Netlist}
 use Rattle.waveform.specs.Timelines.{moments}
-pub use Rattle.lines.specs.kept.Gates.{gate_work}
+pub use Rattle.gateline.specs.kept.Gates.{gate_work, gate_work_at, gate_work_from, moments_from}
 use Rattle.scratch.specs.Work.{is_stirred, task_at}
-
--- the moments from a on and below n, in order
-abbrev pub moments_from : (a n : ℕ) → List ℕ
-moments_from a n = filter (λ t. nat_le a t) (moments n)
-
--- what is asked of one gate at some moments, in their order
-abbrev pub gate_work_at : (Evaluation → ℕ → State) → Netlist → GateEntry → List ℕ → List (Evaluation × ℕ)
-gate_work_at answer d g times = map (λ t. (task_at answer d g t, t)) (filter (λ t. is_stirred answer d g t) times)
 
 -- what is asked of some gates at the moments below n, gate after gate
 abbrev pub gates_work : (Evaluation → ℕ → State) → Netlist → ℕ → List GateEntry → List (Evaluation × ℕ)
@@ -21,7 +13,7 @@ gates_work answer d n gates = flat_map (λ g. gate_work answer d g n) gates
 
 -- what is asked of some gates at the moments from a on and below n, gate after gate
 abbrev pub gates_work_from : (Evaluation → ℕ → State) → Netlist → (a n : ℕ) → List GateEntry → List (Evaluation × ℕ)
-gates_work_from answer d a n gates = flat_map (λ g. gate_work_at answer d g (moments_from a n)) gates
+gates_work_from answer d a n gates = flat_map (λ g. gate_work_from answer d g a n) gates
 
 -- how many pairs of a gate and a moment below n there are at which the gate is stirred and what is asked of it passes a test
 abbrev pub stirred_pairs : (Evaluation → ℕ → State) → Netlist → ℕ → (Evaluation × ℕ → Bool) → ℕ

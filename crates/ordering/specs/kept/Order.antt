@@ -12,7 +12,7 @@ use Rattle.scratch.specs.declared.wiring.Wiring.{Wiring}
 use Rattle.scratch.specs.kept.Cells.{CellRecord}
 use Rattle.scratch.specs.kept.Kept.{input_of, places_at}
 use Rattle.scratch.specs.kept.Places.{has}
-use Rattle.ordering.specs.kept.Gates.{gate_work}
+use Rattle.ordering.specs.kept.Gates.{gate_work_from}
 
 -- all gates that drive what an input reads are done
 abbrev pub is_ready : Netlist → (is_done : ℕ → Bool) → Input → Bool
@@ -37,9 +37,9 @@ may_follow d done order = follow (may_come d) done order
 abbrev pub is_order : Netlist → List ℕ → Bool
 is_order d order = may_follow d [] order && list_all (λ k. has k order) (moments (length d.gates))
 
--- what is asked of the gates in this order at the moments below n, gate after gate
-abbrev pub order_work : (Evaluation → ℕ → State) → Netlist → ℕ → List ℕ → List (Evaluation × ℕ)
-order_work answer d n order = flat_map (λ k. option_map_or (λ g. gate_work answer d g n) (slice_get d.gates k) []) order
+-- what is asked of the gates in this order at the moments from a on and below n, gate after gate
+abbrev pub order_work_from : (Evaluation → ℕ → State) → Netlist → (a n : ℕ) → List ℕ → List (Evaluation × ℕ)
+order_work_from answer d a n order = flat_map (λ k. option_map_or (λ g. gate_work_from answer d g a n) (slice_get d.gates k) []) order
 
 -- the same by the connections of the design: all gates that drive what an input reads are done
 abbrev pub is_ready_by : Wiring → (is_done : ℕ → Bool) → Input → Bool

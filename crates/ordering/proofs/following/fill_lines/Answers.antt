@@ -5,11 +5,12 @@ use Rattle.ordering.proofs.following.fill_lines.Goals as goal
 
 pub find_rest-requires-clause-traced : goal.find_rest-requires-clause-traced
 find_rest-requires-clause-traced g c =
-    all_traced g.S.Stepper.answer (netlist c.args.design.now) c.follow_each.new.traces c.args.order.now c.requires.order (c.follow_each.auto.traces ∙ c.requires.many)
+    c.as_slice.ensures.value
+    ∙ all_traced g.S.Stepper.answer (netlist c.args.design.now) c.follow_each.new.lines.traces.items c.args.order.now c.requires.order c.in_ok-follow_each.ensures.fit.traces
     c.in_ok-follow_each.ensures.traced
 
 pub returns-clause-traces : goal.returns-clause-traces
 returns-clause-traces g c =
     on_ok c.find_rest.result
-    (all_traced g.S.Stepper.answer (netlist c.args.design.now) c.follow_each.new.traces c.args.order.now c.requires.order (c.follow_each.auto.traces ∙ c.requires.many)
+    (all_traced g.S.Stepper.answer (netlist c.args.design.now) c.follow_each.new.lines.traces.items c.args.order.now c.requires.order c.in_ok-follow_each.ensures.fit.traces
     c.in_ok-follow_each.ensures.traced)

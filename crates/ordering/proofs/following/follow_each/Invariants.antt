@@ -1,8 +1,10 @@
-use Rattle.std.proofs.Common.{◌≡◌, ℕ, true, suc, take, drop, length, ◌++◌}
+use Rattle.std.proofs.Common.{◌≡◌, ℕ, true, suc, take, drop, ◌++◌}
 use Rattle.design.specs.Keys.{netlist}
-use Rattle.lines.specs.kept.Known.{AreFound, IsTraced}
+use Rattle.gateline.specs.kept.Known.{AreFound, IsTraced}
 use Rattle.scratch.specs.kept.Places.{has}
-use Rattle.ordering.specs.kept.Order.{may_follow, order_work}
+use Rattle.ordering.specs.kept.Earlier.{begin_after}
+use Rattle.ordering.specs.kept.Lines.{Fit}
+use Rattle.ordering.specs.kept.Order.{may_follow, order_work_from}
 use Rattle.ordering.proofs.following.follow_each.Given as goal
 
 -- the gates so far have their traces and were asked, and the others may follow
@@ -10,9 +12,10 @@ abbrev pub invariant-loop-place : goal.invariant-loop-place
 invariant-loop-place g l =
     record {
       follow : may_follow (netlist l.design) (take l.place-index l.order) (drop l.place-index l.order) ≡ true;
-      found : AreFound g.S.Stepper.answer (netlist l.design) l.found l.waves;
-      traced : (p : ℕ) → has p (take l.place-index l.order) ≡ true → IsTraced g.S.Stepper.answer (netlist l.design) l.traces p;
-      many : length l.traces ≡ length l.fn.traces;
-      asked : g.S.Stepper.asked l.stepper ≡ g.S.Stepper.asked l.fn.stepper ++ order_work g.S.Stepper.answer (netlist l.design) (suc (netlist l.design).horizon) (take l.place-index l.order);
+      fit : Fit (netlist l.design) l.lines;
+      found : AreFound g.S.Stepper.answer (netlist l.design) l.lines.found.items l.lines.waves.items;
+      traced : (p : ℕ) → has p (take l.place-index l.order) ≡ true → IsTraced g.S.Stepper.answer (netlist l.design) l.lines.traces.items p;
+      asked : g.S.Stepper.asked l.stepper
+          ≡ g.S.Stepper.asked l.fn.stepper ++ order_work_from g.S.Stepper.answer (netlist l.design) (begin_after l.earlier) (suc (netlist l.design).horizon) (take l.place-index l.order);
       lost : g.S.Stepper.losses l.stepper ≡ g.S.Stepper.losses l.fn.stepper;
     }

@@ -1,4 +1,4 @@
-use Rattle.std.proofs.Common.{subst, sym, [], ◌∷◌, ◌++◌}
+use Rattle.std.proofs.Common.{subst, sym, [], ◌∷◌}
 use Rattle.std.specs.List.{All}
 use Rattle.std.proofs.lemmas.List.Elements.{All-append, All-cons, All-nil}
 use Rattle.gatestep.specs.Tasks.{IsReady}

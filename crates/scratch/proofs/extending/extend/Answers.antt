@@ -32,14 +32,8 @@ returns-clause-part g c =
     (subst (λ n. asked c.run_on.new.stepper ≡ asked c.args.stepper.now ++ work_from g.S.Stepper.answer d n some.0) start some.3))
     c.run_on.ensures.part
 
-pub returns-in_err-wiring-clause-part : goal.returns-in_err-wiring-clause-part
-returns-in_err-wiring-clause-part g c =
-    let d = netlist c.args.design.now in
-    held_err c.from_residual.result
-    (grown_none (g.S.Stepper.asked c.args.stepper.now) (work_from g.S.Stepper.answer d (suc (netlist c.args.former.now).horizon) (suc d.horizon)))
-
 pub returns-in_err-engine-clause-part : goal.returns-in_err-engine-clause-part
 returns-in_err-engine-clause-part g c =
     let d = netlist c.args.design.now in
-    held_err c.from_residual-in_err-engine.result
+    held_err c.from_residual.result
     (grown_none (g.S.Stepper.asked c.args.stepper.now) (work_from g.S.Stepper.answer d (suc (netlist c.args.former.now).horizon) (suc d.horizon)))

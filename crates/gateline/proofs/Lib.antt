@@ -1,0 +1,17 @@
+pub mod Alike
+pub mod ByItself
+pub mod ByPlace
+pub mod Codes
+pub mod Goes
+pub mod InDesign
+pub mod Inputs
+pub mod Lists
+pub mod Lone
+pub mod Marks
+pub mod Merging
+pub mod Nets
+pub mod Points
+pub mod Several
+pub mod Stands
+pub mod Still
+pub mod Walking

@@ -1,0 +1,95 @@
+-- What a net has, by the traces of its drivers.
+use Rattle.std.proofs.Common.{◌≡◌, ◌<◌, ◌∙◌, ap, sym, refl, cond, IsTrue, ℕ, suc, List, [], ◌∷◌, map, Option, Some, slice_get, get_or, unwrap_or, length, All, arith}
+use Rattle.std.specs.Option.{option_map}
+use Rattle.std.proofs.lemmas.List.{length-map}
+use Rattle.std.proofs.lemmas.List.Elements.{All-head, All-tail}
+use Rattle.std.proofs.lemmas.Option.{slice_get-map, slice_get_read, slice_get_within}
+use Rattle.design.specs.Netlist.{GateEntry, NetEntry, Netlist, stimulus}
+use Rattle.design.specs.kept.Lawful.{IsGate}
+use Rattle.design.specs.kept.Places.{driver_places}
+use Rattle.fourstate.specs.Gates.{takes_inputs}
+use Rattle.fourstate.specs.Nets.{net_of}
+use Rattle.fourstate.specs.declared.value.Value.{Value}
+use Rattle.fourstate.specs.declared.value.Value.TheVariants.{Unknown}
+use Rattle.gatestep.specs.Step.{State, Evaluation, due, initial}
+use Rattle.gatestep.specs.kept.Tasks.{IsTask, NothingDue}
+use Rattle.gateline.proofs.ByItself.{states}
+use Rattle.gateline.proofs.Lists.{map_twice}
+use Rattle.gateline.proofs.Still.{settled as settled_by}
+use Rattle.gateline.specs.kept.Known.{AreTraced, IsTraced, currents_by}
+use Rattle.smallvec.specs.SmallVec.{SmallVec}
+use Rattle.scratch.specs.Run.{evaluation_at, net_at, state_after, state_before, value}
+use Rattle.scratch.specs.Work.{inputs_at}
+use Rattle.scratch.specs.kept.Kept.{net_from, values_at}
+use Rattle.scratch.specs.kept.Run.{trace_of}
+use Rattle.waveform.specs.Entries.{same_state}
+use Rattle.waveform.specs.Timelines.{changes_below, value_by}
+use Rattle.waveform.specs.kept.Currents.{currents}
+use Rattle.waveform.specs.kept.Timelines.{IsAlwaysSettled}
+
+-- the entries of a driver give its states (`waveform::laws::value_of_changes`)
+abbrev pub GivesStates : Type 0
+GivesStates = (f : ℕ → State) → IsAlwaysSettled due f → (t n : ℕ) → t < n → value_by due initial (changes_below same_state due f n) t ≡ f t
+
+-- a net has by places what it has by names (`gateline::laws::net_by_places`)
+abbrev pub NetByPlaces : Netlist → Type 0
+NetByPlaces d =
+    (before : GateEntry → State) (t : ℕ) (n : NetEntry) → net_from (map (λ g. (due (before g) t).current) d.gates) t n (driver_places d.gates n.name) ≡ net_at d before n t
+
+-- two maps agree on a list if they do on the elements of which P holds
+map_where : {A B : Type 0} (P : A → Type 0) (f g : A → B) → ((x : A) → P x → f x ≡ g x) → (xs : List A) → All P xs → map f xs ≡ map g xs
+map_where P f g alike [] all = refl
+map_where P f g alike (x ∷ xs) all = rw (alike x (All-head P x xs all)) (ap (λ l. g x ∷ l) (map_where P f g alike xs (All-tail P x xs all)))
+
+module _ (answer : Evaluation → ℕ → State) (d : Netlist) (pending : (e : Evaluation) (t : ℕ) → IsTask e → NothingDue t (answer e t)) where
+  -- after a moment nothing is due at it any more
+  pub settled : (g : GateEntry) → IsGate g → IsAlwaysSettled due (state_after answer d g)
+  settled g is t =
+      let fit : (u : ℕ) → IsTrue (takes_inputs g.kind (length (inputs_at answer d g u))) = λ u. rw length-map is.inputs_fit in
+      let by_itself = settled_by answer g.kind g.delays (inputs_at answer d g) fit is.delays_in_range pending t in
+      rw (states answer d g (suc t)) at by_itself
+
+  module _ (current : (e : Evaluation) (t : ℕ) → (answer e t).current ≡ (due e.state t).current) (gives : GivesStates) where
+    -- what a driver gives up to the horizon, by its trace
+    pub gives_current : (g : GateEntry) → IsGate g → (t : ℕ) → t < suc d.horizon → currents (trace_of answer d g) t ≡ (due (state_before answer d t g) t).current
+    gives_current g is t within =
+        ap (λ s. s.current) (gives (state_after answer d g) (settled g is) t (suc d.horizon) within)
+        ∙ current (evaluation_at d (state_before answer d t) g t) t
+
+    module _ (are : All IsGate d.gates) (traces : List (List (ℕ × State))) (t : ℕ) (within : t < suc d.horizon) where
+      one_at : (p : ℕ) → IsTraced answer d traces p → slice_get (currents_by traces t) p ≡ slice_get (map (λ g. (due (state_before answer d t g) t).current) d.gates) p
+      one_at p traced =
+          slice_get-map (λ trace. currents trace t) traces p
+          ∙ ap (option_map (λ trace. currents trace t)) traced
+          ∙ sym (slice_get-map (λ trace. currents trace t) (map (trace_of answer d) d.gates) p)
+          ∙ ap (λ (l : List Value). slice_get l p)
+          (map_twice (trace_of answer d) (λ trace. currents trace t) d.gates
+          ∙ map_where IsGate (λ g. currents (trace_of answer d g) t) (λ g. (due (state_before answer d t g) t).current) (λ g is. gives_current g is t within) d.gates are)
+
+      all_at : (places : List ℕ) → AreTraced answer d traces places →
+          values_at (currents_by traces t) places ≡ values_at (map (λ g. (due (state_before answer d t g) t).current) d.gates) places
+      all_at [] traced = refl
+      all_at (p ∷ places) traced =
+          let one = ap (λ (o : Option Value). unwrap_or o Unknown) (one_at p traced.0) in
+          let rest = all_at places traced.1 in
+          λ i. one i ∷ rest i
+
+      -- the value of a net, by the traces of its drivers
+      pub value_by_traces : NetByPlaces d → (n : NetEntry) → AreTraced answer d traces (driver_places d.gates n.name) →
+          net_from (currents_by traces t) t n (driver_places d.gates n.name) ≡ value answer d n t
+      value_by_traces by_places n traced =
+          ap (λ vs. cond n.is_input (stimulus n.points t) (net_of n.kind vs)) (all_at (driver_places d.gates n.name) traced)
+          ∙ by_places (state_before answer d t) t n
+
+-- the drivers of the net at a place
+pub drivers_at : (d : Netlist) (lists : List (SmallVec ℕ)) (place : ℕ) (n : NetEntry) (drivers : SmallVec ℕ) → map (λ places. places.items) lists ≡ map (λ n. driver_places d.gates n.name) d.nets →
+    slice_get d.nets place ≡ Some n → drivers ≡ get_or lists place drivers → drivers.items ≡ driver_places d.gates n.name
+drivers_at d lists place n drivers are there read =
+    let count : length lists ≡ length d.nets = sym (length-map lists (λ (places : SmallVec ℕ). places.items)) ∙ ap length are ∙ length-map d.nets (λ (n : NetEntry). driver_places d.gates n.name) in
+    let within : place < length d.nets = slice_get_within d.nets place n there in
+    let here : slice_get lists place ≡ Some drivers = slice_get_read lists (length lists) place drivers refl (omega arith) read in
+    let both : Some drivers.items ≡ Some (driver_places d.gates n.name) =
+    sym (slice_get-map (λ (places : SmallVec ℕ). places.items) lists place ∙ ap (option_map (λ (places : SmallVec ℕ). places.items)) here)
+    ∙ ap (λ l. slice_get l place) are
+    ∙ slice_get-map (λ (n : NetEntry). driver_places d.gates n.name) d.nets place ∙ ap (option_map (λ (n : NetEntry). driver_places d.gates n.name)) there in
+    cc

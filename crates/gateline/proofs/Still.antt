@@ -1,0 +1,207 @@
+-- What stays of one gate while nothing happens to it, and what its driver's states keep.
+use Rattle.std.proofs.Common.{◌≡◌, ◌<◌, ◌≤◌, ◌∙◌, sym, ap, refl, Bool, true, false, not, cond, ℕ, zero, suc, ◌+◌, List, [], ◌∷◌, ◌++◌, append-nil, append_assoc, map, length, Option, Some, None, IsTrue, arith, ⊎_elim}
+use Rattle.std.specs.List.{filter}
+use Rattle.std.specs.Option.{option_map_or, ForSome}
+use Rattle.std.specs.Prelude.{nat_le, ◌||◌}
+use Rattle.std.proofs.lemmas.Bool.{cases_lt, le-leb, lt-leb}
+use Rattle.std.proofs.lemmas.Bool.Decides.{nat_tests}
+use Rattle.std.proofs.lemmas.List.{map-append}
+use Rattle.std.proofs.lemmas.List.Elements.{filter-append}
+use Rattle.fourstate.specs.Gates.{takes_inputs}
+use Rattle.fourstate.specs.declared.delay_times.DelayTimes.{DelayTimes}
+use Rattle.fourstate.specs.declared.gate.GateKind.{GateKind}
+use Rattle.fourstate.specs.declared.limits.TheConstants.{MAX_DELAY}
+use Rattle.fourstate.specs.declared.value.Value.{Value}
+use Rattle.fourstate.specs.kept.Delays.{AreDelays}
+use Rattle.gatestep.specs.Step.{State, Evaluation, due, due_of}
+use Rattle.gatestep.specs.Tasks.{PendingFrom}
+use Rattle.gatestep.specs.kept.StepLaws.{not_due}
+use Rattle.gatestep.specs.kept.Tasks.{IsTask, NothingDue, PendingBefore, again}
+use Rattle.gateline.proofs.Lists.{neither, not_false, same_values_equal, same_values_itself}
+use Rattle.gateline.specs.kept.Line.{is_stirred_by, line_trace, line_work, line_work_from, state_by, task_by, work_at}
+use Rattle.scratch.specs.Work.{is_due, same_values}
+use Rattle.waveform.specs.Timelines.{changes_below, moments}
+use Rattle.waveform.specs.Entries.{same_state}
+use Rattle.waveform.specs.kept.Entries.{CanStore}
+use Rattle.waveform.specs.kept.Timelines.{IsAlwaysSettled}
+use Rattle.waveform.specs.declared.times.TheConstants.{TIME_END}
+
+-- where nothing is due at t, what is pending is for later
+due_at : (p : Option (Value × ℕ)) (t : ℕ) → option_map_or (λ event. nat_le event.1 t) p false ≡ false → ForSome p (λ event. t < event.1)
+due_at None t h = λ event is. absurd (cc)
+due_at (Some event) t h = λ other is.
+    let late : t < event.1 = grind (arith, nat_tests) in
+    let same : event ≡ other = cc in
+    rw (← same) late
+
+pub nothing_due : (s : State) (t : ℕ) → is_due s t ≡ false → NothingDue t s
+nothing_due s t h = due_at s.pending t h
+
+-- before the moment of what is pending nothing is due
+not_due_at : (p : Option (Value × ℕ)) (n u : ℕ) → ForSome p (λ event. n ≤ event.1) → u < n → option_map_or (λ event. nat_le event.1 u) p false ≡ false
+not_due_at None n u early below = refl
+not_due_at (Some event) n u early below = let from : n ≤ event.1 = early event refl in lt-leb event.1 u (omega arith)
+
+pub not_due_yet : (s : State) (n u : ℕ) → ForSome s.pending (λ event. n ≤ event.1) → u < n → is_due s u ≡ false
+not_due_yet s n u early below = not_due_at s.pending n u early below
+
+none_due_of : (c : Value) (p : Option (Value × ℕ)) (t : ℕ) → option_map_or (λ event. nat_le event.1 t) p false ≡ false → due_of c p t ≡ record { current = c; pending = p }
+none_due_of c None t h = refl
+none_due_of c (Some event) t h = ap (λ (b : Bool). cond {A = State} b (record { current = event.0; pending = None }) (record { current = c; pending = Some event })) h
+
+-- where nothing is due a state stays
+pub none_due : (s : State) (t : ℕ) → is_due s t ≡ false → due s t ≡ s
+none_due s t h = none_due_of s.current s.pending t h
+
+-- a moment at which a state merely drifts adds no entry (`waveform::laws::no_change_by_drift`)
+abbrev pub NoneAdded : Type 0
+NoneAdded = (f : ℕ → State) (t : ℕ) → f (suc t) ≡ due (f t) (suc t) → changes_below same_state due f (suc (suc t)) ≡ changes_below same_state due f (suc t)
+
+module _ (answer : Evaluation → ℕ → State) (kind : GateKind) (delays : DelayTimes) (inputs : ℕ → List Value) where
+  abbrev state : ℕ → State
+  state = state_by answer kind delays inputs
+
+  abbrev task : ℕ → Evaluation
+  task = task_by answer kind delays inputs
+
+  abbrev stirred : ℕ → Bool
+  stirred = is_stirred_by answer kind delays inputs
+
+  -- its task at a moment, with the moment
+  abbrev timed : ℕ → Evaluation × ℕ
+  timed t = (task t, t)
+
+  -- what is asked at t comes to what was asked before
+  pub one_more : (t : ℕ) → line_work answer kind delays inputs (suc t) ≡ line_work answer kind delays inputs t ++ work_at answer kind delays inputs t
+  one_more t =
+      ap (map timed) (filter-append stirred (moments t) (t ∷ []))
+      ∙ map-append timed (filter stirred (moments t)) (filter stirred (t ∷ []))
+      ∙ ap (λ l. line_work answer kind delays inputs t ++ l) (by (stirred t))
+    where
+      by : (b : Bool) → map timed (cond b (t ∷ []) []) ≡ cond b ((task t, t) ∷ []) []
+      by true = refl
+      by false = refl
+
+  -- and to what was asked from n on
+  pub one_more_from : (n t : ℕ) → n ≤ t → line_work_from answer kind delays inputs n (suc t) ≡ line_work_from answer kind delays inputs n t ++ work_at answer kind delays inputs t
+  one_more_from n t from =
+      ap (λ (b : Bool). cond b (line_work_from answer kind delays inputs n t ++ work_at answer kind delays inputs t) []) (le-leb n t from)
+
+  pub none_from : (n : ℕ) → line_work_from answer kind delays inputs n n ≡ []
+  none_from zero = refl
+  none_from (suc n) =
+      ap (λ (b : Bool). cond b (line_work_from answer kind delays inputs (suc n) n ++ work_at answer kind delays inputs n) []) (lt-leb (suc n) n (omega arith))
+
+  -- what is asked is what is asked before m and from m on
+  pub work_splits : (m n : ℕ) → m ≤ n → line_work answer kind delays inputs n ≡ line_work answer kind delays inputs m ++ line_work_from answer kind delays inputs m n
+  work_splits m zero within =
+      let here : m ≡ 0 = omega arith in
+      sym (append-nil (line_work answer kind delays inputs 0))
+      ∙ ap (λ k. line_work answer kind delays inputs k ++ line_work_from answer kind delays inputs k 0) (sym here)
+  work_splits m (suc n) within =
+      ⊎_elim
+      (λ before.
+      let from : m ≤ n = omega arith in
+      one_more n
+      ∙ ap (λ l. l ++ work_at answer kind delays inputs n) (work_splits m n from)
+      ∙ append_assoc (line_work answer kind delays inputs m) (line_work_from answer kind delays inputs m n) (work_at answer kind delays inputs n)
+      ∙ ap (λ l. line_work answer kind delays inputs m ++ l) (sym (one_more_from m n from)))
+      (λ after.
+      let here : m ≡ suc n = omega arith in
+      sym (append-nil (line_work answer kind delays inputs (suc n)))
+      ∙ ap (λ l. line_work answer kind delays inputs (suc n) ++ l) (sym (none_from (suc n)))
+      ∙ ap (λ k. line_work answer kind delays inputs k ++ line_work_from answer kind delays inputs k (suc n)) (sym here))
+      (cases_lt m (suc n))
+
+  -- nothing is asked at a moment at which it is not stirred
+  pub nothing_at : (t : ℕ) → stirred t ≡ false → work_at answer kind delays inputs t ≡ []
+  nothing_at t off = ap (λ (b : Bool). cond b ((task t, t) ∷ []) []) off
+
+  -- it is not stirred where nothing of it is due and its inputs stay
+  pub is_still : (t : ℕ) → is_due (state (suc t)) (suc t) ≡ false → inputs (suc t) ≡ inputs t → stirred (suc t) ≡ false
+  is_still t none stay =
+      ap (λ (vs : List Value). not (same_values (inputs (suc t)) vs) || is_due (state (suc t)) (suc t)) (sym stay)
+      ∙ ap (λ (b : Bool). not b || is_due (state (suc t)) (suc t)) (same_values_itself (inputs (suc t))) ∙ none
+
+  module _ (stays : (e : Evaluation) (t u : ℕ) → t < u → NothingDue u (answer e t) → answer (again e (answer e t)) u ≡ answer e t) where
+    -- where it is not stirred it keeps its state
+    pub still_state : (t : ℕ) → stirred (suc t) ≡ false → state (suc (suc t)) ≡ state (suc t)
+    still_state t off =
+        let parts = neither (not (same_values (inputs (suc t)) (inputs t))) (is_due (state (suc t)) (suc t)) off in
+        ap (λ (vs : List Value). answer (record { kind = kind; delays = delays; state = state (suc t); inputs = vs }) (suc t))
+        (same_values_equal (inputs (suc t)) (inputs t) (not_false (same_values (inputs (suc t)) (inputs t)) parts.0))
+        ∙ stays (task t) t (suc t) (omega arith) (nothing_due (state (suc t)) (suc t) parts.1)
+
+    -- and adds no entry to its trace
+    pub still_trace : NoneAdded → (t : ℕ) → stirred (suc t) ≡ false → line_trace answer kind delays inputs (suc (suc t)) ≡ line_trace answer kind delays inputs (suc t)
+    still_trace none_added t off =
+        let parts = neither (not (same_values (inputs (suc t)) (inputs t))) (is_due (state (suc t)) (suc t)) off in
+        none_added (λ u. state (suc u)) t (still_state t off ∙ sym (none_due (state (suc t)) (suc t) parts.1))
+
+    -- what it has after r where it is the same as after m
+    pub record StaysTo (m r : ℕ) : Type 0 where
+      pub states : state (suc r) ≡ state (suc m)
+      pub traces : line_trace answer kind delays inputs (suc r) ≡ line_trace answer kind delays inputs (suc m)
+      pub works : (n : ℕ) → n ≤ suc m → line_work_from answer kind delays inputs n (suc r) ≡ line_work_from answer kind delays inputs n (suc m)
+
+    -- where its inputs stay from m to r, and nothing of it is due, all stays
+    pub stays_to : NoneAdded → (m r : ℕ) → m ≤ r → ((u : ℕ) → m ≤ u → u ≤ r → inputs u ≡ inputs m) → ((u : ℕ) → u ≤ r → is_due (state (suc m)) u ≡ false) → StaysTo m r
+    stays_to none_added m zero from same none =
+        let here : 0 ≡ m = omega arith in
+        record {
+          states = ap (λ k. state (suc k)) here;
+          traces = ap (λ k. line_trace answer kind delays inputs (suc k)) here;
+          works = λ n low. ap (λ k. line_work_from answer kind delays inputs n (suc k)) here;
+        }
+    stays_to none_added m (suc r) from same none =
+        ⊎_elim
+        (λ before.
+        let within : m ≤ r = omega arith in
+        let so_far = stays_to none_added m r within (λ u low high. same u low (omega arith)) (λ u high. none u (omega arith)) in
+        let off : stirred (suc r) ≡ false =
+        is_still r (ap (λ s. is_due s (suc r)) so_far.states ∙ none (suc r) (omega arith)) (same (suc r) (omega arith) (omega arith) ∙ sym (same r within (omega arith))) in
+        record {
+          states = still_state r off ∙ so_far.states;
+          traces = still_trace none_added r off ∙ so_far.traces;
+          works = λ n low. one_more_from n (suc r) (omega arith) ∙ ap (λ l. line_work_from answer kind delays inputs n (suc r) ++ l) (nothing_at (suc r) off)
+              ∙ append-nil (line_work_from answer kind delays inputs n (suc r)) ∙ so_far.works n low;
+        })
+        (λ after.
+        let here : suc r ≡ m = omega arith in
+        record {
+          states = ap (λ k. state (suc k)) here;
+          traces = ap (λ k. line_trace answer kind delays inputs (suc k)) here;
+          works = λ n low. ap (λ k. line_work_from answer kind delays inputs n (suc k)) here;
+        })
+        (cases_lt m (suc r))
+
+  -- What its states keep.
+  module _ (fit : (t : ℕ) → IsTrue (takes_inputs kind (length (inputs t)))) (are : AreDelays delays)
+      (pending : (e : Evaluation) (t : ℕ) → IsTask e → NothingDue t (answer e t)) where
+    is_task : (t : ℕ) → IsTask (task t)
+    is_task t = record { inputs_fit = fit t; delays_in_range = are }
+
+    -- after a moment nothing is due at it any more
+    pub settled : IsAlwaysSettled due (λ t. state (suc t))
+    settled t = not_due (state (suc t)) (state (suc t)).pending t refl (pending (task t) t (is_task t))
+
+    -- what is pending before t is for t or a later moment
+    pub ready : (t : ℕ) → PendingFrom t (state t)
+    ready zero = λ event none. absurd (cc)
+    ready (suc t) = λ event some. let late = pending (task t) t (is_task t) event some in omega arith
+
+    module _ (near : (e : Evaluation) (t : ℕ) → IsTask e → PendingBefore (t + MAX_DELAY) e.state → PendingBefore (t + 1 + MAX_DELAY) (answer e t)) where
+      -- what is pending before a moment lies at most the greatest delay after the one before
+      near_before : (t : ℕ) → PendingBefore (t + MAX_DELAY) (state t)
+      near_before zero = λ event none. absurd (cc)
+      near_before (suc t) = λ event some.
+          let before = near (task t) t (is_task t) (near_before t) event some in omega arith
+
+      -- a state can be stored at its moment
+      pub storable : (t : ℕ) → t < TIME_END → CanStore t (state (suc t))
+      storable t low = (
+        low,
+        λ event some.
+            let before = near_before (suc t) event some in
+            (pending (task t) t (is_task t) event some, omega arith),
+      )

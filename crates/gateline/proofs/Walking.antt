@@ -1,0 +1,123 @@
+-- A gate that is followed: what stands where nothing happens, and what a moment makes of it.
+use Rattle.std.proofs.Common.{◌≡◌, ◌<◌, ◌≤◌, ◌-◌, ◌∙◌, ap, sym, IsTrue, Bool, false, not, ℕ, suc, ◌+◌, List, map, length, arith}
+use Rattle.std.specs.Prelude.{◌||◌}
+use Rattle.std.proofs.lemmas.List.{length-map}
+use Rattle.fourstate.specs.Gates.{takes_inputs}
+use Rattle.fourstate.specs.declared.limits.TheConstants.{MAX_DELAY}
+use Rattle.fourstate.specs.declared.value.Value.{Value}
+use Rattle.fourstate.specs.kept.Delays.{AreDelays}
+use Rattle.gatestep.specs.Step.{State, Evaluation, due}
+use Rattle.gatestep.specs.Tasks.{PendingFrom}
+use Rattle.gatestep.specs.kept.Tasks.{IsTask, NothingDue, PendingBefore, again}
+use Rattle.gateline.proofs.Stands.{inputs_are, inputs_stay, stands_later, stands_passed}
+use Rattle.gateline.proofs.Still.{NoneAdded, StaysTo, ready, settled, stays_to, still_state, still_trace, storable}
+use Rattle.gateline.specs.declared.reader.Reader.{Reader}
+use Rattle.gateline.specs.declared.walk.Walk.{Walk}
+use Rattle.gateline.specs.kept.Line.{is_stirred_by, line_trace, line_work_from, state_by, task_by}
+use Rattle.gateline.specs.kept.Readers.{StandAt, next_among, seen, seen_then}
+use Rattle.gateline.specs.kept.Walks.{IsAt}
+use Rattle.gateline.specs.kept.Waves.{input_functions, inputs_by}
+use Rattle.scratch.specs.Work.{is_due, same_values}
+use Rattle.scratch.specs.kept.Cells.{CellRecord}
+use Rattle.waveform.specs.Entries.{same_state}
+use Rattle.waveform.specs.Timelines.{changes_below}
+use Rattle.waveform.specs.declared.times.TheConstants.{TIME_END}
+use Rattle.waveform.specs.kept.Entries.{CanStore}
+use Rattle.waveform.specs.kept.Timelines.{IsAlwaysSettled, is_reached, pushed}
+
+-- the changes of a function grow by its next value, which is pushed (`waveform::laws::push_to_changes`)
+abbrev pub Grows : Type 0
+Grows = (f : ℕ → State) → IsAlwaysSettled due f → (t : ℕ) → pushed same_state due (changes_below same_state due f t) t (f t) ≡ changes_below same_state due f (suc t)
+
+-- what they have become at a later moment is its value at the one before, drifted to there (`waveform::laws::reached_by_changes`)
+abbrev pub Reaches : Type 0
+Reaches =
+    (f : ℕ → State) → IsAlwaysSettled due f → (t : ℕ) → 0 < t → (v : State) →
+    is_reached same_state due (changes_below same_state due f t) t v ≡ same_state v (due (f (t - 1)) t)
+
+-- each gate has as many inputs at each moment as its cell
+pub fits : (cell : CellRecord) (waves : List (List (ℕ × Value))) → IsTrue (takes_inputs cell.kind (length cell.inputs)) → (t : ℕ) → IsTrue (takes_inputs cell.kind (length (inputs_by waves cell.inputs t)))
+fits cell waves fit t = rw length-map fit
+
+module _ (answer : Evaluation → ℕ → State) (cell : CellRecord) (waves : List (List (ℕ × Value))) where
+  abbrev inputs : ℕ → List Value
+  inputs = inputs_by waves cell.inputs
+
+  module _ (stays : (e : Evaluation) (t u : ℕ) → t < u → NothingDue u (answer e t) → answer (again e (answer e t)) u ≡ answer e t) (none_added : NoneAdded) where
+    module _ (walk : Walk) (m r : ℕ) (at : IsAt answer cell waves walk m) (from : m ≤ r) (below : r < next_among walk.readers.items)
+        (none : (u : ℕ) → u ≤ r → is_due walk.state u ≡ false) where
+      all_stays : StaysTo answer cell.kind cell.delays inputs stays m r
+      all_stays =
+          stays_to answer cell.kind cell.delays inputs stays none_added m r from
+          (λ u high low. inputs_stay waves cell.inputs walk.readers.items m at.readers u high (omega arith))
+          (λ u low. ap (λ s. is_due s u) (sym at.state) ∙ none u low)
+
+      -- what stands up to a moment before which nothing happens
+      pub rests : IsAt answer cell waves walk r
+      rests = record {
+        state = at.state ∙ sym all_stays.states;
+        inputs = at.inputs ∙ sym (inputs_stay waves cell.inputs walk.readers.items m at.readers r from below);
+        trace = at.trace ∙ sym all_stays.traces;
+        readers = stands_later (input_functions waves cell.inputs) walk.readers.items m r at.readers from below;
+        next = at.next;
+      }
+
+      pub idle : (n : ℕ) → n ≤ suc m → line_work_from answer cell.kind cell.delays inputs n (suc r) ≡ line_work_from answer cell.kind cell.delays inputs n (suc m)
+      idle = all_stays.works
+
+    -- a moment at which the gate is not stirred
+    module _ (m : ℕ) (off : is_stirred_by answer cell.kind cell.delays inputs (suc m) ≡ false) where
+      pub same_state_after : state_by answer cell.kind cell.delays inputs (suc (suc m)) ≡ state_by answer cell.kind cell.delays inputs (suc m)
+      same_state_after = still_state answer cell.kind cell.delays inputs stays m off
+
+      pub same_trace_after : line_trace answer cell.kind cell.delays inputs (suc (suc m)) ≡ line_trace answer cell.kind cell.delays inputs (suc m)
+      same_trace_after = still_trace answer cell.kind cell.delays inputs stays none_added m off
+
+  -- the readers at the moment after m
+  module _ (walk : Walk) (m : ℕ) (new : List Reader) (at : IsAt answer cell waves walk m) (below : m < next_among walk.readers.items)
+      (same : map seen new ≡ map (seen_then (suc m)) walk.readers.items) where
+    pub stand_after : StandAt (input_functions waves cell.inputs) new (suc m)
+    stand_after = stands_passed (input_functions waves cell.inputs) walk.readers.items new m (suc m) at.readers (omega arith) (omega arith) same
+
+    pub inputs_after : map (λ reader. reader.value) new ≡ inputs (suc m)
+    inputs_after = inputs_are waves cell.inputs new (suc m) stand_after
+
+    -- whether the gate is stirred there
+    pub stirred_is : (now : List Value) (b : Bool) → now ≡ map (λ reader. reader.value) new → b ≡ (not (same_values now walk.inputs) || is_due walk.state (suc m)) →
+        is_stirred_by answer cell.kind cell.delays inputs (suc m) ≡ b
+    stirred_is now b are is =
+        let value : now ≡ inputs (suc m) = are ∙ inputs_after in
+        let before : walk.inputs ≡ inputs m = at.inputs in
+        let state : walk.state ≡ state_by answer cell.kind cell.delays inputs (suc m) = at.state in
+        sym (is ∙ (λ i. not (same_values (value i) (before i)) || is_due (state i) (suc m)))
+
+    -- what is evaluated there
+    pub task_is : (now : List Value) → now ≡ map (λ reader. reader.value) new →
+        ◌≡◌ {A = Evaluation} (record { kind = cell.kind; delays = cell.delays; state = walk.state; inputs = now }) (task_by answer cell.kind cell.delays inputs (suc m))
+    task_is now are =
+        let value : now ≡ inputs (suc m) = are ∙ inputs_after in
+        let state : walk.state ≡ state_by answer cell.kind cell.delays inputs (suc m) = at.state in
+        λ i. record { kind = cell.kind; delays = cell.delays; state = state i; inputs = value i }
+
+  module _ (fit : IsTrue (takes_inputs cell.kind (length cell.inputs))) (are : AreDelays cell.delays)
+      (pending : (e : Evaluation) (t : ℕ) → IsTask e → NothingDue t (answer e t)) where
+    pub settled_line : IsAlwaysSettled due (λ t. state_by answer cell.kind cell.delays inputs (suc t))
+    settled_line = settled answer cell.kind cell.delays inputs (fits cell waves fit) are pending
+
+    pub ready_line : (t : ℕ) → PendingFrom t (state_by answer cell.kind cell.delays inputs t)
+    ready_line = ready answer cell.kind cell.delays inputs (fits cell waves fit) are pending
+
+    -- the trace with the state after t
+    pub grown : Grows → (t : ℕ) → pushed same_state due (line_trace answer cell.kind cell.delays inputs t) t (state_by answer cell.kind cell.delays inputs (suc t)) ≡ line_trace answer cell.kind cell.delays inputs (suc t)
+    grown grows t = grows (λ u. state_by answer cell.kind cell.delays inputs (suc u)) settled_line t
+
+    -- the trace of the moments up to m has reached a state at the next one where the state at m has become that
+    pub reached_line : Reaches → (m : ℕ) (v : State) →
+        is_reached same_state due (line_trace answer cell.kind cell.delays inputs (suc m)) (suc m) v ≡ same_state v (due (state_by answer cell.kind cell.delays inputs (suc m)) (suc m))
+    reached_line reaches m v =
+        let f : ℕ → State = λ u. state_by answer cell.kind cell.delays inputs (suc u) in
+        reaches f settled_line (suc m) (omega arith) v ∙ ap (λ k. same_state v (due (f k) (suc m))) (let same : suc m - 1 ≡ m = omega arith in same)
+
+    pub storable_line : ((e : Evaluation) (t : ℕ) → IsTask e → PendingBefore (t + MAX_DELAY) e.state → PendingBefore (t + 1 + MAX_DELAY) (answer e t)) →
+        (t : ℕ) → t < TIME_END → CanStore t (state_by answer cell.kind cell.delays inputs (suc t))
+    storable_line near = storable answer cell.kind cell.delays inputs (fits cell waves fit) are pending near

@@ -1,0 +1,177 @@
+use Rattle.std.proofs.Common.{◌≡◌, ◌<◌, ◌+◌, ◌++◌, ◌∙◌, ap, sym, subst, cond, Bool, not, suc, List, [], ◌∷◌, IsTrue, All, map, length, append-nil, add-one, arith}
+use Rattle.std.specs.List.{refill}
+use Rattle.std.specs.Prelude.{◌||◌}
+use Rattle.std.proofs.lemmas.List.{length-map}
+use Rattle.fourstate.specs.Gates.{takes_inputs}
+use Rattle.fourstate.specs.declared.value.Value.{Value}
+use Rattle.fourstate.specs.kept.Delays.{AreDelays}
+use Rattle.gatestep.specs.Step.{Evaluation, due}
+use Rattle.gatestep.specs.Tasks.{PendingFrom}
+use Rattle.gateline.proofs.Lists.{few_inputs, refilled}
+use Rattle.gateline.proofs.Stands.{as_many_inputs}
+use Rattle.gateline.proofs.Still.{nothing_at}
+use Rattle.gateline.proofs.Walking.{fits, grown, inputs_after, reached_line, ready_line, same_state_after, same_trace_after, stand_after, stirred_is, storable_line, task_is}
+use Rattle.gateline.proofs.walk.Walk.pass.Goals as goal
+use Rattle.gateline.specs.kept.Line.{line_trace, state_by, task_by}
+use Rattle.gateline.specs.kept.Readers.{StandAt, next_among, seen, seen_then}
+use Rattle.gateline.specs.kept.Waves.{input_functions, inputs_by}
+use Rattle.scratch.specs.Work.{is_due, same_values}
+use Rattle.waveform.specs.Entries.{same_state}
+use Rattle.waveform.specs.kept.Entries.{CanStore}
+use Rattle.waveform.specs.kept.Timelines.{is_reached, pushed}
+
+pub read-reading-requires : goal.read-reading-requires
+read-reading-requires g c =
+    let law = g.met.S.Stepper in let answer = g.S.Stepper.answer in let cell = c.args.cell.now in let waves = c.args.waves.now in
+    let walk = c.args.self.now in let at = c.requires.at in let m = c.args.done in let after : m + 1 ≡ suc m = add-one m in
+    let fit : IsTrue (takes_inputs cell.kind (length cell.inputs)) = subst (λ inputs. IsTrue (takes_inputs cell.kind (length inputs))) c.inputs-inputs.ensures.inputs c.inputs-inputs.ensures.fit in
+    let few = few_inputs cell.kind (length cell.inputs) (fit) in
+    let many = as_many_inputs waves cell.inputs walk.readers.items m at.readers in
+    let same = ap length c.as_mut_slice.ensures.value in
+    omega arith
+
+pub returns-then-not-is_stirred-clause-at : goal.returns-then-not-is_stirred-clause-at
+returns-then-not-is_stirred-clause-at g c =
+    let law = g.met.S.Stepper in let answer = g.S.Stepper.answer in let cell = c.args.cell.now in let waves = c.args.waves.now in
+    let walk = c.args.self.now in let at = c.requires.at in let m = c.args.done in let after : m + 1 ≡ suc m = add-one m in
+    let fit : IsTrue (takes_inputs cell.kind (length cell.inputs)) = subst (λ inputs. IsTrue (takes_inputs cell.kind (length inputs))) c.inputs-inputs.ensures.inputs c.inputs-inputs.ensures.fit in
+    let new = c.read-reading.new.readers in
+    let same : map seen new ≡ map (seen_then (suc m)) walk.readers.items = c.read-reading.ensures.readers ∙ (λ i. map (seen_then (after i)) (c.as_mut_slice.ensures.value i)) in
+    let whole : refill (length walk.readers.items) walk.readers.items new ≡ new =
+    refilled walk.readers.items new (sym (length-map new seen) ∙ ap length same ∙ length-map walk.readers.items (seen_then (suc m))) in
+    let stirred = stirred_is answer cell waves walk m new at c.requires.next same c.read-reading.result.inputs c.is_stirred.result c.read-reading.ensures.inputs
+    (c.is_stirred.ensures ∙ ap (λ t. not (same_values c.read-reading.result.inputs walk.inputs) || is_due walk.state t) after) in
+    let off = stirred ∙ c.if-not-is_stirred.true in
+    record {
+      state = at.state ∙ sym (same_state_after answer cell waves law.answer_stays c.no_change_by_drift.ensures m off);
+      inputs = c.read-reading.ensures.inputs ∙ inputs_after answer cell waves walk m new at c.requires.next same;
+      trace = at.trace ∙ sym (same_trace_after answer cell waves law.answer_stays c.no_change_by_drift.ensures m off);
+      readers = subst (λ readers. StandAt (input_functions waves cell.inputs) readers (suc m)) (sym whole) (stand_after answer cell waves walk m new at c.requires.next same);
+      next = c.read-reading.ensures.next ∙ sym (ap next_among whole);
+    }
+
+pub returns-then-not-is_stirred-clause-asked : goal.returns-then-not-is_stirred-clause-asked
+returns-then-not-is_stirred-clause-asked g c =
+    let law = g.met.S.Stepper in let answer = g.S.Stepper.answer in let cell = c.args.cell.now in let waves = c.args.waves.now in
+    let walk = c.args.self.now in let at = c.requires.at in let m = c.args.done in let after : m + 1 ≡ suc m = add-one m in
+    let fit : IsTrue (takes_inputs cell.kind (length cell.inputs)) = subst (λ inputs. IsTrue (takes_inputs cell.kind (length inputs))) c.inputs-inputs.ensures.inputs c.inputs-inputs.ensures.fit in
+    let new = c.read-reading.new.readers in
+    let same : map seen new ≡ map (seen_then (suc m)) walk.readers.items = c.read-reading.ensures.readers ∙ (λ i. map (seen_then (after i)) (c.as_mut_slice.ensures.value i)) in
+    let stirred = stirred_is answer cell waves walk m new at c.requires.next same c.read-reading.result.inputs c.is_stirred.result c.read-reading.ensures.inputs
+    (c.is_stirred.ensures ∙ ap (λ t. not (same_values c.read-reading.result.inputs walk.inputs) || is_due walk.state t) after) in
+    let asked = g.S.Stepper.asked c.args.stepper.now in
+    sym (append-nil asked) ∙ ap (λ l. asked ++ l) (sym (nothing_at answer cell.kind cell.delays (inputs_by waves cell.inputs) (suc m) (stirred ∙ c.if-not-is_stirred.true)))
+
+pub new-task-requires : goal.new-task-requires
+new-task-requires g c =
+    let law = g.met.S.Stepper in let answer = g.S.Stepper.answer in let cell = c.args.cell.now in let waves = c.args.waves.now in
+    let walk = c.args.self.now in let at = c.requires.at in let m = c.args.done in let after : m + 1 ≡ suc m = add-one m in
+    let fit : IsTrue (takes_inputs cell.kind (length cell.inputs)) = subst (λ inputs. IsTrue (takes_inputs cell.kind (length inputs))) c.inputs-inputs.ensures.inputs c.inputs-inputs.ensures.fit in
+    let new = c.read-reading.new.readers in
+    let same : map seen new ≡ map (seen_then (suc m)) walk.readers.items = c.read-reading.ensures.readers ∙ (λ i. map (seen_then (after i)) (c.as_mut_slice.ensures.value i)) in
+    let inputs : c.read-reading.result.inputs ≡ inputs_by waves cell.inputs (suc m) = c.read-reading.ensures.inputs ∙ inputs_after answer cell waves walk m new at c.requires.next same in
+    subst (λ kind. IsTrue (takes_inputs kind (length c.read-reading.result.inputs))) (sym c.kind.ensures)
+    (subst (λ (values : List Value). IsTrue (takes_inputs cell.kind (length values))) (sym inputs) (fits cell waves fit (suc m)))
+
+pub evaluate-self-requires-clause-ready : goal.evaluate-self-requires-clause-ready
+evaluate-self-requires-clause-ready g c =
+    let law = g.met.S.Stepper in let answer = g.S.Stepper.answer in let cell = c.args.cell.now in let waves = c.args.waves.now in
+    let walk = c.args.self.now in let at = c.requires.at in let m = c.args.done in let after : m + 1 ≡ suc m = add-one m in
+    let fit : IsTrue (takes_inputs cell.kind (length cell.inputs)) = subst (λ inputs. IsTrue (takes_inputs cell.kind (length inputs))) c.inputs-inputs.ensures.inputs c.inputs-inputs.ensures.fit in
+    let are : AreDelays cell.delays = subst (λ delays. AreDelays delays) c.delays.ensures c.delays_in_range.ensures.each in
+    let pend : PendingFrom (suc m) walk.state = subst (PendingFrom (suc m)) (sym at.state) (ready_line answer cell waves fit are law.answer_pending (suc m)) in
+    let early : PendingFrom (m + 1) walk.state = subst (λ t. PendingFrom t walk.state) (sym after) pend in
+    subst (λ (e : Evaluation). PendingFrom (m + 1) e.state) (sym c.new-task.ensures.value) early
+
+pub push_other-requires-clause-later : goal.push_other-requires-clause-later
+push_other-requires-clause-later g c =
+    let law = g.met.S.Stepper in let answer = g.S.Stepper.answer in let cell = c.args.cell.now in let waves = c.args.waves.now in
+    let walk = c.args.self.now in let at = c.requires.at in let m = c.args.done in let after : m + 1 ≡ suc m = add-one m in
+    let fit : IsTrue (takes_inputs cell.kind (length cell.inputs)) = subst (λ inputs. IsTrue (takes_inputs cell.kind (length inputs))) c.inputs-inputs.ensures.inputs c.inputs-inputs.ensures.fit in
+    let early : All (λ e. e.0 < suc m) (line_trace answer cell.kind cell.delays (inputs_by waves cell.inputs) (suc m)) =
+    c.changes_lie_before.ensures (λ t. state_by answer cell.kind cell.delays (inputs_by waves cell.inputs) (suc t)) (suc m) in
+    subst (λ l. All (λ e. e.0 < m + 1) l) (sym at.trace)
+    (subst (λ t. All (λ e. e.0 < t) (line_trace answer cell.kind cell.delays (inputs_by waves cell.inputs) (suc m))) (sym after) early)
+
+pub push_other-requires-clause-can : goal.push_other-requires-clause-can
+push_other-requires-clause-can g c =
+    let law = g.met.S.Stepper in let answer = g.S.Stepper.answer in let cell = c.args.cell.now in let waves = c.args.waves.now in
+    let walk = c.args.self.now in let at = c.requires.at in let m = c.args.done in let after : m + 1 ≡ suc m = add-one m in
+    let fit : IsTrue (takes_inputs cell.kind (length cell.inputs)) = subst (λ inputs. IsTrue (takes_inputs cell.kind (length inputs))) c.inputs-inputs.ensures.inputs c.inputs-inputs.ensures.fit in
+    let are : AreDelays cell.delays = subst (λ delays. AreDelays delays) c.delays.ensures c.delays_in_range.ensures.each in
+    let new = c.read-reading.new.readers in
+    let same : map seen new ≡ map (seen_then (suc m)) walk.readers.items = c.read-reading.ensures.readers ∙ (λ i. map (seen_then (after i)) (c.as_mut_slice.ensures.value i)) in
+    let task : c.new-task.result ≡ task_by answer cell.kind cell.delays (inputs_by waves cell.inputs) (suc m) =
+    c.new-task.ensures.value ∙ (λ i. record { kind = c.kind.ensures i; delays = c.delays-2.ensures i; state = walk.state; inputs = c.read-reading.result.inputs })
+    ∙ task_is answer cell waves walk m new at c.requires.next same c.read-reading.result.inputs c.read-reading.ensures.inputs in
+    let state : c.evaluate-self.result ≡ state_by answer cell.kind cell.delays (inputs_by waves cell.inputs) (suc (suc m)) = c.evaluate-self.ensures.answer ∙ (λ i. answer (task i) (after i)) in
+    subst (λ s. CanStore (m + 1) s) (sym state)
+    (subst (λ t. CanStore t (state_by answer cell.kind cell.delays (inputs_by waves cell.inputs) (suc (suc m)))) (sym after)
+    (storable_line answer cell waves fit are law.answer_pending law.answer_near (suc m) (let low = c.requires.within in omega arith)))
+
+pub push_other-requires-clause-before : goal.push_other-requires-clause-before
+push_other-requires-clause-before g c =
+    let law = g.met.S.Stepper in let answer = g.S.Stepper.answer in let cell = c.args.cell.now in let waves = c.args.waves.now in
+    let walk = c.args.self.now in let at = c.requires.at in let m = c.args.done in let after : m + 1 ≡ suc m = add-one m in
+    let fit : IsTrue (takes_inputs cell.kind (length cell.inputs)) = subst (λ inputs. IsTrue (takes_inputs cell.kind (length inputs))) c.inputs-inputs.ensures.inputs c.inputs-inputs.ensures.fit in
+    let are : AreDelays cell.delays = subst (λ delays. AreDelays delays) c.delays.ensures c.delays_in_range.ensures.each in
+    let new = c.evaluate-self.result in
+    (λ i. is_reached same_state due (at.trace i) (after i) new)
+    ∙ reached_line answer cell waves fit are law.answer_pending c.reached_by_changes.ensures m new
+    ∙ sym (λ i. same_state new (due (at.state i) (after i)))
+
+pub returns-in_err-push_other-clause-asked : goal.returns-in_err-push_other-clause-asked
+returns-in_err-push_other-clause-asked g c =
+    let law = g.met.S.Stepper in let answer = g.S.Stepper.answer in let cell = c.args.cell.now in let waves = c.args.waves.now in
+    let walk = c.args.self.now in let at = c.requires.at in let m = c.args.done in let after : m + 1 ≡ suc m = add-one m in
+    let fit : IsTrue (takes_inputs cell.kind (length cell.inputs)) = subst (λ inputs. IsTrue (takes_inputs cell.kind (length inputs))) c.inputs-inputs.ensures.inputs c.inputs-inputs.ensures.fit in
+    let new = c.read-reading.new.readers in
+    let same : map seen new ≡ map (seen_then (suc m)) walk.readers.items = c.read-reading.ensures.readers ∙ (λ i. map (seen_then (after i)) (c.as_mut_slice.ensures.value i)) in
+    let stirred = stirred_is answer cell waves walk m new at c.requires.next same c.read-reading.result.inputs c.is_stirred.result c.read-reading.ensures.inputs
+    (c.is_stirred.ensures ∙ ap (λ t. not (same_values c.read-reading.result.inputs walk.inputs) || is_due walk.state t) after) in
+    let task : c.new-task.result ≡ task_by answer cell.kind cell.delays (inputs_by waves cell.inputs) (suc m) =
+    c.new-task.ensures.value ∙ (λ i. record { kind = c.kind.ensures i; delays = c.delays-2.ensures i; state = walk.state; inputs = c.read-reading.result.inputs })
+    ∙ task_is answer cell waves walk m new at c.requires.next same c.read-reading.result.inputs c.read-reading.ensures.inputs in
+    c.evaluate-self.ensures.recorded
+    ∙ ap (λ l. g.S.Stepper.asked c.args.stepper.now ++ l)
+    ((λ i. (task i, after i) ∷ [])
+    ∙ sym (ap (λ (b : Bool). cond b ((task_by answer cell.kind cell.delays (inputs_by waves cell.inputs) (suc m), suc m) ∷ []) []) (stirred ∙ c.if-not-is_stirred.false)))
+
+pub returns-clause-at : goal.returns-clause-at
+returns-clause-at g c =
+    let law = g.met.S.Stepper in let answer = g.S.Stepper.answer in let cell = c.args.cell.now in let waves = c.args.waves.now in
+    let walk = c.args.self.now in let at = c.requires.at in let m = c.args.done in let after : m + 1 ≡ suc m = add-one m in
+    let fit : IsTrue (takes_inputs cell.kind (length cell.inputs)) = subst (λ inputs. IsTrue (takes_inputs cell.kind (length inputs))) c.inputs-inputs.ensures.inputs c.inputs-inputs.ensures.fit in
+    let are : AreDelays cell.delays = subst (λ delays. AreDelays delays) c.delays.ensures c.delays_in_range.ensures.each in
+    let new = c.read-reading.new.readers in
+    let same : map seen new ≡ map (seen_then (suc m)) walk.readers.items = c.read-reading.ensures.readers ∙ (λ i. map (seen_then (after i)) (c.as_mut_slice.ensures.value i)) in
+    let whole : refill (length walk.readers.items) walk.readers.items new ≡ new =
+    refilled walk.readers.items new (sym (length-map new seen) ∙ ap length same ∙ length-map walk.readers.items (seen_then (suc m))) in
+    let task : c.new-task.result ≡ task_by answer cell.kind cell.delays (inputs_by waves cell.inputs) (suc m) =
+    c.new-task.ensures.value ∙ (λ i. record { kind = c.kind.ensures i; delays = c.delays-2.ensures i; state = walk.state; inputs = c.read-reading.result.inputs })
+    ∙ task_is answer cell waves walk m new at c.requires.next same c.read-reading.result.inputs c.read-reading.ensures.inputs in
+    let state : c.evaluate-self.result ≡ state_by answer cell.kind cell.delays (inputs_by waves cell.inputs) (suc (suc m)) = c.evaluate-self.ensures.answer ∙ (λ i. answer (task i) (after i)) in
+    record {
+      state = state;
+      inputs = c.read-reading.ensures.inputs ∙ inputs_after answer cell waves walk m new at c.requires.next same;
+      trace = c.in_ok-push_other.ensures.ok ∙ (λ i. pushed same_state due (at.trace i) (after i) (state i)) ∙ grown answer cell waves fit are law.answer_pending c.push_to_changes.ensures (suc m);
+      readers = subst (λ readers. StandAt (input_functions waves cell.inputs) readers (suc m)) (sym whole) (stand_after answer cell waves walk m new at c.requires.next same);
+      next = c.read-reading.ensures.next ∙ sym (ap next_among whole);
+    }
+
+pub returns-clause-asked : goal.returns-clause-asked
+returns-clause-asked g c =
+    let law = g.met.S.Stepper in let answer = g.S.Stepper.answer in let cell = c.args.cell.now in let waves = c.args.waves.now in
+    let walk = c.args.self.now in let at = c.requires.at in let m = c.args.done in let after : m + 1 ≡ suc m = add-one m in
+    let fit : IsTrue (takes_inputs cell.kind (length cell.inputs)) = subst (λ inputs. IsTrue (takes_inputs cell.kind (length inputs))) c.inputs-inputs.ensures.inputs c.inputs-inputs.ensures.fit in
+    let new = c.read-reading.new.readers in
+    let same : map seen new ≡ map (seen_then (suc m)) walk.readers.items = c.read-reading.ensures.readers ∙ (λ i. map (seen_then (after i)) (c.as_mut_slice.ensures.value i)) in
+    let stirred = stirred_is answer cell waves walk m new at c.requires.next same c.read-reading.result.inputs c.is_stirred.result c.read-reading.ensures.inputs
+    (c.is_stirred.ensures ∙ ap (λ t. not (same_values c.read-reading.result.inputs walk.inputs) || is_due walk.state t) after) in
+    let task : c.new-task.result ≡ task_by answer cell.kind cell.delays (inputs_by waves cell.inputs) (suc m) =
+    c.new-task.ensures.value ∙ (λ i. record { kind = c.kind.ensures i; delays = c.delays-2.ensures i; state = walk.state; inputs = c.read-reading.result.inputs })
+    ∙ task_is answer cell waves walk m new at c.requires.next same c.read-reading.result.inputs c.read-reading.ensures.inputs in
+    c.evaluate-self.ensures.recorded
+    ∙ ap (λ l. g.S.Stepper.asked c.args.stepper.now ++ l)
+    ((λ i. (task i, after i) ∷ [])
+    ∙ sym (ap (λ (b : Bool). cond b ((task_by answer cell.kind cell.delays (inputs_by waves cell.inputs) (suc m), suc m) ∷ []) []) (stirred ∙ c.if-not-is_stirred.false)))

@@ -1,0 +1,260 @@
+//! A gate that is followed: what stands after a moment, and how it goes on.
+
+ghost use Rattle.std.specs.Prelude.{◌≡◌, ◌+◌, ◌<◌, ◌≤◌, ◌||◌, ◌++◌, ℕ, suc, not, All, IfOk, OnOk, OnErr};
+ghost use Rattle.std.specs.Option.{ForSome};
+ghost use Rattle.fourstate.specs.declared.limits.TheConstants.{MAX_TIME};
+ghost use Rattle.gateline.specs.kept.Line.{line_trace, line_work, line_work_from, work_at};
+ghost use Rattle.gateline.specs.kept.Readers.{next_among};
+ghost use Rattle.gateline.specs.kept.Walks.{IsAt};
+ghost use Rattle.gateline.specs.kept.Waves.{inputs_by};
+ghost use Rattle.scratch.specs.Work.{is_due, same_values};
+ghost use Rattle.gatestep.specs.Step.{due};
+ghost use Rattle.waveform.specs.Entries.{same_state};
+ghost use Rattle.waveform.specs.kept.Entries.{CanStore};
+ghost use Rattle.waveform.specs.kept.Timelines.{is_reached, pushed};
+
+use crate::inputs_table::InputsTable;
+use crate::readers::{Readers, open_readers, read};
+use fourstate::Inputs;
+use gatestep::{Driver, Stepper, Task};
+use scratch::Cell;
+use std::alloc::{AllocError, Global};
+use waveform::{Trace, Wave, laws};
+
+/// For how many entries more there is room in a trace that goes on.
+const ROOM: usize = 8;
+
+/// A gate as far as it was followed before.
+#[derive(Clone, Copy)]
+pub struct Former<'a> {
+    /// The gate's place in the order of the design's gates.
+    pub place: usize,
+    /// The trace up to and with the moment `done`.
+    pub trace: &'a Trace,
+    /// The last moment that the trace tells of, in time units.
+    pub done: u64,
+}
+
+/// What stands of a gate after a moment.
+#[derive(Drop)]
+pub struct Walk<'a> {
+    /// The state of its driver.
+    pub state: Driver,
+    /// The values of its inputs.
+    pub inputs: Inputs,
+    /// Its trace so far.
+    pub trace: Trace,
+    /// The readers of its inputs.
+    pub readers: Readers<'a>,
+    /// The values of a few inputs, all that there are.
+    pub table: &'a InputsTable,
+    /// The moment at which an input changes next, in time units; `TIME_END` where none does.
+    pub next: u64,
+}
+
+/// Whether the pending event is due at the moment `t`, in time units.
+#[inline(always)]
+fn is_due(state: Driver, t: u64) -> bool
+    ensures { result ≡ is_due state t }
+{
+    match state.pending() {
+        Some((_, time)) => time <= t,
+        None => false,
+    }
+}
+
+/// Whether a gate is stirred at a moment `t` after 0, in time units: its inputs have other values than before, or its event is
+/// due.
+#[inline(always)]
+fn is_stirred(inputs: Inputs, before: Inputs, state: Driver, t: u64) -> bool
+    ensures { result ≡ (not (same_values inputs before) || is_due state t) }
+{
+    !inputs.is_same(before) || is_due(state, t)
+}
+
+/// The first moment at which the pending event is due or an input changes, where `next` is the moment of the first change; all in
+/// time units.
+#[inline(always)]
+fn first_event(state: Driver, next: u64) -> u64
+    ensures within { result ≤ next }
+    ensures early { ForSome state.pending (λ event. result ≤ event.1) }
+    ensures later { (m : ℕ) → m < next → ForSome state.pending (λ event. m < event.1) → m < result }
+{
+    match state.pending() {
+        Some((_, time)) => time.min(next),
+        None => next,
+    }
+}
+
+/// Gives a trace this state from the moment `t` on, in time units, a moment after all entries, where the state that it ended
+/// with has not become that by itself. It fails where memory runs out, and then nothing has changed.
+#[inline(always)]
+fn push_other(trace: &mut Trace, before: Driver, t: u64, state: Driver) -> Result<(), AllocError>
+    requires later { All (λ entry. entry.0 < t) trace.old }
+    requires can { CanStore t state }
+    requires before { is_reached same_state due trace.old t state ≡ same_state state (due before t) }
+    ensures ok { OnOk result (trace.new ≡ pushed same_state due trace.old t state) }
+    ensures err { OnErr result (trace.new ≡ trace.old) }
+{
+    if state.is_same(before.due(t)) {
+        return Ok(());
+    }
+    trace.push(t, state)
+}
+
+impl<'a> Walk<'a> {
+    /// What stands after moment 0, at which every gate is evaluated. It fails where memory runs out.
+    pub fn open<S: Stepper>(
+        alloc: Global,
+        cell: &Cell,
+        waves: &'a [Wave],
+        table: &'a InputsTable,
+        stepper: &mut S,
+    ) -> Result<Walk<'a>, AllocError>
+        requires none_lost { S.losses stepper.old ≡ 0 }
+        ensures at { IfOk result (λ walk. IsAt S.answer cell.now waves.now walk 0) }
+        ensures asked { OnOk result (S.asked stepper.new ≡ S.asked stepper.old ++ line_work S.answer cell.now.kind cell.now.delays (inputs_by waves.now cell.now.inputs) 1) }
+        ensures part { OnErr result ((n : ℕ) × (n ≤ 1)
+            × (S.asked stepper.new ≡ S.asked stepper.old ++ line_work S.answer cell.now.kind cell.now.delays (inputs_by waves.now cell.now.inputs) n)) }
+        ensures lost { S.losses stepper.new ≡ S.losses stepper.old }
+    {
+        let _inputs = cell.inputs();
+        fourstate::laws::delays_in_range(&cell.delays());
+        fourstate::laws::limits();
+        laws::push_to_changes::<Driver>();
+        let mut readers = open_readers(alloc, cell, waves, 0)?;
+        let reading = read(readers.as_mut_slice(), 0, table);
+        let task = Task::new(cell.kind(), cell.delays(), Driver::start(), reading.inputs);
+        let state = stepper.evaluate(&task, 0);
+        let trace = Trace::open(alloc, state)?;
+        Ok(Walk {
+            state,
+            inputs: reading.inputs,
+            trace,
+            readers,
+            table,
+            next: reading.next,
+        })
+    }
+
+    /// What stands after the moment up to which the gate was followed before. It fails where memory runs out.
+    pub fn resume<S: Stepper>(
+        alloc: Global,
+        cell: &Cell,
+        waves: &'a [Wave],
+        table: &'a InputsTable,
+        former: Former,
+    ) -> Result<Walk<'a>, AllocError>
+        requires within { former.done ≤ MAX_TIME }
+        requires trace { former.trace.now ≡ line_trace S.answer cell.now.kind cell.now.delays (inputs_by waves.now cell.now.inputs) (suc former.done) }
+        ensures { IfOk result (λ walk. IsAt S.answer cell.now waves.now walk former.entry.done) }
+    {
+        let _inputs = cell.inputs();
+        fourstate::laws::delays_in_range(&cell.delays());
+        laws::value_of_changes::<Driver>();
+        laws::cut_of_changes::<Driver>();
+        let done = former.done;
+        let mut readers = open_readers(alloc, cell, waves, done)?;
+        let reading = read(readers.as_mut_slice(), done, table);
+        let trace = former.trace.fork(alloc, done, ROOM)?;
+        Ok(Walk {
+            state: former.trace.at(done),
+            inputs: reading.inputs,
+            trace,
+            readers,
+            table,
+            next: reading.next,
+        })
+    }
+
+    /// The last moment up to which nothing happens to the gate behind the moment `done`, up to which all is done; `last` where
+    /// nothing happens up to there. All are in time units.
+    #[inline(always)]
+    pub fn rest_until<S: Stepper>(&self, cell: &Cell, waves: &[Wave], done: u64, last: u64) -> u64
+        requires at { IsAt S.answer cell.now waves.now self.now done }
+        requires order { done ≤ last }
+        requires within { last ≤ MAX_TIME }
+        ensures from { done ≤ result }
+        ensures within { result ≤ last }
+        ensures at { IsAt S.answer cell.now waves.now self.now result }
+        ensures next { result < next_among self.now.readers.items }
+        ensures idle { (n : ℕ) → n ≤ suc done → line_work_from S.answer cell.now.kind cell.now.delays (inputs_by waves.now cell.now.inputs) n (suc result)
+            ≡ line_work_from S.answer cell.now.kind cell.now.delays (inputs_by waves.now cell.now.inputs) n (suc done) }
+    {
+        let _inputs = cell.inputs();
+        fourstate::laws::delays_in_range(&cell.delays());
+        laws::no_change_by_drift::<Driver>();
+        let _waves = waves;
+        last.min(first_event(self.state, self.next) - 1)
+    }
+
+    /// Goes through the moment after `done`, in time units: the inputs are read there, and where the gate is stirred it is
+    /// evaluated. It fails where memory runs out, and then the trace is not known.
+    #[inline(always)]
+    pub fn pass<S: Stepper>(
+        &mut self,
+        cell: &Cell,
+        waves: &[Wave],
+        stepper: &mut S,
+        done: u64,
+    ) -> Result<(), AllocError>
+        requires none_lost { S.losses stepper.old ≡ 0 }
+        requires at { IsAt S.answer cell.now waves.now self.old done }
+        requires next { done < next_among self.old.readers.items }
+        requires within { done < MAX_TIME }
+        ensures at { OnOk result (IsAt S.answer cell.now waves.now self.new (suc done)) }
+        ensures asked { S.asked stepper.new ≡ S.asked stepper.old ++ work_at S.answer cell.now.kind cell.now.delays (inputs_by waves.now cell.now.inputs) (suc done) }
+        ensures lost { S.losses stepper.new ≡ S.losses stepper.old }
+    {
+        let _inputs = cell.inputs();
+        fourstate::laws::delays_in_range(&cell.delays());
+        laws::no_change_by_drift::<Driver>();
+        laws::push_to_changes::<Driver>();
+        laws::changes_lie_before::<Driver>();
+        laws::reached_by_changes::<Driver>();
+        let _waves = waves;
+        let t = done + 1;
+        let reading = read(self.readers.as_mut_slice(), t, self.table);
+        self.next = reading.next;
+        let before = self.inputs;
+        self.inputs = reading.inputs;
+        if !is_stirred(reading.inputs, before, self.state, t) {
+            return Ok(());
+        }
+        let task = Task::new(cell.kind(), cell.delays(), self.state, reading.inputs);
+        let former = self.state;
+        self.state = stepper.evaluate(&task, t);
+        push_other(&mut self.trace, former, t, self.state)?;
+        Ok(())
+    }
+
+    /// Goes on from the moment after `begin` up to and with `last`, both in time units, and gives the trace. It fails where
+    /// memory runs out.
+    pub fn go_on<S: Stepper>(
+        self,
+        cell: &Cell,
+        waves: &[Wave],
+        stepper: &mut S,
+        begin: u64,
+        last: u64,
+    ) -> Result<Trace, AllocError>
+        requires none_lost { S.losses stepper.old ≡ 0 }
+        requires at { IsAt S.answer cell.now waves.now self begin }
+        requires order { begin ≤ last }
+        requires within { last ≤ MAX_TIME }
+        ensures trace { IfOk result (λ trace. trace ≡ line_trace S.answer cell.now.kind cell.now.delays (inputs_by waves.now cell.now.inputs) (suc last)) }
+        ensures asked { OnOk result (S.asked stepper.new ≡ S.asked stepper.old
+            ++ line_work_from S.answer cell.now.kind cell.now.delays (inputs_by waves.now cell.now.inputs) (suc begin) (suc last)) }
+        ensures part { OnErr result ((n : ℕ) × (suc begin ≤ n) × (n ≤ suc last) × (S.asked stepper.new ≡ S.asked stepper.old
+            ++ line_work_from S.answer cell.now.kind cell.now.delays (inputs_by waves.now cell.now.inputs) (suc begin) n)) }
+        ensures lost { S.losses stepper.new ≡ S.losses stepper.old }
+    {
+        let mut walk = self;
+        let mut done = walk.rest_until::<S>(cell, waves, begin, last);
+        while done < last {
+            walk.pass(cell, waves, stepper, done)?;
+            done = walk.rest_until::<S>(cell, waves, done + 1, last);
+        }
+        Ok(walk.trace)
+    }
+}

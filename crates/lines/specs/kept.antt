@@ -1,6 +1,0 @@
-pub mod Gates
-pub mod Known
-pub mod Line
-pub mod Readers
-pub mod Walks
-pub mod Waves
