@@ -1,6 +1,7 @@
 //! Runs from former runs, beside runs worked out by hand and beside a reference implementation.
 
 mod definition;
+mod gates;
 mod horizons;
 mod many_drivers;
 mod many_points;

@@ -83,12 +83,3 @@ compared law d e place there w v apart own its named =
     let both = in_both law d e (name_at d place) n.0 m.0 (own_net d place n.0 apart n.1) (sym named ∙ m.1) in
     ap (λ (ws : List (ℕ × Value)). first_apart ws v (min d.horizon e.horizon)) (sym n.2)
     ∙ ap (λ (ws : List (ℕ × Value)). first_apart (wave_of advance d n.0) ws (min d.horizon e.horizon)) (sym m.2) ∙ sym both
-
--- a wave of a run is a timeline
-abbrev pub AreTimelines : Type 0
-AreTimelines = (f : ℕ → Value) → IsAlwaysSettled standing f → (t : ℕ) → IsTimeline same_value standing (changes_below same_value standing f (suc t))
-
-pub timeline_at : AreTimelines → (d : Netlist) (place : ℕ) (w : List (ℕ × Value)) → option_map (wave_of advance d) (slice_get d.nets place) ≡ Some w → IsTimeline same_value standing w
-timeline_at law d place w is =
-    let n = mapped (wave_of advance d) (slice_get d.nets place) w is in
-    subst (λ (ws : List (ℕ × Value)). IsTimeline same_value standing ws) n.2 (law (value advance d n.0) (λ u. refl) d.horizon)

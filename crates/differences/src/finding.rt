@@ -13,7 +13,7 @@ use bench::{Bench, Snapshot};
 use design::{Design, Name};
 use fourstate::Value;
 use gatestep::Stepper;
-use waveform::laws::{timeline_of_changes, value_of_changes};
+use waveform::laws::value_of_changes;
 
 /// Puts the differences of the nets of the asked version into an empty room, in order.
 pub(crate) fn find_all(room: &mut Room, snapshot: &Snapshot, other: &Snapshot)
@@ -132,7 +132,6 @@ fn moment_in_both(snapshot: &Snapshot, place: usize, other: &Snapshot, there: us
 {
     snapshot.design().lawful();
     value_of_changes::<Value>();
-    timeline_of_changes::<Value>();
     let wave = snapshot.wave_at(place);
     let another = other.wave_at(there);
     let end = snapshot.horizon().min(other.horizon());

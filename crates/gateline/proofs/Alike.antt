@@ -1,12 +1,11 @@
 -- What a gate does up to a moment depends on its inputs before that moment alone.
-use Rattle.std.proofs.Common.{◌≡◌, ◌<◌, ◌≤◌, ◌∙◌, ap, sym, refl, cond, not, ℕ, zero, suc, List, [], ◌∷◌, ◌++◌, arith}
-use Rattle.std.specs.Prelude.{◌||◌, nat_le}
+use Rattle.std.proofs.Common.{◌≡◌, ◌<◌, ◌≤◌, refl, cond, Bool, not, ℕ, zero, suc, List, [], ◌∷◌, ◌++◌, arith}
+use Rattle.std.specs.Prelude.{◌||◌, ◌&&◌, nat_le}
 use Rattle.fourstate.specs.declared.delay_times.DelayTimes.{DelayTimes}
 use Rattle.fourstate.specs.declared.gate.GateKind.{GateKind}
 use Rattle.fourstate.specs.declared.value.Value.{Value}
 use Rattle.gatestep.specs.Step.{State, Evaluation, due}
-use Rattle.gateline.proofs.Still.{one_more}
-use Rattle.gateline.specs.kept.Line.{is_stirred_by, line_trace, line_work, line_work_from, state_by, task_by, work_at}
+use Rattle.gateline.specs.kept.Line.{is_stirred_by, line_trace, line_work_from, state_by, task_by, work_at}
 use Rattle.scratch.specs.Work.{is_due, same_values}
 use Rattle.waveform.specs.Entries.{same_state}
 use Rattle.waveform.specs.Timelines.{changes_below}
@@ -38,27 +37,20 @@ module _ (answer : Evaluation → ℕ → State) (kind : GateKind) (delays : Del
       let before : f t ≡ g t = same t (omega arith) in
       λ i. not (same_values (now i) (before i)) || is_due (state i) (suc t)
 
-  here_too : (t : ℕ) → t < n → work_at answer kind delays f t ≡ work_at answer kind delays g t
-  here_too t low =
-      let on = stirred t low in
-      let task = tasks t low in
-      λ i. cond (on i) ((task i, t) ∷ []) []
-
-  pub works : (m : ℕ) → m ≤ n → line_work answer kind delays f m ≡ line_work answer kind delays g m
-  works zero low = refl
-  works (suc m) low =
-      one_more answer kind delays f m
-      ∙ ap (λ l. l ++ work_at answer kind delays f m) (works m (omega arith))
-      ∙ ap (λ l. line_work answer kind delays g m ++ l) (here_too m (omega arith))
-      ∙ sym (one_more answer kind delays g m)
-
   -- and what is asked from a moment on
-  pub works_from : (a m : ℕ) → m ≤ n → line_work_from answer kind delays f a m ≡ line_work_from answer kind delays g a m
-  works_from a zero low = refl
-  works_from a (suc m) low =
-      let before = works_from a m (omega arith) in
-      let here = here_too m (omega arith) in
-      λ i. cond (nat_le a m) (before i ++ here i) []
+  module _ (wanted : Evaluation → ℕ → Bool) where
+    here_too : (t : ℕ) → t < n → work_at answer kind delays f wanted t ≡ work_at answer kind delays g wanted t
+    here_too t low =
+        let on = stirred t low in
+        let task = tasks t low in
+        λ i. cond (wanted (task i) t && on i) ((task i, t) ∷ []) []
+
+    pub works : (a m : ℕ) → m ≤ n → line_work_from answer kind delays f wanted a m ≡ line_work_from answer kind delays g wanted a m
+    works a zero low = refl
+    works a (suc m) low =
+        let before = works a m (omega arith) in
+        let here = here_too m (omega arith) in
+        λ i. cond (nat_le a m) (before i ++ here i) []
 
   pub traces : SameChanges → line_trace answer kind delays f n ≡ line_trace answer kind delays g n
   traces law = law (λ t. state_by answer kind delays f (suc t)) (λ t. state_by answer kind delays g (suc t)) n (λ t low. states (suc t) (omega arith))

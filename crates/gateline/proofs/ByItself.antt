@@ -1,7 +1,7 @@
 -- In the run of a design a gate does what it does by itself.
 use Rattle.std.proofs.Common.{◌≡◌, ◌≤◌, ◌∙◌, ap, sym, refl, cond, Bool, true, false, not, ℕ, zero, suc, List, [], ◌∷◌, ◌++◌, map, arith, ⊎_elim}
 use Rattle.std.specs.List.{filter}
-use Rattle.std.specs.Prelude.{◌||◌, nat_le}
+use Rattle.std.specs.Prelude.{◌||◌, ◌&&◌, nat_le}
 use Rattle.std.proofs.lemmas.Bool.{cases_lt, le-leb, lt-leb}
 use Rattle.std.proofs.lemmas.List.{map-append}
 use Rattle.std.proofs.lemmas.List.Elements.{filter-append}
@@ -11,8 +11,8 @@ use Rattle.fourstate.specs.declared.gate.GateKind.{GateKind}
 use Rattle.fourstate.specs.declared.value.Value.{Value}
 use Rattle.gatestep.specs.Step.{Evaluation, State}
 use Rattle.gateline.proofs.Still.{one_more_from}
-use Rattle.gateline.specs.kept.Gates.{gate_work, gate_work_from, moments_from}
-use Rattle.gateline.specs.kept.Line.{is_stirred_by, line_work, line_work_from, state_by, task_by, work_at}
+use Rattle.gateline.specs.kept.Gates.{gate_work_from, moments_from}
+use Rattle.gateline.specs.kept.Line.{is_asked_by, is_stirred_by, line_work_from, state_by, task_by, work_at}
 use Rattle.scratch.specs.Run.{state_before}
 use Rattle.scratch.specs.Work.{inputs_at, is_due, is_stirred, same_values, task_at}
 use Rattle.waveform.specs.Timelines.{moments}
@@ -32,9 +32,6 @@ module _ (answer : Evaluation → ℕ → State) (d : Netlist) (g : GateEntry) w
   pub stirred : (t : ℕ) → is_stirred_by answer g.kind g.delays (inputs_at answer d g) t ≡ is_stirred answer d g t
   stirred zero = refl
   stirred (suc t) = ap (λ s. not (same_values (inputs_at answer d g (suc t)) (inputs_at answer d g t)) || is_due s (suc t)) (states (suc t))
-
-  pub work : (n : ℕ) → line_work answer g.kind g.delays (inputs_at answer d g) n ≡ gate_work answer d g n
-  work n = λ i. map (λ t. (tasks t i, t)) (filter (λ t. stirred t i) (moments n))
 
 -- no moment below n lies at a or later, where n is at most a
 none_from : (a n : ℕ) → n ≤ a → moments_from a n ≡ []
@@ -65,26 +62,33 @@ module _ (p : ℕ → Bool) (task : ℕ → Evaluation) where
       ∙ map-append timed (filter p (moments_from a n)) (filter p (n ∷ []))
       ∙ ap (λ l. map timed (filter p (moments_from a n)) ++ l) (asked_at n (p n))
 
-module _ (answer : Evaluation → ℕ → State) (kind : GateKind) (delays : DelayTimes) (inputs : ℕ → List Value) where
+module _ (answer : Evaluation → ℕ → State) (kind : GateKind) (delays : DelayTimes) (inputs : ℕ → List Value) (wanted : Evaluation → ℕ → Bool) where
+  abbrev asked : ℕ → Bool
+  asked = is_asked_by answer kind delays inputs wanted
+
   abbrev own_work : ℕ → ℕ → List (Evaluation × ℕ)
-  own_work a n = map (λ t. (task_by answer kind delays inputs t, t)) (filter (is_stirred_by answer kind delays inputs) (moments_from a n))
+  own_work a n = map (λ t. (task_by answer kind delays inputs t, t)) (filter asked (moments_from a n))
+
+  abbrev from : ℕ → ℕ → List (Evaluation × ℕ)
+  from = line_work_from answer kind delays inputs wanted
 
   -- its work from a moment on is that of the moments from it on
-  by_moments : (a n : ℕ) → line_work_from answer kind delays inputs a n ≡ own_work a n
+  by_moments : (a n : ℕ) → from a n ≡ own_work a n
   by_moments a zero = refl
   by_moments a (suc n) =
       ⊎_elim
       (λ early.
-      ap (λ (b : Bool). cond b (line_work_from answer kind delays inputs a n ++ work_at answer kind delays inputs n) []) (lt-leb a n early)
-      ∙ sym (ap (λ ts. map (timed (is_stirred_by answer kind delays inputs) (task_by answer kind delays inputs)) (filter (is_stirred_by answer kind delays inputs) ts)) (none_from a (suc n) (omega arith))))
-      (λ from.
-      one_more_from answer kind delays inputs a n from
-      ∙ ap (λ l. l ++ work_at answer kind delays inputs n) (by_moments a n)
-      ∙ sym (one_more_asked (is_stirred_by answer kind delays inputs) (task_by answer kind delays inputs) a n from))
+      ap (λ (b : Bool). cond b (from a n ++ work_at answer kind delays inputs wanted n) []) (lt-leb a n early)
+      ∙ sym (ap (λ ts. map (timed asked (task_by answer kind delays inputs)) (filter asked ts)) (none_from a (suc n) (omega arith))))
+      (λ on.
+      one_more_from answer kind delays inputs wanted a n on
+      ∙ ap (λ l. l ++ work_at answer kind delays inputs wanted n) (by_moments a n)
+      ∙ sym (one_more_asked asked (task_by answer kind delays inputs) a n on))
       (cases_lt n a)
 
 -- so it is in the run of a design
-pub work_from : (answer : Evaluation → ℕ → State) (d : Netlist) (g : GateEntry) (a n : ℕ) → line_work_from answer g.kind g.delays (inputs_at answer d g) a n ≡ gate_work_from answer d g a n
-work_from answer d g a n =
-    by_moments answer g.kind g.delays (inputs_at answer d g) a n
-    ∙ (λ i. map (λ t. (tasks answer d g t i, t)) (filter (λ t. stirred answer d g t i) (moments_from a n)))
+pub work : (answer : Evaluation → ℕ → State) (d : Netlist) (g : GateEntry) (wanted : Evaluation → ℕ → Bool) (a n : ℕ) →
+    line_work_from answer g.kind g.delays (inputs_at answer d g) wanted a n ≡ gate_work_from answer d wanted g a n
+work answer d g wanted a n =
+    by_moments answer g.kind g.delays (inputs_at answer d g) wanted a n
+    ∙ (λ i. map (λ t. (tasks answer d g t i, t)) (filter (λ t. wanted (tasks answer d g t i) t && stirred answer d g t i) (moments_from a n)))

@@ -2,6 +2,8 @@ pub mod Alike
 pub mod ByItself
 pub mod ByPlace
 pub mod Codes
+pub mod Copied
+pub mod Ends
 pub mod Goes
 pub mod InDesign
 pub mod Inputs
@@ -10,6 +12,7 @@ pub mod Lone
 pub mod Marks
 pub mod Merging
 pub mod Nets
+pub mod OldReads
 pub mod Points
 pub mod Several
 pub mod Stands

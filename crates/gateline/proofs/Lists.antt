@@ -119,6 +119,10 @@ few_inputs Notif1 n h = few_of n 2 h (omega arith)
 few_inputs Notif0 n h = few_of n 2 h (omega arith)
 
 -- what follows for a value, and for an error
+pub on_ok : {T E : Type 0} (r : Result T E) {P : Type 0} → P → OnOk r P
+on_ok (Ok x) p = p
+on_ok (Err e) p = tt
+
 pub on_ok_then : {T E : Type 0} (r : Result T E) {P Q : Type 0} → (P → Q) → OnOk r P → OnOk r Q
 on_ok_then (Ok x) then p = then p
 on_ok_then (Err e) then p = tt
@@ -126,6 +130,10 @@ on_ok_then (Err e) then p = tt
 pub on_err_then : {T E : Type 0} (r : Result T E) {P Q : Type 0} → (P → Q) → OnErr r P → OnErr r Q
 on_err_then (Ok x) then p = tt
 on_err_then (Err e) then p = then p
+
+pub if_some_then : {T : Type 0} (o : Option T) {P Q : T → Type 0} → ((x : T) → P x → Q x) → IfSome o P → IfSome o Q
+if_some_then None f p = tt
+if_some_then (Some x) f p = f x p
 
 pub if_ok_then : {T E : Type 0} (r : Result T E) {P Q : T → Type 0} → ((x : T) → P x → Q x) → IfOk r P → IfOk r Q
 if_ok_then (Ok x) then p = then x p

@@ -1,12 +1,9 @@
 -- What stays of one gate while nothing happens to it, and what its driver's states keep.
-use Rattle.std.proofs.Common.{◌≡◌, ◌<◌, ◌≤◌, ◌∙◌, sym, ap, refl, Bool, true, false, not, cond, ℕ, zero, suc, ◌+◌, List, [], ◌∷◌, ◌++◌, append-nil, append_assoc, map, length, Option, Some, None, IsTrue, arith, ⊎_elim}
-use Rattle.std.specs.List.{filter}
+use Rattle.std.proofs.Common.{◌≡◌, ◌<◌, ◌≤◌, ◌∙◌, sym, ap, refl, Bool, true, false, not, cond, ℕ, zero, suc, ◌+◌, List, [], ◌∷◌, ◌++◌, append-nil, append_assoc, length, Option, Some, None, IsTrue, arith, ⊎_elim}
 use Rattle.std.specs.Option.{option_map_or, ForSome}
-use Rattle.std.specs.Prelude.{nat_le, ◌||◌}
-use Rattle.std.proofs.lemmas.Bool.{cases_lt, le-leb, lt-leb}
+use Rattle.std.specs.Prelude.{nat_le, ◌||◌, ◌&&◌}
+use Rattle.std.proofs.lemmas.Bool.{cases_lt, le-leb, leb-true, lt-leb}
 use Rattle.std.proofs.lemmas.Bool.Decides.{nat_tests}
-use Rattle.std.proofs.lemmas.List.{map-append}
-use Rattle.std.proofs.lemmas.List.Elements.{filter-append}
 use Rattle.fourstate.specs.Gates.{takes_inputs}
 use Rattle.fourstate.specs.declared.delay_times.DelayTimes.{DelayTimes}
 use Rattle.fourstate.specs.declared.gate.GateKind.{GateKind}
@@ -18,9 +15,9 @@ use Rattle.gatestep.specs.Tasks.{PendingFrom}
 use Rattle.gatestep.specs.kept.StepLaws.{not_due}
 use Rattle.gatestep.specs.kept.Tasks.{IsTask, NothingDue, PendingBefore, again}
 use Rattle.gateline.proofs.Lists.{neither, not_false, same_values_equal, same_values_itself}
-use Rattle.gateline.specs.kept.Line.{is_stirred_by, line_trace, line_work, line_work_from, state_by, task_by, work_at}
+use Rattle.gateline.specs.kept.Line.{is_stirred_by, line_trace, line_work_from, state_by, task_by, work_at}
 use Rattle.scratch.specs.Work.{is_due, same_values}
-use Rattle.waveform.specs.Timelines.{changes_below, moments}
+use Rattle.waveform.specs.Timelines.{changes_below}
 use Rattle.waveform.specs.Entries.{same_state}
 use Rattle.waveform.specs.kept.Entries.{CanStore}
 use Rattle.waveform.specs.kept.Timelines.{IsAlwaysSettled}
@@ -67,55 +64,77 @@ module _ (answer : Evaluation → ℕ → State) (kind : GateKind) (delays : Del
   abbrev stirred : ℕ → Bool
   stirred = is_stirred_by answer kind delays inputs
 
-  -- its task at a moment, with the moment
-  abbrev timed : ℕ → Evaluation × ℕ
-  timed t = (task t, t)
+  -- What is asked of it, where some of its tasks are wanted.
+  module _ (wanted : Evaluation → ℕ → Bool) where
+    abbrev work : ℕ → List (Evaluation × ℕ)
+    work = work_at answer kind delays inputs wanted
 
-  -- what is asked at t comes to what was asked before
-  pub one_more : (t : ℕ) → line_work answer kind delays inputs (suc t) ≡ line_work answer kind delays inputs t ++ work_at answer kind delays inputs t
-  one_more t =
-      ap (map timed) (filter-append stirred (moments t) (t ∷ []))
-      ∙ map-append timed (filter stirred (moments t)) (filter stirred (t ∷ []))
-      ∙ ap (λ l. line_work answer kind delays inputs t ++ l) (by (stirred t))
-    where
-      by : (b : Bool) → map timed (cond b (t ∷ []) []) ≡ cond b ((task t, t) ∷ []) []
-      by true = refl
-      by false = refl
+    abbrev from : ℕ → ℕ → List (Evaluation × ℕ)
+    from = line_work_from answer kind delays inputs wanted
 
-  -- and to what was asked from n on
-  pub one_more_from : (n t : ℕ) → n ≤ t → line_work_from answer kind delays inputs n (suc t) ≡ line_work_from answer kind delays inputs n t ++ work_at answer kind delays inputs t
-  one_more_from n t from =
-      ap (λ (b : Bool). cond b (line_work_from answer kind delays inputs n t ++ work_at answer kind delays inputs t) []) (le-leb n t from)
+    -- what is asked at t comes to what was asked from n on
+    pub one_more_from : (n t : ℕ) → n ≤ t → from n (suc t) ≡ from n t ++ work t
+    one_more_from n t low = ap (λ (b : Bool). cond b (from n t ++ work t) []) (le-leb n t low)
 
-  pub none_from : (n : ℕ) → line_work_from answer kind delays inputs n n ≡ []
-  none_from zero = refl
-  none_from (suc n) =
-      ap (λ (b : Bool). cond b (line_work_from answer kind delays inputs (suc n) n ++ work_at answer kind delays inputs n) []) (lt-leb (suc n) n (omega arith))
+    pub none_from : (n : ℕ) → from n n ≡ []
+    none_from zero = refl
+    none_from (suc n) = ap (λ (b : Bool). cond b (from (suc n) n ++ work n) []) (lt-leb (suc n) n (omega arith))
 
-  -- what is asked is what is asked before m and from m on
-  pub work_splits : (m n : ℕ) → m ≤ n → line_work answer kind delays inputs n ≡ line_work answer kind delays inputs m ++ line_work_from answer kind delays inputs m n
-  work_splits m zero within =
-      let here : m ≡ 0 = omega arith in
-      sym (append-nil (line_work answer kind delays inputs 0))
-      ∙ ap (λ k. line_work answer kind delays inputs k ++ line_work_from answer kind delays inputs k 0) (sym here)
-  work_splits m (suc n) within =
-      ⊎_elim
-      (λ before.
-      let from : m ≤ n = omega arith in
-      one_more n
-      ∙ ap (λ l. l ++ work_at answer kind delays inputs n) (work_splits m n from)
-      ∙ append_assoc (line_work answer kind delays inputs m) (line_work_from answer kind delays inputs m n) (work_at answer kind delays inputs n)
-      ∙ ap (λ l. line_work answer kind delays inputs m ++ l) (sym (one_more_from m n from)))
-      (λ after.
-      let here : m ≡ suc n = omega arith in
-      sym (append-nil (line_work answer kind delays inputs (suc n)))
-      ∙ ap (λ l. line_work answer kind delays inputs (suc n) ++ l) (sym (none_from (suc n)))
-      ∙ ap (λ k. line_work answer kind delays inputs k ++ line_work_from answer kind delays inputs k (suc n)) (sym here))
-      (cases_lt m (suc n))
+    -- what is asked from a on is what is asked before m and from m on
+    pub work_splits : (a m n : ℕ) → a ≤ m → m ≤ n → from a n ≡ from a m ++ from m n
+    work_splits a m zero low within =
+        let here : m ≡ 0 = omega arith in
+        sym (append-nil (from a 0)) ∙ ap (λ k. from a k ++ from k 0) (sym here)
+    work_splits a m (suc n) low within =
+        ⊎_elim
+        (λ before.
+        let on : m ≤ n = omega arith in
+        one_more_from a n (omega arith)
+        ∙ ap (λ l. l ++ work n) (work_splits a m n low on)
+        ∙ append_assoc (from a m) (from m n) (work n)
+        ∙ ap (λ l. from a m ++ l) (sym (one_more_from m n on)))
+        (λ after.
+        let here : m ≡ suc n = omega arith in
+        sym (append-nil (from a (suc n))) ∙ ap (λ l. from a (suc n) ++ l) (sym (none_from (suc n))) ∙ ap (λ k. from a k ++ from k (suc n)) (sym here))
+        (cases_lt m (suc n))
 
-  -- nothing is asked at a moment at which it is not stirred
-  pub nothing_at : (t : ℕ) → stirred t ≡ false → work_at answer kind delays inputs t ≡ []
-  nothing_at t off = ap (λ (b : Bool). cond b ((task t, t) ∷ []) []) off
+    unasked : (w : Bool) (rest : List (Evaluation × ℕ)) → cond (w && false) rest [] ≡ []
+    unasked true rest = refl
+    unasked false rest = refl
+
+    -- nothing is asked at a moment at which it is not stirred
+    pub nothing_at : (t : ℕ) → stirred t ≡ false → work t ≡ []
+    nothing_at t off =
+        ap (λ (b : Bool). cond (wanted (task t) t && b) ((task t, t) ∷ []) []) off ∙ unasked (wanted (task t) t) ((task t, t) ∷ [])
+
+    kept : (b : Bool) → (b && true) ≡ b
+    kept true = refl
+    kept false = refl
+
+    -- where it is stirred it is asked if its task is wanted
+    pub stirred_work : (t : ℕ) → stirred t ≡ true → work t ≡ cond (wanted (task t) t) ((task t, t) ∷ []) []
+    stirred_work t on =
+        ap (λ (b : Bool). cond (wanted (task t) t && b) ((task t, t) ∷ []) []) on ∙ ap (λ (b : Bool). cond b ((task t, t) ∷ []) []) (kept (wanted (task t) t))
+
+    -- nothing is asked where its task is not wanted
+    unwanted_at : (t : ℕ) → wanted (task t) t ≡ false → work t ≡ []
+    unwanted_at t off = ap (λ (b : Bool). cond (b && stirred t) ((task t, t) ∷ []) []) off
+
+    empty : (b : Bool) → cond {A = List (Evaluation × ℕ)} b ([] ++ []) [] ≡ []
+    empty true = refl
+    empty false = refl
+
+    pub never_asked : (a n : ℕ) → ((t : ℕ) → a ≤ t → t < n → wanted (task t) t ≡ false) → from a n ≡ []
+    never_asked a zero off = refl
+    never_asked a (suc t) off =
+        elim (nat_le a t) as (λ b. nat_le a t ≡ b → cond b (from a t ++ work t) [] ≡ []) [
+          | true ↦ λ h.
+              let low : a ≤ t = leb-true a t h in
+              let before = never_asked a t (λ u from low. off u from (omega arith)) in
+              let here = unwanted_at t (off t low (omega arith)) in
+              λ i. before i ++ here i
+          | false ↦ λ h. refl
+        ] refl
 
   -- it is not stirred where nothing of it is due and its inputs stay
   pub is_still : (t : ℕ) → is_due (state (suc t)) (suc t) ≡ false → inputs (suc t) ≡ inputs t → stirred (suc t) ≡ false
@@ -142,7 +161,8 @@ module _ (answer : Evaluation → ℕ → State) (kind : GateKind) (delays : Del
     pub record StaysTo (m r : ℕ) : Type 0 where
       pub states : state (suc r) ≡ state (suc m)
       pub traces : line_trace answer kind delays inputs (suc r) ≡ line_trace answer kind delays inputs (suc m)
-      pub works : (n : ℕ) → n ≤ suc m → line_work_from answer kind delays inputs n (suc r) ≡ line_work_from answer kind delays inputs n (suc m)
+      pub works : (wanted : Evaluation → ℕ → Bool) (n : ℕ) → n ≤ suc m →
+          line_work_from answer kind delays inputs wanted n (suc r) ≡ line_work_from answer kind delays inputs wanted n (suc m)
 
     -- where its inputs stay from m to r, and nothing of it is due, all stays
     pub stays_to : NoneAdded → (m r : ℕ) → m ≤ r → ((u : ℕ) → m ≤ u → u ≤ r → inputs u ≡ inputs m) → ((u : ℕ) → u ≤ r → is_due (state (suc m)) u ≡ false) → StaysTo m r
@@ -151,7 +171,7 @@ module _ (answer : Evaluation → ℕ → State) (kind : GateKind) (delays : Del
         record {
           states = ap (λ k. state (suc k)) here;
           traces = ap (λ k. line_trace answer kind delays inputs (suc k)) here;
-          works = λ n low. ap (λ k. line_work_from answer kind delays inputs n (suc k)) here;
+          works = λ wanted n low. ap (λ k. line_work_from answer kind delays inputs wanted n (suc k)) here;
         }
     stays_to none_added m (suc r) from same none =
         ⊎_elim
@@ -163,15 +183,16 @@ module _ (answer : Evaluation → ℕ → State) (kind : GateKind) (delays : Del
         record {
           states = still_state r off ∙ so_far.states;
           traces = still_trace none_added r off ∙ so_far.traces;
-          works = λ n low. one_more_from n (suc r) (omega arith) ∙ ap (λ l. line_work_from answer kind delays inputs n (suc r) ++ l) (nothing_at (suc r) off)
-              ∙ append-nil (line_work_from answer kind delays inputs n (suc r)) ∙ so_far.works n low;
+          works = λ wanted n low. one_more_from wanted n (suc r) (omega arith)
+              ∙ ap (λ l. line_work_from answer kind delays inputs wanted n (suc r) ++ l) (nothing_at wanted (suc r) off)
+              ∙ append-nil (line_work_from answer kind delays inputs wanted n (suc r)) ∙ so_far.works wanted n low;
         })
         (λ after.
         let here : suc r ≡ m = omega arith in
         record {
           states = ap (λ k. state (suc k)) here;
           traces = ap (λ k. line_trace answer kind delays inputs (suc k)) here;
-          works = λ n low. ap (λ k. line_work_from answer kind delays inputs n (suc k)) here;
+          works = λ wanted n low. ap (λ k. line_work_from answer kind delays inputs wanted n (suc k)) here;
         })
         (cases_lt m (suc r))
 

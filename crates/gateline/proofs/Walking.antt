@@ -1,5 +1,5 @@
 -- A gate that is followed: what stands where nothing happens, and what a moment makes of it.
-use Rattle.std.proofs.Common.{◌≡◌, ◌<◌, ◌≤◌, ◌-◌, ◌∙◌, ap, sym, IsTrue, Bool, false, not, ℕ, suc, ◌+◌, List, map, length, arith}
+use Rattle.std.proofs.Common.{◌≡◌, ◌<◌, ◌≤◌, ◌-◌, ◌∙◌, ap, sym, subst, IsTrue, Bool, false, not, ℕ, suc, ◌+◌, List, map, length, arith}
 use Rattle.std.specs.Prelude.{◌||◌}
 use Rattle.std.proofs.lemmas.List.{length-map}
 use Rattle.fourstate.specs.Gates.{takes_inputs}
@@ -11,6 +11,7 @@ use Rattle.gatestep.specs.Tasks.{PendingFrom}
 use Rattle.gatestep.specs.kept.Tasks.{IsTask, NothingDue, PendingBefore, again}
 use Rattle.gateline.proofs.Stands.{inputs_are, inputs_stay, stands_later, stands_passed}
 use Rattle.gateline.proofs.Still.{NoneAdded, StaysTo, ready, settled, stays_to, still_state, still_trace, storable}
+use Rattle.gateline.specs.declared.old_line.Near.{Near}
 use Rattle.gateline.specs.declared.reader.Reader.{Reader}
 use Rattle.gateline.specs.declared.walk.Walk.{Walk}
 use Rattle.gateline.specs.kept.Line.{is_stirred_by, line_trace, line_work_from, state_by, task_by}
@@ -34,6 +35,12 @@ abbrev pub Reaches : Type 0
 Reaches =
     (f : ℕ → State) → IsAlwaysSettled due f → (t : ℕ) → 0 < t → (v : State) →
     is_reached same_state due (changes_below same_state due f t) t v ≡ same_state v (due (f (t - 1)) t)
+
+-- what stands does not ask where lines of an old run were looked up
+pub still_at : (answer : Evaluation → ℕ → State) (cell : CellRecord) (waves : List (List (ℕ × Value))) (m : ℕ) {w v : Walk} {near : Near} →
+    IsAt answer cell waves w m → v ≡ record w { near = near } → IsAt answer cell waves v m
+still_at answer cell waves m at same =
+    subst (λ walk. IsAt answer cell waves walk m) (sym same) (record { state = at.state; inputs = at.inputs; trace = at.trace; readers = at.readers; next = at.next })
 
 -- each gate has as many inputs at each moment as its cell
 pub fits : (cell : CellRecord) (waves : List (List (ℕ × Value))) → IsTrue (takes_inputs cell.kind (length cell.inputs)) → (t : ℕ) → IsTrue (takes_inputs cell.kind (length (inputs_by waves cell.inputs t)))
@@ -62,7 +69,8 @@ module _ (answer : Evaluation → ℕ → State) (cell : CellRecord) (waves : Li
         next = at.next;
       }
 
-      pub idle : (n : ℕ) → n ≤ suc m → line_work_from answer cell.kind cell.delays inputs n (suc r) ≡ line_work_from answer cell.kind cell.delays inputs n (suc m)
+      pub idle : (wanted : Evaluation → ℕ → Bool) (n : ℕ) → n ≤ suc m →
+          line_work_from answer cell.kind cell.delays inputs wanted n (suc r) ≡ line_work_from answer cell.kind cell.delays inputs wanted n (suc m)
       idle = all_stays.works
 
     -- a moment at which the gate is not stirred

@@ -3,6 +3,9 @@ pub mod Codes
 pub mod Gates
 pub mod Known
 pub mod Line
+pub mod Met
+pub mod OldLines
 pub mod Readers
+pub mod Starts
 pub mod Walks
 pub mod Waves

@@ -1,12 +1,12 @@
 //! Laws of gates by themselves: each function does nothing, and its contract is the law.
 
-ghost use Rattle.std.specs.Prelude.{◌≡◌, ℕ, map};
-ghost use Rattle.gatestep.specs.Step.{State, due};
+ghost use Rattle.std.specs.Prelude.{◌≡◌, Bool, ℕ, map};
+ghost use Rattle.gatestep.specs.Step.{Evaluation, State, due};
 ghost use Rattle.design.specs.Connections.{Connection};
 ghost use Rattle.design.specs.Netlist.{GateEntry, NetEntry, Netlist};
 ghost use Rattle.design.specs.kept.Places.{driver_places};
-ghost use Rattle.gateline.specs.kept.Gates.{gate_work, gate_work_from};
-ghost use Rattle.gateline.specs.kept.Line.{is_stirred_by, line_work, line_work_from, state_by, task_by};
+ghost use Rattle.gateline.specs.kept.Gates.{gate_work_from};
+ghost use Rattle.gateline.specs.kept.Line.{is_stirred_by, line_work_from, state_by, task_by};
 ghost use Rattle.scratch.specs.Run.{net_at, state_before, terminal_at};
 ghost use Rattle.scratch.specs.Work.{inputs_at, is_stirred, task_at};
 ghost use Rattle.scratch.specs.kept.Kept.{input_of, input_value, net_from};
@@ -18,8 +18,8 @@ pub fn gate_by_itself<S: Stepper>()
     ensures states { (d : Netlist) (g : GateEntry) (t : ℕ) → state_by S.answer g.kind g.delays (inputs_at S.answer d g) t ≡ state_before S.answer d t g }
     ensures tasks { (d : Netlist) (g : GateEntry) (t : ℕ) → task_by S.answer g.kind g.delays (inputs_at S.answer d g) t ≡ task_at S.answer d g t }
     ensures stirred { (d : Netlist) (g : GateEntry) (t : ℕ) → is_stirred_by S.answer g.kind g.delays (inputs_at S.answer d g) t ≡ is_stirred S.answer d g t }
-    ensures work { (d : Netlist) (g : GateEntry) (n : ℕ) → line_work S.answer g.kind g.delays (inputs_at S.answer d g) n ≡ gate_work S.answer d g n }
-    ensures work_from { (d : Netlist) (g : GateEntry) (a n : ℕ) → line_work_from S.answer g.kind g.delays (inputs_at S.answer d g) a n ≡ gate_work_from S.answer d g a n }
+    ensures work { (d : Netlist) (g : GateEntry) (wanted : Evaluation → ℕ → Bool) (a n : ℕ) →
+        line_work_from S.answer g.kind g.delays (inputs_at S.answer d g) wanted a n ≡ gate_work_from S.answer d wanted g a n }
 {}
 
 /// What an input reads by the place of its net is what it reads by the net's name.

@@ -1,61 +1,153 @@
 //! One gate over all of time.
 
-ghost use Rattle.std.specs.Prelude.{◌≡◌, ◌≤◌, ◌++◌, ℕ, suc, IfOk, OnOk, OnErr};
+ghost use Rattle.std.specs.Prelude.{◌≡◌, ◌≤◌, ◌++◌, ◌⊎◌, ℕ, false, suc, None, Some, IfNone, IfOk, IfSome, OnOk, OnErr};
+ghost use Rattle.std.specs.Option.{ForSome};
 ghost use Rattle.fourstate.specs.declared.limits.TheConstants.{MAX_TIME};
-ghost use Rattle.gateline.specs.kept.Line.{line_trace, line_work, line_work_from};
+ghost use Rattle.gateline.specs.kept.Line.{line_trace, line_work_from};
+ghost use Rattle.gateline.specs.kept.OldLines.{IsOldLine, line_if, line_seen, old_inputs, wanted_by};
+ghost use Rattle.gateline.specs.kept.Starts.{begin_of};
 ghost use Rattle.gateline.specs.kept.Waves.{inputs_by};
+ghost use Rattle.waveform.specs.Timelines.{entries_until};
 
-use crate::inputs_table::InputsTable;
-use crate::walk::{Former, Walk};
-use gatestep::Stepper;
+use crate::old_line::OldLine;
+use crate::walk::{Along, Former, Walk};
+use gatestep::{Driver, Stepper};
 use scratch::Cell;
 use std::alloc::{AllocError, Global};
-use waveform::{Trace, Wave};
+use waveform::{TIME_END, Trace, Wave, laws};
 
-/// The trace of a gate from moment 0 up to and with the moment `last`, in time units, where its inputs have what these waves
-/// say. It fails where memory runs out.
-pub fn run_line<S: Stepper>(
-    alloc: Global,
-    cell: &Cell,
-    waves: &[Wave],
-    table: &InputsTable,
-    last: u64,
-    stepper: &mut S,
-) -> Result<Trace, AllocError>
-    requires none_lost { S.losses stepper.old ≡ 0 }
-    requires within { last ≤ MAX_TIME }
-    ensures trace { IfOk result (λ trace. trace ≡ line_trace S.answer cell.now.kind cell.now.delays (inputs_by waves.now cell.now.inputs) (suc last)) }
-    ensures asked { OnOk result (S.asked stepper.new ≡ S.asked stepper.old ++ line_work S.answer cell.now.kind cell.now.delays (inputs_by waves.now cell.now.inputs) (suc last)) }
-    ensures part { OnErr result ((n : ℕ) × (n ≤ suc last)
-        × (S.asked stepper.new ≡ S.asked stepper.old ++ line_work S.answer cell.now.kind cell.now.delays (inputs_by waves.now cell.now.inputs) n)) }
-    ensures lost { S.losses stepper.new ≡ S.losses stepper.old }
-{
-    let walk = Walk::open(alloc, cell, waves, table, stepper)?;
-    walk.go_on(cell, waves, stepper, 0, last)
+/// From where on a gate is followed, and beside what.
+#[derive(Clone, Copy)]
+pub struct Start<'a, 'b, 'c> {
+    /// As far as it was followed before, if it was; else it is followed from moment 0 on.
+    pub former: Option<Former<'a>>,
+    /// What it did in the run of an old design, if it is followed beside one.
+    pub beside: Option<OldLine<'b, 'c>>,
 }
 
-/// The trace of a gate up to and with the moment `last`, in time units, where its inputs have what these waves say and it was
-/// followed before up to an earlier moment. It fails where memory runs out.
-pub fn resume_line<S: Stepper>(
+/// The trace of a gate up to and with the moment `last`, in time units, where its inputs have what these waves say. Beside an old
+/// run it is the old trace up to where an input has another value for the first time, and from where all have their old values and
+/// the gate its old state again; there nothing is asked. It fails where memory runs out.
+pub fn follow_line<S: Stepper>(
     alloc: Global,
     cell: &Cell,
-    waves: &[Wave],
-    table: &InputsTable,
-    former: Former,
+    along: Along,
+    start: Start,
     last: u64,
     stepper: &mut S,
 ) -> Result<Trace, AllocError>
     requires none_lost { S.losses stepper.old ≡ 0 }
-    requires order { former.done ≤ last }
     requires within { last ≤ MAX_TIME }
-    requires trace { former.trace.now ≡ line_trace S.answer cell.now.kind cell.now.delays (inputs_by waves.now cell.now.inputs) (suc former.done) }
-    ensures trace { IfOk result (λ trace. trace ≡ line_trace S.answer cell.now.kind cell.now.delays (inputs_by waves.now cell.now.inputs) (suc last)) }
+    requires order { ForSome start.former (λ former. former.done ≤ last) }
+    requires trace { ForSome start.former (λ former. former.trace.now ≡ line_trace S.answer cell.now.kind cell.now.delays (inputs_by along.waves.now cell.now.inputs) (suc former.done)) }
+    requires beside { ForSome start.beside (λ old. IsOldLine S.answer cell.now last (line_seen old)) }
+    ensures trace { IfOk result (λ trace. trace ≡ line_trace S.answer cell.now.kind cell.now.delays (inputs_by along.entry.waves.now cell.now.inputs) (suc last)) }
     ensures asked { OnOk result (S.asked stepper.new ≡ S.asked stepper.old
-        ++ line_work_from S.answer cell.now.kind cell.now.delays (inputs_by waves.now cell.now.inputs) (suc former.entry.done) (suc last)) }
-    ensures part { OnErr result ((n : ℕ) × (suc former.entry.done ≤ n) × (n ≤ suc last) × (S.asked stepper.new ≡ S.asked stepper.old
-        ++ line_work_from S.answer cell.now.kind cell.now.delays (inputs_by waves.now cell.now.inputs) (suc former.entry.done) n)) }
+        ++ line_work_from S.answer cell.now.kind cell.now.delays (inputs_by along.entry.waves.now cell.now.inputs) (wanted_by (line_if start.entry.beside) cell.now.inputs) (begin_of start.entry.former) (suc last)) }
+    ensures part { OnErr result ((n : ℕ) × (n ≤ suc last) × (S.asked stepper.new ≡ S.asked stepper.old
+        ++ line_work_from S.answer cell.now.kind cell.now.delays (inputs_by along.entry.waves.now cell.now.inputs) (wanted_by (line_if start.entry.beside) cell.now.inputs) (begin_of start.entry.former) n)) }
     ensures lost { S.losses stepper.new ≡ S.losses stepper.old }
 {
-    let walk = Walk::resume::<S>(alloc, cell, waves, table, former)?;
-    walk.go_on(cell, waves, stepper, former.done, last)
+    laws::same_changes::<Driver>();
+    laws::cut_of_changes::<Driver>();
+    let Some(old) = start.beside else {
+        return walk_line(alloc, cell, along, start, last, stepper);
+    };
+    match old.parting(cell, along.waves) {
+        Some(moment) if moment <= last => {
+            let start = Start {
+                former: begin_later(start.former, old.trace, moment),
+                beside: start.beside,
+            };
+            walk_line(alloc, cell, along, start, last, stepper)
+        }
+        _ => copy_line::<S>(alloc, cell, along, old, last),
+    }
+}
+
+/// As far as a gate was followed before, or up to the moment before `moment`, in time units, by this trace of an old run, which is
+/// that of the gate up to there, whichever is later.
+fn begin_later<'a>(former: Option<Former<'a>>, old: &'a Trace, moment: u64) -> Option<Former<'a>>
+    ensures none { IfNone result (former.entry ≡ None) }
+    ensures later { ForSome result (λ later. (former.entry ≡ Some later) ⊎ (begin_of former.entry ≤ moment × (suc later.done ≡ moment) × (later.trace.now ≡ old.now))) }
+{
+    if moment == 0 {
+        return former;
+    }
+    let done = moment - 1;
+    if let Some(known) = former {
+        if done <= known.done {
+            return Some(known);
+        }
+    }
+    Some(Former { trace: old, done })
+}
+
+/// The trace of a gate up to and with the moment `last`, in time units, whose inputs have the same values up to there as in the old
+/// run.
+fn copy_line<S: Stepper>(
+    alloc: Global,
+    cell: &Cell,
+    along: Along,
+    old: OldLine,
+    last: u64,
+) -> Result<Trace, AllocError>
+    requires beside { IsOldLine S.answer cell.now last (line_seen old) }
+    requires there { old.is_other ≡ false }
+    requires inputs { (t : ℕ) → t ≤ last → old_inputs (line_seen old) cell.now.inputs t ≡ inputs_by along.waves.now cell.now.inputs t }
+    ensures { IfOk result (λ trace. trace ≡ line_trace S.answer cell.now.kind cell.now.delays (inputs_by along.entry.waves.now cell.now.inputs) (suc last)) }
+{
+    let _cell = cell;
+    let _along = along;
+    laws::same_changes::<Driver>();
+    laws::cut_of_changes::<Driver>();
+    old.trace.fork(alloc, last, 0)
+}
+
+/// The trace of a gate up to and with the moment `last`, in time units, found by going through the moments at which it is stirred.
+fn walk_line<S: Stepper>(
+    alloc: Global,
+    cell: &Cell,
+    along: Along,
+    start: Start,
+    last: u64,
+    stepper: &mut S,
+) -> Result<Trace, AllocError>
+    requires none_lost { S.losses stepper.old ≡ 0 }
+    requires within { last ≤ MAX_TIME }
+    requires order { ForSome start.former (λ former. former.done ≤ last) }
+    requires trace { ForSome start.former (λ former. entries_until former.trace.now former.done ≡ line_trace S.answer cell.now.kind cell.now.delays (inputs_by along.waves.now cell.now.inputs) (suc former.done)) }
+    requires beside { ForSome start.beside (λ old. IsOldLine S.answer cell.now last (line_seen old)) }
+    ensures trace { IfOk result (λ trace. trace ≡ line_trace S.answer cell.now.kind cell.now.delays (inputs_by along.entry.waves.now cell.now.inputs) (suc last)) }
+    ensures asked { OnOk result (S.asked stepper.new ≡ S.asked stepper.old
+        ++ line_work_from S.answer cell.now.kind cell.now.delays (inputs_by along.entry.waves.now cell.now.inputs) (wanted_by (line_if start.entry.beside) cell.now.inputs) (begin_of start.entry.former) (suc last)) }
+    ensures part { OnErr result ((n : ℕ) × (n ≤ suc last) × (S.asked stepper.new ≡ S.asked stepper.old
+        ++ line_work_from S.answer cell.now.kind cell.now.delays (inputs_by along.entry.waves.now cell.now.inputs) (wanted_by (line_if start.entry.beside) cell.now.inputs) (begin_of start.entry.former) n)) }
+    ensures lost { S.losses stepper.new ≡ S.losses stepper.old }
+{
+    let meeting = meeting_of(start.beside, cell, along.waves);
+    match start.former {
+        None => {
+            let walk = Walk::open(alloc, cell, along, start.beside, stepper)?;
+            walk.go_on(cell, along.waves, stepper, meeting, 0, last)
+        }
+        Some(former) => {
+            let walk = Walk::resume::<S>(alloc, cell, along, start.beside, former)?;
+            walk.go_on(cell, along.waves, stepper, meeting, former.done, last)
+        }
+    }
+}
+
+/// A moment, in time units, from which on the inputs of a gate that is followed beside an old run have the values that they had
+/// there, up to the greatest moment; a later one than that where none is found.
+fn meeting_of(beside: Option<OldLine>, cell: &Cell, waves: &[Wave]) -> u64
+    ensures { ForSome beside.entry (λ old. (t : ℕ) → result ≤ t → t ≤ MAX_TIME → old_inputs (line_seen old) cell.now.inputs t ≡ inputs_by waves.now cell.now.inputs t) }
+{
+    let Some(old) = beside else {
+        return TIME_END;
+    };
+    match old.meeting(cell, waves) {
+        Some(moment) => moment,
+        None => TIME_END,
+    }
 }

@@ -15,7 +15,7 @@ use std::alloc::{AllocError, Global};
 use waveform::{TIME_END, Wave};
 
 /// As many readers lie in place, and need no allocation.
-const NEAR_READERS: usize = 4;
+pub const NEAR_READERS: usize = 4;
 
 /// The readers of a gate's inputs.
 pub type Readers<'a> = SmallVec<Reader<'a>, NEAR_READERS>;

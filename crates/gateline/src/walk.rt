@@ -1,22 +1,27 @@
 //! A gate that is followed: what stands after a moment, and how it goes on.
 
-ghost use Rattle.std.specs.Prelude.{◌≡◌, ◌+◌, ◌<◌, ◌≤◌, ◌||◌, ◌++◌, ℕ, suc, not, All, IfOk, OnOk, OnErr};
+ghost use Rattle.std.specs.Prelude.{◌≡◌, ◌+◌, ◌<◌, ◌≤◌, ◌||◌, ◌++◌, ℕ, Bool, false, suc, not, All, IfOk, IfSome, OnOk, OnErr};
 ghost use Rattle.std.specs.Option.{ForSome};
 ghost use Rattle.fourstate.specs.declared.limits.TheConstants.{MAX_TIME};
-ghost use Rattle.gateline.specs.kept.Line.{line_trace, line_work, line_work_from, work_at};
+ghost use Rattle.gateline.specs.kept.Line.{line_trace, line_work_from, work_at};
+ghost use Rattle.gateline.specs.kept.Met.{HasMet};
+ghost use Rattle.gateline.specs.kept.OldLines.{IsFollowedAt, IsOldLine, line_if, line_seen, old_inputs, wanted_by};
 ghost use Rattle.gateline.specs.kept.Readers.{next_among};
 ghost use Rattle.gateline.specs.kept.Walks.{IsAt};
 ghost use Rattle.gateline.specs.kept.Waves.{inputs_by};
 ghost use Rattle.scratch.specs.Work.{is_due, same_values};
-ghost use Rattle.gatestep.specs.Step.{due};
+ghost use Rattle.gatestep.specs.Step.{Evaluation, State, due};
 ghost use Rattle.waveform.specs.Entries.{same_state};
 ghost use Rattle.waveform.specs.kept.Entries.{CanStore};
-ghost use Rattle.waveform.specs.kept.Timelines.{is_reached, pushed};
+ghost use Rattle.waveform.specs.Timelines.{entries_until};
+ghost use Rattle.waveform.specs.kept.Changes.{state_at, trace_below};
+ghost use Rattle.waveform.specs.kept.Timelines.{IsAlwaysSettled, is_reached, pushed};
 
 use crate::inputs_table::InputsTable;
+use crate::old_line::{Near, OldLine, met, next_state};
 use crate::readers::{Readers, open_readers, read};
 use fourstate::Inputs;
-use gatestep::{Driver, Stepper, Task};
+use gatestep::{Driver, Stepper};
 use scratch::Cell;
 use std::alloc::{AllocError, Global};
 use waveform::{Trace, Wave, laws};
@@ -24,20 +29,27 @@ use waveform::{Trace, Wave, laws};
 /// For how many entries more there is room in a trace that goes on.
 const ROOM: usize = 8;
 
+/// What a gate is followed along.
+#[derive(Clone, Copy)]
+pub struct Along<'a> {
+    /// The waves of the nets, by their places.
+    pub waves: &'a [Wave],
+    /// The values of a few inputs, all that there are.
+    pub table: &'a InputsTable,
+}
+
 /// A gate as far as it was followed before.
 #[derive(Clone, Copy)]
 pub struct Former<'a> {
-    /// The gate's place in the order of the design's gates.
-    pub place: usize,
-    /// The trace up to and with the moment `done`.
+    /// A trace that is the gate's up to and with the moment `done`.
     pub trace: &'a Trace,
-    /// The last moment that the trace tells of, in time units.
+    /// The last moment of which the trace is taken, in time units.
     pub done: u64,
 }
 
 /// What stands of a gate after a moment.
 #[derive(Drop)]
-pub struct Walk<'a> {
+pub struct Walk<'a, 'b, 'c> {
     /// The state of its driver.
     pub state: Driver,
     /// The values of its inputs.
@@ -48,6 +60,10 @@ pub struct Walk<'a> {
     pub readers: Readers<'a>,
     /// The values of a few inputs, all that there are.
     pub table: &'a InputsTable,
+    /// What it did in an old run, if it is followed beside one.
+    pub beside: Option<OldLine<'b, 'c>>,
+    /// Where that was looked up last.
+    pub near: Near,
     /// The moment at which an input changes next, in time units; `TIME_END` where none does.
     pub next: u64,
 }
@@ -102,37 +118,51 @@ fn push_other(trace: &mut Trace, before: Driver, t: u64, state: Driver) -> Resul
     trace.push(t, state)
 }
 
-impl<'a> Walk<'a> {
-    /// What stands after moment 0, at which every gate is evaluated. It fails where memory runs out.
+impl<'a, 'b, 'c> Walk<'a, 'b, 'c> {
+    /// What stands after moment 0, at which every gate is stirred. It fails where memory runs out.
     pub fn open<S: Stepper>(
         alloc: Global,
         cell: &Cell,
-        waves: &'a [Wave],
-        table: &'a InputsTable,
+        along: Along<'a>,
+        beside: Option<OldLine<'b, 'c>>,
         stepper: &mut S,
-    ) -> Result<Walk<'a>, AllocError>
+    ) -> Result<Walk<'a, 'b, 'c>, AllocError>
         requires none_lost { S.losses stepper.old ≡ 0 }
-        ensures at { IfOk result (λ walk. IsAt S.answer cell.now waves.now walk 0) }
-        ensures asked { OnOk result (S.asked stepper.new ≡ S.asked stepper.old ++ line_work S.answer cell.now.kind cell.now.delays (inputs_by waves.now cell.now.inputs) 1) }
-        ensures part { OnErr result ((n : ℕ) × (n ≤ 1)
-            × (S.asked stepper.new ≡ S.asked stepper.old ++ line_work S.answer cell.now.kind cell.now.delays (inputs_by waves.now cell.now.inputs) n)) }
+        requires followed { ForSome beside (λ old. IsFollowedAt S.answer cell.now (line_seen old) 0) }
+        ensures at { IfOk result (λ walk. IsAt S.answer cell.now along.entry.waves.now walk 0) }
+        ensures beside { IfOk result (λ walk. walk.beside ≡ beside.entry) }
+        ensures asked { OnOk result (S.asked stepper.new ≡ S.asked stepper.old
+            ++ work_at S.answer cell.now.kind cell.now.delays (inputs_by along.entry.waves.now cell.now.inputs) (wanted_by (line_if beside.entry) cell.now.inputs) 0) }
+        ensures part { OnErr result ((n : ℕ) × (n ≤ 1) × (S.asked stepper.new ≡ S.asked stepper.old
+            ++ line_work_from S.answer cell.now.kind cell.now.delays (inputs_by along.entry.waves.now cell.now.inputs) (wanted_by (line_if beside.entry) cell.now.inputs) 0 n)) }
         ensures lost { S.losses stepper.new ≡ S.losses stepper.old }
     {
-        let _inputs = cell.inputs();
+        let places = cell.inputs();
         fourstate::laws::delays_in_range(&cell.delays());
         fourstate::laws::limits();
         laws::push_to_changes::<Driver>();
-        let mut readers = open_readers(alloc, cell, waves, 0)?;
-        let reading = read(readers.as_mut_slice(), 0, table);
-        let task = Task::new(cell.kind(), cell.delays(), Driver::start(), reading.inputs);
-        let state = stepper.evaluate(&task, 0);
+        let mut near = Near::new(alloc, &beside, places.len())?;
+        let mut readers = open_readers(alloc, cell, along.waves, 0)?;
+        let reading = read(readers.as_mut_slice(), 0, along.table);
+        let inputs = reading.inputs;
+        let state = next_state(
+            &beside,
+            &mut near,
+            cell,
+            Driver::start(),
+            inputs,
+            0,
+            stepper,
+        );
         let trace = Trace::open(alloc, state)?;
         Ok(Walk {
             state,
-            inputs: reading.inputs,
+            inputs,
             trace,
             readers,
-            table,
+            table: along.table,
+            beside,
+            near,
             next: reading.next,
         })
     }
@@ -141,28 +171,32 @@ impl<'a> Walk<'a> {
     pub fn resume<S: Stepper>(
         alloc: Global,
         cell: &Cell,
-        waves: &'a [Wave],
-        table: &'a InputsTable,
+        along: Along<'a>,
+        beside: Option<OldLine<'b, 'c>>,
         former: Former,
-    ) -> Result<Walk<'a>, AllocError>
+    ) -> Result<Walk<'a, 'b, 'c>, AllocError>
         requires within { former.done ≤ MAX_TIME }
-        requires trace { former.trace.now ≡ line_trace S.answer cell.now.kind cell.now.delays (inputs_by waves.now cell.now.inputs) (suc former.done) }
-        ensures { IfOk result (λ walk. IsAt S.answer cell.now waves.now walk former.entry.done) }
+        requires trace { entries_until former.trace.now former.done ≡ line_trace S.answer cell.now.kind cell.now.delays (inputs_by along.waves.now cell.now.inputs) (suc former.done) }
+        ensures at { IfOk result (λ walk. IsAt S.answer cell.now along.entry.waves.now walk former.entry.done) }
+        ensures beside { IfOk result (λ walk. walk.beside ≡ beside.entry) }
     {
-        let _inputs = cell.inputs();
+        let places = cell.inputs();
         fourstate::laws::delays_in_range(&cell.delays());
         laws::value_of_changes::<Driver>();
-        laws::cut_of_changes::<Driver>();
         let done = former.done;
-        let mut readers = open_readers(alloc, cell, waves, done)?;
-        let reading = read(readers.as_mut_slice(), done, table);
+        let near = Near::new(alloc, &beside, places.len())?;
+        let mut readers = open_readers(alloc, cell, along.waves, done)?;
+        let reading = read(readers.as_mut_slice(), done, along.table);
         let trace = former.trace.fork(alloc, done, ROOM)?;
+        let state = trace.at(done);
         Ok(Walk {
-            state: former.trace.at(done),
+            state,
             inputs: reading.inputs,
             trace,
             readers,
-            table,
+            table: along.table,
+            beside,
+            near,
             next: reading.next,
         })
     }
@@ -178,8 +212,9 @@ impl<'a> Walk<'a> {
         ensures within { result ≤ last }
         ensures at { IsAt S.answer cell.now waves.now self.now result }
         ensures next { result < next_among self.now.readers.items }
-        ensures idle { (n : ℕ) → n ≤ suc done → line_work_from S.answer cell.now.kind cell.now.delays (inputs_by waves.now cell.now.inputs) n (suc result)
-            ≡ line_work_from S.answer cell.now.kind cell.now.delays (inputs_by waves.now cell.now.inputs) n (suc done) }
+        ensures idle { (wanted : Evaluation → ℕ → Bool) (n : ℕ) → n ≤ suc done →
+            line_work_from S.answer cell.now.kind cell.now.delays (inputs_by waves.now cell.now.inputs) wanted n (suc result)
+            ≡ line_work_from S.answer cell.now.kind cell.now.delays (inputs_by waves.now cell.now.inputs) wanted n (suc done) }
     {
         let _inputs = cell.inputs();
         fourstate::laws::delays_in_range(&cell.delays());
@@ -188,8 +223,8 @@ impl<'a> Walk<'a> {
         last.min(first_event(self.state, self.next) - 1)
     }
 
-    /// Goes through the moment after `done`, in time units: the inputs are read there, and where the gate is stirred it is
-    /// evaluated. It fails where memory runs out, and then the trace is not known.
+    /// Goes through the moment after `done`, in time units: the inputs are read there, and where the gate is stirred its next state
+    /// is found. It fails where memory runs out, and then the trace is not known.
     #[inline(always)]
     pub fn pass<S: Stepper>(
         &mut self,
@@ -200,10 +235,13 @@ impl<'a> Walk<'a> {
     ) -> Result<(), AllocError>
         requires none_lost { S.losses stepper.old ≡ 0 }
         requires at { IsAt S.answer cell.now waves.now self.old done }
+        requires followed { ForSome self.old.beside (λ old. IsFollowedAt S.answer cell.now (line_seen old) (suc done)) }
         requires next { done < next_among self.old.readers.items }
         requires within { done < MAX_TIME }
         ensures at { OnOk result (IsAt S.answer cell.now waves.now self.new (suc done)) }
-        ensures asked { S.asked stepper.new ≡ S.asked stepper.old ++ work_at S.answer cell.now.kind cell.now.delays (inputs_by waves.now cell.now.inputs) (suc done) }
+        ensures beside { self.new.beside ≡ self.old.beside }
+        ensures asked { S.asked stepper.new ≡ S.asked stepper.old
+            ++ work_at S.answer cell.now.kind cell.now.delays (inputs_by waves.now cell.now.inputs) (wanted_by (line_if self.old.beside) cell.now.inputs) (suc done) }
         ensures lost { S.losses stepper.new ≡ S.losses stepper.old }
     {
         let _inputs = cell.inputs();
@@ -216,45 +254,97 @@ impl<'a> Walk<'a> {
         let t = done + 1;
         let reading = read(self.readers.as_mut_slice(), t, self.table);
         self.next = reading.next;
+        let inputs = reading.inputs;
         let before = self.inputs;
-        self.inputs = reading.inputs;
-        if !is_stirred(reading.inputs, before, self.state, t) {
+        self.inputs = inputs;
+        if !is_stirred(inputs, before, self.state, t) {
             return Ok(());
         }
-        let task = Task::new(cell.kind(), cell.delays(), self.state, reading.inputs);
         let former = self.state;
-        self.state = stepper.evaluate(&task, t);
+        self.state = next_state(
+            &self.beside,
+            &mut self.near,
+            cell,
+            former,
+            inputs,
+            t,
+            stepper,
+        );
         push_other(&mut self.trace, former, t, self.state)?;
         Ok(())
     }
 
-    /// Goes on from the moment after `begin` up to and with `last`, both in time units, and gives the trace. It fails where
-    /// memory runs out.
+    /// The trace of the old run, where the gate had the state there that it has after the moment `t`, and `meeting` is no later than
+    /// the moment after it. Only where lines are looked up next changes.
+    #[inline(always)]
+    fn met(&mut self, meeting: u64, t: u64) -> Option<&'c Trace>
+        requires { t ≤ MAX_TIME }
+        ensures met { IfSome result (λ trace. HasMet self.old.beside t self.old.state trace.now) }
+        ensures late { IfSome result (λ trace. meeting ≤ suc t) }
+        ensures same { self.new ≡ record self.old { near = self.new.near } }
+    {
+        met(&self.beside, &mut self.near, meeting, self.state, t)
+    }
+
+    /// Goes on from the moment after `begin` up to and with `last`, both in time units, and gives the trace. Once the gate does again
+    /// what it did in the old run, its trace is that of the old run from then on; from `meeting` on its inputs have the values that
+    /// they had there. It fails where memory runs out.
     pub fn go_on<S: Stepper>(
         self,
         cell: &Cell,
         waves: &[Wave],
         stepper: &mut S,
+        meeting: u64,
         begin: u64,
         last: u64,
     ) -> Result<Trace, AllocError>
         requires none_lost { S.losses stepper.old ≡ 0 }
         requires at { IsAt S.answer cell.now waves.now self begin }
+        requires beside { ForSome self.beside (λ old. IsOldLine S.answer cell.now last (line_seen old)) }
+        requires meeting { ForSome self.beside (λ old. (t : ℕ) → meeting ≤ t → t ≤ last → old_inputs (line_seen old) cell.now.inputs t ≡ inputs_by waves.now cell.now.inputs t) }
         requires order { begin ≤ last }
         requires within { last ≤ MAX_TIME }
         ensures trace { IfOk result (λ trace. trace ≡ line_trace S.answer cell.now.kind cell.now.delays (inputs_by waves.now cell.now.inputs) (suc last)) }
         ensures asked { OnOk result (S.asked stepper.new ≡ S.asked stepper.old
-            ++ line_work_from S.answer cell.now.kind cell.now.delays (inputs_by waves.now cell.now.inputs) (suc begin) (suc last)) }
+            ++ line_work_from S.answer cell.now.kind cell.now.delays (inputs_by waves.now cell.now.inputs) (wanted_by (line_if self.entry.beside) cell.now.inputs) (suc begin) (suc last)) }
         ensures part { OnErr result ((n : ℕ) × (suc begin ≤ n) × (n ≤ suc last) × (S.asked stepper.new ≡ S.asked stepper.old
-            ++ line_work_from S.answer cell.now.kind cell.now.delays (inputs_by waves.now cell.now.inputs) (suc begin) n)) }
+            ++ line_work_from S.answer cell.now.kind cell.now.delays (inputs_by waves.now cell.now.inputs) (wanted_by (line_if self.entry.beside) cell.now.inputs) (suc begin) n)) }
         ensures lost { S.losses stepper.new ≡ S.losses stepper.old }
     {
+        let _inputs = cell.inputs();
+        fourstate::laws::delays_in_range(&cell.delays());
+        laws::changes_lie_before::<Driver>();
         let mut walk = self;
         let mut done = walk.rest_until::<S>(cell, waves, begin, last);
         while done < last {
             walk.pass(cell, waves, stepper, done)?;
-            done = walk.rest_until::<S>(cell, waves, done + 1, last);
+            let t = done + 1;
+            if let Some(old) = walk.met(meeting, t) {
+                return go_along(walk.trace, old, t, last);
+            }
+            done = walk.rest_until::<S>(cell, waves, t, last);
         }
         Ok(walk.trace)
     }
+}
+
+/// A trace up to the moment `t` that goes on as the old one does up to and with `last`, both in time units. It fails where memory
+/// runs out.
+fn go_along(trace: Trace, old: &Trace, t: u64, last: u64) -> Result<Trace, AllocError>
+    requires order { t ≤ last }
+    requires within { last ≤ MAX_TIME }
+    requires early { All (λ entry. entry.0 < t + 1) trace }
+    ensures { IfOk result (λ new. (f : ℕ → State) → IsAlwaysSettled due f → trace ≡ trace_below f (suc t) →
+        old.now ≡ trace_below (state_at old.now) (suc last) → ((u : ℕ) → t < u → u ≤ last → state_at old.now u ≡ f u) → new ≡ trace_below f (suc last)) }
+{
+    laws::value_of_changes::<Driver>();
+    laws::changes_of_timeline::<Driver>();
+    laws::same_changes::<Driver>();
+    laws::cut_of_changes::<Driver>();
+    if t == last {
+        return Ok(trace);
+    }
+    let trace = trace.follow(t + 1, last, old)?;
+    let _last = trace.last();
+    Ok(trace)
 }

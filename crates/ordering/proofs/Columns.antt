@@ -11,7 +11,7 @@ use Rattle.design.specs.Netlist.{GateEntry, Netlist}
 use Rattle.waveform.specs.Timelines.{moments}
 use Rattle.scratch.specs.Work.{is_stirred, stirred_at, task_at, work_at, work_below}
 use Rattle.scratch.specs.kept.Work.{work_from}
-use Rattle.ordering.specs.kept.Gates.{gate_work, gate_work_at, gate_work_from, gates_work, gates_work_from, moments_from}
+use Rattle.ordering.specs.kept.Gates.{gates_work, gates_work_from, moments_from}
 
 pub map_twice : {A B C : Type 0} (f : A → B) (g : B → C) (xs : List A) → map g (map f xs) ≡ map (λ x. g (f x)) xs
 map_twice f g [] = refl
@@ -145,7 +145,3 @@ module _ (answer : Evaluation → ℕ → State) (d : Netlist) where
   all_from (suc n) =
       ap (λ l. l ++ work_at answer d n) (all_from n)
       ∙ sym (ap (λ (b : Bool). cond b (work_from answer d 0 n ++ work_at answer d n) []) (starts n))
-
-  -- and that of a gate
-  pub gate_from_start : (g : GateEntry) (n : ℕ) → gate_work answer d g n ≡ gate_work_from answer d g 0 n
-  gate_from_start g n = sym (ap (gate_work_at answer d g) (all_moments n))

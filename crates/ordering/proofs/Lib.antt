@@ -1,4 +1,5 @@
 pub mod Asked
+pub mod Besides
 pub mod Columns
 pub mod Counts
 pub mod EarlierTraces

@@ -9,15 +9,17 @@ use Rattle.std.proofs.lemmas.List.Folds.{list_all-append}
 use Rattle.std.proofs.lemmas.List.Sorted.{IsPermutation-trans}
 use Rattle.std.proofs.lemmas.Option.{slice_get_within}
 use Rattle.gatestep.specs.Step.{State, Evaluation}
-use Rattle.design.specs.Netlist.{Netlist}
+use Rattle.design.specs.Netlist.{GateEntry, Netlist}
 use Rattle.waveform.specs.Timelines.{moments}
 use Rattle.scratch.specs.Asked.{IsPart}
+use Rattle.scratch.specs.Work.{task_at}
 use Rattle.scratch.specs.kept.Kept.{input_of}
 use Rattle.scratch.specs.kept.Places.{has}
 use Rattle.scratch.specs.kept.Work.{work_from}
-use Rattle.ordering.specs.kept.Gates.{IsBeginning, gate_work_from, gates_work_from}
-use Rattle.ordering.specs.kept.Order.{is_order, is_ready, may_come, may_follow, order_work_from}
-use Rattle.ordering.proofs.Columns.{from_by_gates}
+use Rattle.gateline.specs.kept.Line.{always_wanted}
+use Rattle.ordering.specs.kept.Gates.{IsBeginning, column_of, gate_work_from, gates_work_from, rows_of}
+use Rattle.ordering.specs.kept.Order.{each_in_order, is_order, is_ready, may_come, may_follow, order_work_from}
+use Rattle.ordering.proofs.Columns.{from_by_gates, rows_are_columns}
 use Rattle.ordering.proofs.Places.{AreApart, below, below_apart, by_places, has_more, itself, left_off, or_true, same, same_work}
 
 -- Both of two are so.
@@ -100,7 +102,7 @@ all_below p (suc n) h k low = by (nat_eq k n) refl (all_below p n)
         let less : k < n = grind (arith, nat_tests) in
         rest (first_of_both (list_all p (moments n)) (p n && true) parts) k less
 
-module _ (answer : Evaluation → ℕ → State) (d : Netlist) (a n : ℕ) (order : List ℕ) (ordered : is_order d order ≡ true) where
+module _ (d : Netlist) (order : List ℕ) (ordered : is_order d order ≡ true) where
   follows : may_follow d [] order ≡ true
   follows = first_of_both (may_follow d [] order) (list_all (λ k. has k order) (moments (length d.gates))) ordered
 
@@ -113,13 +115,26 @@ module _ (answer : Evaluation → ℕ → State) (d : Netlist) (a n : ℕ) (orde
       (λ h. all_below (λ k. has k order) (length d.gates) all k (let low = sym (below k (length d.gates)) ∙ h in grind (arith, nat_tests)))
       (λ h. below k (length d.gates) ∙ (let low = follow_within d [] order follows k h in grind (arith, nat_tests)))
 
-  pub work_ordered : IsPermutation (work_from answer d a n) (order_work_from answer d a n order)
-  work_ordered =
-      let gates : flat_map (λ k. option_map_or (λ g. gate_work_from answer d g a n) (slice_get d.gates k) []) (moments (length d.gates)) ≡ gates_work_from answer d a n d.gates =
-      by_places (λ g. gate_work_from answer d g a n) d.gates in
-      IsPermutation-trans (work_from answer d a n) (gates_work_from answer d a n d.gates) (order_work_from answer d a n order) (from_by_gates answer d a n)
-      (subst (λ l. IsPermutation l (order_work_from answer d a n order)) gates
-      (same_work (λ k. option_map_or (λ g. gate_work_from answer d g a n) (slice_get d.gates k) []) (moments (length d.gates)) order (below_apart (length d.gates)) (follow_apart d [] order follows) has_each))
+  -- something of each gate, in the order of the gates or in this one
+  pub each_ordered : (f : GateEntry → List (Evaluation × ℕ)) → IsPermutation (flat_map f d.gates) (each_in_order d (λ k g. f g) order)
+  each_ordered f =
+      let places : flat_map (λ k. option_map_or f (slice_get d.gates k) []) (moments (length d.gates)) ≡ flat_map f d.gates = by_places f d.gates in
+      subst (λ l. IsPermutation l (each_in_order d (λ k g. f g) order)) places
+      (same_work (λ k. option_map_or f (slice_get d.gates k) []) (moments (length d.gates)) order (below_apart (length d.gates)) (follow_apart d [] order follows) has_each)
 
-  pub begun_in_order : (piece : List (Evaluation × ℕ)) → IsBeginning piece (order_work_from answer d a n order) → IsPart piece (work_from answer d a n)
-  begun_in_order piece begun = (begun.0, subst (λ l. IsPermutation (work_from answer d a n) l) begun.1 work_ordered)
+  -- the tasks at some moments, moment after moment or gate after gate
+  pub rows_ordered : (answer : Evaluation → ℕ → State) (asks : GateEntry → ℕ → Bool) (times : List ℕ) →
+      IsPermutation (rows_of answer d asks times) (each_in_order d (λ k g. column_of answer d asks times g) order)
+  rows_ordered answer asks times =
+      let columns = column_of answer d asks times in
+      IsPermutation-trans (rows_of answer d asks times) (flat_map columns d.gates) (each_in_order d (λ k g. columns g) order)
+      (rows_are_columns asks (λ g t. (task_at answer d g t, t)) d.gates times) (each_ordered columns)
+
+  pub work_ordered : (answer : Evaluation → ℕ → State) (a n : ℕ) → IsPermutation (work_from answer d a n) (order_work_from answer d None a n order)
+  work_ordered answer a n =
+      IsPermutation-trans (work_from answer d a n) (gates_work_from answer d a n d.gates) (order_work_from answer d None a n order) (from_by_gates answer d a n)
+      (each_ordered (λ g. gate_work_from answer d always_wanted g a n))
+
+-- a beginning of a list is a part of one with the same elements in another order
+pub begun_is_part : {A : Type 0} (work whole piece : List A) → IsPermutation work whole → IsBeginning piece whole → IsPart piece work
+begun_is_part work whole piece same begun = (begun.0, subst (λ l. IsPermutation work l) begun.1 same)

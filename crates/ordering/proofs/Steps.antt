@@ -1,6 +1,7 @@
 -- What is asked gate after gate, as it grows.
 use Rattle.std.proofs.Common.{◌≡◌, ◌<◌, ◌≤◌, ◌∙◌, sym, ap, refl, Bool, ℕ, zero, suc, ◌+◌, List, [], ◌∷◌, ◌++◌, map, take, drop, length, get_or, Option, Some, None, IfSome, slice_get, append_assoc, append-nil, add-one, arith, ◌⊎◌, inl, inr}
-use Rattle.std.specs.Prelude.{nat_le}
+use Rattle.std.specs.Prelude.{nat_le, ◌&&◌}
+use Rattle.std.specs.Borrow.{Bor}
 use Rattle.std.specs.List.{filter, flat_map}
 use Rattle.std.specs.Option.{option_map_or}
 use Rattle.std.proofs.Math.Seq.{drop-cons}
@@ -12,9 +13,9 @@ use Rattle.gatestep.specs.Step.{State, Evaluation}
 use Rattle.design.specs.Netlist.{GateEntry, Netlist}
 use Rattle.waveform.specs.Timelines.{moments}
 use Rattle.scratch.specs.Work.{is_stirred, task_at}
-use Rattle.ordering.specs.kept.Gates.{IsBeginning, gate_work, gate_work_at, gate_work_from, moments_from}
+use Rattle.ordering.specs.kept.Gates.{IsBeginning, gate_work_at, gate_work_from, moments_from}
+use Rattle.ordering.specs.kept.OldRuns.{OldRunRecord, wanted_at}
 use Rattle.ordering.specs.kept.Order.{order_work_from}
-use Rattle.ordering.proofs.Columns.{gate_from_start}
 use Rattle.ordering.proofs.Marks.{one_taken}
 use Rattle.ordering.proofs.Places.{there}
 
@@ -26,46 +27,50 @@ moments_begin n (suc m) low = by (moments_begin n m) (cases_lt m n)
     by before (inl high) = let e : suc m ≡ n = omega arith in ([], ap moments e ∙ sym (append-nil (moments n)))
     by before (inr less) = let rest = before less in (rest.0 ++ m ∷ [], ap (λ l. l ++ m ∷ []) rest.1 ∙ append_assoc (moments n) rest.0 (m ∷ []))
 
-module _ (answer : Evaluation → ℕ → State) (d : Netlist) where
+module _ (answer : Evaluation → ℕ → State) (d : Netlist) (beside : Option (Bor OldRunRecord)) where
+  abbrev gate_work : ℕ → GateEntry → (a n : ℕ) → List (Evaluation × ℕ)
+  gate_work k g a n = gate_work_from answer d (wanted_at beside d k g) g a n
+
   -- the work of a gate at the moments below one begins with that below an earlier one
-  work_begins : (g : GateEntry) (some all : List ℕ) → IsBeginning some all → IsBeginning (gate_work_at answer d g some) (gate_work_at answer d g all)
-  work_begins g some all begun =
-      let stirred : ℕ → Bool = λ t. is_stirred answer d g t in let task : ℕ → Evaluation × ℕ = λ t. (task_at answer d g t, t) in (
+  work_begins : (k : ℕ) (g : GateEntry) (some all : List ℕ) → IsBeginning some all →
+      IsBeginning (gate_work_at answer d (wanted_at beside d k g) g some) (gate_work_at answer d (wanted_at beside d k g) g all)
+  work_begins k g some all begun =
+      let stirred : ℕ → Bool = λ t. wanted_at beside d k g (task_at answer d g t) t && is_stirred answer d g t in let task : ℕ → Evaluation × ℕ = λ t. (task_at answer d g t, t) in (
         map task (filter stirred begun.0),
         ap (λ l. map task (filter stirred l)) begun.1
             ∙ ap (map task) (filter-append stirred some begun.0)
             ∙ map-append task (filter stirred some) (filter stirred begun.0),
       )
 
-  gate_begins : (g : GateEntry) (a n m : ℕ) → n ≤ m → IsBeginning (gate_work_from answer d g a n) (gate_work_from answer d g a m)
-  gate_begins g a n m low =
+  gate_begins : (k : ℕ) (g : GateEntry) (a n m : ℕ) → n ≤ m → IsBeginning (gate_work k g a n) (gate_work k g a m)
+  gate_begins k g a n m low =
       let some = moments_begin n m low in
-      work_begins g (moments_from a n) (moments_from a m)
+      work_begins k g (moments_from a n) (moments_from a m)
       (filter (λ t. nat_le a t) some.0, ap (filter (λ t. nat_le a t)) some.1 ∙ filter-append (λ t. nat_le a t) (moments n) some.0)
 
   module _ (a n : ℕ) (order : List ℕ) (i : ℕ) (low : i < length order) where
     abbrev f : ℕ → List (Evaluation × ℕ)
-    f k = option_map_or (λ g. gate_work_from answer d g a n) (slice_get d.gates k) []
+    f k = option_map_or (λ g. gate_work k g a n) (slice_get d.gates k) []
 
-    module _ (old was new : List (Evaluation × ℕ)) (so_far : was ≡ old ++ order_work_from answer d a n (take i order)) (within : get_or order i 0 < length d.gates) where
-      more_by : (o : Option GateEntry) → slice_get d.gates (get_or order i 0) ≡ o → IfSome o (λ g. new ≡ was ++ gate_work_from answer d g a n) → get_or order i 0 < length d.gates → new ≡ was ++ f (get_or order i 0)
+    module _ (old was new : List (Evaluation × ℕ)) (so_far : was ≡ old ++ order_work_from answer d beside a n (take i order)) (within : get_or order i 0 < length d.gates) where
+      more_by : (o : Option GateEntry) → slice_get d.gates (get_or order i 0) ≡ o → IfSome o (λ g. new ≡ was ++ gate_work (get_or order i 0) g a n) → get_or order i 0 < length d.gates → new ≡ was ++ f (get_or order i 0)
       more_by None at more within = absurd (let x = there d.gates (get_or order i 0) within in let e = x.1 in cc)
-      more_by (Some g) at more within = more ∙ ap (λ o. was ++ option_map_or (λ g. gate_work_from answer d g a n) o []) (sym at)
+      more_by (Some g) at more within = more ∙ ap (λ o. was ++ option_map_or (λ g. gate_work (get_or order i 0) g a n) o []) (sym at)
 
       -- one gate more is asked
-      pub one_asked : IfSome (slice_get d.gates (get_or order i 0)) (λ g. new ≡ was ++ gate_work_from answer d g a n) → new ≡ old ++ order_work_from answer d a n (take (i + 1) order)
+      pub one_asked : IfSome (slice_get d.gates (get_or order i 0)) (λ g. new ≡ was ++ gate_work (get_or order i 0) g a n) → new ≡ old ++ order_work_from answer d beside a n (take (i + 1) order)
       one_asked more =
           more_by (slice_get d.gates (get_or order i 0)) refl more within ∙ ap (λ l. l ++ f (get_or order i 0)) so_far
-          ∙ append_assoc old (order_work_from answer d a n (take i order)) (f (get_or order i 0))
-          ∙ ap (λ l. old ++ (order_work_from answer d a n (take i order) ++ l)) (sym (append-nil (f (get_or order i 0))))
+          ∙ append_assoc old (order_work_from answer d beside a n (take i order)) (f (get_or order i 0))
+          ∙ ap (λ l. old ++ (order_work_from answer d beside a n (take i order) ++ l)) (sym (append-nil (f (get_or order i 0))))
           ∙ ap (λ l. old ++ l) (sym (flat_map-append f (take i order) (get_or order i 0 ∷ [])))
           ∙ ap (λ l. old ++ flat_map f l) (sym (one_taken order i low))
 
-      whole : order_work_from answer d a n order ≡ order_work_from answer d a n (take i order) ++ (f (get_or order i 0) ++ flat_map f (drop (i + 1) order))
+      whole : order_work_from answer d beside a n order ≡ order_work_from answer d beside a n (take i order) ++ (f (get_or order i 0) ++ flat_map f (drop (i + 1) order))
       whole =
           let front : drop i order ≡ get_or order i 0 ∷ drop (i + 1) order = rw add-one (drop-cons order i 0 low) in
           ap (flat_map f) (split order i) ∙ flat_map-append f (take i order) (drop i order)
-          ∙ ap (λ l. order_work_from answer d a n (take i order) ++ flat_map f l) front
+          ∙ ap (λ l. order_work_from answer d beside a n (take i order) ++ flat_map f l) front
         where
           split : (xs : List ℕ) (i : ℕ) → xs ≡ take i xs ++ drop i xs
           split [] zero = refl
@@ -74,45 +79,20 @@ module _ (answer : Evaluation → ℕ → State) (d : Netlist) where
           split (x ∷ xs) (suc i) = ap (λ l. x ∷ l) (split xs i)
 
       -- a fault while it was asked
-      pub part_asked : IfSome (slice_get d.gates (get_or order i 0)) (λ g. (m : ℕ) × (m ≤ n) × (new ≡ was ++ gate_work_from answer d g a m)) → (piece : List (Evaluation × ℕ)) × IsBeginning piece (order_work_from answer d a n order) × (new ≡ old ++ piece)
+      pub part_asked : IfSome (slice_get d.gates (get_or order i 0)) (λ g. (m : ℕ) × (m ≤ n) × (new ≡ was ++ gate_work (get_or order i 0) g a m)) → (piece : List (Evaluation × ℕ)) × IsBeginning piece (order_work_from answer d beside a n order) × (new ≡ old ++ piece)
       part_asked some = by (slice_get d.gates (get_or order i 0)) refl some
         where
-          by : (o : Option GateEntry) → slice_get d.gates (get_or order i 0) ≡ o → IfSome o (λ g. (m : ℕ) × (m ≤ n) × (new ≡ was ++ gate_work_from answer d g a m)) →
-              (piece : List (Evaluation × ℕ)) × IsBeginning piece (order_work_from answer d a n order) × (new ≡ old ++ piece)
+          by : (o : Option GateEntry) → slice_get d.gates (get_or order i 0) ≡ o → IfSome o (λ g. (m : ℕ) × (m ≤ n) × (new ≡ was ++ gate_work (get_or order i 0) g a m)) →
+              (piece : List (Evaluation × ℕ)) × IsBeginning piece (order_work_from answer d beside a n order) × (new ≡ old ++ piece)
           by None at some = absurd (let x = there d.gates (get_or order i 0) within in let e = x.1 in cc)
           by (Some g) at some =
-              let begun = gate_begins g a some.0 n some.1 in let before = order_work_from answer d a n (take i order) in let piece = gate_work_from answer d g a some.0 in
+              let begun = gate_begins (get_or order i 0) g a some.0 n some.1 in let before = order_work_from answer d beside a n (take i order) in let piece = gate_work (get_or order i 0) g a some.0 in
               let later = flat_map f (drop (i + 1) order) in (
                 before ++ piece,
                 (
                   begun.0 ++ later,
-                  whole ∙ ap (λ o. before ++ (option_map_or (λ g. gate_work_from answer d g a n) o [] ++ later)) at
+                  whole ∙ ap (λ o. before ++ (option_map_or (λ g. gate_work (get_or order i 0) g a n) o [] ++ later)) at
                       ∙ ap (λ l. before ++ (l ++ later)) begun.1 ∙ ap (λ l. before ++ l) (append_assoc piece begun.0 later) ∙ sym (append_assoc before piece (begun.0 ++ later)),
                 ),
                 some.2 ∙ ap (λ l. l ++ piece) so_far ∙ append_assoc old before piece,
               )
-
--- What was asked of the gate at a place, if there is one.
-module _ (answer : Evaluation → ℕ → State) (d : Netlist) (old new : List (Evaluation × ℕ)) where
-  abbrev All : (a n : ℕ) → GateEntry → Type 0
-  All a n g = new ≡ old ++ gate_work_from answer d g a n
-
-  abbrev Part : (a n : ℕ) → GateEntry → Type 0
-  Part a n g = (m : ℕ) × (m ≤ n) × (new ≡ old ++ gate_work_from answer d g a m)
-
-  from_start : (a : ℕ) → a ≡ 0 → (g : GateEntry) (n : ℕ) → new ≡ old ++ gate_work answer d g n → All a n g
-  from_start a begins g n e = e ∙ ap (λ l. old ++ l) (gate_from_start answer d g n ∙ ap (λ b. gate_work_from answer d g b n) (sym begins))
-
-  -- a gate that is followed from moment 0 on is asked from there on
-  pub all_from_start : (a n : ℕ) → a ≡ 0 → (o : Option GateEntry) → IfSome o (λ g. new ≡ old ++ gate_work answer d g n) → IfSome o (All a n)
-  all_from_start a n begins None e = tt
-  all_from_start a n begins (Some g) e = from_start a begins g n e
-
-  pub part_from_start : (a n : ℕ) → a ≡ 0 → (o : Option GateEntry) → IfSome o (λ g. (m : ℕ) × (m ≤ n) × (new ≡ old ++ gate_work answer d g m)) → IfSome o (Part a n)
-  part_from_start a n begins None some = tt
-  part_from_start a n begins (Some g) some = (some.0, some.1, from_start a begins g some.0 some.2)
-
-  -- and one that is followed on, from a later moment on
-  pub part_from : (a b n : ℕ) → a ≡ b → (o : Option GateEntry) → IfSome o (λ g. (m : ℕ) × (b ≤ m) × (m ≤ n) × (new ≡ old ++ gate_work_from answer d g b m)) → IfSome o (Part a n)
-  part_from a b n begins None some = tt
-  part_from a b n begins (Some g) some = (some.0, some.2, some.3 ∙ ap (λ b. old ++ gate_work_from answer d g b some.0) (sym begins))

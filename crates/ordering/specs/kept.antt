@@ -1,4 +1,7 @@
+pub mod Begins
 pub mod Earlier
 pub mod Gates
 pub mod Lines
+pub mod OldRuns
 pub mod Order
+pub mod Reworks

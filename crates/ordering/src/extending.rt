@@ -12,7 +12,7 @@ ghost use Rattle.ordering.specs.kept.Order.{is_order};
 
 use crate::earlier::EarlierRun;
 use crate::finding::find_order;
-use crate::following::run_in_order;
+use crate::following::{Begin, run_in_order};
 use design::Design;
 use gatestep::{StepFault, Stepper};
 use scratch::{Wiring, wire};
@@ -84,5 +84,9 @@ fn extend_by_gates<S: Stepper>(
         (work_from S.answer (netlist design.now) (suc (netlist earlier.entry.design.now).horizon) (suc (netlist design.now).horizon))) }
     ensures lost { CountsLoss (S.losses stepper.old) (S.losses stepper.new) result }
 {
-    Ok(run_in_order(alloc, design, wiring, Some(earlier), order, stepper)?)
+    let begin = Begin {
+        earlier: Some(earlier),
+        old: None,
+    };
+    Ok(run_in_order(alloc, design, wiring, begin, order, stepper)?)
 }

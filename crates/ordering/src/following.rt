@@ -8,51 +8,31 @@ ghost use Rattle.scratch.specs.kept.Kept.{IsWiring};
 ghost use Rattle.scratch.specs.kept.Places.{has};
 ghost use Rattle.scratch.specs.Run.{wave_of};
 ghost use Rattle.scratch.specs.kept.Run.{IsRun, trace_of};
-ghost use Rattle.ordering.specs.kept.Earlier.{IsEarlier, begin_after};
+ghost use Rattle.ordering.specs.kept.Begins.{IsBegin};
+ghost use Rattle.ordering.specs.kept.Earlier.{begin_after};
 ghost use Rattle.ordering.specs.kept.Gates.{IsBeginning, gate_work_from};
 ghost use Rattle.ordering.specs.kept.Lines.{Fit};
+ghost use Rattle.ordering.specs.kept.OldRuns.{wanted_at};
 ghost use Rattle.ordering.specs.kept.Order.{is_order, may_follow, order_work_from};
 
-use crate::earlier::{EarlierRun, former_trace};
+use crate::earlier::{EarlierRun, former_of};
 use crate::lines::{Lines, open_lines};
+use crate::old_run::line_of;
 use design::Design;
-use gateline::{find_inputs, find_rest, resume_gate, run_gate};
+use gateline::{Along, Start, find_inputs, find_rest, follow_gate};
 use gatestep::Stepper;
+use rundiff::OldRun;
 use scratch::{Cell, Wiring, run_of_lines};
 use std::alloc::{AllocError, Global};
-use waveform::{Run, Trace};
+use waveform::Run;
 
-/// The trace of the gate at a place in the order of the gates up to the horizon, where the waves of all nets that it reads are
-/// found: followed from moment 0 on, or from the end of an earlier run. It fails where memory runs out.
-fn follow_gate<S: Stepper>(
-    alloc: Global,
-    design: &Design,
-    wiring: &Wiring,
-    lines: &Lines,
-    earlier: Option<EarlierRun>,
-    place: usize,
-    stepper: &mut S,
-) -> Result<Trace, AllocError>
-    requires none_lost { S.losses stepper.old ≡ 0 }
-    requires wired { IsWiring (netlist design.now) wiring.now }
-    requires earlier { IfSome earlier (IsEarlier S.answer design.now) }
-    requires there { place < length (netlist design.now).gates }
-    requires known { IfSome (slice_get wiring.now.cells.items place) (λ cell. AreKnown S.answer (netlist design.now) lines.now.waves.items cell.inputs) }
-    ensures trace { IfOk result (λ trace. IfSome (slice_get (netlist design.now).gates place) (λ g. trace ≡ trace_of S.answer (netlist design.now) g)) }
-    ensures asked { OnOk result (IfSome (slice_get (netlist design.now).gates place) (λ g. S.asked stepper.new ≡ S.asked stepper.old
-        ++ gate_work_from S.answer (netlist design.now) g (begin_after earlier.entry) (suc (netlist design.now).horizon))) }
-    ensures part { OnErr result (IfSome (slice_get (netlist design.now).gates place) (λ g. (n : ℕ) × (n ≤ suc (netlist design.now).horizon)
-        × (S.asked stepper.new ≡ S.asked stepper.old ++ gate_work_from S.answer (netlist design.now) g (begin_after earlier.entry) n))) }
-    ensures lost { S.losses stepper.new ≡ S.losses stepper.old }
-{
-    let waves = lines.waves.as_slice();
-    match earlier {
-        None => run_gate(alloc, design, wiring, waves, &lines.table, place, stepper),
-        Some(run) => {
-            let former = former_trace::<S>(design, run, place);
-            resume_gate(alloc, design, wiring, waves, &lines.table, former, stepper)
-        }
-    }
+/// From where on a design is run, and beside what.
+#[derive(Clone, Copy)]
+pub struct Begin<'a, 'b, 'c> {
+    /// A run of the design up to an earlier horizon, if there is one, from whose end on it is run; else from moment 0 on.
+    pub earlier: Option<EarlierRun<'a>>,
+    /// The run of an old design, if it is run beside one.
+    pub old: Option<&'b OldRun<'c>>,
 }
 
 /// Finds the waves that a gate reads, those that are not found yet, where the traces of all that drives their nets are found. It
@@ -90,14 +70,14 @@ fn follow_one<S: Stepper>(
     alloc: Global,
     design: &Design,
     wiring: &Wiring,
-    earlier: Option<EarlierRun>,
+    begin: Begin,
     place: usize,
     lines: &mut Lines,
     stepper: &mut S,
 ) -> Result<(), AllocError>
     requires none_lost { S.losses stepper.old ≡ 0 }
     requires wired { IsWiring (netlist design.now) wiring.now }
-    requires earlier { IfSome earlier (IsEarlier S.answer design.now) }
+    requires begin { IsBegin S.answer design.now begin }
     requires there { place < length (netlist design.now).gates }
     requires supplied { IfSome (slice_get wiring.now.cells.items place) (λ cell. AreSupplied S.answer (netlist design.now) lines.old.traces.items cell.inputs) }
     requires fit { Fit (netlist design.now) lines.old }
@@ -106,13 +86,21 @@ fn follow_one<S: Stepper>(
     ensures found { OnOk result (AreFound S.answer (netlist design.now) lines.new.found.items lines.new.waves.items) }
     ensures trace { OnOk result (IfSome (slice_get (netlist design.now).gates place) (λ g. lines.new.traces.items ≡ slice_set lines.old.traces.items place (trace_of S.answer (netlist design.now) g))) }
     ensures asked { OnOk result (IfSome (slice_get (netlist design.now).gates place) (λ g. S.asked stepper.new ≡ S.asked stepper.old
-        ++ gate_work_from S.answer (netlist design.now) g (begin_after earlier.entry) (suc (netlist design.now).horizon))) }
+        ++ gate_work_from S.answer (netlist design.now) (wanted_at begin.entry.old (netlist design.now) place g) g (begin_after begin.entry.earlier) (suc (netlist design.now).horizon))) }
     ensures part { OnErr result (IfSome (slice_get (netlist design.now).gates place) (λ g. (n : ℕ) × (n ≤ suc (netlist design.now).horizon)
-        × (S.asked stepper.new ≡ S.asked stepper.old ++ gate_work_from S.answer (netlist design.now) g (begin_after earlier.entry) n))) }
+        × (S.asked stepper.new ≡ S.asked stepper.old ++ gate_work_from S.answer (netlist design.now) (wanted_at begin.entry.old (netlist design.now) place g) g (begin_after begin.entry.earlier) n))) }
     ensures lost { S.losses stepper.new ≡ S.losses stepper.old }
 {
     find_read::<S>(alloc, design, wiring, &wiring.cells[place], lines)?;
-    let trace = follow_gate(alloc, design, wiring, lines, earlier, place, stepper)?;
+    let along = Along {
+        waves: lines.waves.as_slice(),
+        table: &lines.table,
+    };
+    let start = Start {
+        former: former_of::<S>(design, begin.earlier, place),
+        beside: line_of(begin.old, place),
+    };
+    let trace = follow_gate(alloc, design, wiring, along, place, start, stepper)?;
     lines.traces[place] = trace;
     Ok(())
 }
@@ -123,23 +111,23 @@ fn follow_each<S: Stepper>(
     alloc: Global,
     design: &Design,
     wiring: &Wiring,
-    earlier: Option<EarlierRun>,
+    begin: Begin,
     order: &[u32],
     lines: &mut Lines,
     stepper: &mut S,
 ) -> Result<(), AllocError>
     requires none_lost { S.losses stepper.old ≡ 0 }
     requires wired { IsWiring (netlist design.now) wiring.now }
-    requires earlier { IfSome earlier (IsEarlier S.answer design.now) }
+    requires begin { IsBegin S.answer design.now begin }
     requires follow { may_follow (netlist design.now) [] order.now ≡ true }
     requires fit { Fit (netlist design.now) lines.old }
     requires found { AreFound S.answer (netlist design.now) lines.old.found.items lines.old.waves.items }
     ensures fit { OnOk result (Fit (netlist design.now) lines.new) }
     ensures found { OnOk result (AreFound S.answer (netlist design.now) lines.new.found.items lines.new.waves.items) }
     ensures traced { OnOk result ((p : ℕ) → has p order.now ≡ true → IsTraced S.answer (netlist design.now) lines.new.traces.items p) }
-    ensures asked { OnOk result (S.asked stepper.new ≡ S.asked stepper.old ++ order_work_from S.answer (netlist design.now) (begin_after earlier.entry) (suc (netlist design.now).horizon) order.now) }
+    ensures asked { OnOk result (S.asked stepper.new ≡ S.asked stepper.old ++ order_work_from S.answer (netlist design.now) begin.entry.old (begin_after begin.entry.earlier) (suc (netlist design.now).horizon) order.now) }
     ensures part { OnErr result ((piece : List (Evaluation × ℕ))
-        × IsBeginning piece (order_work_from S.answer (netlist design.now) (begin_after earlier.entry) (suc (netlist design.now).horizon) order.now)
+        × IsBeginning piece (order_work_from S.answer (netlist design.now) begin.entry.old (begin_after begin.entry.earlier) (suc (netlist design.now).horizon) order.now)
         × (S.asked stepper.new ≡ S.asked stepper.old ++ piece)) }
     ensures lost { S.losses stepper.new ≡ S.losses stepper.old }
 {
@@ -148,7 +136,7 @@ fn follow_each<S: Stepper>(
             alloc,
             design,
             wiring,
-            earlier,
+            begin,
             *place as usize,
             lines,
             stepper,
@@ -163,26 +151,26 @@ fn fill_lines<S: Stepper>(
     alloc: Global,
     design: &Design,
     wiring: &Wiring,
-    earlier: Option<EarlierRun>,
+    begin: Begin,
     order: &[u32],
     lines: &mut Lines,
     stepper: &mut S,
 ) -> Result<(), AllocError>
     requires none_lost { S.losses stepper.old ≡ 0 }
     requires wired { IsWiring (netlist design.now) wiring.now }
-    requires earlier { IfSome earlier (IsEarlier S.answer design.now) }
+    requires begin { IsBegin S.answer design.now begin }
     requires order { is_order (netlist design.now) order.now ≡ true }
     requires fit { Fit (netlist design.now) lines.old }
     requires none { (m : ℕ) → slice_get lines.old.found.items m ≢ Some true }
     ensures waves { OnOk result (lines.new.waves.items ≡ map (wave_of S.answer (netlist design.now)) (netlist design.now).nets) }
     ensures traces { OnOk result (lines.new.traces.items ≡ map (trace_of S.answer (netlist design.now)) (netlist design.now).gates) }
-    ensures asked { OnOk result (S.asked stepper.new ≡ S.asked stepper.old ++ order_work_from S.answer (netlist design.now) (begin_after earlier.entry) (suc (netlist design.now).horizon) order.now) }
+    ensures asked { OnOk result (S.asked stepper.new ≡ S.asked stepper.old ++ order_work_from S.answer (netlist design.now) begin.entry.old (begin_after begin.entry.earlier) (suc (netlist design.now).horizon) order.now) }
     ensures part { OnErr result ((piece : List (Evaluation × ℕ))
-        × IsBeginning piece (order_work_from S.answer (netlist design.now) (begin_after earlier.entry) (suc (netlist design.now).horizon) order.now)
+        × IsBeginning piece (order_work_from S.answer (netlist design.now) begin.entry.old (begin_after begin.entry.earlier) (suc (netlist design.now).horizon) order.now)
         × (S.asked stepper.new ≡ S.asked stepper.old ++ piece)) }
     ensures lost { S.losses stepper.new ≡ S.losses stepper.old }
 {
-    follow_each(alloc, design, wiring, earlier, order, lines, stepper)?;
+    follow_each(alloc, design, wiring, begin, order, lines, stepper)?;
     find_rest::<S>(
         alloc,
         design,
@@ -193,29 +181,30 @@ fn fill_lines<S: Stepper>(
     )
 }
 
-/// The run of the design by this stepper, gate after gate in this order, from moment 0 on or from the end of an earlier run. It
-/// fails where memory runs out; then what was asked is a beginning of what is asked of the gates in this order.
+/// The run of the design by this stepper, gate after gate in this order, from moment 0 on or from the end of an earlier run; beside
+/// an old run each gate is asked only where it had another task there. It fails where memory runs out; then what was asked is a
+/// beginning of what is asked of the gates in this order.
 pub fn run_in_order<S: Stepper>(
     alloc: Global,
     design: &Design,
     wiring: &Wiring,
-    earlier: Option<EarlierRun>,
+    begin: Begin,
     order: &[u32],
     stepper: &mut S,
 ) -> Result<Run, AllocError>
     requires none_lost { S.losses stepper.old ≡ 0 }
     requires wired { IsWiring (netlist design.now) wiring.now }
-    requires earlier { IfSome earlier (IsEarlier S.answer design.now) }
+    requires begin { IsBegin S.answer design.now begin }
     requires order { is_order (netlist design.now) order.now ≡ true }
     ensures run { IfOk result (IsRun S.answer design.now) }
-    ensures asked { OnOk result (S.asked stepper.new ≡ S.asked stepper.old ++ order_work_from S.answer (netlist design.now) (begin_after earlier.entry) (suc (netlist design.now).horizon) order.now) }
+    ensures asked { OnOk result (S.asked stepper.new ≡ S.asked stepper.old ++ order_work_from S.answer (netlist design.now) begin.entry.old (begin_after begin.entry.earlier) (suc (netlist design.now).horizon) order.now) }
     ensures part { OnErr result ((piece : List (Evaluation × ℕ))
-        × IsBeginning piece (order_work_from S.answer (netlist design.now) (begin_after earlier.entry) (suc (netlist design.now).horizon) order.now)
+        × IsBeginning piece (order_work_from S.answer (netlist design.now) begin.entry.old (begin_after begin.entry.earlier) (suc (netlist design.now).horizon) order.now)
         × (S.asked stepper.new ≡ S.asked stepper.old ++ piece)) }
     ensures lost { S.losses stepper.new ≡ S.losses stepper.old }
 {
     let mut lines = open_lines(alloc, design)?;
-    fill_lines(alloc, design, wiring, earlier, order, &mut lines, stepper)?;
+    fill_lines(alloc, design, wiring, begin, order, &mut lines, stepper)?;
     let Lines { waves, traces, .. } = lines;
     run_of_lines::<S>(alloc, design, waves, traces)
 }

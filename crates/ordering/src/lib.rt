@@ -1,6 +1,7 @@
 //! The gates of a design one after another, each after all that drive what it reads.
 #![tactic(auto)]
 
+mod beside;
 mod checking;
 mod earlier;
 mod extending;
@@ -8,11 +9,12 @@ mod finding;
 mod following;
 pub mod laws;
 mod lines;
+mod old_run;
 mod run;
 
+pub use beside::run_beside;
 pub use checking::is_ordered;
 pub use earlier::EarlierRun;
 pub use extending::extend;
 pub use finding::find_order;
-pub use following::run_in_order;
 pub use run::simulate;

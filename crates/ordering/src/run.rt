@@ -10,7 +10,7 @@ ghost use Rattle.scratch.specs.kept.Run.{IsRun};
 ghost use Rattle.ordering.specs.kept.Order.{is_order};
 
 use crate::finding::find_order;
-use crate::following::run_in_order;
+use crate::following::{Begin, run_in_order};
 use design::Design;
 use gatestep::{StepFault, Stepper};
 use scratch::{Wiring, simulate_wired, wire};
@@ -62,5 +62,9 @@ fn simulate_by_gates<S: Stepper>(
         (work_below S.answer (netlist design.now) (suc (netlist design.now).horizon))) }
     ensures lost { CountsLoss (S.losses stepper.old) (S.losses stepper.new) result }
 {
-    Ok(run_in_order(alloc, design, wiring, None, order, stepper)?)
+    let begin = Begin {
+        earlier: None,
+        old: None,
+    };
+    Ok(run_in_order(alloc, design, wiring, begin, order, stepper)?)
 }

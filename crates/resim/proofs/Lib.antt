@@ -1,4 +1,5 @@
 pub mod Asked
+pub mod ByGates
 pub mod Cutting
 pub mod Fronts
 pub mod Levels

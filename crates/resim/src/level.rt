@@ -19,7 +19,7 @@ ghost use Rattle.resim.specs.kept.Reruns.{IsTouchedIfKnown, Reruns};
 
 use crate::changed::Changed;
 use crate::spending::{Limit, Spending};
-use crate::sweep::sweep;
+use crate::through::run_through;
 use crate::wide::is_wide;
 use crate::widening::widen;
 use design::Design;
@@ -48,19 +48,19 @@ pub fn rerun_level<S: Stepper>(
     ensures changed { OnOk result (AreChanged S.answer old.now new.now (has_changed changed.new)) }
 {
     *changed = Changed::All;
+    let blanks = Blanks::new(alloc)?;
+    let former = Former {
+        old,
+        run,
+        new,
+        blanks: &blanks,
+    };
     if let Some(touched) = touched {
         if !is_wide(alloc, old, run, new, touched)? {
-            let blanks = Blanks::new(alloc)?;
-            let former = Former {
-                old,
-                run,
-                new,
-                blanks: &blanks,
-            };
             return follow_beside(alloc, &former, touched, Limit::Cost, changed, stepper);
         }
     }
-    sweep(alloc, old, run, new, stepper)
+    run_through(alloc, &former, stepper)
 }
 
 /// The run of the new design, which has the horizon of the old one: it goes from one moment at which something may differ to the

@@ -9,6 +9,7 @@ mod level;
 mod other_horizon;
 mod spending;
 mod sweep;
+mod through;
 mod wide;
 mod widening;
 

@@ -1,7 +1,7 @@
 //! The run of a design beside a former one, moment by moment as from scratch: where most of the design differs, this is less
 //! work than to look for what does.
 
-ghost use Rattle.std.specs.Prelude.{◌≡◌, ◌≤◌, ◌+◌, ◌++◌, ℕ, suc, List, IfOk, OnErr, OnOk};
+ghost use Rattle.std.specs.Prelude.{◌≡◌, ◌<◌, ◌≤◌, ◌+◌, ◌++◌, ℕ, suc, List, IfOk, OnErr, OnOk};
 ghost use Rattle.gatestep.specs.Step.{Evaluation};
 ghost use Rattle.design.specs.Keys.{netlist};
 ghost use Rattle.scratch.specs.kept.Kept.{IsWiring};
@@ -16,33 +16,26 @@ ghost use Rattle.resim.specs.kept.Reruns.{Reruns};
 use crate::asking::{Beside, Present, ask_dirty};
 use design::Design;
 use gatestep::{StepFault, Stepper};
-use rundiff::{Blanks, Former};
-use scratch::{Engine, Opening, Wiring, wire};
+use rundiff::Former;
+use scratch::{Engine, Opening, Wiring, resume_later};
 use std::alloc::Global;
 use waveform::Run;
 
 /// The run of the new design, whose horizon is no later than that of the old one. Nothing of it is shared with the old run.
 pub fn sweep<S: Stepper>(
     alloc: Global,
-    old: &Design,
-    run: &Run,
-    new: &Design,
+    former: &Former,
+    wiring: &Wiring,
     stepper: &mut S,
 ) -> Result<Run, StepFault>
-    requires run { IsRun S.answer old.now run.now }
-    requires horizon { (netlist new.now).horizon ≤ (netlist old.now).horizon }
-    ensures reruns { Reruns S.answer old.now new.now (S.asked stepper.old) (S.asked stepper.new)
+    requires run { IsRun S.answer former.now.old.now former.now.run.now }
+    requires wired { IsWiring (netlist former.now.new.now) wiring.now }
+    requires horizon { (netlist former.now.new.now).horizon ≤ (netlist former.now.old.now).horizon }
+    ensures reruns { Reruns S.answer former.now.old.now former.now.new.now (S.asked stepper.old) (S.asked stepper.new)
         (S.losses stepper.old) (S.losses stepper.new) result }
 {
-    let blanks = Blanks::new(alloc)?;
-    let former = Former {
-        old,
-        run,
-        new,
-        blanks: &blanks,
-    };
-    let mut beside = Beside::find::<S>(alloc, &former)?;
-    sweep_beside(alloc, &mut beside, &former, stepper)
+    let mut beside = Beside::find::<S>(alloc, former)?;
+    sweep_beside(alloc, &mut beside, former, wiring, stepper)
 }
 
 /// The run of the new design beside these lines of the old one.
@@ -50,18 +43,44 @@ fn sweep_beside<S: Stepper>(
     alloc: Global,
     beside: &mut Beside,
     former: &Former,
+    wiring: &Wiring,
     stepper: &mut S,
 ) -> Result<Run, StepFault>
     requires lines { AreOldLines S.answer (netlist former.now.old.now) (netlist former.now.new.now) beside.old.lines }
     requires waves { waves_done beside.old.lines ≡ 0 }
     requires traces { traces_done beside.old.lines ≡ 0 }
+    requires wired { IsWiring (netlist former.now.new.now) wiring.now }
     requires horizon { (netlist former.now.new.now).horizon ≤ (netlist former.now.old.now).horizon }
     ensures reruns { Reruns S.answer former.now.old.now former.now.new.now (S.asked stepper.old) (S.asked stepper.new)
         (S.losses stepper.old) (S.losses stepper.new) result }
 {
-    let wiring = wire(alloc, former.new)?;
-    let engine = open_beside(alloc, beside, former, &wiring, stepper)?;
-    sweep_on(alloc, beside, former, &wiring, engine, 1, stepper)
+    let engine = open_beside(alloc, beside, former, wiring, stepper)?;
+    sweep_on(alloc, beside, former, wiring, engine, 1, stepper)
+}
+
+/// The run of the new design, of which the run up to an earlier horizon was made: `level` is the new design with that horizon.
+pub fn sweep_after<S: Stepper>(
+    alloc: Global,
+    former: &Former,
+    level: &Design,
+    made: &Run,
+    wiring: &Wiring,
+    stepper: &mut S,
+) -> Result<Run, StepFault>
+    requires run { IsRun S.answer former.now.old.now former.now.run.now }
+    requires wired { IsWiring (netlist former.now.new.now) wiring.now }
+    requires horizon { (netlist former.now.new.now).horizon ≤ (netlist former.now.old.now).horizon }
+    requires level { level.now ≡ record former.now.new.now { horizon = level.now.horizon } }
+    requires earlier { (netlist level.now).horizon < (netlist former.now.new.now).horizon }
+    requires made { IsRun S.answer level.now made.now }
+    ensures reruns { (was : List (Evaluation × ℕ)) →
+        S.asked stepper.old ≡ was ++ rework_below S.answer (netlist former.now.old.now) (netlist former.now.new.now) (suc (netlist level.now).horizon) →
+        Reruns S.answer former.now.old.now former.now.new.now was (S.asked stepper.new) (S.losses stepper.old) (S.losses stepper.new) result }
+{
+    let mut beside = Beside::find::<S>(alloc, former)?;
+    let engine = resume_later::<S>(alloc, level, made, former.new, wiring)?;
+    let start = level.horizon() + 1;
+    sweep_on(alloc, &mut beside, former, wiring, engine, start, stepper)
 }
 
 /// What stands after moment 0.
@@ -155,7 +174,7 @@ fn pass_beside<S: Stepper>(
 }
 
 /// The run of the new design by an engine of which the moments below `start` are done.
-pub fn sweep_on<S: Stepper>(
+fn sweep_on<S: Stepper>(
     alloc: Global,
     beside: &mut Beside,
     former: &Former,

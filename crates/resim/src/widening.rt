@@ -9,15 +9,13 @@ ghost use Rattle.rundiff.specs.Dirty.{rework_below};
 ghost use Rattle.rundiff.specs.kept.Fronts.{IsFront};
 ghost use Rattle.resim.specs.kept.Reruns.{Reruns};
 
-use crate::asking::Beside;
 use crate::cut::shorten;
 use crate::other_horizon::with_horizon;
-use crate::sweep::sweep_on;
+use crate::through::run_on;
 use design::Design;
 use edits::Touched;
 use gatestep::{StepFault, Stepper};
 use rundiff::{Former, Front};
-use scratch::{resume_later, wire};
 use std::alloc::{AllocError, Global};
 use waveform::Run;
 
@@ -42,7 +40,7 @@ pub fn widen<S: Stepper>(
     former.new.lawful();
     let level = with_horizon(former.new, last)?;
     let made = run_until::<S>(alloc, front, former, &level, touched, last)?;
-    sweep_after(alloc, former, &level, &made, stepper)
+    run_on(alloc, former, &level, &made, stepper)
 }
 
 /// The run of the new design up to the moment `last`, at which its horizon is, from a front at which all moments up to it are done.
@@ -71,28 +69,4 @@ fn run_until<S: Stepper>(
         blanks: former.blanks,
     };
     front.finish::<S>(alloc, &short, touched)
-}
-
-/// The run of the new design, of which the run up to an earlier horizon was made: `level` is the new design with that horizon.
-fn sweep_after<S: Stepper>(
-    alloc: Global,
-    former: &Former,
-    level: &Design,
-    made: &Run,
-    stepper: &mut S,
-) -> Result<Run, StepFault>
-    requires run { IsRun S.answer former.now.old.now former.now.run.now }
-    requires horizon { (netlist former.now.new.now).horizon ≤ (netlist former.now.old.now).horizon }
-    requires level { level.now ≡ record former.now.new.now { horizon = level.now.horizon } }
-    requires earlier { (netlist level.now).horizon < (netlist former.now.new.now).horizon }
-    requires made { IsRun S.answer level.now made.now }
-    ensures reruns { (was : List (Evaluation × ℕ)) →
-        S.asked stepper.old ≡ was ++ rework_below S.answer (netlist former.now.old.now) (netlist former.now.new.now) (suc (netlist level.now).horizon) →
-        Reruns S.answer former.now.old.now former.now.new.now was (S.asked stepper.new) (S.losses stepper.old) (S.losses stepper.new) result }
-{
-    let mut beside = Beside::find::<S>(alloc, former)?;
-    let wiring = wire(alloc, former.new)?;
-    let engine = resume_later::<S>(alloc, level, made, former.new, &wiring)?;
-    let start = level.horizon() + 1;
-    sweep_on(alloc, &mut beside, former, &wiring, engine, start, stepper)
 }

@@ -25,6 +25,7 @@ pub mod NamedLines
 pub mod NetsDone
 pub mod Noted
 pub mod NotedMore
+pub mod OldRuns
 pub mod OneGate
 pub mod Outcoming
 pub mod Pages

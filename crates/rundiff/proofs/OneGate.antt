@@ -29,7 +29,7 @@ or_false false = refl
 
 module _ (answer : Evaluation → ℕ → State) (old new : Netlist) (g : GateEntry) (t : ℕ) where
   -- at a moment that the old run has, the tasks decide, but for a gate that is new
-  by_task : t ≤ old.horizon → is_dirty answer old new g t ≡ (is_new old g || not (same_task (task_at answer old g t) (task_at answer new g t)))
+  pub by_task : t ≤ old.horizon → is_dirty answer old new g t ≡ (is_new old g || not (same_task (task_at answer old g t) (task_at answer new g t)))
   by_task within =
       let o = task_at answer old g t in let n = task_at answer new g t in
       ap (λ (b : Bool). not b || (is_new old g || not (same_task o n))) (early t old.horizon within)

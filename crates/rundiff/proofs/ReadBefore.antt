@@ -1,7 +1,7 @@
--- What the lines of the old run say of the gates of the new design.
+-- What the old run by the places of the new design says of its gates.
 use Rattle.std.proofs.Common.{◌≡◌, ◌∙◌, ◌<◌, ◌≤◌, ◌+◌, ap, sym, refl, ℕ, zero, suc, List, [], ◌∷◌, Bool, true, false, cond, map, length, Option, Some, None, arith, All}
 use Rattle.std.specs.Prelude.{◌||◌}
-use Rattle.std.specs.List.{list_any, position_from}
+use Rattle.std.specs.List.{list_any, position_from, slice_index_or}
 use Rattle.std.specs.Option.{option_map_or}
 use Rattle.std.proofs.lemmas.List.Elements.{All-cons, All-nil, All-head, All-tail}
 use Rattle.fourstate.specs.declared.value.Value.{Value}
@@ -18,13 +18,13 @@ use Rattle.waveform.specs.Entries.{standing}
 use Rattle.waveform.specs.kept.Timelines.{IsAlwaysSettled}
 use Rattle.scratch.specs.kept.Kept.{input_of}
 use Rattle.scratch.specs.Run.{state_after, state_before}
+use Rattle.scratch.specs.declared.wiring.Input.{Input}
 use Rattle.scratch.specs.declared.wiring.Input.TheVariants.{At, Fixed}
 use Rattle.rundiff.specs.Dirty.{is_new}
 use Rattle.rundiff.specs.kept.Fronts.{named_state}
 use Rattle.rundiff.specs.kept.Kept.{read_at}
-use Rattle.rundiff.specs.kept.OldLines.{AreOldLines, HasWave, former_state, former_value}
+use Rattle.rundiff.specs.kept.OldRuns.{AreOldRun, OldRunRecord, state_till}
 use Rattle.rundiff.specs.kept.Places.{blank_net, gate_at, net_at}
-use Rattle.rundiff.specs.declared.old_lines.OldLines.{OldLines}
 use Rattle.rundiff.proofs.EachPlace.{holds_index}
 use Rattle.rundiff.proofs.Known.{known_gate}
 use Rattle.rundiff.proofs.Lists.{same_name_equal}
@@ -39,56 +39,62 @@ no_position {X} test start (x ∷ xs) none =
       | false ↦ λ off later. rw off (no_position test (start + 1) xs later)
     ] refl none
 
-module _ (answer : Evaluation → ℕ → State) (old new : Netlist) (lines : OldLines) (right : AreOldLines answer old new lines) where
-  -- an input that reads a net reads one that there is
-  placed_by : (name : List ℕ) (o : Option ℕ) → position_from (λ n. same_name n.name name) 0 new.nets ≡ o → HasWave lines (option_map_or At o (Fixed Unknown))
-  placed_by name None is = tt
-  placed_by name (Some p) is =
-      let found = position_found (λ n. same_name n.name name) new.nets 0 p blank_net is in
-      let same = found.1 in let low = found.2 in let count = right.wave_count in omega (arith, same, low, count)
+module _ (answer : Evaluation → ℕ → State) (old new : Netlist) (run : OldRunRecord) (right : AreOldRun answer old new run) where
+  -- what is so of the constants, and of each place that there is, is so of each input: one that reads a net reads one that
+  -- there is
+  module _ (P : Input → Type 0) (at_net : (p : ℕ) → p < length run.waves → P (At p)) (fixed : (v : Value) → P (Fixed v)) where
+    placed_by : (name : List ℕ) (o : Option ℕ) → position_from (λ n. same_name n.name name) 0 new.nets ≡ o → P (option_map_or At o (Fixed Unknown))
+    placed_by name None is = fixed Unknown
+    placed_by name (Some p) is =
+        let found = position_found (λ n. same_name n.name name) new.nets 0 p blank_net is in
+        at_net p (let same = found.1 in let low = found.2 in let count = right.wave_count in omega (arith, same, low, count))
 
-  placed : (terminal : Connection) → HasWave lines (input_of new terminal)
-  placed (to_net name) = placed_by name (position_from (λ n. same_name n.name name) 0 new.nets) refl
-  placed (to_constant v) = tt
+    placed : (terminal : Connection) → P (input_of new terminal)
+    placed (to_net name) = placed_by name (position_from (λ n. same_name n.name name) 0 new.nets) refl
+    placed (to_constant v) = fixed v
 
-  pub all_placed : (terminals : List Connection) → All (HasWave lines) (map (input_of new) terminals)
-  all_placed [] = All-nil (HasWave lines)
-  all_placed (x ∷ xs) = All-cons (HasWave lines) (input_of new x) (map (input_of new) xs) (placed x) (all_placed xs)
+    pub all_placed : (terminals : List Connection) → All P (map (input_of new) terminals)
+    all_placed [] = All-nil P
+    all_placed (x ∷ xs) = All-cons P (input_of new x) (map (input_of new) xs) (placed x) (all_placed xs)
 
-  module _ (law : (f : ℕ → Value) → IsAlwaysSettled standing f → (t n : ℕ) → t < n → wave_at (wave_changes_below f n) t ≡ f t) (t : ℕ) (within : t ≤ old.horizon) where
+  -- inputs are read at a moment by the waves
+  module _ (law : (f : ℕ → Value) → IsAlwaysSettled standing f → (t n : ℕ) → t < n → wave_at (wave_changes_below f n) t ≡ f t) (t : ℕ) (within : t ≤ old.horizon)
+      (read : Input → Value) (at_net : (p : ℕ) → p < length run.waves → read (At p) ≡ wave_at (slice_index_or run.waves p []) t) (fixed : (v : Value) → read (Fixed v) ≡ v) where
     read_by : (name : List ℕ) (o : Option ℕ) → position_from (λ n. same_name n.name name) 0 new.nets ≡ o → is_readable new (to_net name) ≡ true →
-        former_value lines t (option_map_or At o (Fixed Unknown)) ≡ read_at answer old (to_net name) t
+        read (option_map_or At o (Fixed Unknown)) ≡ read_at answer old (to_net name) t
     read_by name None none there = let no : false ≡ true = sym (no_position (λ n. same_name n.name name) 0 new.nets none) ∙ there in absurd (cc)
     read_by name (Some p) is there =
         let found = position_found (λ n. same_name n.name name) new.nets 0 p blank_net is in
         let same : p ≡ found.0 = let e = found.1 in omega (arith, e) in
-        let low : p < length lines.waves.lines = let below = found.2 in let count = right.wave_count in omega (arith, same, below, count) in
-        let stored = holds_index (λ p wave. wave ≡ wave_changes_below (read_at answer old (to_net (net_at new p).name)) (suc old.horizon)) lines.waves.lines p [] right.waves low in
+        let low : p < length run.waves = let below = found.2 in let count = right.wave_count in omega (arith, same, below, count) in
+        let stored = holds_index (λ p wave. wave ≡ wave_changes_below (read_at answer old (to_net (net_at new p).name)) (suc old.horizon)) run.waves p [] right.waves low in
         let named : (net_at new p).name ≡ name = ap (λ (q : ℕ). (net_at new q).name) same ∙ same_name_equal (net_at new found.0).name name found.3 in
-        ap (λ (wave : List (ℕ × Value)). wave_at wave t) stored ∙ law (read_at answer old (to_net (net_at new p).name)) (λ u. refl) t (suc old.horizon) (omega arith)
+        at_net p low ∙ ap (λ (wave : List (ℕ × Value)). wave_at wave t) stored ∙ law (read_at answer old (to_net (net_at new p).name)) (λ u. refl) t (suc old.horizon) (omega arith)
         ∙ ap (λ (n : List ℕ). read_at answer old (to_net n) t) named
 
     -- an input reads what its terminal reads
-    reads_same : (terminal : Connection) → is_readable new terminal ≡ true → former_value lines t (input_of new terminal) ≡ read_at answer old terminal t
+    reads_same : (terminal : Connection) → is_readable new terminal ≡ true → read (input_of new terminal) ≡ read_at answer old terminal t
     reads_same (to_net name) there = read_by name (position_from (λ n. same_name n.name name) 0 new.nets) refl there
-    reads_same (to_constant v) there = refl
+    reads_same (to_constant v) there = fixed v
 
-    pub all_read : (terminals : List Connection) → All (λ x. is_readable new x ≡ true) terminals →
-        map (former_value lines t) (map (input_of new) terminals) ≡ map (λ x. read_at answer old x t) terminals
+    pub all_read : (terminals : List Connection) → All (λ x. is_readable new x ≡ true) terminals → map read (map (input_of new) terminals) ≡ map (λ x. read_at answer old x t) terminals
     all_read [] there = refl
     all_read (x ∷ xs) there =
         let P : Connection → Type 0 = λ x. is_readable new x ≡ true in
         let one = reads_same x (All-head P x xs there) in let rest = all_read xs (All-tail P x xs there) in
         λ i. one i ∷ rest i
 
+  pub stored_trace : (p : ℕ) → p < length new.gates → slice_index_or run.traces p [] ≡ trace_below (named_state answer old (gate_at new p).name) (suc old.horizon)
+  stored_trace p there =
+      holds_index (λ p trace. trace ≡ trace_below (named_state answer old (gate_at new p).name) (suc old.horizon)) run.traces p [] right.traces
+      (let count = right.trace_count in omega (arith, count, there))
+
   -- the state of a gate that the old design has
   module _ (law : (f : ℕ → State) → IsAlwaysSettled due f → (t n : ℕ) → t < n → state_at (trace_below f n) t ≡ f t) (pending : (e : Evaluation) (t : ℕ) → IsTask e → NothingDue t (answer e t))
       (is : IsDesign old) (p : ℕ) (there : p < length new.gates) (known : is_new old (gate_at new p) ≡ false) where
-    pub state_read : (t : ℕ) → t ≤ suc old.horizon → former_state lines p t ≡ state_before answer old t (gate_at new p)
+    pub state_read : (t : ℕ) → t ≤ suc old.horizon → state_till (slice_index_or run.traces p []) t ≡ state_before answer old t (gate_at new p)
     state_read zero within = refl
     state_read (suc t) within =
         let name = (gate_at new p).name in
-        let low : p < length lines.traces.lines = let count = right.trace_count in omega (arith, count, there) in
-        let stored = holds_index (λ p trace. trace ≡ trace_below (named_state answer old (gate_at new p).name) (suc old.horizon)) lines.traces.lines p [] right.traces low in
-        ap (λ (trace : List (ℕ × State)). state_at trace t) stored ∙ law (named_state answer old name) (old_settled answer old pending name is.gates) t (suc old.horizon) (omega arith)
+        ap (λ (trace : List (ℕ × State)). state_at trace t) (stored_trace p there) ∙ law (named_state answer old name) (old_settled answer old pending name is.gates) t (suc old.horizon) (omega arith)
         ∙ ap (λ o. option_map_or (λ h. state_after answer old h t) o initial) (known_gate old is (gate_at new p) known)

@@ -5,6 +5,7 @@ pub mod Inputs
 pub mod Kept
 pub mod Noting
 pub mod OldLines
+pub mod OldRuns
 pub mod PlaceMaps
 pub mod Places
 pub mod Steady

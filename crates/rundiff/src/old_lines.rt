@@ -2,32 +2,26 @@
 //! The lines are read together as time goes on: at a moment `t` the values of the nets at it, and first the states of the
 //! gates before it, then those after it.
 
-ghost use Rattle.std.specs.Prelude.{◌≡◌, ◌<◌, ◌≤◌, ℕ, suc, false, not, All, IfOk, IfSome, OnOk, length, map, slice_get};
+ghost use Rattle.std.specs.Prelude.{◌≡◌, ◌<◌, ◌≤◌, ℕ, suc, false, not, All, IfOk, OnOk, length, map};
 ghost use Rattle.fourstate.specs.declared.limits.TheConstants.{MAX_TIME};
 ghost use Rattle.gatestep.specs.Step.{Evaluation, State};
-ghost use Rattle.design.specs.Connections.{to_net};
 ghost use Rattle.design.specs.Keys.{netlist};
 ghost use Rattle.design.specs.Netlist.{Netlist};
-ghost use Rattle.waveform.specs.Changes.{wave_changes_below};
-ghost use Rattle.waveform.specs.kept.Changes.{trace_below};
 ghost use Rattle.scratch.specs.kept.Kept.{cell_of, evaluation_from, input_value};
 ghost use Rattle.scratch.specs.Run.{state_after};
 ghost use Rattle.scratch.specs.kept.Run.{IsRun};
 ghost use Rattle.scratch.specs.Work.{same_values, task_at};
-ghost use Rattle.rundiff.specs.Dirty.{is_dirty, is_new};
-ghost use Rattle.rundiff.specs.kept.Fronts.{named_state};
-ghost use Rattle.rundiff.specs.kept.Kept.{read_at};
-ghost use Rattle.rundiff.specs.kept.OldLines.{AreOldLines, HasWave, HoldsEach, former_state, former_value, traces_done, waves_done};
-ghost use Rattle.rundiff.specs.kept.Places.{gate_at, net_at};
+ghost use Rattle.rundiff.specs.Dirty.{is_dirty};
+ghost use Rattle.rundiff.specs.kept.OldLines.{AreOldLines, HasWave, former_state, former_value, traces_done, waves_done};
+ghost use Rattle.rundiff.specs.kept.Places.{gate_at};
 
 use crate::former::Former;
-use crate::old::{old_trace, old_wave};
-use crate::same::is_new_gate;
+use crate::old_run::OldRun;
 use fourstate::Value;
 use gatestep::{Driver, Stepper};
 use scratch::{Cell, Input, read_input};
 use std::alloc::{AllocError, Global};
-use waveform::{Lines, Replay, Sample, laws};
+use waveform::{Lines, Replay, Sample, Timeline, laws};
 
 /// One entry of so many is spare in the room that is made for a new line beside an old one (own).
 const SPARE: usize = 8;
@@ -51,12 +45,15 @@ impl<'a> OldLines<'a> {
         ensures waves { IfOk result (λ lines. waves_done lines ≡ 0) }
         ensures traces { IfOk result (λ lines. traces_done lines ≡ 0) }
     {
-        let waves = old_waves::<S>(alloc, former)?;
-        let traces = old_traces::<S>(alloc, former)?;
-        let others = other_gates(alloc, former)?;
-        Ok(OldLines {
+        let run = OldRun::find::<S>(alloc, former)?;
+        let OldRun {
             waves,
             traces,
+            others,
+        } = run;
+        Ok(OldLines {
+            waves: replay_of(alloc, waves.as_slice())?,
+            traces: replay_of(alloc, traces.as_slice())?,
             others,
         })
     }
@@ -211,55 +208,17 @@ fn make_room_beside<V: Sample>(olds: &Replay<V>, lines: &mut Lines<V>) -> Result
     Ok(())
 }
 
-/// Of each net of the new design, the wave of the net of its name.
-fn old_waves<'a, S: Stepper>(
+/// Timelines that are read together. No moment is done.
+fn replay_of<'a, V: Sample>(
     alloc: Global,
-    former: &Former<'a>,
-) -> Result<Replay<'a, Value>, AllocError>
-    requires run { IsRun S.answer former.now.old.now former.now.run.now }
-    ensures count { IfOk result (λ waves. length waves.lines ≡ length (netlist former.now.new.now).nets) }
-    ensures each { IfOk result (λ waves. HoldsEach waves.lines (λ place wave.
-        wave ≡ wave_changes_below (read_at S.answer (netlist former.now.old.now) (to_net (net_at (netlist former.now.new.now) place).name)) (suc (netlist former.now.old.now).horizon))) }
-    ensures done { IfOk result (λ waves. waves.done ≡ 0) }
+    lines: &[&'a Timeline<V>],
+) -> Result<Replay<'a, V>, AllocError>
+    ensures lines { IfOk result (λ replay. replay.lines ≡ map (λ line. line.now) lines.now) }
+    ensures done { IfOk result (λ replay. replay.done ≡ 0) }
 {
-    let mut waves = Replay::new(alloc)?;
-    for place in 0..former.new.net_count() {
-        let key = former.new.net_key_at(place);
-        let name = former.new.net_at(place).name().as_str();
-        waves.push(alloc, old_wave(former, key, name))?;
+    let mut replay = Replay::new(alloc)?;
+    for i in 0..lines.len() {
+        replay.push(alloc, lines[i])?;
     }
-    Ok(waves)
-}
-
-/// Of each gate of the new design, the trace of the gate of its name.
-fn old_traces<'a, S: Stepper>(
-    alloc: Global,
-    former: &Former<'a>,
-) -> Result<Replay<'a, Driver>, AllocError>
-    requires run { IsRun S.answer former.now.old.now former.now.run.now }
-    ensures count { IfOk result (λ traces. length traces.lines ≡ length (netlist former.now.new.now).gates) }
-    ensures each { IfOk result (λ traces. HoldsEach traces.lines (λ place trace.
-        trace ≡ trace_below (named_state S.answer (netlist former.now.old.now) (gate_at (netlist former.now.new.now) place).name) (suc (netlist former.now.old.now).horizon))) }
-    ensures done { IfOk result (λ traces. traces.done ≡ 0) }
-{
-    let mut traces = Replay::new(alloc)?;
-    for place in 0..former.new.gate_count() {
-        let key = former.new.gate_key_at(place);
-        let name = former.new.gate_at(place).name().as_str();
-        traces.push(alloc, old_trace(former, key, name))?;
-    }
-    Ok(traces)
-}
-
-/// Of each gate of the new design, whether the old design has no such gate.
-fn other_gates(alloc: Global, former: &Former) -> Result<Vec<bool>, AllocError>
-    ensures count { IfOk result (λ others. length others.items ≡ length (netlist former.now.new.now).gates) }
-    ensures each { IfOk result (λ others. HoldsEach others.items (λ place other. other ≡ is_new (netlist former.now.old.now) (gate_at (netlist former.now.new.now) place))) }
-{
-    let mut others = Vec::with_capacity(alloc, former.new.gate_count())?;
-    for place in 0..former.new.gate_count() {
-        let key = former.new.gate_key_at(place);
-        others.push(is_new_gate(former.old, former.new, key, former.new.gate_at(place)))?;
-    }
-    Ok(others)
+    Ok(replay)
 }

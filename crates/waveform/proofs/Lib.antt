@@ -13,6 +13,7 @@ pub mod PagedLines
 pub mod PagedMoments
 pub mod PagedRows
 pub mod PagedValues
+pub mod Partings
 pub mod Patching
 pub mod Places
 pub mod Pushes

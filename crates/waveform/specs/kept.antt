@@ -7,6 +7,7 @@ pub mod Links
 pub mod Marks
 pub mod Notes
 pub mod Paging
+pub mod Partings
 pub mod Patches
 pub mod Replays
 pub mod Runs

@@ -91,6 +91,24 @@ pub fn count_until<V: Sample>(entries: &[V::Entry], t: u64) -> usize
     entries.partition_point(|entry| V::time(entry) <= t)
 }
 
+/// How many entries lie at `t` or before. From one of them on those that follow are gone through one after another, where the last
+/// of the first `near` lies there; so it is quick for a place that was found for a moment shortly before.
+#[inline(always)]
+pub fn count_near<V: Sample>(entries: &[V::Entry], near: usize, t: u64) -> usize
+    requires { AreInTurn V.same V.drift None (map V.stored entries.now) }
+    ensures within { result ≤ length entries.now }
+    ensures until { map V.stored (take result entries.now) ≡ entries_until (map V.stored entries.now) t }
+{
+    if near == 0 || near > entries.len() || V::time(&entries[near - 1]) > t {
+        return count_until::<V>(entries, t);
+    }
+    let mut count = near;
+    while count < entries.len() && V::time(&entries[count]) <= t {
+        count += 1;
+    }
+    count
+}
+
 /// The last entry, as a moment and a value.
 pub fn last_entry<V: Sample>(entries: &[V::Entry]) -> (u64, V)
     requires { 0 < length entries.now }
@@ -141,6 +159,16 @@ pub fn value_at<V: Sample>(entries: &[V::Entry], t: u64) -> V
     ensures can { t < TIME_END → V.can_store t result }
 {
     latest_entry::<V>(entries, t).1.drifted(t)
+}
+
+/// The value at `t`. `near` is how many entries lie at that moment or before, once it is found, and where it is looked for first.
+#[inline(always)]
+pub fn value_near<V: Sample>(entries: &[V::Entry], near: &mut usize, t: u64) -> V
+    requires { IsTimeline V.same V.drift (map V.stored entries.now) }
+    ensures { result ≡ value_by V.drift V.start (map V.stored entries.now) t }
+{
+    *near = count_near::<V>(entries, *near, t);
+    last_entry::<V>(&entries[..*near]).1.drifted(t)
 }
 
 /// Adds, from `t` on, the function of the entries `source`. After an error some of it may have been added.

@@ -1,6 +1,7 @@
 //! Stored waves of nets and traces of drivers: functions of time, kept as the entries at which they change.
 #![tactic(auto)]
 
+mod apart;
 mod change;
 mod currents;
 mod digits;

@@ -173,16 +173,17 @@ fn asked_of_rings(rt: &impl Abort, alloc: Global, count: u64) -> Asked {
     asked
 }
 
-// The old run keeps 397 states of each ring's gate and 4 points, and what differs is asked for at each moment from 6 on: 395 times. Looked at
-// are a at 0; a, n0 and g0 at 5 and 6; n0 and g0 at each moment behind it. A look counts as 3 states, so a moment of two looks as
-// 6, of which a run from scratch keeps not quite one for each ring. The excess comes to a fifth of all states after the moments
-// 19, 159 and 386, beside one ring, four and five. Beside six rings it never does, and beside seven there is none.
+// The old run keeps 397 states of each ring's gate and 4 points, and what differs is asked for at each moment from 6 on: 395 times. Before
+// 5 the stimulus is the same, and nothing is looked at. Looked at are a, n0 and g0 at 5 and 6; n0 and g0 at each moment behind it. A look
+// counts as 7 states, so a moment of two looks as 14, of which a run from scratch keeps not quite one for each ring. The excess comes to
+// a fifth of all states after the moments 10, 47 and 197, beside one ring, five and ten. Beside twelve rings it never does, and beside
+// fifteen there is none.
 const BESIDE_RINGS: [(u64, Asked); 5] = [
-    (1, (14, 14, 381)),
-    (4, (154, 154, 241)),
-    (5, (381, 381, 14)),
-    (6, (395, 395, 0)),
-    (7, (395, 395, 0)),
+    (1, (5, 5, 390)),
+    (5, (42, 42, 353)),
+    (10, (192, 192, 203)),
+    (12, (395, 395, 0)),
+    (15, (395, 395, 0)),
 ];
 
 #[test]

@@ -1,9 +1,10 @@
 -- An order of the gates in which each comes after all that drive what it reads, as a test that computes.
-use Rattle.std.specs.Prelude.{◌&&◌, Bool, true, false, not, ℕ, List, [], ◌∷◌, ◌++◌, length, slice_get, unwrap_or}
+use Rattle.std.specs.Prelude.{◌&&◌, Bool, true, false, not, ℕ, List, [], ◌∷◌, ◌++◌, Option, length, slice_get, unwrap_or}
+use Rattle.std.specs.Borrow.{Bor}
 use Rattle.std.specs.List.{flat_map, list_all}
 use Rattle.std.specs.Option.{option_map_or}
 use Rattle.gatestep.specs.Step.{State, Evaluation}
-use Rattle.design.specs.Netlist.{Netlist}
+use Rattle.design.specs.Netlist.{GateEntry, Netlist}
 use Rattle.design.specs.kept.Places.{driver_places}
 use Rattle.waveform.specs.Timelines.{moments}
 use Rattle.scratch.specs.declared.wiring.Input.{Input}
@@ -13,6 +14,7 @@ use Rattle.scratch.specs.kept.Cells.{CellRecord}
 use Rattle.scratch.specs.kept.Kept.{input_of, places_at}
 use Rattle.scratch.specs.kept.Places.{has}
 use Rattle.ordering.specs.kept.Gates.{gate_work_from}
+use Rattle.ordering.specs.kept.OldRuns.{OldRunRecord, wanted_at}
 
 -- all gates that drive what an input reads are done
 abbrev pub is_ready : Netlist → (is_done : ℕ → Bool) → Input → Bool
@@ -37,9 +39,13 @@ may_follow d done order = follow (may_come d) done order
 abbrev pub is_order : Netlist → List ℕ → Bool
 is_order d order = may_follow d [] order && list_all (λ k. has k order) (moments (length d.gates))
 
--- what is asked of the gates in this order at the moments from a on and below n, gate after gate
-abbrev pub order_work_from : (Evaluation → ℕ → State) → Netlist → (a n : ℕ) → List ℕ → List (Evaluation × ℕ)
-order_work_from answer d a n order = flat_map (λ k. option_map_or (λ g. gate_work_from answer d g a n) (slice_get d.gates k) []) order
+-- something of each of the gates in this order, one after another
+abbrev pub each_in_order : Netlist → (ℕ → GateEntry → List (Evaluation × ℕ)) → List ℕ → List (Evaluation × ℕ)
+each_in_order d f order = flat_map (λ k. option_map_or (f k) (slice_get d.gates k) []) order
+
+-- what is asked of the gates in this order at the moments from a on and below n, gate after gate, beside an old run if there is one
+abbrev pub order_work_from : (Evaluation → ℕ → State) → Netlist → Option (Bor OldRunRecord) → (a n : ℕ) → List ℕ → List (Evaluation × ℕ)
+order_work_from answer d old a n order = each_in_order d (λ k g. gate_work_from answer d (wanted_at old d k g) g a n) order
 
 -- the same by the connections of the design: all gates that drive what an input reads are done
 abbrev pub is_ready_by : Wiring → (is_done : ℕ → Bool) → Input → Bool

@@ -5,7 +5,7 @@ ghost use Rattle.waveform.specs.Timelines.{value_by, first_after, last_before, n
 ghost use Rattle.waveform.specs.declared.times.TheConstants.{TIME_END};
 
 use super::Timeline;
-use crate::entries::{count_until, entry_at, latest_entry, value_at};
+use crate::entries::{count_until, entry_at, latest_entry, value_at, value_near};
 use crate::marks::first_from;
 use crate::sample::Sample;
 
@@ -18,6 +18,15 @@ impl<V: Sample> Timeline<V> {
         ensures can { t < TIME_END → V.can_store t result }
     {
         value_at::<V>(self.entries.as_slice(), t)
+    }
+
+    /// The value at `t`, in time units. `near` says where it is looked for first, and where it was found: so a look-up goes on from
+    /// the one before. It may be any number; 0 says nothing.
+    #[inline(always)]
+    pub fn at_near(&self, near: &mut usize, t: u64) -> V
+        ensures { result ≡ value_by V.drift V.start self.now t }
+    {
+        value_near::<V>(self.entries.as_slice(), near, t)
     }
 
     /// The first entry after `t`: its moment, in time units, and its value.

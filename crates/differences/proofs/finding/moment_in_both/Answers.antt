@@ -1,14 +1,8 @@
 use Rattle.std.proofs.Common.{◌≡◌, ◌≢◌, ℕ, AllPairs, min, ap, subst, ◌∙◌}
 use Rattle.design.specs.Netlist.{Netlist}
 use Rattle.differences.specs.kept.Apart.{first_apart}
-use Rattle.differences.proofs.MomentLemmas.{compared, timeline_at}
+use Rattle.differences.proofs.MomentLemmas.{compared}
 use Rattle.differences.proofs.finding.moment_in_both.Goals as goal
-
-pub first_apart-requires-clause-wave : goal.first_apart-requires-clause-wave
-first_apart-requires-clause-wave c = timeline_at c.timeline_of_changes.ensures c.args.snapshot.now.design c.args.place c.wave_at-wave.result.now c.wave_at-wave.ensures
-
-pub first_apart-requires-clause-other : goal.first_apart-requires-clause-other
-first_apart-requires-clause-other c = timeline_at c.timeline_of_changes.ensures c.args.other.now.design c.args.there c.wave_at-another.result.now c.wave_at-another.ensures
 
 pub returns : goal.returns
 returns c =

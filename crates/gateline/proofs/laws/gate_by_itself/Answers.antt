@@ -1,4 +1,4 @@
-use Rattle.gateline.proofs.ByItself.{states, stirred, tasks, work, work_from}
+use Rattle.gateline.proofs.ByItself.{states, stirred, tasks, work}
 use Rattle.gateline.proofs.laws.gate_by_itself.Goals as goal
 
 pub returns-clause-states : goal.returns-clause-states
@@ -12,6 +12,3 @@ returns-clause-stirred g c = stirred g.S.Stepper.answer
 
 pub returns-clause-work : goal.returns-clause-work
 returns-clause-work g c = work g.S.Stepper.answer
-
-pub returns-clause-work_from : goal.returns-clause-work_from
-returns-clause-work_from g c = work_from g.S.Stepper.answer

@@ -26,7 +26,7 @@ returns-in_err-follow_one-clause-part g c =
     let asked = g.S.Stepper.asked in
     let on = follow_on d order i c.loop-place-test.true c.loop-place.invariant.follow in
     on_err c.from_residual.result
-    (part_asked g.S.Stepper.answer d (begin_after c.args.earlier) (suc d.horizon) order i c.loop-place-test.true (asked c.args.stepper.now) (asked c.loop-place.stepper) (asked c.follow_one.new.stepper) c.loop-place.invariant.asked
+    (part_asked g.S.Stepper.answer d c.args.begin.old (begin_after c.args.begin.earlier) (suc d.horizon) order i c.loop-place-test.true (asked c.args.stepper.now) (asked c.loop-place.stepper) (asked c.follow_one.new.stepper) c.loop-place.invariant.asked
     (comes_within d (λ p. has p (take i order)) (get_or order i 0) on.0) c.in_err-follow_one.ensures.part)
 
 pub loop-place-preserved : goal.loop-place-preserved
@@ -43,7 +43,7 @@ loop-place-preserved g c =
           one_traced answer d traces c.follow_one.new.lines.traces.items k c.loop-place.invariant.fit.traces within c.in_ok-follow_one.ensures.trace (take i order) c.loop-place.invariant.traced p
           (sym (ap (has p) (one_taken order i c.loop-place-test.true)) ∙ more);
       asked =
-          one_asked answer d (begin_after c.args.earlier) (suc d.horizon) order i c.loop-place-test.true (asked c.args.stepper.now) (asked c.loop-place.stepper) (asked c.follow_one.new.stepper) c.loop-place.invariant.asked within
+          one_asked answer d c.args.begin.old (begin_after c.args.begin.earlier) (suc d.horizon) order i c.loop-place-test.true (asked c.args.stepper.now) (asked c.loop-place.stepper) (asked c.follow_one.new.stepper) c.loop-place.invariant.asked within
           c.in_ok-follow_one.ensures.asked;
       lost = c.follow_one.ensures.lost ∙ c.loop-place.invariant.lost;
     }

@@ -16,6 +16,6 @@ invariant-loop-place g l =
       found : AreFound g.S.Stepper.answer (netlist l.design) l.lines.found.items l.lines.waves.items;
       traced : (p : ℕ) → has p (take l.place-index l.order) ≡ true → IsTraced g.S.Stepper.answer (netlist l.design) l.lines.traces.items p;
       asked : g.S.Stepper.asked l.stepper
-          ≡ g.S.Stepper.asked l.fn.stepper ++ order_work_from g.S.Stepper.answer (netlist l.design) (begin_after l.earlier) (suc (netlist l.design).horizon) (take l.place-index l.order);
+          ≡ g.S.Stepper.asked l.fn.stepper ++ order_work_from g.S.Stepper.answer (netlist l.design) l.begin.old (begin_after l.begin.earlier) (suc (netlist l.design).horizon) (take l.place-index l.order);
       lost : g.S.Stepper.losses l.stepper ≡ g.S.Stepper.losses l.fn.stepper;
     }

@@ -1,12 +1,7 @@
 use Rattle.resim.proofs.Asked.{unasked}
 use Rattle.resim.proofs.sweep.sweep.Goals as goal
 
-pub returns-in_err-blanks : goal.returns-in_err-blanks
-returns-in_err-blanks g c = record {
-  reruns = unasked g.S.Stepper.answer c.args.old.now c.args.new.now (g.S.Stepper.asked c.args.stepper.now) (g.S.Stepper.losses c.args.stepper.now) c.from_residual.result c.from_residual.ensures.1;
-}
-
 pub returns-in_err-beside : goal.returns-in_err-beside
 returns-in_err-beside g c = record {
-  reruns = unasked g.S.Stepper.answer c.args.old.now c.args.new.now (g.S.Stepper.asked c.args.stepper.now) (g.S.Stepper.losses c.args.stepper.now) c.from_residual-in_err-beside.result c.from_residual-in_err-beside.ensures.1;
+  reruns = unasked g.S.Stepper.answer c.args.former.now.old.now c.args.former.now.new.now (g.S.Stepper.asked c.args.stepper.now) (g.S.Stepper.losses c.args.stepper.now) c.from_residual.result c.from_residual.ensures.1;
 }

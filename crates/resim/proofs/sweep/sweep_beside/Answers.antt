@@ -1,7 +1,7 @@
 use Rattle.std.proofs.Common.{append-nil, refl, sym, arith}
 use Rattle.design.specs.Keys.{netlist}
 use Rattle.scratch.specs.declared.engine.Engine.{Engine}
-use Rattle.resim.proofs.Asked.{part, stopped, unasked}
+use Rattle.resim.proofs.Asked.{part, stopped}
 use Rattle.resim.proofs.sweep.sweep_beside.Goals as goal
 
 pub returns-in_err-engine : goal.returns-in_err-engine
@@ -11,12 +11,7 @@ returns-in_err-engine g c =
     record {
       reruns =
           stopped answer old new before (g.S.Stepper.asked c.open_beside.new.stepper) losses losses (g.S.Stepper.losses c.open_beside.new.stepper)
-          Engine c.in_err-engine.field-0.0 c.from_residual-in_err-engine.result c.from_residual-in_err-engine.ensures.1
+          Engine c.in_err-engine.field-0.0 c.from_residual.result c.from_residual.ensures.1
           (part answer (netlist old) (netlist new) before before (g.S.Stepper.asked c.open_beside.new.stepper) 0 (sym (append-nil before)) (omega arith) c.in_err-engine.ensures.part)
           refl c.in_err-engine.ensures.lost;
     }
-
-pub returns-in_err-wiring : goal.returns-in_err-wiring
-returns-in_err-wiring g c = record {
-  reruns = unasked g.S.Stepper.answer c.args.former.now.old.now c.args.former.now.new.now (g.S.Stepper.asked c.args.stepper.now) (g.S.Stepper.losses c.args.stepper.now) c.from_residual.result c.from_residual.ensures.1;
-}

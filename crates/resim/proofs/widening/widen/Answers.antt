@@ -24,14 +24,14 @@ returns-in_err-made g c = record {
       c.args.last c.from_residual-in_err-made.result c.from_residual-in_err-made.ensures.1 c.requires.within;
 }
 
-pub sweep_after-requires-clause-earlier : goal.sweep_after-requires-clause-earlier
-sweep_after-requires-clause-earlier g c =
+pub run_on-requires-clause-earlier : goal.run_on-requires-clause-earlier
+run_on-requires-clause-earlier g c =
     subst (λ (h : ℕ). h < (netlist c.args.former.now.new.now).horizon)
     (sym (horizon_of c.args.former.now.new.now c.in_ok-level.level c.args.last c.in_ok-level.ensures)) c.requires.within
 
 pub returns : goal.returns
 returns g c = record {
   reruns =
-      swept c.args.former.now.new.now c.in_ok-level.level c.args.last c.in_ok-level.ensures g.S.Stepper.answer c.args.former.now.old.now (g.S.Stepper.asked c.args.stepper.now) (g.S.Stepper.asked c.sweep_after.new.stepper)
-      (g.S.Stepper.losses c.args.stepper.now) (g.S.Stepper.losses c.sweep_after.new.stepper) c.sweep_after.result c.sweep_after.ensures.reruns;
+      swept c.args.former.now.new.now c.in_ok-level.level c.args.last c.in_ok-level.ensures g.S.Stepper.answer c.args.former.now.old.now (g.S.Stepper.asked c.args.stepper.now) (g.S.Stepper.asked c.run_on.new.stepper)
+      (g.S.Stepper.losses c.args.stepper.now) (g.S.Stepper.losses c.run_on.new.stepper) c.run_on.result c.run_on.ensures.reruns;
 }

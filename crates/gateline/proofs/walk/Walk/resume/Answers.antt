@@ -11,24 +11,24 @@ use Rattle.gateline.proofs.walk.Walk.resume.Goals as goal
 use Rattle.gateline.specs.kept.Line.{state_by}
 use Rattle.gateline.specs.kept.Readers.{StandAt, next_among, seen, seen_then}
 use Rattle.gateline.specs.kept.Waves.{input_functions, inputs_by}
-use Rattle.waveform.specs.Timelines.{entries_until, value_by}
+use Rattle.waveform.specs.Timelines.{value_by}
 
 pub read-reading-requires : goal.read-reading-requires
 read-reading-requires g c =
-    let law = g.met.S.Stepper in let answer = g.S.Stepper.answer in let cell = c.args.cell.now in let waves = c.args.waves.now in
+    let law = g.met.S.Stepper in let answer = g.S.Stepper.answer in let cell = c.args.cell.now in let waves = c.args.along.waves.now in
     let done = c.args.former.done in let old = c.in_ok-readers.readers.items in
-    let fit : IsTrue (takes_inputs cell.kind (length cell.inputs)) = subst (λ inputs. IsTrue (takes_inputs cell.kind (length inputs))) c.inputs-inputs.ensures.inputs c.inputs-inputs.ensures.fit in
+    let fit : IsTrue (takes_inputs cell.kind (length cell.inputs)) = subst (λ inputs. IsTrue (takes_inputs cell.kind (length inputs))) c.inputs-places.ensures.inputs c.inputs-places.ensures.fit in
     let few = few_inputs cell.kind (length cell.inputs) fit in
     let many = as_many_inputs waves cell.inputs old done c.in_ok-readers.ensures in
     let same = ap length c.as_mut_slice.ensures.value in
     omega arith
 
-pub returns : goal.returns
-returns g c =
-    let law = g.met.S.Stepper in let answer = g.S.Stepper.answer in let cell = c.args.cell.now in let waves = c.args.waves.now in
+pub returns-clause-at : goal.returns-clause-at
+returns-clause-at g c =
+    let law = g.met.S.Stepper in let answer = g.S.Stepper.answer in let cell = c.args.cell.now in let waves = c.args.along.waves.now in
     let done = c.args.former.done in let old = c.in_ok-readers.readers.items in
     let inputs = inputs_by waves cell.inputs in
-    let fit : IsTrue (takes_inputs cell.kind (length cell.inputs)) = subst (λ inputs. IsTrue (takes_inputs cell.kind (length inputs))) c.inputs-inputs.ensures.inputs c.inputs-inputs.ensures.fit in
+    let fit : IsTrue (takes_inputs cell.kind (length cell.inputs)) = subst (λ inputs. IsTrue (takes_inputs cell.kind (length inputs))) c.inputs-places.ensures.inputs c.inputs-places.ensures.fit in
     let are : AreDelays cell.delays = subst (λ delays. AreDelays delays) c.delays.ensures c.delays_in_range.ensures.each in
     let new = c.read-reading.new.readers in
     let same : map seen new ≡ map (seen_then done) old = c.read-reading.ensures.readers ∙ ap (map (seen_then done)) c.as_mut_slice.ensures.value in
@@ -37,11 +37,10 @@ returns g c =
     let whole : refill (length old) old new ≡ new = refilled old new (sym (length-map new seen) ∙ ap length same ∙ length-map old (seen_then done)) in
     let settled = settled_line answer cell waves fit are law.answer_pending in
     record {
-      state = c.at.ensures.value ∙ ap (λ line. value_by due initial line done) c.requires.trace
+      state = c.at-state.ensures.value ∙ ap (λ line. value_by due initial line done) (c.in_ok-trace.ensures.entries ∙ c.requires.trace)
           ∙ c.value_of_changes.ensures (λ t. state_by answer cell.kind cell.delays inputs (suc t)) settled done (suc done) (omega arith);
       inputs = c.read-reading.ensures.inputs ∙ inputs_are waves cell.inputs new done stand;
-      trace = c.in_ok-trace.ensures.entries ∙ ap (λ line. entries_until line done) c.requires.trace
-          ∙ c.cut_of_changes.ensures (λ t. state_by answer cell.kind cell.delays inputs (suc t)) done (suc done) (omega arith);
+      trace = c.in_ok-trace.ensures.entries ∙ c.requires.trace;
       readers = subst (λ readers. StandAt (input_functions waves cell.inputs) readers done) (sym whole) stand;
       next = c.read-reading.ensures.next ∙ sym (ap next_among whole);
     }

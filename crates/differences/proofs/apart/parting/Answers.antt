@@ -1,9 +1,0 @@
-use Rattle.std.proofs.Common.{sym, ◌∙◌, ap}
-use Rattle.differences.specs.kept.Apart.{earlier}
-use Rattle.differences.proofs.ApartLemmas.{parting_at}
-use Rattle.differences.proofs.apart.parting.Goals as goal
-
-pub returns : goal.returns
-returns c =
-    let there = parting_at c.args.changes.now c.args.other.now c.common_count-count.result c.common_count-count.ensures.parted in
-    c.earlier.ensures ∙ ap (λ o. earlier o c.time_at-second.result) c.time_at-first.ensures ∙ ap (earlier _) c.time_at-second.ensures ∙ sym (c.common_count-count.ensures.alike ∙ there)
