@@ -4,7 +4,7 @@ import resource
 import subprocess
 import tempfile
 import unittest
-from typing import Any, List, NamedTuple, Union
+from typing import Any, List, NamedTuple, Sequence, Union
 
 # The longest design text, in bytes.
 MAX_TEXT = 4_194_304
@@ -37,11 +37,11 @@ class WithProgram(unittest.TestCase):
             file.write(text if isinstance(text, bytes) else text.encode())
         return name
 
-    def run_with(self, words: List[Union[str, bytes]], commands: str = "", **streams: Any) -> Ended:
+    def run_with(self, words: Sequence[Union[str, bytes]], commands: Union[str, bytes] = "", **streams: Any) -> Ended:
         """A run with these words and commands. Each of its three streams may be another one: a file, as `stdout=`."""
         given = {"stdout": subprocess.PIPE, "stderr": subprocess.PIPE, **streams}
         if "stdin" not in given:
-            given["input"] = commands.encode()
+            given["input"] = commands if isinstance(commands, bytes) else commands.encode()
         ran = subprocess.run([self.program, *words], cwd=self.folder, timeout=SECONDS, **given)
         return Ended(ran.returncode, (ran.stdout or b"").decode(), (ran.stderr or b"").decode())
 
@@ -75,6 +75,13 @@ class WithTool(WithProgram):
         self.gatebench = self.program
         self.program = os.path.join(self.folder, "gatetool")
         os.symlink(os.path.abspath(self.gatebench), self.program)
+
+    def as_gatebench(self, words: Sequence[Union[str, bytes]], commands: Union[str, bytes] = "") -> Ended:
+        """A run by the program's own name."""
+        name, self.program = self.program, self.gatebench
+        ended = self.run_with(words, commands)
+        self.program = name
+        return ended
 
     def given(self, design: str, *points: str, horizon: int = 40) -> None:
         """A design, with points of its inputs as `N T V` that one commit sets."""

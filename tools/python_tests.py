@@ -29,12 +29,18 @@ def be_usual():
         os.environ.pop(name, None)
 
 
+def tests_of(name, top):
+    """The tests of a folder or of a module below `top`, of a class or one alone."""
+    loader, folder = unittest.defaultTestLoader, os.path.join(top, *name.split("."))
+    return loader.discover(folder, top_level_dir=top) if os.path.isdir(folder) else loader.loadTestsFromName(name)
+
+
 def run(top, folder, names):
-    """Runs the tests with these names, as modules below `top`, or else all those of the folder."""
+    """Runs the tests with these names, or else all those of the folder."""
     be_usual()
     sys.path.insert(0, top)
-    loader = unittest.defaultTestLoader
-    tests = loader.loadTestsFromNames(names) if names else loader.discover(folder, top_level_dir=top)
+    discover = unittest.defaultTestLoader.discover
+    tests = unittest.TestSuite([tests_of(name, top) for name in names]) if names else discover(folder, top_level_dir=top)
     if not tests.countTestCases():
         fail("there is no test")
     ran = unittest.TextTestRunner(stream=sys.stdout, verbosity=1).run(tests)

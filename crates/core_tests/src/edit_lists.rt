@@ -3,5 +3,4 @@
 mod accepted;
 pub mod edit_lines;
 mod refused;
-mod shown;
 mod touched;

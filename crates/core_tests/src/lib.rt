@@ -1,4 +1,4 @@
-//! Tests of the crates from edits to commits: what they answer, worked out by hand.
+//! Tests of the crates from edits to commits: what no run of a program shows, and a call of each function, worked out by hand.
 #![tactic(auto)]
 
 #[cfg(test)]

@@ -3,6 +3,4 @@
 mod counts;
 mod extended;
 mod keyed;
-mod long;
 mod random;
-mod small;

@@ -60,7 +60,7 @@ fn connections_by_name(rt: HostRuntime) {
     check_all(&rt, rt.alloc(), &NAMED);
 }
 
-const NETS: [Case<'static>; 5] = [
+const NETS: [Case<'static>; 7] = [
     (
         "module m(input a, output y); h u(a,y); endmodule",
         "m: <a >y + u=h a y",
@@ -81,6 +81,15 @@ const NETS: [Case<'static>; 5] = [
     ),
     // A net, an instance and a module may have one name.
     ("module m; m m(m); endmodule", "m: m + m=m m"),
+    // A name beside those that are made of a gate, and a port of the name of a net that is declared behind it.
+    (
+        "module m; buf #1 (y,z,a); h \\$1$3 (); endmodule",
+        "m: y z a / $1$1=buf #(1,1) y a / $1$2=buf #(1,1) z a + $1$3=h",
+    ),
+    (
+        "module m; h u(.a()); wire a; endmodule",
+        "m: a:wire + u=h .a=-",
+    ),
 ];
 
 #[test]
@@ -122,128 +131,6 @@ const MANY: [Case<'static>; 7] = [
 #[test]
 fn many_modules(rt: HostRuntime) {
     check_all(&rt, rt.alloc(), &MANY);
-}
-
-const TAKEN: [Case<'static>; 17] = [
-    ("module m; endmodule module\nm;", "line 2: 11 DuplicateName"),
-    (
-        "module m; endmodule module n; endmodule module\n\\m ;",
-        "line 2: 11 DuplicateName",
-    ),
-    ("module m; h u();\nh u();", "line 2: 11 DuplicateName"),
-    ("module m; h u(),\nu();", "line 2: 11 DuplicateName"),
-    // Gates and instances share their names.
-    (
-        "module m; not #1 u(a,b);\nh u();",
-        "line 2: 11 DuplicateName",
-    ),
-    (
-        "module m; h u();\nnot #1 u(a,b);",
-        "line 2: 11 DuplicateName",
-    ),
-    (
-        "module m; h g$1(); buf #1 g(y,z,a\n);",
-        "line 2: 11 DuplicateName",
-    ),
-    (
-        "module m; buf #1 g(y,z,a);\nh g$1();",
-        "line 2: 11 DuplicateName",
-    ),
-    (
-        "module m; not #1 (y,a);\nh \\$1 ();",
-        "line 2: 11 DuplicateName",
-    ),
-    (
-        "module m; h \\$1 (); not #1 (y,a\n);",
-        "line 2: 11 DuplicateName",
-    ),
-    // A gate instance of several outputs, an unnamed one too, takes its own name with those that are made of it.
-    (
-        "module m; buf #1 g(y,z,a);\nh g();",
-        "line 2: 11 DuplicateName",
-    ),
-    (
-        "module m; buf #1 (y,z,a);\nh \\$1 ();",
-        "line 2: 11 DuplicateName",
-    ),
-    (
-        "module m; buf #1 (y,z,a);\nh \\$1$2 ();",
-        "line 2: 11 DuplicateName",
-    ),
-    (
-        "module m; buf #1 (y,z,a); h \\$1$3 (); endmodule",
-        "m: y z a / $1$1=buf #(1,1) y a / $1$2=buf #(1,1) z a + $1$3=h",
-    ),
-    // A use in a connection comes before the declaration.
-    ("module m; h u(a);\nwire a;", "line 2: 11 DuplicateName"),
-    (
-        "module m(a); h u(.p(a));\ninput a;",
-        "line 2: 11 DuplicateName",
-    ),
-    (
-        "module m; h u(.a()); wire a; endmodule",
-        "m: a:wire + u=h .a=-",
-    ),
-];
-
-#[test]
-fn names_that_are_taken(rt: HostRuntime) {
-    check_all(&rt, rt.alloc(), &TAKEN);
-}
-
-const FAULTS: [Case<'static>; 37] = [
-    // Between the words of an instance.
-    ("module m; h\n();", "line 2: 2 Syntax"),
-    ("module m; h\n#1 u();", "line 2: 2 Syntax"),
-    ("module m; h\nwire();", "line 2: 2 Syntax"),
-    ("module m; h\nalways();", "line 2: 3 Unsupported"),
-    ("module m; h u\n;", "line 2: 2 Syntax"),
-    ("module m; h u()\nv();", "line 2: 2 Syntax"),
-    ("module m; h u(),\n();", "line 2: 2 Syntax"),
-    ("module m; h u(),\n;", "line 2: 2 Syntax"),
-    ("module m; h u()\n", "line 2: 2 Syntax"),
-    // Connections.
-    ("module m; h u(a\nb);", "line 2: 2 Syntax"),
-    ("module m; h u(a\n;", "line 2: 2 Syntax"),
-    ("module m; h u(\n;", "line 2: 2 Syntax"),
-    ("module m; h u(a,\n;", "line 2: 2 Syntax"),
-    ("module m; h u(\n2'b0);", "line 2: 2 Syntax"),
-    ("module m; h u(\n[0]);", "line 2: 2 Syntax"),
-    ("module m; h u(\nwire);", "line 2: 2 Syntax"),
-    ("module m; h u(\nalways);", "line 2: 3 Unsupported"),
-    ("module m; h u(\n", "line 2: 2 Syntax"),
-    // By order and by name do not go together.
-    ("module m; h u(.p(a),\nb);", "line 2: 2 Syntax"),
-    ("module m; h u(a,\n.p(b));", "line 2: 2 Syntax"),
-    ("module m; h u(,\n.p(b));", "line 2: 2 Syntax"),
-    // By name there are no empty places.
-    ("module m; h u(.p(a),\n);", "line 2: 2 Syntax"),
-    ("module m; h u(.p(a),\n,.q(b));", "line 2: 2 Syntax"),
-    ("module m; h u(.\n(a));", "line 2: 2 Syntax"),
-    ("module m; h u(.\n1'b0);", "line 2: 2 Syntax"),
-    ("module m; h u(.p\na);", "line 2: 2 Syntax"),
-    ("module m; h u(.p(a\n,b));", "line 2: 2 Syntax"),
-    ("module m; h u(.p(a)\n.q(b));", "line 2: 2 Syntax"),
-    // Names that no design may have.
-    ("module m;\n\\a.b u();", "line 2: 11 BadName"),
-    ("module m; h\n\\$end ();", "line 2: 11 BadName"),
-    ("module m; h u(\n\\a'b );", "line 2: 11 BadName"),
-    ("module m; h u(.\n\\p.q ());", "line 2: 11 BadName"),
-    ("module m; h u(.p(\n\\$end ));", "line 2: 11 BadName"),
-    // Where no name can stand, it is not looked at.
-    ("module m; h u\n\\a.b ();", "line 2: 2 Syntax"),
-    ("module m; h u(a\n\\a.b );", "line 2: 2 Syntax"),
-    ("module m; endmodule module\n\\m.n ;", "line 2: 11 BadName"),
-    // What a module before has does not help the next one.
-    (
-        "module m(a); input a; endmodule module n;\ninput\na;",
-        "line 3: 2 Syntax",
-    ),
-];
-
-#[test]
-fn faults_of_instances(rt: HostRuntime) {
-    check_all(&rt, rt.alloc(), &FAULTS);
 }
 
 // The module at place 1 is `h`: it begins at 29, its port is an input, and its net stands behind the port.

@@ -1,18 +1,11 @@
-//! Tests of design texts and of sessions: what is answered, worked out by hand.
+//! Tests of what no run of a program shows of texts and sessions: the modules of a text, what each call gives, devices that fail
+//! and a stepper that loses its worker. What a program says of texts and lines is tested over the program, in `tests`.
 #![tactic(auto)]
 
 #[cfg(test)]
 mod compare;
 #[cfg(test)]
-mod cuts;
-#[cfg(test)]
-mod hierarchies;
-#[cfg(test)]
 mod instances;
-#[cfg(test)]
-mod joints;
-#[cfg(test)]
-mod levels;
 #[cfg(test)]
 mod lines;
 #[cfg(test)]
@@ -20,14 +13,8 @@ mod lost_worker;
 #[cfg(test)]
 mod modules;
 #[cfg(test)]
-mod passes;
-#[cfg(test)]
 mod readings;
 #[cfg(test)]
-mod refused;
-#[cfg(test)]
 mod sessions;
-#[cfg(test)]
-mod tops;
 #[cfg(test)]
 mod vectors;

@@ -1,16 +1,14 @@
-//! Small texts, read by hand. Each test is a table over `check`: memory that is lacking ends a test by `expect`, so no
+//! The modules of small texts, as the first pass reads them, by hand. Each test is a table over `check`: memory that is lacking ends a test by `expect`, so no
 //! proof follows what a body owns to a way out of it.
 
 use crate::compare::equal;
 use design::NameHasher;
-use edits::EditFault;
 use fourstate::{Delays, Magnitude, TimeUnit, Unit, Value, delay};
-use lexing::MAX_TEXT;
 use std::alloc::Global;
 use std::process::Abort;
 use vtext::{
     Direction, Gate, Module, ModuleInstance, Modules, Names, Net, PortConnection, Range, ReadFault,
-    ReadFaultKind, Terminal, gate_name, modules,
+    Terminal, gate_name, modules,
 };
 
 const BUFFER: &[u8] = b"module m(a,y); input a; output y; buf #(3,3) g(y,a); endmodule";
@@ -197,8 +195,6 @@ const READ: [Case<'static>; 14] = [
         "m: <a:wand <b:wand >c",
     ),
     ("module m(input a); wire a; endmodule", "m: <a:wire"),
-    // One number is both delays, of two the first is the rise.
-    ("module m; buf #3 (a,b), #(1)", "line 1: 2 Syntax"),
     (
         "module m; buf #3 (a,b); endmodule",
         "m: a b / $1=buf #(3,3) a b",
@@ -230,6 +226,8 @@ const READ: [Case<'static>; 14] = [
         "module m; notif1 # ( 3 , 2 , 1 ) (n,d,c); notif0 #(3,2) (n,d,c); notif0 #4 (n,d,c); endmodule",
         "m: n d c / $1=notif1 #(3,2,1) n d c / $2=notif0 #(3,2) n d c / $3=notif0 #(4,4) n d c",
     ),
+    // An escaped name may begin as a word does that none may have.
+    ("module m; wire \\$endx ; endmodule", "m: $endx:wire"),
 ];
 
 #[test]
@@ -237,17 +235,16 @@ fn modules_that_are_read(rt: HostRuntime) {
     check_all(&rt, rt.alloc(), &READ);
 }
 
-// A text, the delay of gates without one, and what the text says or its fault.
 // A default delay gives no turn-off delay, and gates may write one beside it.
 const DRIVERS: &[u8] = b"module m; bufif1 g(n,d,c); bufif1 #(2,3,5) h(n,d,c); endmodule";
 
-const WITH_A_DEFAULT_DELAY: [(&[u8], Option<u32>, &str); 7] = [
+// A text, the delay of gates without one, and what the text says or its fault.
+const WITH_A_DEFAULT_DELAY: [(&[u8], Option<u32>, &str); 6] = [
     (
         NETLIST,
         Some(2),
         "m: <a <b >y t / NAND2_1=nand #(2,2) t a b / $1=not #(2,2) y t",
     ),
-    (NETLIST, None, "line 4: 11 ZeroDelay"),
     (NETLIST, Some(0), "line 4: 11 ZeroDelay"),
     (NETLIST, Some(1_000_001), "line 4: 11 DelayTooLarge"),
     (
@@ -268,142 +265,6 @@ fn netlist_with_a_default_delay(rt: HostRuntime) {
     for (text, default, want) in WITH_A_DEFAULT_DELAY {
         check(&rt, rt.alloc(), text, default, want);
     }
-}
-
-const FAULTS: [Case<'static>; 66] = [
-    ("module m(a);\ninput a;\n/* cut", "line 3: 2 Syntax"),
-    (
-        "module m(y);\noutput y;\nnot #0 g(y,1'b1);\nendmodule",
-        "line 3: 11 ZeroDelay",
-    ),
-    (
-        "module m(y);\noutput y;\nand #(1,2,3) g(y,y);\nendmodule",
-        "line 3: 2 Syntax",
-    ),
-    // A third number, at the comma before it and at it.
-    ("module m; and #(1,2\n,3", "line 2: 2 Syntax"),
-    ("module m; nand #(1,2\n,3", "line 2: 2 Syntax"),
-    ("module m; or #(1,2\n,3", "line 2: 2 Syntax"),
-    ("module m; nor #(1,2\n,3", "line 2: 2 Syntax"),
-    ("module m; xor #(1,2\n,3", "line 2: 2 Syntax"),
-    ("module m; xnor #(1,2\n,3", "line 2: 2 Syntax"),
-    ("module m; buf #(1,2\n,3", "line 2: 2 Syntax"),
-    ("module m; not #(1,2\n,3", "line 2: 2 Syntax"),
-    ("module m; and #(1,\n0,3)", "line 2: 11 ZeroDelay"),
-    ("module m; and #(1,2,\n0)", "line 1: 2 Syntax"),
-    ("module m; bufif1 #(1,2,\n0)", "line 2: 11 ZeroDelay"),
-    (
-        "module m; bufif0 #(1,2,\n1000001)",
-        "line 2: 11 DelayTooLarge",
-    ),
-    ("module m; notif1 #(1,2,\n)", "line 2: 2 Syntax"),
-    ("module m; notif0 #(1,2,3\n,4)", "line 2: 2 Syntax"),
-    ("module m; bufif1 #(1,2,3\n;", "line 2: 2 Syntax"),
-    ("module m; bufif1 #(1,2,\nalways", "line 2: 3 Unsupported"),
-    ("module m; bufif1 #(1,2,3", "line 1: 2 Syntax"),
-    ("module m; bufif1 #(1,2,3\n) #", "line 2: 2 Syntax"),
-    ("module m; bufif1 #1,\n2", "line 1: 2 Syntax"),
-    ("module m; bufif1 #(,\n2,3)", "line 1: 2 Syntax"),
-    ("module m;\n\n", "line 3: 2 Syntax"),
-    ("module m; always", "line 1: 3 Unsupported"),
-    // A name's faults, in order.
-    ("module m; wire a \\a.b ;", "line 1: 2 Syntax"),
-    ("module m; input \\a.b ;", "line 1: 2 Syntax"),
-    ("module m; wire \\a.b ;", "line 1: 11 BadName"),
-    ("module m; wire \\$end ;", "line 1: 11 BadName"),
-    ("module m; wire \\$endx ; endmodule", "m: $endx:wire"),
-    // Ports and declarations.
-    ("module m(a,\na);", "line 2: 11 DuplicateName"),
-    ("module m(a);\nendmodule", "line 2: 2 Syntax"),
-    ("module m; input", "line 1: 2 Syntax"),
-    ("module m;\ninput\na;", "line 3: 2 Syntax"),
-    ("module m(input a);\ninput", "line 2: 2 Syntax"),
-    (
-        "module m(a); input a;\ninput a;",
-        "line 2: 11 DuplicateName",
-    ),
-    ("module m; wire a;\nwand a;", "line 2: 11 DuplicateName"),
-    (
-        "module m(input wire a);\nwire a;",
-        "line 2: 11 DuplicateName",
-    ),
-    (
-        "module m(a); wire a;\ninput wire a;",
-        "line 2: 11 DuplicateName",
-    ),
-    (
-        "module m; buf #1 (a,b);\nwire a;",
-        "line 2: 11 DuplicateName",
-    ),
-    (
-        "module m(a); buf #1 (a,b);\ninput a;",
-        "line 2: 11 DuplicateName",
-    ),
-    // Gates.
-    ("module m; not #1000001", "line 1: 11 DelayTooLarge"),
-    ("module m; not #(1,\n0", "line 2: 11 ZeroDelay"),
-    ("module m; not\n@", "line 1: 11 ZeroDelay"),
-    ("module m; not #1\n@", "line 2: 3 Unsupported"),
-    ("module m; buf #1 g(1'b0\n)", "line 2: 11 WrongArity"),
-    ("module m; and #1 g(y\n)", "line 2: 11 WrongArity"),
-    ("module m; not #1 g(1'b0,a\n)", "line 2: 9 PortKind"),
-    ("module m; not #1 g(y,1'b0,a\n)", "line 2: 9 PortKind"),
-    ("module m; and #1 g(\n)", "line 2: 2 Syntax"),
-    (
-        "module m; buf #1 g(y,a),\ng(z,a);",
-        "line 2: 11 DuplicateName",
-    ),
-    (
-        "module m; buf #1 g(y,z,a);\nnot #1 g$1(w,a);",
-        "line 2: 11 DuplicateName",
-    ),
-    (
-        "module m; not #1 g$1(w,a); buf #1 g(y,z,a\n);",
-        "line 2: 11 DuplicateName",
-    ),
-    (
-        "module m; not #1 \\$1 (w,a); buf #1 (y,a\n);",
-        "line 2: 11 DuplicateName",
-    ),
-    (
-        "module m; buf #1 g(y,z,a);\nnot #1 g(w,a);",
-        "line 2: 11 DuplicateName",
-    ),
-    // Words that can't stand.
-    ("module\nwire;", "line 2: 2 Syntax"),
-    ("module\nalways;", "line 2: 3 Unsupported"),
-    ("module\nmodule", "line 2: 2 Syntax"),
-    ("module m; endmodule\nu", "line 2: 2 Syntax"),
-    ("module m; endmodule\nendmodule", "line 2: 2 Syntax"),
-    ("module m;\nmodule n;", "line 2: 2 Syntax"),
-    ("module m; wire a\n[3:0];", "line 2: 2 Syntax"),
-    ("module m; buf #1.5", "line 1: 2 Syntax"),
-    ("module m; buf #1 g(y,\n2'b0);", "line 2: 2 Syntax"),
-    ("module m; wire\n\\ a;", "line 2: 2 Syntax"),
-    ("module m; wire a\n\"", "line 2: 3 Unsupported"),
-];
-
-#[test]
-fn faults_with_their_lines(rt: HostRuntime) {
-    check_all(&rt, rt.alloc(), &FAULTS);
-}
-
-const DIRECTIVES: [Case<'static>; 4] = [
-    (
-        "`timescale 1ns/1ps\nmodule m;\n`timescale 1ns/1ps",
-        "line 3: 2 Syntax",
-    ),
-    (
-        "`timescale 1ns/1ps\nmodule m;\n`timescale 10ns/1ps",
-        "line 3: 3 Unsupported",
-    ),
-    ("module m;\n`timescale 1ns/1ps", "line 2: 2 Syntax"),
-    ("\n`timescale 2ns/1ps", "line 2: 3 Unsupported"),
-];
-
-#[test]
-fn directives(rt: HostRuntime) {
-    check_all(&rt, rt.alloc(), &DIRECTIVES);
 }
 
 #[test]
@@ -428,61 +289,6 @@ fn check_unit(rt: &impl Abort, read: &Modules) {
     equal(rt, "unit", read.unit(), Some(unit));
     equal(rt, "count", read.count(), 1);
     equal(rt, "start", start_at(read, 0), Some(21));
-}
-
-// The fault of a text, as its line and kind.
-fn fault_of(alloc: Global, text: &[u8]) -> Option<ReadFault> {
-    match modules(alloc, NameHasher::fixed(), text, None) {
-        Ok(read) => {
-            drop(read);
-            None
-        }
-        Err(fault) => Some(fault),
-    }
-}
-
-// A module whose name has so many bytes.
-fn named(rt: &impl Abort, alloc: Global, length: usize) -> Vec<u8> {
-    let mut text = Vec::new(alloc);
-    text.extend_from_slice(b"module ").expect(rt, "room");
-    for _ in 0..length {
-        text.push(b'n').expect(rt, "room");
-    }
-    text.extend_from_slice(b"; endmodule").expect(rt, "room");
-    text
-}
-
-fn check_fault(rt: &impl Abort, alloc: Global, text: &[u8], want: Option<(u64, ReadFaultKind)>) {
-    let want = want.map(|(line, kind)| ReadFault { line, kind });
-    equal(rt, "fault", fault_of(alloc, text), want);
-}
-
-#[test]
-fn texts_over_their_limit(rt: HostRuntime) {
-    let blanks = vec![in rt.alloc(); b' '; MAX_TEXT + 1].expect(&rt, "room");
-    check_fault(
-        &rt,
-        rt.alloc(),
-        blanks.as_slice(),
-        Some((1, ReadFaultKind::Text)),
-    );
-    drop(blanks);
-}
-
-#[test]
-fn stray_bytes(rt: HostRuntime) {
-    let text = b"module m(a);\n\x80";
-    check_fault(&rt, rt.alloc(), text, Some((2, ReadFaultKind::Text)));
-}
-
-#[test]
-fn long_names(rt: HostRuntime) {
-    let bad_name = ReadFaultKind::Edit(EditFault::BadName);
-    for (length, fault) in [(1_024, None), (1_025, Some((1, bad_name)))] {
-        let text = named(&rt, rt.alloc(), length);
-        check_fault(&rt, rt.alloc(), text.as_slice(), fault);
-        drop(text);
-    }
 }
 
 #[test]

@@ -1,20 +1,11 @@
-//! Sessions: what they are answered, line by line. `check` and its like compare the replies to an input, so that a test
-//! owns nothing.
+//! Sessions over devices that bring and take few bytes at a time, and what is left unread. `check` and its like compare the
+//! replies to an input, so that a test owns nothing.
 
 ghost use Rattle.std.specs.Prelude.{◌<◌};
 
-mod batches;
-mod bytes;
-mod changes;
 mod faulty;
-mod last_moment;
 mod once;
-mod pulls;
-mod questions;
-mod scopes;
-mod texts;
-mod vectors;
-mod words;
+mod openings;
 
 use crate::compare::equal;
 use devices::Device;
@@ -169,91 +160,22 @@ fn lines_after_quit_stay_in_the_source(rt: HostRuntime) {
     drop(replies);
 }
 
-const EDITS: &[u8] =
-    b"net a'b wire\nnet a..b wire\ninput $end\ninput a\nnet a wire\ninput a\nnet y wire\n\
-gate g' not 1 1 y a\ngate g not 1 1 y a\ngate g not 0 1 y a\ngate h not 0 1 y a\ngate h not 1000001 0 y a\n\
-gate h not 1 1000001 y a\ngate h not 1 1 y a a\ngate h not 1 1 y b b\ngate h not 1 1 y\ngate h not 1 1 q a\n\
-gate h not 1 1 y b\ngate h not 1 1 a b\ngate h not 1 1 a y\ngate h not 1 1 1'b0 a\ngate h not 1 1 y 1'b2\n\
-gate h not 1 1 y 1'B1\ngate h not 1000000 1000000 y 1'b1\nstim q 0 0\nstim y 1099511627777 0\nstim a 1099511627777 0\n\
-stim a 18446744073709551616 0\nstim a 1099511627776 1\nstim a 0 2\nstim a 0 X\nstim a +1 0\nstim a 007 z\nwave q\nwave a\n";
+// A pulse of 3 units through a buffer of 3 and 3: the wave of y is x from 0, 0 from 3, 1 from 13, 0 from 16. The net n has no
+// driver and the input b no point, so their waves have the value at 0 alone, z and x.
+const PULSE: &[u8] =
+    b"input a\nnet y wire\ngate g buf 3 3 y a\nstim a 0 0\nstim a 10 1\nstim a 13 0\nnet n wire\ninput b\n\
+next y 3\nprev y 3\nseek y 0 0\nnext y 16\nvalue y 12\nvalue y 101\n";
 
-const EDIT_REPLIES: &[u8] =
-    b"no 4 BadName\nno 4 BadName\nno 4 BadName\nok 1\nno 3 DuplicateName\nno 3 DuplicateName\nok 2\n\
-no 4 BadName\nok 3\nno 3 DuplicateName\nno 5 ZeroDelay\nno 5 ZeroDelay\n\
-no 6 DelayTooLarge\nno 7 WrongArity\nno 7 WrongArity\nno 7 WrongArity\nno 1 UnknownNet\n\
-no 1 UnknownNet\nno 1 UnknownNet\nno 8 DrivenInput\nno 1 UnknownNet\nno 16 BadCommand\n\
-no 16 BadCommand\nok 4\nno 1 UnknownNet\nno 9 NotInput\nno 11 TimeTooLarge\n\
-no 11 TimeTooLarge\nok 5\nno 16 BadCommand\nno 16 BadCommand\nno 16 BadCommand\nok 6\nno 1 UnknownNet\n0 x\n7 z\nok 6\n";
+const PULSE_REPLIES: &[u8] = b"ok 1\nok 2\nok 3\nok 4\nok 5\nok 6\nok 7\nok 8\n\
+13 1\nok 8\n0 x\nok 8\n3 0\nok 8\nnone\nok 8\n0\nok 8\nno 11 TimeTooLarge\n";
 
 #[test]
-fn each_fault_of_an_edit_in_order(rt: HostRuntime) {
-    check(&rt, rt.alloc(), EMPTY, 20, EDITS, EDIT_REPLIES);
-}
-
-const LINES: &[u8] =
-    b"frob\n\n \t \n# x\n#x\x80\n \t#\nWave a\nwave a\x80\nquit now\n\tinput  \t a \r\n\r\r\ninput b\r \nwave a\nquit\nwave a\n";
-
-const LINE_REPLIES: &[u8] =
-    b"no 16 BadCommand\nno 16 BadCommand\nno 16 BadCommand\nno 16 BadCommand\nok 1\n\
-no 16 BadCommand\nno 16 BadCommand\n0 x\nok 1\nok 1\n";
-
-#[test]
-fn blank_lines_comments_and_bad_bytes(rt: HostRuntime) {
-    check(&rt, rt.alloc(), EMPTY, 0, LINES, LINE_REPLIES);
-}
-
-#[test]
-fn the_input_end_ends_a_line(rt: HostRuntime) {
-    check(
-        &rt,
-        rt.alloc(),
-        EMPTY,
-        0,
-        b"input a\nwave a",
-        b"ok 1\n0 x\nok 1\n",
-    );
+fn pieces_make_no_difference_to_questions(rt: HostRuntime) {
+    check_in_pieces(&rt, rt.alloc(), 100, PULSE, PULSE_REPLIES);
 }
 
 fn add(rt: &impl Abort, text: &mut Vec<u8>, more: &[u8]) {
     text.extend_from_slice(more).expect(rt, "room");
-}
-
-// `length` bytes `byte` and `end`, twice.
-fn long_lines(rt: &impl Abort, alloc: Global, byte: u8, length: usize, end: &[u8]) -> Vec<u8> {
-    let mut text = Vec::new(alloc);
-    for _ in 0..2 {
-        for _ in 0..length {
-            text.push(byte).expect(rt, "room");
-        }
-        add(rt, &mut text, end);
-    }
-    text
-}
-
-const BAD: &[u8] = b"no 16 BadCommand\nno 16 BadCommand\n";
-
-const LONG: &[u8] = b"no 17 LongLine\nno 17 LongLine\n";
-
-// A byte, how often it stands in a line, the end of the line, and the replies to two of them.
-const LENGTHS: [(u8, usize, &[u8], &[u8]); 9] = [
-    (b'a', 4096, b"\n", BAD),
-    (b'a', 4097, b"\n", LONG),
-    (b'a', 9000, b"\n", LONG),
-    (b'a', 4095, b"\r\n", BAD),
-    (b'a', 4096, b"\r\n", LONG),
-    (b' ', 4096, b"\n", b""),
-    (b' ', 4097, b"\n", LONG),
-    (b'#', 4097, b"\n", LONG),
-    (128, 4097, b"\n", LONG),
-];
-
-#[test]
-fn lines_that_are_too_long(rt: HostRuntime) {
-    for (byte, length, end, want) in LENGTHS {
-        let text = long_lines(&rt, rt.alloc(), byte, length, end);
-        check(&rt, rt.alloc(), EMPTY, 0, text.as_slice(), want);
-        drop(text);
-    }
 }
 
 #[test]

@@ -52,32 +52,3 @@ fn a_writer_that_fails_at_each_byte(rt: HostRuntime) {
         );
     }
 }
-
-const INNER: &[u8] = b"$scope module u $end
-$scope module v $end
-$upscope $end
-$scope module uv $end
-$upscope $end
-$upscope $end
-";
-
-#[test]
-fn inner_scopes(rt: HostRuntime) {
-    check(&rt, rt.alloc(), &["u.v.c", "u.d", "u.uv.e", "u.v"], INNER);
-}
-
-const APART: &[u8] = b"$scope module u $end
-$scope module v $end
-$upscope $end
-$upscope $end
-$scope module v $end
-$scope module v $end
-$upscope $end
-$upscope $end
-";
-
-// Scopes of one name in different scopes are different ones.
-#[test]
-fn scopes_of_one_name(rt: HostRuntime) {
-    check(&rt, rt.alloc(), &["u.v.a", "v.v.a"], APART);
-}

@@ -185,16 +185,3 @@ pub fn carried_out(rt: &impl Abort, alloc: Global, design: &Design, edits: &[Edi
 pub fn outcome(alloc: Global, design: &Design, edits: &[Edit]) -> Option<(usize, EditFault)> {
     apply_all(alloc, design, edits).err()
 }
-
-/// The place and the fault of the first edit of lines that is refused.
-pub fn refused(
-    rt: &impl Abort,
-    alloc: Global,
-    design: &Design,
-    lines: &[&str],
-) -> Option<(usize, EditFault)> {
-    let edits = edits(rt, alloc, lines);
-    let outcome = outcome(alloc, design, &edits);
-    drop(edits);
-    outcome
-}

@@ -5,7 +5,6 @@ ghost use Rattle.gatestep.specs.Step.{advance};
 ghost use Rattle.parstep.specs.declared.limits.TheConstants.{MAX_WORKERS};
 
 use crate::compare::equal;
-use crate::dumps::many::times;
 use crate::edit_lists::edit_lines::{design_of, edit};
 use bench::Bench;
 use devices::Device;
@@ -98,6 +97,12 @@ fn compare<R: Threads + Wait + Abort + Copy + Drop + Send + Sync + 'static>(
     let bytes = dump(&rt, alloc, gates, stepper);
     equal(&rt, "bytes", bytes.as_slice(), wanted.as_slice());
     wanted
+}
+
+/// How often a part stands in a text.
+fn times(rt: &impl Abort, text: &[u8], part: &[u8]) -> usize {
+    assert!(rt; part.len() > 0);
+    text.windows(part.len()).filter(|w| *w == part).count()
 }
 
 /// A part stands so often in a text.

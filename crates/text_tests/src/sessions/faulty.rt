@@ -2,7 +2,6 @@
 
 ghost use Rattle.std.specs.Prelude.{◌<◌};
 
-use super::batches::joined;
 use super::once::FailsOnce;
 use super::{add, up_to};
 use crate::compare::equal;
@@ -34,6 +33,18 @@ const TALK: [(&[u8], &[u8]); 14] = [
     (b"wave y", b"0 x\n3 0\nok 3\n"),
     (b"at old wave y", b"0 x\n3 0\nok 3\n"),
 ];
+
+// The lines of rows, each with an end, and the replies to them.
+fn joined(rt: &impl Abort, alloc: Global, rows: &[(&[u8], &[u8])]) -> (Vec<u8>, Vec<u8>) {
+    let mut lines = Vec::new(alloc);
+    let mut want = Vec::new(alloc);
+    for (line, reply) in rows {
+        add(rt, &mut lines, line);
+        add(rt, &mut lines, b"\n");
+        add(rt, &mut want, reply);
+    }
+    (lines, want)
+}
 
 // How the session of the buffer up to 30 ends over these devices.
 fn ended<R: Source, W: Sink>(

@@ -1,0 +1,1 @@
+"""Dumps: their scopes, kinds, codes and moments."""

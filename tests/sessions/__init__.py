@@ -1,0 +1,1 @@
+"""Tests of sessions, over the built program: lines, and the reply to each."""

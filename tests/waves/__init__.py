@@ -1,0 +1,1 @@
+"""Runs of small designs: the waves of their nets."""
