@@ -4,7 +4,7 @@
 
 all: try
 
-# CI: every proof from nothing, a few mutants of most crates, the tests, the examples, refused allocations, and the tests of
+# CI: every proof from nothing, some mutants, the tests, the examples, refused allocations, and the tests of
 # the programs and of the Python package; it fails if no test ran, and says at its end where the processor's time went.
 test:
 	@tools/ci
