@@ -20,6 +20,8 @@ mod event_queues;
 #[cfg(test)]
 mod floors;
 #[cfg(test)]
+mod partings;
+#[cfg(test)]
 mod patches;
 #[cfg(test)]
 mod replays;
