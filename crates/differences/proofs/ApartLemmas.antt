@@ -1,5 +1,5 @@
 -- From which moment on two waves differ.
-use Rattle.std.proofs.Common.{◌≡◌, ◌<◌, ◌≤◌, ℕ, suc, nat_le, List, Bool, true, false, not, Option, Some, None, IfSome, refl, ap, sym, arith, cond, ◌∙◌}
+use Rattle.std.proofs.Common.{◌≡◌, ◌<◌, ℕ, suc, nat_le, List, Bool, true, false, not, Option, Some, None, IfSome, refl, ap, sym, arith, cond, ◌∙◌}
 use Rattle.std.proofs.lemmas.Bool.{leb-false, leb-true}
 use Rattle.fourstate.specs.declared.value.Value.{Value}
 use Rattle.fourstate.specs.kept.ValueLaws.{same_self}

@@ -1,5 +1,5 @@
 -- First moments of nets by name.
-use Rattle.std.proofs.Common.{◌≡◌, ◌≢◌, ◌<◌, ℕ, suc, min, not, List, Bool, true, Option, Some, None, option_map, slice_get, AllPairs, length, subst, refl, ap, arith, sym, ◌∙◌}
+use Rattle.std.proofs.Common.{◌≡◌, ◌≢◌, ◌<◌, ℕ, suc, min, not, List, Bool, true, Option, Some, None, option_map, slice_get, AllPairs, length, refl, ap, arith, sym, ◌∙◌}
 use Rattle.fourstate.specs.declared.value.Value.{Value}
 use Rattle.fourstate.specs.declared.value.Value.TheVariants.{Unknown}
 use Rattle.fourstate.specs.Values.{same_value}
@@ -9,7 +9,7 @@ use Rattle.scratch.specs.Run.{value, wave_of}
 use Rattle.waveform.specs.Changes.{wave_at}
 use Rattle.waveform.specs.Entries.{standing}
 use Rattle.waveform.specs.Timelines.{changes_below, value_by}
-use Rattle.waveform.specs.kept.Timelines.{IsAlwaysSettled, IsTimeline}
+use Rattle.waveform.specs.kept.Timelines.{IsAlwaysSettled}
 use Rattle.differences.specs.kept.Apart.{first_apart}
 use Rattle.differences.specs.Differences.{differs_at, first_moment, same_or_none}
 use Rattle.differences.specs.kept.Found.{name_at}
