@@ -5,6 +5,7 @@ use Rattle.fourstate.specs.declared.value.Value.{Value}
 use Rattle.gateline.proofs.Goes.{coming, here, later, passed, until}
 use Rattle.gateline.proofs.Lists.{map_twice}
 use Rattle.gateline.specs.declared.reader.Reader.{Reader}
+use Rattle.gateline.specs.kept.Ahead.{next_of, rest_then, value_then}
 use Rattle.gateline.specs.kept.Readers.{GoesOn, StandAt, next_among, seen, seen_then}
 use Rattle.gateline.specs.kept.Waves.{input_at, input_functions, inputs_by}
 use Rattle.scratch.specs.declared.wiring.Input.{Input}
@@ -75,6 +76,18 @@ stands_passed (f ∷ fs) (r ∷ old) (x ∷ new) m t stand from to same =
       subst P one (passed f r.value r.rest.now m t stand.0 from (omega arith)),
       stands_passed fs old new m t stand.1 from (omega arith) rest,
     )
+
+-- no reader has a change before the first one among them
+pub unchanged : (v : Value) (rest : List (ℕ × Value)) (t : ℕ) → t < next_of rest → ◌≡◌ {A = Value × List (ℕ × Value)} (value_then v rest t, rest_then rest t) (v, rest)
+unchanged v [] t below = refl
+unchanged v (e ∷ rest) t below = grind arith
+
+pub unpassed : (readers : List Reader) (t : ℕ) → t < next_among readers → map (seen_then t) readers ≡ map seen readers
+unpassed [] t below = refl
+unpassed (r ∷ readers) t below =
+    let one : seen_then t r ≡ seen r = unchanged r.value r.rest.now t (omega arith) in
+    let rest : map (seen_then t) readers ≡ map seen readers = unpassed readers t (omega arith) in
+    λ i. one i ∷ rest i
 
 -- Of the inputs of a gate.
 module _ (waves : List (List (ℕ × Value))) (inputs : List Input) (readers : List Reader) (m : ℕ) (stand : StandAt (input_functions waves inputs) readers m) where

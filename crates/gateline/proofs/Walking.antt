@@ -13,7 +13,8 @@ use Rattle.gateline.proofs.Stands.{inputs_are, inputs_stay, stands_later, stands
 use Rattle.gateline.proofs.Still.{NoneAdded, StaysTo, ready, settled, stays_to, still_state, still_trace, storable}
 use Rattle.gateline.specs.declared.old_line.Near.{Near}
 use Rattle.gateline.specs.declared.reader.Reader.{Reader}
-use Rattle.gateline.specs.declared.walk.Walk.{Walk}
+use Rattle.gateline.specs.declared.walk.Course.{Course}
+use Rattle.gateline.specs.declared.walk.Situation.{Situation}
 use Rattle.gateline.specs.kept.Line.{is_stirred_by, line_trace, line_work_from, state_by, task_by}
 use Rattle.gateline.specs.kept.Readers.{StandAt, next_among, seen, seen_then}
 use Rattle.gateline.specs.kept.Walks.{IsAt}
@@ -37,10 +38,10 @@ Reaches =
     is_reached same_state due (changes_below same_state due f t) t v ≡ same_state v (due (f (t - 1)) t)
 
 -- what stands does not ask where lines of an old run were looked up
-pub still_at : (answer : Evaluation → ℕ → State) (cell : CellRecord) (waves : List (List (ℕ × Value))) (m : ℕ) {w v : Walk} {near : Near} →
-    IsAt answer cell waves w m → v ≡ record w { near = near } → IsAt answer cell waves v m
-still_at answer cell waves m at same =
-    subst (λ walk. IsAt answer cell waves walk m) (sym same) (record { state = at.state; inputs = at.inputs; trace = at.trace; readers = at.readers; next = at.next })
+pub still_at : (answer : Evaluation → ℕ → State) (cell : CellRecord) (waves : List (List (ℕ × Value))) (m : ℕ) {situation : Situation} {w v : Course} {near : Near} →
+    IsAt answer cell waves situation w m → v ≡ record w { near = near } → IsAt answer cell waves situation v m
+still_at answer cell waves m {situation = situation} at same =
+    subst (λ course. IsAt answer cell waves situation course m) (sym same) (record { state = at.state; inputs = at.inputs; trace = at.trace; readers = at.readers; next = at.next })
 
 -- each gate has as many inputs at each moment as its cell
 pub fits : (cell : CellRecord) (waves : List (List (ℕ × Value))) → IsTrue (takes_inputs cell.kind (length cell.inputs)) → (t : ℕ) → IsTrue (takes_inputs cell.kind (length (inputs_by waves cell.inputs t)))
@@ -51,21 +52,21 @@ module _ (answer : Evaluation → ℕ → State) (cell : CellRecord) (waves : Li
   inputs = inputs_by waves cell.inputs
 
   module _ (stays : (e : Evaluation) (t u : ℕ) → t < u → NothingDue u (answer e t) → answer (again e (answer e t)) u ≡ answer e t) (none_added : NoneAdded) where
-    module _ (walk : Walk) (m r : ℕ) (at : IsAt answer cell waves walk m) (from : m ≤ r) (below : r < next_among walk.readers.items)
-        (none : (u : ℕ) → u ≤ r → is_due walk.state u ≡ false) where
+    module _ (situation : Situation) (course : Course) (m r : ℕ) (at : IsAt answer cell waves situation course m) (from : m ≤ r) (below : r < next_among course.readers.items)
+        (none : (u : ℕ) → u ≤ r → is_due situation.state u ≡ false) where
       all_stays : StaysTo answer cell.kind cell.delays inputs stays m r
       all_stays =
           stays_to answer cell.kind cell.delays inputs stays none_added m r from
-          (λ u high low. inputs_stay waves cell.inputs walk.readers.items m at.readers u high (omega arith))
+          (λ u high low. inputs_stay waves cell.inputs course.readers.items m at.readers u high (omega arith))
           (λ u low. ap (λ s. is_due s u) (sym at.state) ∙ none u low)
 
       -- what stands up to a moment before which nothing happens
-      pub rests : IsAt answer cell waves walk r
+      pub rests : IsAt answer cell waves situation course r
       rests = record {
         state = at.state ∙ sym all_stays.states;
-        inputs = at.inputs ∙ sym (inputs_stay waves cell.inputs walk.readers.items m at.readers r from below);
+        inputs = at.inputs ∙ sym (inputs_stay waves cell.inputs course.readers.items m at.readers r from below);
         trace = at.trace ∙ sym all_stays.traces;
-        readers = stands_later (input_functions waves cell.inputs) walk.readers.items m r at.readers from below;
+        readers = stands_later (input_functions waves cell.inputs) course.readers.items m r at.readers from below;
         next = at.next;
       }
 
@@ -82,29 +83,29 @@ module _ (answer : Evaluation → ℕ → State) (cell : CellRecord) (waves : Li
       same_trace_after = still_trace answer cell.kind cell.delays inputs stays none_added m off
 
   -- the readers at the moment after m
-  module _ (walk : Walk) (m : ℕ) (new : List Reader) (at : IsAt answer cell waves walk m) (below : m < next_among walk.readers.items)
-      (same : map seen new ≡ map (seen_then (suc m)) walk.readers.items) where
+  module _ (situation : Situation) (course : Course) (m : ℕ) (new : List Reader) (at : IsAt answer cell waves situation course m) (below : m < next_among course.readers.items)
+      (same : map seen new ≡ map (seen_then (suc m)) course.readers.items) where
     pub stand_after : StandAt (input_functions waves cell.inputs) new (suc m)
-    stand_after = stands_passed (input_functions waves cell.inputs) walk.readers.items new m (suc m) at.readers (omega arith) (omega arith) same
+    stand_after = stands_passed (input_functions waves cell.inputs) course.readers.items new m (suc m) at.readers (omega arith) (omega arith) same
 
     pub inputs_after : map (λ reader. reader.value) new ≡ inputs (suc m)
     inputs_after = inputs_are waves cell.inputs new (suc m) stand_after
 
     -- whether the gate is stirred there
-    pub stirred_is : (now : List Value) (b : Bool) → now ≡ map (λ reader. reader.value) new → b ≡ (not (same_values now walk.inputs) || is_due walk.state (suc m)) →
+    pub stirred_is : (now : List Value) (b : Bool) → now ≡ map (λ reader. reader.value) new → b ≡ (not (same_values now situation.inputs) || is_due situation.state (suc m)) →
         is_stirred_by answer cell.kind cell.delays inputs (suc m) ≡ b
     stirred_is now b are is =
         let value : now ≡ inputs (suc m) = are ∙ inputs_after in
-        let before : walk.inputs ≡ inputs m = at.inputs in
-        let state : walk.state ≡ state_by answer cell.kind cell.delays inputs (suc m) = at.state in
+        let before : situation.inputs ≡ inputs m = at.inputs in
+        let state : situation.state ≡ state_by answer cell.kind cell.delays inputs (suc m) = at.state in
         sym (is ∙ (λ i. not (same_values (value i) (before i)) || is_due (state i) (suc m)))
 
     -- what is evaluated there
     pub task_is : (now : List Value) → now ≡ map (λ reader. reader.value) new →
-        ◌≡◌ {A = Evaluation} (record { kind = cell.kind; delays = cell.delays; state = walk.state; inputs = now }) (task_by answer cell.kind cell.delays inputs (suc m))
+        ◌≡◌ {A = Evaluation} (record { kind = cell.kind; delays = cell.delays; state = situation.state; inputs = now }) (task_by answer cell.kind cell.delays inputs (suc m))
     task_is now are =
         let value : now ≡ inputs (suc m) = are ∙ inputs_after in
-        let state : walk.state ≡ state_by answer cell.kind cell.delays inputs (suc m) = at.state in
+        let state : situation.state ≡ state_by answer cell.kind cell.delays inputs (suc m) = at.state in
         λ i. record { kind = cell.kind; delays = cell.delays; state = state i; inputs = value i }
 
   module _ (fit : IsTrue (takes_inputs cell.kind (length cell.inputs))) (are : AreDelays cell.delays)

@@ -60,6 +60,30 @@ pub fn read(readers: &mut [Reader], t: u64, table: &InputsTable) -> Reading
     read_few(readers, t, table)
 }
 
+/// Brings the readers to the moment `t`, in time units, before which no change comes, where they have these values before it and
+/// `next` is the moment of their first change. They are gone through only where that is the moment `t`.
+#[inline(always)]
+pub fn read_on(
+    readers: &mut Readers,
+    t: u64,
+    table: &InputsTable,
+    inputs: Inputs,
+    next: u64,
+) -> Reading
+    requires few { length readers.old.items ≤ MAX_INPUTS }
+    requires inputs { inputs ≡ map (λ reader. reader.value) readers.old.items }
+    requires next { next ≡ next_among readers.old.items }
+    requires order { t ≤ next }
+    ensures readers { map seen readers.new.items ≡ map (seen_then t) readers.old.items }
+    ensures inputs { result.inputs ≡ map (λ reader. reader.value) readers.new.items }
+    ensures next { result.next ≡ next_among readers.new.items }
+{
+    if next == t {
+        return read(readers.as_mut_slice(), t, table);
+    }
+    Reading { inputs, next }
+}
+
 /// Brings up to `FEW_INPUTS` readers to the moment `t`, in time units, before which no change comes: their values stand in the
 /// table, and are found by their number.
 #[inline(always)]

@@ -1,6 +1,6 @@
 //! A gate that is followed: what stands after a moment, and how it goes on.
 
-ghost use Rattle.std.specs.Prelude.{◌≡◌, ◌+◌, ◌<◌, ◌≤◌, ◌||◌, ◌++◌, ℕ, Bool, false, suc, not, All, IfOk, IfSome, OnOk, OnErr};
+ghost use Rattle.std.specs.Prelude.{◌≡◌, ◌+◌, ◌-◌, ◌<◌, ◌≤◌, ◌||◌, ◌++◌, ℕ, Bool, false, suc, not, min, All, IfOk, IfSome, OnOk, OnErr};
 ghost use Rattle.std.specs.Option.{ForSome};
 ghost use Rattle.fourstate.specs.declared.limits.TheConstants.{MAX_TIME};
 ghost use Rattle.gateline.specs.kept.Line.{line_trace, line_work_from, work_at};
@@ -19,7 +19,7 @@ ghost use Rattle.waveform.specs.kept.Timelines.{IsAlwaysSettled, is_reached, pus
 
 use crate::inputs_table::InputsTable;
 use crate::old_line::{Near, OldLine, met, next_state};
-use crate::readers::{Readers, open_readers, read};
+use crate::readers::{Readers, open_readers, read, read_on};
 use fourstate::Inputs;
 use gatestep::{Driver, Stepper};
 use scratch::Cell;
@@ -47,13 +47,20 @@ pub struct Former<'a> {
     pub done: u64,
 }
 
-/// What stands of a gate after a moment.
-#[derive(Drop)]
-pub struct Walk<'a, 'b, 'c> {
-    /// The state of its driver.
+/// What each moment asks of the one before it: it is small and apart from all else, so that it can lie in registers.
+#[derive(Clone, Copy)]
+pub struct Situation {
+    /// The state of the gate's driver.
     pub state: Driver,
     /// The values of its inputs.
     pub inputs: Inputs,
+    /// The moment at which an input changes next, in time units; `TIME_END` where none does.
+    pub next: u64,
+}
+
+/// What a gate is followed with.
+#[derive(Drop)]
+pub struct Course<'a, 'b, 'c> {
     /// Its trace so far.
     pub trace: Trace,
     /// The readers of its inputs.
@@ -64,8 +71,15 @@ pub struct Walk<'a, 'b, 'c> {
     pub beside: Option<OldLine<'b, 'c>>,
     /// Where that was looked up last.
     pub near: Near,
-    /// The moment at which an input changes next, in time units; `TIME_END` where none does.
-    pub next: u64,
+}
+
+/// What stands of a gate after a moment.
+#[derive(Drop)]
+pub struct Walk<'a, 'b, 'c> {
+    /// What the next moment asks of it.
+    pub situation: Situation,
+    /// What it is followed with.
+    pub course: Course<'a, 'b, 'c>,
 }
 
 /// Whether the pending event is due at the moment `t`, in time units.
@@ -103,19 +117,116 @@ fn first_event(state: Driver, next: u64) -> u64
 }
 
 /// Gives a trace this state from the moment `t` on, in time units, a moment after all entries, where the state that it ended
-/// with has not become that by itself. It fails where memory runs out, and then nothing has changed.
+/// with has not become that by itself. It fails where memory runs out, and then nothing has changed. The state is copied only where
+/// it is pushed.
 #[inline(always)]
-fn push_other(trace: &mut Trace, before: Driver, t: u64, state: Driver) -> Result<(), AllocError>
+fn push_other(trace: &mut Trace, before: Driver, t: u64, state: &Driver) -> Result<(), AllocError>
     requires later { All (λ entry. entry.0 < t) trace.old }
-    requires can { CanStore t state }
-    requires before { is_reached same_state due trace.old t state ≡ same_state state (due before t) }
-    ensures ok { OnOk result (trace.new ≡ pushed same_state due trace.old t state) }
+    requires can { CanStore t state.now }
+    requires before { is_reached same_state due trace.old t state.now ≡ same_state state.now (due before t) }
+    ensures ok { OnOk result (trace.new ≡ pushed same_state due trace.old t state.now) }
     ensures err { OnErr result (trace.new ≡ trace.old) }
 {
     if state.is_same(before.due(t)) {
         return Ok(());
     }
-    trace.push(t, state)
+    trace.push(t, *state)
+}
+
+impl<'a, 'b, 'c> Course<'a, 'b, 'c> {
+    /// The first moment behind `done`, up to which all is done, at which something happens to the gate; if it lies behind `last`,
+    /// nothing happens up to there. All are in time units.
+    #[inline(always)]
+    fn next_moment<S: Stepper>(
+        &self,
+        situation: Situation,
+        cell: &Cell,
+        waves: &[Wave],
+        done: u64,
+        last: u64,
+    ) -> u64
+        requires at { IsAt S.answer cell.now waves.now situation self.now done }
+        requires order { done ≤ last }
+        requires within { last ≤ MAX_TIME }
+        ensures later { done < result }
+        ensures at { IsAt S.answer cell.now waves.now situation self.now (min last (result - 1)) }
+        ensures next { min last (result - 1) < next_among self.now.readers.items }
+        ensures idle { (wanted : Evaluation → ℕ → Bool) (n : ℕ) → n ≤ suc done →
+            line_work_from S.answer cell.now.kind cell.now.delays (inputs_by waves.now cell.now.inputs) wanted n (suc (min last (result - 1)))
+            ≡ line_work_from S.answer cell.now.kind cell.now.delays (inputs_by waves.now cell.now.inputs) wanted n (suc done) }
+    {
+        let _inputs = cell.inputs();
+        fourstate::laws::delays_in_range(&cell.delays());
+        laws::no_change_by_drift::<Driver>();
+        let _waves = waves;
+        let _done = done;
+        let _last = last;
+        first_event(situation.state, situation.next)
+    }
+
+    /// Goes through the moment after `done`, in time units: the inputs are read there, and where the gate is stirred its next state
+    /// is found. It fails where memory runs out, and then the trace is not known.
+    #[inline(always)]
+    fn pass<S: Stepper>(
+        &mut self,
+        situation: &mut Situation,
+        cell: &Cell,
+        waves: &[Wave],
+        stepper: &mut S,
+        done: u64,
+    ) -> Result<(), AllocError>
+        requires none_lost { S.losses stepper.old ≡ 0 }
+        requires at { IsAt S.answer cell.now waves.now situation.old self.old done }
+        requires followed { ForSome self.old.beside (λ old. IsFollowedAt S.answer cell.now (line_seen old) (suc done)) }
+        requires next { done < next_among self.old.readers.items }
+        requires within { done < MAX_TIME }
+        ensures at { OnOk result (IsAt S.answer cell.now waves.now situation.new self.new (suc done)) }
+        ensures beside { self.new.beside ≡ self.old.beside }
+        ensures asked { S.asked stepper.new ≡ S.asked stepper.old
+            ++ work_at S.answer cell.now.kind cell.now.delays (inputs_by waves.now cell.now.inputs) (wanted_by (line_if self.old.beside) cell.now.inputs) (suc done) }
+        ensures lost { S.losses stepper.new ≡ S.losses stepper.old }
+    {
+        let _inputs = cell.inputs();
+        fourstate::laws::delays_in_range(&cell.delays());
+        laws::no_change_by_drift::<Driver>();
+        laws::push_to_changes::<Driver>();
+        laws::changes_lie_before::<Driver>();
+        laws::reached_by_changes::<Driver>();
+        let _waves = waves;
+        let t = done + 1;
+        let before = situation.inputs;
+        let reading = read_on(&mut self.readers, t, self.table, before, situation.next);
+        situation.next = reading.next;
+        let inputs = reading.inputs;
+        situation.inputs = inputs;
+        let former = situation.state;
+        if !is_stirred(inputs, before, former, t) {
+            return Ok(());
+        }
+        situation.state = next_state(
+            &self.beside,
+            &mut self.near,
+            cell,
+            former,
+            inputs,
+            t,
+            stepper,
+        );
+        push_other(&mut self.trace, former, t, &situation.state)?;
+        Ok(())
+    }
+
+    /// The trace of the old run, where the gate had this state there after the moment `t`, and `meeting` is no later than the moment
+    /// after it. Only where lines are looked up next changes.
+    #[inline(always)]
+    fn met(&mut self, state: Driver, meeting: u64, t: u64) -> Option<&'c Trace>
+        requires { t ≤ MAX_TIME }
+        ensures met { IfSome result (λ trace. HasMet self.old.beside t state trace.now) }
+        ensures late { IfSome result (λ trace. meeting ≤ suc t) }
+        ensures same { self.new ≡ record self.old { near = self.new.near } }
+    {
+        met(&self.beside, &mut self.near, meeting, state, t)
+    }
 }
 
 impl<'a, 'b, 'c> Walk<'a, 'b, 'c> {
@@ -129,8 +240,8 @@ impl<'a, 'b, 'c> Walk<'a, 'b, 'c> {
     ) -> Result<Walk<'a, 'b, 'c>, AllocError>
         requires none_lost { S.losses stepper.old ≡ 0 }
         requires followed { ForSome beside (λ old. IsFollowedAt S.answer cell.now (line_seen old) 0) }
-        ensures at { IfOk result (λ walk. IsAt S.answer cell.now along.entry.waves.now walk 0) }
-        ensures beside { IfOk result (λ walk. walk.beside ≡ beside.entry) }
+        ensures at { IfOk result (λ walk. IsAt S.answer cell.now along.entry.waves.now walk.situation walk.course 0) }
+        ensures beside { IfOk result (λ walk. walk.course.beside ≡ beside.entry) }
         ensures asked { OnOk result (S.asked stepper.new ≡ S.asked stepper.old
             ++ work_at S.answer cell.now.kind cell.now.delays (inputs_by along.entry.waves.now cell.now.inputs) (wanted_by (line_if beside.entry) cell.now.inputs) 0) }
         ensures part { OnErr result ((n : ℕ) × (n ≤ 1) × (S.asked stepper.new ≡ S.asked stepper.old
@@ -156,14 +267,18 @@ impl<'a, 'b, 'c> Walk<'a, 'b, 'c> {
         );
         let trace = Trace::open(alloc, state)?;
         Ok(Walk {
-            state,
-            inputs,
-            trace,
-            readers,
-            table: along.table,
-            beside,
-            near,
-            next: reading.next,
+            situation: Situation {
+                state,
+                inputs,
+                next: reading.next,
+            },
+            course: Course {
+                trace,
+                readers,
+                table: along.table,
+                beside,
+                near,
+            },
         })
     }
 
@@ -177,8 +292,8 @@ impl<'a, 'b, 'c> Walk<'a, 'b, 'c> {
     ) -> Result<Walk<'a, 'b, 'c>, AllocError>
         requires within { former.done ≤ MAX_TIME }
         requires trace { entries_until former.trace.now former.done ≡ line_trace S.answer cell.now.kind cell.now.delays (inputs_by along.waves.now cell.now.inputs) (suc former.done) }
-        ensures at { IfOk result (λ walk. IsAt S.answer cell.now along.entry.waves.now walk former.entry.done) }
-        ensures beside { IfOk result (λ walk. walk.beside ≡ beside.entry) }
+        ensures at { IfOk result (λ walk. IsAt S.answer cell.now along.entry.waves.now walk.situation walk.course former.entry.done) }
+        ensures beside { IfOk result (λ walk. walk.course.beside ≡ beside.entry) }
     {
         let places = cell.inputs();
         fourstate::laws::delays_in_range(&cell.delays());
@@ -190,100 +305,19 @@ impl<'a, 'b, 'c> Walk<'a, 'b, 'c> {
         let trace = former.trace.fork(alloc, done, ROOM)?;
         let state = trace.at(done);
         Ok(Walk {
-            state,
-            inputs: reading.inputs,
-            trace,
-            readers,
-            table: along.table,
-            beside,
-            near,
-            next: reading.next,
+            situation: Situation {
+                state,
+                inputs: reading.inputs,
+                next: reading.next,
+            },
+            course: Course {
+                trace,
+                readers,
+                table: along.table,
+                beside,
+                near,
+            },
         })
-    }
-
-    /// The last moment up to which nothing happens to the gate behind the moment `done`, up to which all is done; `last` where
-    /// nothing happens up to there. All are in time units.
-    #[inline(always)]
-    pub fn rest_until<S: Stepper>(&self, cell: &Cell, waves: &[Wave], done: u64, last: u64) -> u64
-        requires at { IsAt S.answer cell.now waves.now self.now done }
-        requires order { done ≤ last }
-        requires within { last ≤ MAX_TIME }
-        ensures from { done ≤ result }
-        ensures within { result ≤ last }
-        ensures at { IsAt S.answer cell.now waves.now self.now result }
-        ensures next { result < next_among self.now.readers.items }
-        ensures idle { (wanted : Evaluation → ℕ → Bool) (n : ℕ) → n ≤ suc done →
-            line_work_from S.answer cell.now.kind cell.now.delays (inputs_by waves.now cell.now.inputs) wanted n (suc result)
-            ≡ line_work_from S.answer cell.now.kind cell.now.delays (inputs_by waves.now cell.now.inputs) wanted n (suc done) }
-    {
-        let _inputs = cell.inputs();
-        fourstate::laws::delays_in_range(&cell.delays());
-        laws::no_change_by_drift::<Driver>();
-        let _waves = waves;
-        last.min(first_event(self.state, self.next) - 1)
-    }
-
-    /// Goes through the moment after `done`, in time units: the inputs are read there, and where the gate is stirred its next state
-    /// is found. It fails where memory runs out, and then the trace is not known.
-    #[inline(always)]
-    pub fn pass<S: Stepper>(
-        &mut self,
-        cell: &Cell,
-        waves: &[Wave],
-        stepper: &mut S,
-        done: u64,
-    ) -> Result<(), AllocError>
-        requires none_lost { S.losses stepper.old ≡ 0 }
-        requires at { IsAt S.answer cell.now waves.now self.old done }
-        requires followed { ForSome self.old.beside (λ old. IsFollowedAt S.answer cell.now (line_seen old) (suc done)) }
-        requires next { done < next_among self.old.readers.items }
-        requires within { done < MAX_TIME }
-        ensures at { OnOk result (IsAt S.answer cell.now waves.now self.new (suc done)) }
-        ensures beside { self.new.beside ≡ self.old.beside }
-        ensures asked { S.asked stepper.new ≡ S.asked stepper.old
-            ++ work_at S.answer cell.now.kind cell.now.delays (inputs_by waves.now cell.now.inputs) (wanted_by (line_if self.old.beside) cell.now.inputs) (suc done) }
-        ensures lost { S.losses stepper.new ≡ S.losses stepper.old }
-    {
-        let _inputs = cell.inputs();
-        fourstate::laws::delays_in_range(&cell.delays());
-        laws::no_change_by_drift::<Driver>();
-        laws::push_to_changes::<Driver>();
-        laws::changes_lie_before::<Driver>();
-        laws::reached_by_changes::<Driver>();
-        let _waves = waves;
-        let t = done + 1;
-        let reading = read(self.readers.as_mut_slice(), t, self.table);
-        self.next = reading.next;
-        let inputs = reading.inputs;
-        let before = self.inputs;
-        self.inputs = inputs;
-        if !is_stirred(inputs, before, self.state, t) {
-            return Ok(());
-        }
-        let former = self.state;
-        self.state = next_state(
-            &self.beside,
-            &mut self.near,
-            cell,
-            former,
-            inputs,
-            t,
-            stepper,
-        );
-        push_other(&mut self.trace, former, t, self.state)?;
-        Ok(())
-    }
-
-    /// The trace of the old run, where the gate had the state there that it has after the moment `t`, and `meeting` is no later than
-    /// the moment after it. Only where lines are looked up next changes.
-    #[inline(always)]
-    fn met(&mut self, meeting: u64, t: u64) -> Option<&'c Trace>
-        requires { t ≤ MAX_TIME }
-        ensures met { IfSome result (λ trace. HasMet self.old.beside t self.old.state trace.now) }
-        ensures late { IfSome result (λ trace. meeting ≤ suc t) }
-        ensures same { self.new ≡ record self.old { near = self.new.near } }
-    {
-        met(&self.beside, &mut self.near, meeting, self.state, t)
     }
 
     /// Goes on from the moment after `begin` up to and with `last`, both in time units, and gives the trace. Once the gate does again
@@ -299,32 +333,32 @@ impl<'a, 'b, 'c> Walk<'a, 'b, 'c> {
         last: u64,
     ) -> Result<Trace, AllocError>
         requires none_lost { S.losses stepper.old ≡ 0 }
-        requires at { IsAt S.answer cell.now waves.now self begin }
-        requires beside { ForSome self.beside (λ old. IsOldLine S.answer cell.now last (line_seen old)) }
-        requires meeting { ForSome self.beside (λ old. (t : ℕ) → meeting ≤ t → t ≤ last → old_inputs (line_seen old) cell.now.inputs t ≡ inputs_by waves.now cell.now.inputs t) }
+        requires at { IsAt S.answer cell.now waves.now self.situation self.course begin }
+        requires beside { ForSome self.course.beside (λ old. IsOldLine S.answer cell.now last (line_seen old)) }
+        requires meeting { ForSome self.course.beside (λ old. (t : ℕ) → meeting ≤ t → t ≤ last → old_inputs (line_seen old) cell.now.inputs t ≡ inputs_by waves.now cell.now.inputs t) }
         requires order { begin ≤ last }
         requires within { last ≤ MAX_TIME }
         ensures trace { IfOk result (λ trace. trace ≡ line_trace S.answer cell.now.kind cell.now.delays (inputs_by waves.now cell.now.inputs) (suc last)) }
         ensures asked { OnOk result (S.asked stepper.new ≡ S.asked stepper.old
-            ++ line_work_from S.answer cell.now.kind cell.now.delays (inputs_by waves.now cell.now.inputs) (wanted_by (line_if self.entry.beside) cell.now.inputs) (suc begin) (suc last)) }
+            ++ line_work_from S.answer cell.now.kind cell.now.delays (inputs_by waves.now cell.now.inputs) (wanted_by (line_if self.entry.course.beside) cell.now.inputs) (suc begin) (suc last)) }
         ensures part { OnErr result ((n : ℕ) × (suc begin ≤ n) × (n ≤ suc last) × (S.asked stepper.new ≡ S.asked stepper.old
-            ++ line_work_from S.answer cell.now.kind cell.now.delays (inputs_by waves.now cell.now.inputs) (wanted_by (line_if self.entry.beside) cell.now.inputs) (suc begin) n)) }
+            ++ line_work_from S.answer cell.now.kind cell.now.delays (inputs_by waves.now cell.now.inputs) (wanted_by (line_if self.entry.course.beside) cell.now.inputs) (suc begin) n)) }
         ensures lost { S.losses stepper.new ≡ S.losses stepper.old }
     {
         let _inputs = cell.inputs();
         fourstate::laws::delays_in_range(&cell.delays());
         laws::changes_lie_before::<Driver>();
-        let mut walk = self;
-        let mut done = walk.rest_until::<S>(cell, waves, begin, last);
-        while done < last {
-            walk.pass(cell, waves, stepper, done)?;
-            let t = done + 1;
-            if let Some(old) = walk.met(meeting, t) {
-                return go_along(walk.trace, old, t, last);
+        let mut situation = self.situation;
+        let mut course = self.course;
+        let mut t = course.next_moment::<S>(situation, cell, waves, begin, last);
+        while t <= last {
+            course.pass(&mut situation, cell, waves, stepper, t - 1)?;
+            if let Some(old) = course.met(situation.state, meeting, t) {
+                return go_along(course.trace, old, t, last);
             }
-            done = walk.rest_until::<S>(cell, waves, t, last);
+            t = course.next_moment::<S>(situation, cell, waves, t, last);
         }
-        Ok(walk.trace)
+        Ok(course.trace)
     }
 }
 

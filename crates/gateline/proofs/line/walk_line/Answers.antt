@@ -13,7 +13,7 @@ returns-in_ok-walk-in-None-clause-asked g c =
     let old = g.S.Stepper.asked c.args.stepper.now in let last = suc c.args.last in let wanted = wanted_by (line_if c.args.start.beside) cell.inputs in
     let first = work_at answer cell.kind cell.delays inputs wanted 0 in let beside = c.in_ok-walk-in-None.ensures.beside in
     on_ok_then c.go_on.result
-    (λ (later : g.S.Stepper.asked c.go_on.new.stepper ≡ g.S.Stepper.asked c.open.new.stepper ++ line_work_from answer cell.kind cell.delays inputs (wanted_by (line_if c.in_ok-walk-in-None.walk.beside) cell.inputs) 1 last).
+    (λ (later : g.S.Stepper.asked c.go_on.new.stepper ≡ g.S.Stepper.asked c.open.new.stepper ++ line_work_from answer cell.kind cell.delays inputs (wanted_by (line_if c.in_ok-walk-in-None.walk.course.beside) cell.inputs) 1 last).
     later ∙ (λ i. c.in_ok-walk-in-None.ensures.asked i ++ line_work_from answer cell.kind cell.delays inputs (wanted_by (line_if (beside i)) cell.inputs) 1 last)
     ∙ append_assoc old first (line_work_from answer cell.kind cell.delays inputs wanted 1 last)
     ∙ ap (λ l. old ++ l) (sym (work_splits answer cell.kind cell.delays inputs wanted 0 1 last (omega arith) (omega arith)))
@@ -27,7 +27,7 @@ returns-in_ok-walk-in-None-clause-part g c =
     let first = work_at answer cell.kind cell.delays inputs wanted 0 in let beside = c.in_ok-walk-in-None.ensures.beside in
     on_err_then c.go_on.result
     (λ (part : (n : ℕ) × (1 ≤ n) × (n ≤ suc c.args.last)
-    × (g.S.Stepper.asked c.go_on.new.stepper ≡ g.S.Stepper.asked c.open.new.stepper ++ line_work_from answer cell.kind cell.delays inputs (wanted_by (line_if c.in_ok-walk-in-None.walk.beside) cell.inputs) 1 n)). (
+    × (g.S.Stepper.asked c.go_on.new.stepper ≡ g.S.Stepper.asked c.open.new.stepper ++ line_work_from answer cell.kind cell.delays inputs (wanted_by (line_if c.in_ok-walk-in-None.walk.course.beside) cell.inputs) 1 n)). (
       part.0,
       part.2,
       part.3 ∙ (λ i. c.in_ok-walk-in-None.ensures.asked i ++ line_work_from answer cell.kind cell.delays inputs (wanted_by (line_if (beside i)) cell.inputs) 1 part.0)
@@ -44,7 +44,7 @@ returns-in_ok-walk-in-Some-clause-part g c =
     let beside = c.in_ok-walk-in-Some.ensures.beside in let begin = suc c.in-Some.former.done in
     on_err_then c.go_on-in-Some.result
     (λ (part : (n : ℕ) × (begin ≤ n) × (n ≤ suc c.args.last)
-    × (g.S.Stepper.asked c.go_on-in-Some.new.stepper ≡ old ++ line_work_from answer cell.kind cell.delays inputs (wanted_by (line_if c.in_ok-walk-in-Some.walk.beside) cell.inputs) begin n)). (
+    × (g.S.Stepper.asked c.go_on-in-Some.new.stepper ≡ old ++ line_work_from answer cell.kind cell.delays inputs (wanted_by (line_if c.in_ok-walk-in-Some.walk.course.beside) cell.inputs) begin n)). (
       part.0,
       part.2,
       part.3 ∙ ap (λ o. old ++ line_work_from answer cell.kind cell.delays inputs (wanted_by (line_if o) cell.inputs) begin part.0) beside

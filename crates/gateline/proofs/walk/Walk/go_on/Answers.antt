@@ -1,11 +1,11 @@
-use Rattle.std.proofs.Common.{◌≡◌, ◌<◌, ◌+◌, ◌++◌, ◌∙◌, ap, sym, subst, suc, Some, [], All, IsTrue, length, append-nil, append_assoc, add-one, arith}
+use Rattle.std.proofs.Common.{◌≡◌, ◌<◌, ◌≤◌, ◌+◌, ◌-◌, ◌++◌, ◌∙◌, ap, sym, subst, min, suc, Some, [], All, IsTrue, length, append-nil, append_assoc, arith}
 use Rattle.fourstate.specs.Gates.{takes_inputs}
 use Rattle.fourstate.specs.kept.Delays.{AreDelays}
 use Rattle.gateline.proofs.Copied.{states, unasked}
 use Rattle.gateline.proofs.Lists.{if_ok_then, on_err, on_ok}
 use Rattle.gateline.proofs.Still.{one_more_from, work_splits}
 use Rattle.gateline.proofs.Walking.{settled_line, still_at}
-use Rattle.gateline.specs.declared.walk.Walk.{Walk}
+use Rattle.gateline.specs.declared.walk.Course.{Course}
 use Rattle.gateline.proofs.walk.Walk.go_on.Goals as goal
 use Rattle.gateline.specs.kept.Line.{line_trace, line_work_from, state_by, work_at}
 use Rattle.gateline.specs.kept.OldLines.{line_if, line_seen, wanted_by}
@@ -16,89 +16,94 @@ use Rattle.gateline.specs.kept.Waves.{inputs_by}
 pub returns-in_err-pass-clause-part : goal.returns-in_err-pass-clause-part
 returns-in_err-pass-clause-part g c =
     let answer = g.S.Stepper.answer in let cell = c.args.cell.now in let inputs = inputs_by c.args.waves.now cell.inputs in
-    let done = c.loop-done.done in let begin = c.args.begin in let first = g.S.Stepper.asked c.args.stepper.now in let from = c.loop-done.invariant.from in
-    let wanted = wanted_by (line_if c.args.self.beside) cell.inputs in
+    let t = c.loop-t.t in let done = t - 1 in let begin = c.args.begin in let first = g.S.Stepper.asked c.args.stepper.now in let from = c.loop-t.invariant.from in
+    let wanted = wanted_by (line_if c.args.self.course.beside) cell.inputs in
+    let low : t ≤ c.args.last = c.loop-t-test.true in let stood : min c.args.last done ≡ done = omega arith in
     let here = work_at answer cell.kind cell.delays inputs wanted (suc done) in
     let more : g.S.Stepper.asked c.pass.new.stepper ≡ first ++ line_work_from answer cell.kind cell.delays inputs wanted (suc begin) (suc (suc done)) =
     c.pass.ensures.asked
-    ∙ ap (λ o. g.S.Stepper.asked c.loop-done.stepper ++ work_at answer cell.kind cell.delays inputs (wanted_by (line_if o) cell.inputs) (suc done)) c.loop-done.invariant.beside
-    ∙ ap (λ l. l ++ here) c.loop-done.invariant.asked
+    ∙ ap (λ o. g.S.Stepper.asked c.loop-t.stepper ++ work_at answer cell.kind cell.delays inputs (wanted_by (line_if o) cell.inputs) (suc done)) c.loop-t.invariant.beside
+    ∙ ap (λ l. l ++ here) (c.loop-t.invariant.asked ∙ ap (λ m. first ++ line_work_from answer cell.kind cell.delays inputs wanted (suc begin) (suc m)) stood)
     ∙ append_assoc first (line_work_from answer cell.kind cell.delays inputs wanted (suc begin) (suc done)) here
     ∙ ap (λ l. first ++ l) (sym (one_more_from answer cell.kind cell.delays inputs wanted (suc begin) (suc done) (omega arith))) in
-    let low : done < c.args.last = c.loop-done-test.true in
     on_err c.from_residual.result _ (suc (suc done), omega arith, omega arith, more)
+
+pub pass-requires-clause-at : goal.pass-requires-clause-at
+pass-requires-clause-at g c =
+    let low : c.loop-t.t ≤ c.args.last = c.loop-t-test.true in let stood : min c.args.last (c.loop-t.t - 1) ≡ c.loop-t.t - 1 = omega arith in
+    subst (IsAt g.S.Stepper.answer c.args.cell.now c.args.waves.now c.loop-t.situation c.loop-t.course) stood c.loop-t.invariant.at
 
 pub pass-requires-clause-followed : goal.pass-requires-clause-followed
 pass-requires-clause-followed g c = λ old is.
-    let low : c.loop-done.done < c.args.last = c.loop-done-test.true in
-    (c.requires.beside old (sym c.loop-done.invariant.beside ∙ is)).followed (suc c.loop-done.done) (omega arith)
+    let low : c.loop-t.t ≤ c.args.last = c.loop-t-test.true in let from : c.args.begin < c.loop-t.t = c.loop-t.invariant.from in
+    (c.requires.beside old (sym c.loop-t.invariant.beside ∙ is)).followed (suc (c.loop-t.t - 1)) (omega arith)
 
-pub rest_until-done-requires-in-loop-done-clause-at : goal.rest_until-done-requires-in-loop-done-clause-at
-rest_until-done-requires-in-loop-done-clause-at g c =
-    let after : c.loop-done.done + 1 ≡ suc c.loop-done.done = add-one c.loop-done.done in
-    subst (IsAt g.S.Stepper.answer c.args.cell.now c.args.waves.now c.met.new.self) (sym after) (still_at g.S.Stepper.answer c.args.cell.now c.args.waves.now (suc c.loop-done.done) c.in_ok-pass.ensures.at c.met.ensures.same)
+pub next_moment-t-requires-in-loop-t-clause-at : goal.next_moment-t-requires-in-loop-t-clause-at
+next_moment-t-requires-in-loop-t-clause-at g c =
+    let from : c.args.begin < c.loop-t.t = c.loop-t.invariant.from in let after : suc (c.loop-t.t - 1) ≡ c.loop-t.t = omega arith in
+    subst (IsAt g.S.Stepper.answer c.args.cell.now c.args.waves.now c.pass.new.situation c.met.new.self) after (still_at g.S.Stepper.answer c.args.cell.now c.args.waves.now (suc (c.loop-t.t - 1)) c.in_ok-pass.ensures.at c.met.ensures.same)
 
-pub loop-done-preserved : goal.loop-done-preserved
-loop-done-preserved g c =
+pub loop-t-preserved : goal.loop-t-preserved
+loop-t-preserved g c =
     let answer = g.S.Stepper.answer in let cell = c.args.cell.now in let inputs = inputs_by c.args.waves.now cell.inputs in
-    let done = c.loop-done.done in let begin = c.args.begin in let first = g.S.Stepper.asked c.args.stepper.now in let from = c.loop-done.invariant.from in
-    let wanted = wanted_by (line_if c.args.self.beside) cell.inputs in
+    let t = c.loop-t.t in let done = t - 1 in let begin = c.args.begin in let first = g.S.Stepper.asked c.args.stepper.now in let from = c.loop-t.invariant.from in
+    let wanted = wanted_by (line_if c.args.self.course.beside) cell.inputs in
+    let low : t ≤ c.args.last = c.loop-t-test.true in let stood : min c.args.last done ≡ done = omega arith in
     let here = work_at answer cell.kind cell.delays inputs wanted (suc done) in
     let more : g.S.Stepper.asked c.pass.new.stepper ≡ first ++ line_work_from answer cell.kind cell.delays inputs wanted (suc begin) (suc (suc done)) =
     c.pass.ensures.asked
-    ∙ ap (λ o. g.S.Stepper.asked c.loop-done.stepper ++ work_at answer cell.kind cell.delays inputs (wanted_by (line_if o) cell.inputs) (suc done)) c.loop-done.invariant.beside
-    ∙ ap (λ l. l ++ here) c.loop-done.invariant.asked
+    ∙ ap (λ o. g.S.Stepper.asked c.loop-t.stepper ++ work_at answer cell.kind cell.delays inputs (wanted_by (line_if o) cell.inputs) (suc done)) c.loop-t.invariant.beside
+    ∙ ap (λ l. l ++ here) (c.loop-t.invariant.asked ∙ ap (λ m. first ++ line_work_from answer cell.kind cell.delays inputs wanted (suc begin) (suc m)) stood)
     ∙ append_assoc first (line_work_from answer cell.kind cell.delays inputs wanted (suc begin) (suc done)) here
     ∙ ap (λ l. first ++ l) (sym (one_more_from answer cell.kind cell.delays inputs wanted (suc begin) (suc done) (omega arith))) in
-    let after : done + 1 ≡ suc done = add-one done in
-    let rest = c.rest_until-done-in-loop-done.ensures in
+    let after : t ≡ suc done = omega arith in
+    let rest = c.next_moment-t-in-loop-t.ensures in
     record {
       at = rest.at;
-      from = let later = rest.from in omega arith;
-      within = rest.within;
+      from = let later = rest.later in omega arith;
       next = rest.next;
-      beside = ap (λ (w : Walk). w.beside) c.met.ensures.same ∙ c.pass.ensures.beside ∙ c.loop-done.invariant.beside;
-      asked = more ∙ ap (λ l. first ++ l) (ap (λ t. line_work_from answer cell.kind cell.delays inputs wanted (suc begin) (suc t)) (sym after) ∙ sym (rest.idle wanted (suc begin) (omega arith)));
-      lost = c.pass.ensures.lost ∙ c.loop-done.invariant.lost;
+      beside = ap (λ (w : Course). w.beside) c.met.ensures.same ∙ c.pass.ensures.beside ∙ c.loop-t.invariant.beside;
+      asked = more ∙ ap (λ l. first ++ l) (ap (λ m. line_work_from answer cell.kind cell.delays inputs wanted (suc begin) (suc m)) (sym after) ∙ sym (rest.idle wanted (suc begin) (omega arith)));
+      lost = c.pass.ensures.lost ∙ c.loop-t.invariant.lost;
     }
 
 pub returns-clause-trace : goal.returns-clause-trace
 returns-clause-trace g c =
     let answer = g.S.Stepper.answer in let cell = c.args.cell.now in let inputs = inputs_by c.args.waves.now cell.inputs in
-    let done = c.loop-done.done in let begin = c.args.begin in let first = g.S.Stepper.asked c.args.stepper.now in let from = c.loop-done.invariant.from in
-    let all : done ≡ c.args.last = (let within = c.loop-done.invariant.within in let past = c.loop-done-test.false in omega arith) in
-    c.loop-done.invariant.at.trace ∙ ap (λ t. line_trace answer cell.kind cell.delays inputs (suc t)) all
+    let t = c.loop-t.t in let done = t - 1 in let begin = c.args.begin in let first = g.S.Stepper.asked c.args.stepper.now in let from = c.loop-t.invariant.from in
+    let all : min c.args.last done ≡ c.args.last = (let past = c.loop-t-test.false in omega arith) in
+    c.loop-t.invariant.at.trace ∙ ap (λ m. line_trace answer cell.kind cell.delays inputs (suc m)) all
 
 pub returns-clause-asked : goal.returns-clause-asked
 returns-clause-asked g c =
     let answer = g.S.Stepper.answer in let cell = c.args.cell.now in let inputs = inputs_by c.args.waves.now cell.inputs in
-    let done = c.loop-done.done in let begin = c.args.begin in let first = g.S.Stepper.asked c.args.stepper.now in let from = c.loop-done.invariant.from in
-    let all : done ≡ c.args.last = (let within = c.loop-done.invariant.within in let past = c.loop-done-test.false in omega arith) in
-    c.loop-done.invariant.asked ∙ ap (λ t. first ++ line_work_from answer cell.kind cell.delays inputs (wanted_by (line_if c.args.self.beside) cell.inputs) (suc begin) (suc t)) all
+    let t = c.loop-t.t in let done = t - 1 in let begin = c.args.begin in let first = g.S.Stepper.asked c.args.stepper.now in let from = c.loop-t.invariant.from in
+    let all : min c.args.last done ≡ c.args.last = (let past = c.loop-t-test.false in omega arith) in
+    c.loop-t.invariant.asked ∙ ap (λ m. first ++ line_work_from answer cell.kind cell.delays inputs (wanted_by (line_if c.args.self.course.beside) cell.inputs) (suc begin) (suc m)) all
 
 pub go_along-requires-clause-early : goal.go_along-requires-clause-early
 go_along-requires-clause-early g c =
     let answer = g.S.Stepper.answer in let cell = c.args.cell.now in let inputs = inputs_by c.args.waves.now cell.inputs in
-    let done = c.loop-done.done in let end : suc (suc done) ≡ done + 1 + 1 = omega arith in
-    subst (All (λ e. e.0 < done + 1 + 1)) (sym (ap (λ (w : Walk). w.trace) c.met.ensures.same ∙ c.in_ok-pass.ensures.at.trace))
+    let t = c.loop-t.t in let done = t - 1 in let from : c.args.begin < t = c.loop-t.invariant.from in let end : suc (suc done) ≡ t + 1 = omega arith in
+    subst (All (λ e. e.0 < t + 1)) (sym (ap (λ (w : Course). w.trace) c.met.ensures.same ∙ c.in_ok-pass.ensures.at.trace))
     (subst (λ n. All (λ e. e.0 < n) (line_trace answer cell.kind cell.delays inputs (suc (suc done)))) end
     (c.changes_lie_before.ensures (λ u. state_by answer cell.kind cell.delays inputs (suc u)) (suc (suc done))))
 
 pub returns-in-Some-clause-trace : goal.returns-in-Some-clause-trace
 returns-in-Some-clause-trace g c =
     let law = g.met.S.Stepper in let answer = g.S.Stepper.answer in let cell = c.args.cell.now in let waves = c.args.waves.now in let inputs = inputs_by waves cell.inputs in
-    let done = c.loop-done.done in let last = c.args.last in let after : done + 1 ≡ suc done = add-one done in
+    let t = c.loop-t.t in let done = t - 1 in let last = c.args.last in let from : c.args.begin < t = c.loop-t.invariant.from in let low : t ≤ last = c.loop-t-test.true in let after : t ≡ suc done = omega arith in
     let fit : IsTrue (takes_inputs cell.kind (length cell.inputs)) = subst (λ inputs. IsTrue (takes_inputs cell.kind (length inputs))) c.inputs-inputs.ensures.inputs c.inputs-inputs.ensures.fit in
     let are : AreDelays cell.delays = subst (λ delays. AreDelays delays) c.delays.ensures c.delays_in_range.ensures.each in
     let met = c.in-Some.ensures.met in let trace = c.in-Some.old.now in
-    let is : c.args.self.beside ≡ Some met.old = sym (c.pass.ensures.beside ∙ c.loop-done.invariant.beside) ∙ met.is in
+    let is : c.args.self.course.beside ≡ Some met.old = sym (c.pass.ensures.beside ∙ c.loop-t.invariant.beside) ∙ met.is in
     let line = c.requires.beside met.old is in
     let alike = c.requires.meeting met.old is in let late = c.in-Some.ensures.late in
     let agree = ap (λ l. state_at l (suc done)) met.same ∙ ap (state_at trace) (sym after) ∙ met.stood ∙ c.in_ok-pass.ensures.at.state in
     let states = states answer cell waves (line_seen met.old) (suc (suc done)) (suc last) (λ u before. line.followed u (omega arith)) met.there (λ u from before. alike u (omega arith) (omega arith)) agree in
     if_ok_then c.go_along.result
     (λ new goes. goes (λ u. state_by answer cell.kind cell.delays inputs (suc u)) (settled_line answer cell waves fit are law.answer_pending)
-    (ap (λ (w : Walk). w.trace) c.met.ensures.same ∙ c.in_ok-pass.ensures.at.trace ∙ ap (λ n. line_trace answer cell.kind cell.delays inputs (suc n)) (sym after))
+    (ap (λ (w : Course). w.trace) c.met.ensures.same ∙ c.in_ok-pass.ensures.at.trace ∙ ap (λ n. line_trace answer cell.kind cell.delays inputs (suc n)) (sym after))
     (subst (λ l. l ≡ trace_below (state_at l) (suc last)) met.same line.whole)
     (λ u behind within. ap (λ l. state_at l u) (sym met.same) ∙ states (suc u) (omega arith) (omega arith)))
     c.go_along.ensures
@@ -106,23 +111,24 @@ returns-in-Some-clause-trace g c =
 pub returns-in-Some-clause-asked : goal.returns-in-Some-clause-asked
 returns-in-Some-clause-asked g c =
     let answer = g.S.Stepper.answer in let cell = c.args.cell.now in let waves = c.args.waves.now in let inputs = inputs_by waves cell.inputs in
-    let done = c.loop-done.done in let last = c.args.last in let begin = c.args.begin in let first = g.S.Stepper.asked c.args.stepper.now in let from = c.loop-done.invariant.from in
-    let before : done < last = c.loop-done-test.true in let after : done + 1 ≡ suc done = add-one done in
+    let t = c.loop-t.t in let done = t - 1 in let last = c.args.last in let begin = c.args.begin in let first = g.S.Stepper.asked c.args.stepper.now in let from = c.loop-t.invariant.from in
+    let after : t ≡ suc done = omega arith in
     let met = c.in-Some.ensures.met in let trace = c.in-Some.old.now in
-    let is : c.args.self.beside ≡ Some met.old = sym (c.pass.ensures.beside ∙ c.loop-done.invariant.beside) ∙ met.is in
+    let is : c.args.self.course.beside ≡ Some met.old = sym (c.pass.ensures.beside ∙ c.loop-t.invariant.beside) ∙ met.is in
     let line = c.requires.beside met.old is in
     let alike = c.requires.meeting met.old is in let late = c.in-Some.ensures.late in
     let agree = ap (λ l. state_at l (suc done)) met.same ∙ ap (state_at trace) (sym after) ∙ met.stood ∙ c.in_ok-pass.ensures.at.state in
-    let wanted = wanted_by (line_if c.args.self.beside) cell.inputs in
+    let wanted = wanted_by (line_if c.args.self.course.beside) cell.inputs in
     let none : line_work_from answer cell.kind cell.delays inputs wanted (suc (suc done)) (suc last) ≡ [] =
     ap (λ o. line_work_from answer cell.kind cell.delays inputs (wanted_by (line_if o) cell.inputs) (suc (suc done)) (suc last)) is
     ∙ unasked answer cell waves (line_seen met.old) (suc (suc done)) (suc last) (λ u before. line.followed u (omega arith)) met.there (λ u from before. alike u (omega arith) (omega arith)) agree
     (suc (suc done)) (suc last) (omega arith) (omega arith) in
+    let low : t ≤ c.args.last = c.loop-t-test.true in let stood : min c.args.last done ≡ done = omega arith in
     let here = work_at answer cell.kind cell.delays inputs wanted (suc done) in
     let more : g.S.Stepper.asked c.pass.new.stepper ≡ first ++ line_work_from answer cell.kind cell.delays inputs wanted (suc begin) (suc (suc done)) =
     c.pass.ensures.asked
-    ∙ ap (λ o. g.S.Stepper.asked c.loop-done.stepper ++ work_at answer cell.kind cell.delays inputs (wanted_by (line_if o) cell.inputs) (suc done)) c.loop-done.invariant.beside
-    ∙ ap (λ l. l ++ here) c.loop-done.invariant.asked
+    ∙ ap (λ o. g.S.Stepper.asked c.loop-t.stepper ++ work_at answer cell.kind cell.delays inputs (wanted_by (line_if o) cell.inputs) (suc done)) c.loop-t.invariant.beside
+    ∙ ap (λ l. l ++ here) (c.loop-t.invariant.asked ∙ ap (λ m. first ++ line_work_from answer cell.kind cell.delays inputs wanted (suc begin) (suc m)) stood)
     ∙ append_assoc first (line_work_from answer cell.kind cell.delays inputs wanted (suc begin) (suc done)) here
     ∙ ap (λ l. first ++ l) (sym (one_more_from answer cell.kind cell.delays inputs wanted (suc begin) (suc done) (omega arith))) in
     let made = line_work_from answer cell.kind cell.delays inputs wanted (suc begin) (suc (suc done)) in
@@ -134,14 +140,14 @@ returns-in-Some-clause-asked g c =
 pub returns-in-Some-clause-part : goal.returns-in-Some-clause-part
 returns-in-Some-clause-part g c =
     let answer = g.S.Stepper.answer in let cell = c.args.cell.now in let inputs = inputs_by c.args.waves.now cell.inputs in
-    let done = c.loop-done.done in let begin = c.args.begin in let first = g.S.Stepper.asked c.args.stepper.now in let from = c.loop-done.invariant.from in
-    let wanted = wanted_by (line_if c.args.self.beside) cell.inputs in
+    let t = c.loop-t.t in let done = t - 1 in let begin = c.args.begin in let first = g.S.Stepper.asked c.args.stepper.now in let from = c.loop-t.invariant.from in
+    let wanted = wanted_by (line_if c.args.self.course.beside) cell.inputs in
+    let low : t ≤ c.args.last = c.loop-t-test.true in let stood : min c.args.last done ≡ done = omega arith in
     let here = work_at answer cell.kind cell.delays inputs wanted (suc done) in
     let more : g.S.Stepper.asked c.pass.new.stepper ≡ first ++ line_work_from answer cell.kind cell.delays inputs wanted (suc begin) (suc (suc done)) =
     c.pass.ensures.asked
-    ∙ ap (λ o. g.S.Stepper.asked c.loop-done.stepper ++ work_at answer cell.kind cell.delays inputs (wanted_by (line_if o) cell.inputs) (suc done)) c.loop-done.invariant.beside
-    ∙ ap (λ l. l ++ here) c.loop-done.invariant.asked
+    ∙ ap (λ o. g.S.Stepper.asked c.loop-t.stepper ++ work_at answer cell.kind cell.delays inputs (wanted_by (line_if o) cell.inputs) (suc done)) c.loop-t.invariant.beside
+    ∙ ap (λ l. l ++ here) (c.loop-t.invariant.asked ∙ ap (λ m. first ++ line_work_from answer cell.kind cell.delays inputs wanted (suc begin) (suc m)) stood)
     ∙ append_assoc first (line_work_from answer cell.kind cell.delays inputs wanted (suc begin) (suc done)) here
     ∙ ap (λ l. first ++ l) (sym (one_more_from answer cell.kind cell.delays inputs wanted (suc begin) (suc done) (omega arith))) in
-    let low : done < c.args.last = c.loop-done-test.true in
     on_err c.go_along.result _ (suc (suc done), omega arith, omega arith, more)
