@@ -2,8 +2,6 @@
 #![tactic(auto)]
 
 #[cfg(test)]
-mod bit_sets;
-#[cfg(test)]
 mod bytes;
 #[cfg(test)]
 mod catalogs;

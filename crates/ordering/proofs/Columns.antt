@@ -5,27 +5,18 @@ use Rattle.std.specs.List.{filter, flat_map}
 use Rattle.std.proofs.lemmas.Bool.Decides.{nat_tests}
 use Rattle.std.proofs.lemmas.List.Concat.{flat_map-append}
 use Rattle.std.proofs.lemmas.List.Elements.{filter-append}
-use Rattle.std.proofs.lemmas.List.Sorted.{IsPermutation-append_comm, IsPermutation-append_left, IsPermutation-append_right, IsPermutation-refl, IsPermutation-trans}
+use Rattle.std.proofs.lemmas.List.Sorted.{IsPermutation-append_right, IsPermutation-refl, IsPermutation-trans}
 use Rattle.gatestep.specs.Step.{State, Evaluation}
 use Rattle.design.specs.Netlist.{GateEntry, Netlist}
 use Rattle.waveform.specs.Timelines.{moments}
 use Rattle.scratch.specs.Work.{is_stirred, stirred_at, task_at, work_at, work_below}
 use Rattle.scratch.specs.kept.Work.{work_from}
+use Rattle.scratch.proofs.Apart.{along, exchange}
 use Rattle.ordering.specs.kept.Gates.{gates_work, gates_work_from, moments_from}
 
 pub map_twice : {A B C : Type 0} (f : A → B) (g : B → C) (xs : List A) → map g (map f xs) ≡ map (λ x. g (f x)) xs
 map_twice f g [] = refl
 map_twice f g (x ∷ xs) = ap (λ l. g (f x) ∷ l) (map_twice f g xs)
-
--- the same of equal lists
-pub along : {A : Type 0} (xs us ys vs : List A) → xs ≡ us → ys ≡ vs → IsPermutation xs ys → IsPermutation us vs
-along xs us ys vs first second p = subst (λ l. IsPermutation us l) second (subst (λ l. IsPermutation l ys) first p)
-
--- the first two of three pieces change places
-pub exchange : {A : Type 0} (b x y : List A) → IsPermutation (b ++ (x ++ y)) (x ++ (b ++ y))
-exchange b x y =
-    along ((b ++ x) ++ y) (b ++ (x ++ y)) ((x ++ b) ++ y) (x ++ (b ++ y)) (append_assoc b x y) (append_assoc x b y)
-    (IsPermutation-append_left y (b ++ x) (x ++ b) (IsPermutation-append_comm b x))
 
 none_each : {T A : Type 0} (ts : List T) → flat_map {X = T} {A = A} (λ t. []) ts ≡ []
 none_each [] = refl

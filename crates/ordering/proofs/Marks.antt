@@ -21,7 +21,8 @@ use Rattle.scratch.specs.kept.Kept.{IsWiring, cell_of, input_of}
 use Rattle.scratch.specs.kept.Places.{has}
 use Rattle.ordering.specs.kept.Order.{follow, is_marked, is_order, is_ready, is_ready_by, may_come, may_come_by, may_follow}
 use Rattle.ordering.proofs.Orders.{first_of_both, second_of_both}
-use Rattle.ordering.proofs.Places.{has_more, itself, or_false, or_true, same, take_next, take_whole, there}
+use Rattle.scratch.proofs.Among.{has_more, nat_itself, nat_same, or_false, or_true}
+use Rattle.ordering.proofs.Places.{take_next, take_whole, there}
 
 -- Places one after another.
 
@@ -69,12 +70,12 @@ eq_suc : (p k : ℕ) → nat_eq p k ≡ nat_eq (suc p) (suc k)
 eq_suc p k = by (nat_eq p k) refl
   where
     by : (b : Bool) → nat_eq p k ≡ b → nat_eq p k ≡ nat_eq (suc p) (suc k)
-    by true is = is ∙ sym (ap (λ z. nat_eq (suc z) (suc k)) (same p k is) ∙ itself (suc k))
+    by true is = is ∙ sym (ap (λ z. nat_eq (suc z) (suc k)) (nat_same p k is) ∙ nat_itself (suc k))
     by false is = let e : nat_eq (suc p) (suc k) ≡ false = grind (arith, nat_tests) in is ∙ sym e
 
 pub mark : (marks : List Bool) (k p : ℕ) → k < length marks → is_marked (set marks k true) p ≡ (is_marked marks p || nat_eq p k)
 mark [] k p low = absurd (omega arith)
-mark (m ∷ marks) zero zero low = sym (ap (λ (b : Bool). m || b) (itself 0) ∙ or_true m)
+mark (m ∷ marks) zero zero low = sym (ap (λ (b : Bool). m || b) (nat_itself 0) ∙ or_true m)
 mark (m ∷ marks) zero (suc p) low = let e : nat_eq (suc p) 0 ≡ false = grind (arith, nat_tests) in sym (ap (λ (b : Bool). is_marked marks p || b) e ∙ or_false (is_marked marks p))
 mark (m ∷ marks) (suc k) zero low = let e : nat_eq 0 (suc k) ≡ false = grind (arith, nat_tests) in sym (ap (λ (b : Bool). m || b) e ∙ or_false m)
 mark (m ∷ marks) (suc k) (suc p) low = mark marks k p (omega arith) ∙ ap (λ (b : Bool). is_marked marks p || b) (eq_suc p k)

@@ -23,7 +23,8 @@ use Rattle.waveform.specs.Timelines.{moments}
 use Rattle.ordering.specs.kept.Gates.{IsBeginning}
 use Rattle.ordering.specs.kept.Order.{is_order, is_ready, may_come, may_follow}
 use Rattle.ordering.proofs.Orders.{all_below, first_of_both, second_of_both}
-use Rattle.ordering.proofs.Places.{has_more, itself, same, there}
+use Rattle.scratch.proofs.Among.{has_more, nat_itself, nat_same}
+use Rattle.ordering.proofs.Places.{there}
 
 module _ (answer : Evaluation → ℕ → State) (d : Netlist) (traces : List (List (ℕ × State))) (f : ℕ → Bool) (come : (p : ℕ) → f p ≡ true → IsTraced answer d traces p) where
   traced_each : (places : List ℕ) → list_all f places ≡ true → AreTraced answer d traces places
@@ -64,7 +65,7 @@ set_here (w ∷ xs) (suc p) x h = set_here xs p x (omega arith)
 
 pub set_apart : {X : Type 0} (xs : List X) (p k : ℕ) (x : X) → nat_eq k p ≡ false → slice_get (set xs p x) k ≡ slice_get xs k
 set_apart [] p k x h = refl
-set_apart (w ∷ xs) zero zero x h = absurd (let e = itself 0 in cc)
+set_apart (w ∷ xs) zero zero x h = absurd (let e = nat_itself 0 in cc)
 set_apart (w ∷ xs) zero (suc k) x h = refl
 set_apart (w ∷ xs) (suc p) zero x h = refl
 set_apart (w ∷ xs) (suc p) (suc k) x h = set_apart xs p k x (grind (arith, nat_tests))
@@ -90,7 +91,7 @@ module _ (answer : Evaluation → ℕ → State) (d : Netlist) (traces new : Lis
     one_traced done before p on = by (nat_eq p k) refl
       where
         by : (b : Bool) → nat_eq p k ≡ b → IsTraced answer d new p
-        by true e = let at = same p k e in rw at new_traced
+        by true e = let at = nat_same p k e in rw at new_traced
         by false e =
             let earlier : has p done ≡ true = sym (or_off (has p done) (nat_eq p k) e) ∙ sym (has_more p k done) ∙ on in
             ap (λ l. slice_get l p) written.2 ∙ set_apart traces k p (trace_of answer d written.0) e ∙ before p earlier

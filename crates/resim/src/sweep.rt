@@ -153,6 +153,7 @@ fn pass_beside<S: Stepper>(
 {
     former.old.lawful();
     engine.stir::<S>(alloc, former.new, wiring, t)?;
+    engine.put_in_order::<S>(former.new, t);
     beside.lines.advance(alloc, t)?;
     let present = Present {
         wiring,
@@ -169,7 +170,7 @@ fn pass_beside<S: Stepper>(
         stepper,
         &mut engine.answers,
     )?;
-    engine.settle::<S>(alloc, former.new, t)?;
+    engine.settle::<S>(former.new, t)?;
     Ok(())
 }
 

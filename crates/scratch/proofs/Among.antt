@@ -1,11 +1,12 @@
 -- Places among places.
-use Rattle.std.proofs.Common.{◌≡◌, ◌<◌, ◌≤◌, ◌∙◌, sym, ap, refl, Bool, true, false, cond, ℕ, zero, suc, ◌+◌, List, [], ◌∷◌, ◌++◌, take, Some, slice_get, arith, ◌⊎◌, inl, inr, All}
+use Rattle.std.proofs.Common.{◌≡◌, ◌<◌, ◌≤◌, ◌∙◌, sym, ap, refl, Bool, true, false, cond, ℕ, zero, suc, ◌+◌, List, [], ◌∷◌, ◌++◌, length, take, get_or, Some, slice_get, arith, ◌⊎◌, inl, inr, All}
 use Rattle.std.specs.Cmp.{both_ways, nat_eq_equiv}
 use Rattle.std.specs.List.{Contains, filter, list_any}
 use Rattle.std.specs.Prelude.{nat_eq, ◌||◌, ◌&&◌}
 use Rattle.std.proofs.lemmas.Bool.Decides.{nat_tests}
 use Rattle.std.proofs.lemmas.List.Folds.{list_any-append}
 use Rattle.std.proofs.lemmas.Map.Views.{All-from_any, Contains-from_any, list_any-from_Contains, exact_unsigned_eq}
+use Rattle.std.proofs.lemmas.Option.{slice_get-get_or}
 use Rattle.scratch.specs.kept.Places.{AreRising, has}
 use Rattle.scratch.proofs.Lists.{take_next}
 
@@ -89,6 +90,17 @@ in_range ks n h = All-from_any nat_eq_equiv (λ k. k < n) ks h
 -- one place more
 pub has_more : (k p : ℕ) (ks : List ℕ) → has k (ks ++ p ∷ []) ≡ (has k ks || nat_eq k p)
 has_more k p ks = list_any-append (nat_eq k) ks (p ∷ []) ∙ ap (λ (b : Bool). has k ks || b) (or_false (nat_eq k p))
+
+pub has_next : (k : ℕ) (ks : List ℕ) (i : ℕ) → i < length ks → has k (take (i + 1) ks) ≡ (has k (take i ks) || nat_eq k (get_or ks i 0))
+has_next k ks i low = ap (has k) (take_next ks i (get_or ks i 0) (slice_get-get_or ks i 0 low)) ∙ has_more k (get_or ks i 0) (take i ks)
+
+-- a place that is in neither of two lists
+pub in_neither : (k : ℕ) (xs ys : List ℕ) → has k (xs ++ ys) ≡ false → (has k xs ≡ false) × (has k ys ≡ false)
+in_neither k xs ys off = neither_by (has k xs) (has k ys) (sym (list_any-append (nat_eq k) xs ys) ∙ off)
+  where
+    neither_by : (a b : Bool) → (a || b) ≡ false → (a ≡ false) × (b ≡ false)
+    neither_by true b h = absurd (cc)
+    neither_by false b h = (refl, h)
 
 any_more : {X : Type 0} (f : X → Bool) (xs : List X) (i : ℕ) (x : X) → slice_get xs i ≡ Some x → list_any f (take (i + 1) xs) ≡ (list_any f (take i xs) || f x)
 any_more f xs i x at =

@@ -6,9 +6,9 @@ use Rattle.std.proofs.lemmas.Bool.Decides.{nat_tests}
 use Rattle.std.proofs.lemmas.List.{append_cancel_left}
 use Rattle.gatestep.specs.Step.{State, Evaluation}
 use Rattle.design.specs.Netlist.{Netlist}
-use Rattle.scratch.specs.Asked.{IsAskedInPart}
+use Rattle.scratch.specs.Asked.{IsAskedInPart, IsAskedInSomeOrder}
 use Rattle.scratch.specs.Work.{work_at, work_below}
-use Rattle.scratch.specs.kept.Grown.{grown_first}
+use Rattle.scratch.specs.kept.Grown.{all_is_part, grown_all, grown_first, grown_none, grown_then, part_of_more, part_then}
 use Rattle.scratch.specs.kept.Work.{HasGrownOrNot, work_from}
 
 -- what follows from what an answer says
@@ -24,6 +24,11 @@ err_on (Err e) follows p = follows p
 pub held_err : {A E : Type 0} {P : Type 0} (r : Result A E) → P → OnErr r P
 held_err (Ok x) p = tt
 held_err (Err e) p = p
+
+-- of some work all was asked or nothing
+pub part_or_none : (old new work : List (Evaluation × ℕ)) → HasGrownOrNot old new work → IsAskedInPart old new work
+part_or_none old new work (inl same) = subst (λ l. IsAskedInPart old l work) (sym same) (grown_none old work)
+part_or_none old new work (inr more) = all_is_part old new work (grown_all old new work more)
 
 holds : (n t : ℕ) → n ≤ t → nat_le n t ≡ true
 holds n t le = grind (arith, nat_tests)
@@ -71,40 +76,34 @@ module _ (answer : Evaluation → ℕ → State) (d : Netlist) where
       append_cancel_left (work_below answer d a) (work_from answer d a u) (work_from answer d a n)
       (sym (whole a u (omega arith)) ∙ idle ∙ whole a n low)
 
-  -- What was asked so far by a run that goes on from the moment a, where the moments from n to t asked nothing.
-  module _ (base : List (Evaluation × ℕ)) (a : ℕ) where
-    -- all that was asked is the work below some moment, up to the horizon
-    abbrev pub IsPart : ℕ → List (Evaluation × ℕ) → Type 0
-    IsPart horizon now = (n : ℕ) × (a ≤ n) × (n ≤ suc horizon) × (now ≡ base ++ work_from answer d a n)
+  -- What was asked by a run that goes on from the moment a, of which the moments below t are done.
+  module _ (base old new : List (Evaluation × ℕ)) (a t : ℕ) (begun : a ≤ t) (was : IsAskedInSomeOrder base old (work_from answer d a t)) where
+    -- the work of t more
+    pub one_more : IsAskedInSomeOrder old new (work_at answer d t) → IsAskedInSomeOrder base new (work_from answer d a (suc t))
+    one_more more = subst (IsAskedInSomeOrder base new) (sym (grown a t begun)) (grown_then base old new (work_from answer d a t) (work_at answer d t) was more)
 
-    module _ (old new : List (Evaluation × ℕ)) (n t : ℕ) (begun : a ≤ n) (from : n ≤ t) (idle : work_below answer d t ≡ work_below answer d n) (was : old ≡ base ++ work_from answer d a n) where
-      -- the work of t more
-      pub one_more : new ≡ old ++ work_at answer d t → new ≡ base ++ work_from answer d a (suc t)
-      one_more more =
-          more ∙ ap (λ l. l ++ work_at answer d t) (was ∙ ap (λ l. base ++ l) (sym (unmoved a n t begun from idle)))
-          ∙ append_assoc base (work_from answer d a t) (work_at answer d t) ∙ ap (λ l. base ++ l) (sym (grown a t (omega arith)))
-
-      -- a fault came at t
-      pub part : (horizon : ℕ) → t ≤ horizon → HasGrownOrNot old new (work_at answer d t) → IsPart horizon new
-      part horizon within (inl same) = (n, begun, omega arith, same ∙ was)
-      part horizon within (inr more) = (suc t, omega arith, omega arith, one_more more)
+    -- a fault came at t
+    pub part : (n : ℕ) → suc t ≤ n → IsAskedInPart old new (work_at answer d t) → IsAskedInPart base new (work_from answer d a n)
+    part n within some =
+        subst (IsAskedInPart base new) (ap (λ l. l ++ work_from answer d (suc t) n) (sym (grown a t begun)) ∙ sym (parted a (suc t) n (omega arith) within))
+        (part_of_more base new (work_from answer d a t ++ work_at answer d t) (work_from answer d (suc t) n) (part_then base old new (work_from answer d a t) (work_at answer d t) was some))
 
   -- What was asked by a run from scratch.
-  module _ (base : List (Evaluation × ℕ)) (old new : List (Evaluation × ℕ)) (n : ℕ) (begun : 1 ≤ n) (was : old ≡ base ++ work_at answer d 0) where
-    pub from_scratch : new ≡ old ++ work_from answer d 1 n → new ≡ base ++ work_below answer d n
-    from_scratch more =
-        more ∙ ap (λ l. l ++ work_from answer d 1 n) was
-        ∙ append_assoc base (work_at answer d 0) (work_from answer d 1 n) ∙ ap (λ l. base ++ l) (sym (whole 1 n begun))
+  module _ (base old new : List (Evaluation × ℕ)) (n : ℕ) (begun : 1 ≤ n) (was : old ≡ base ++ work_at answer d 0) where
+    first : IsAskedInSomeOrder base old (work_at answer d 0)
+    first = grown_all base old (work_at answer d 0) was
+
+    pub from_scratch : IsAskedInSomeOrder old new (work_from answer d 1 n) → IsAskedInSomeOrder base new (work_below answer d n)
+    from_scratch more = subst (IsAskedInSomeOrder base new) (sym (whole 1 n begun)) (grown_then base old new (work_at answer d 0) (work_from answer d 1 n) first more)
+
+    pub part_from_scratch : IsAskedInPart old new (work_from answer d 1 n) → IsAskedInPart base new (work_below answer d n)
+    part_from_scratch some = subst (IsAskedInPart base new) (sym (whole 1 n begun)) (part_then base old new (work_at answer d 0) (work_from answer d 1 n) first some)
 
   -- What was asked where a run ended early, of all that is asked up to the moment m.
   module _ (base now : List (Evaluation × ℕ)) (m : ℕ) where
     -- it ended at the moment n
     pub early : (n : ℕ) → n ≤ m → now ≡ base ++ work_below answer d n → IsAskedInPart base now (work_below answer d m)
     early n low is = subst (IsAskedInPart base now) (sym (whole n m low)) (grown_first base now (work_below answer d n) (work_from answer d n m) is)
-
-    -- it began at the moment s and ended at n
-    pub early_from : (s n : ℕ) → s ≤ n → n ≤ m → now ≡ base ++ work_from answer d s n → IsAskedInPart base now (work_from answer d s m)
-    early_from s n begun low is = subst (IsAskedInPart base now) (sym (parted s n m begun low)) (grown_first base now (work_from answer d s n) (work_from answer d n m) is)
 
   -- it ended at the moment 0
   pub early_at_first : (base now : List (Evaluation × ℕ)) (m : ℕ) → 0 < m → HasGrownOrNot base now (work_at answer d 0) → IsAskedInPart base now (work_below answer d m)

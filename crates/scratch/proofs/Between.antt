@@ -3,12 +3,9 @@ use Rattle.std.proofs.Common.{◌≡◌, ◌<◌, ◌∙◌, sym, ap, refl, Bool
 use Rattle.std.specs.Prelude.{nat_eq, ◌||◌}
 use Rattle.std.proofs.Math.ListN.{set}
 use Rattle.std.proofs.lemmas.Bool.Decides.{nat_tests}
+pub use Rattle.scratch.specs.kept.Places.{Between}
 use Rattle.scratch.specs.kept.Places.{has}
 use Rattle.scratch.proofs.Among.{has_more, nat_itself, nat_same, or_false, or_true}
-
--- at the places `done` it is new, elsewhere as it was
-abbrev pub Between : {X : Type 0} → (done : List ℕ) → (old new now : ℕ → X) → Type 0
-Between done old new now = (k : ℕ) → now k ≡ cond (has k done) (new k) (old k)
 
 module _ {X : Type 0} (done : List ℕ) (old new now : ℕ → X) (so_far : Between done old new now) where
   pub is_old : (p : ℕ) → has p done ≡ false → now p ≡ old p

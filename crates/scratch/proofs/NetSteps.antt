@@ -22,6 +22,7 @@ use Rattle.waveform.specs.kept.Timelines.{is_reached, pushed}
 use Rattle.smallvec.specs.SmallVec.{SmallVec}
 use Rattle.scratch.specs.kept.Kept.{currents_of, driven_kind, lone_driver, net_from, only_place, values_at}
 use Rattle.scratch.specs.kept.Places.{changes_at, has}
+use Rattle.scratch.specs.kept.Nets.{Part}
 use Rattle.scratch.specs.kept.Recorded.{recorded_below}
 use Rattle.scratch.specs.Run.{state_before, value}
 use Rattle.scratch.proofs.Among.{has_more, nat_itself, or_false, or_true}
@@ -40,14 +41,6 @@ module _ (answer : Evaluation → ℕ → State) (d : Netlist) (t : ℕ) where
 
   abbrev changes : ℕ → Bool
   changes k = changes_at answer d k t
-
-  -- the nets at the places `done` are done
-  pub record Part (done : List ℕ) (vs : List Value) (ws : List (List (ℕ × Value))) (cs : List ℕ) : Type 0 where
-    pub values : Between done (slice_get (values_of (t - 1))) (slice_get (values_of t)) (slice_get vs)
-    pub waves : Between done (slice_get (waves_of t)) (slice_get (waves_of (t + 1))) (slice_get ws)
-    pub changed : Between done (λ k. false) changes (λ k. has k cs)
-    pub as_many : length vs ≡ length d.nets
-    pub as_many_waves : length ws ≡ length d.nets
 
   -- the value that is found for a net
   pub resolved_is : (states : List State) (n : NetEntry) (places : List ℕ) (v : Value) → states ≡ map (state_before answer d t) d.gates → places ≡ driver_places d.gates n.name →
@@ -85,8 +78,8 @@ module _ (answer : Evaluation → ℕ → State) (d : Netlist) (t : ℕ) where
     same_wave_at k h =
         slice_get-map (λ n. recorded_below answer d n t) d.nets k ∙ same_wave_by (slice_get d.nets k) h ∙ sym (slice_get-map (λ n. recorded_below answer d n (t + 1)) d.nets k)
 
-    module _ (p : ℕ) (done : List ℕ) (values : List Value) (waves : List (List (ℕ × Value))) (changed : List ℕ) (part : Part done values waves changed) where
-      as_it_is : slice_get values p ≡ slice_get (values_of t) p → slice_get waves p ≡ slice_get (waves_of (t + 1)) p → has p changed ≡ changes p → Part (done ++ p ∷ []) values waves changed
+    module _ (p : ℕ) (done : List ℕ) (values : List Value) (waves : List (List (ℕ × Value))) (changed : List ℕ) (part : Part answer d t done values waves changed) where
+      as_it_is : slice_get values p ≡ slice_get (values_of t) p → slice_get waves p ≡ slice_get (waves_of (t + 1)) p → has p changed ≡ changes p → Part answer d t (done ++ p ∷ []) values waves changed
       as_it_is v w c =
           record {
             values = pass done (values_of (t - 1)) (values_of t) values part.values p v;
@@ -96,7 +89,7 @@ module _ (answer : Evaluation → ℕ → State) (d : Netlist) (t : ℕ) where
             as_many_waves = part.as_many_waves;
           }
 
-      stayed_by : changes p ≡ false → (b : Bool) → has p done ≡ b → Part (done ++ p ∷ []) values waves changed
+      stayed_by : changes p ≡ false → (b : Bool) → has p done ≡ b → Part answer d t (done ++ p ∷ []) values waves changed
       stayed_by off true on =
           as_it_is (is_new done (slice_get (values_of (t - 1))) (slice_get (values_of t)) (slice_get values) part.values p on)
           (is_new done (slice_get (waves_of t)) (slice_get (waves_of (t + 1))) (slice_get waves) part.waves p on)
@@ -107,7 +100,7 @@ module _ (answer : Evaluation → ℕ → State) (d : Netlist) (t : ℕ) where
           (is_old done (λ k. false) changes (λ k. has k changed) part.changed p not_yet ∙ sym off)
 
       -- a net that does not change is done
-      pub stayed : changes p ≡ false → Part (done ++ p ∷ []) values waves changed
+      pub stayed : changes p ≡ false → Part answer d t (done ++ p ∷ []) values waves changed
       stayed off = stayed_by off (has p done) refl
 
       module _ (n : NetEntry) (here : slice_get d.nets p ≡ Some n) (v old : Value) (is : v ≡ value answer d n t) (at : slice_get values p ≡ Some old) where
@@ -121,12 +114,13 @@ module _ (answer : Evaluation → ℕ → State) (d : Netlist) (t : ℕ) where
             ∙ sym (is_old done (slice_get (values_of (t - 1))) (slice_get (values_of t)) (slice_get values) part.values p not_yet) ∙ at in
             cc
 
-        change_is : has p done ≡ false → changes p ≡ not (same_value v old)
+        -- whether the net changes is known by what stood before
+        pub change_is : has p done ≡ false → changes p ≡ not (same_value v old)
         change_is not_yet =
             ap (λ o. option_map_or (λ n. not (same_value (value answer d n t) (value answer d n (t - 1)))) o false) here
             ∙ ap (λ x. not (same_value x (value answer d n (t - 1)))) (sym is) ∙ ap (λ x. not (same_value v x)) (old_value not_yet)
 
-        again_by : (b : Bool) → has p done ≡ b → not (same_value v old) ≡ false → Part (done ++ p ∷ []) values waves changed
+        again_by : (b : Bool) → has p done ≡ b → not (same_value v old) ≡ false → Part answer d t (done ++ p ∷ []) values waves changed
         again_by true on same =
             as_it_is (is_new done (slice_get (values_of (t - 1))) (slice_get (values_of t)) (slice_get values) part.values p on)
             (is_new done (slice_get (waves_of t)) (slice_get (waves_of (t + 1))) (slice_get waves) part.waves p on)
@@ -134,7 +128,7 @@ module _ (answer : Evaluation → ℕ → State) (d : Netlist) (t : ℕ) where
         again_by false not_yet same = stayed (change_is not_yet ∙ same)
 
         -- a net whose value is found to stand already is done
-        pub again : not (same_value v old) ≡ false → Part (done ++ p ∷ []) values waves changed
+        pub again : not (same_value v old) ≡ false → Part answer d t (done ++ p ∷ []) values waves changed
         again same = again_by (has p done) refl same
 
         first_by : (b : Bool) → has p done ≡ b → not (same_value v old) ≡ true → has p done ≡ false
@@ -157,7 +151,7 @@ module _ (answer : Evaluation → ℕ → State) (d : Netlist) (t : ℕ) where
 
           -- a net that changes goes on, with what is recorded of it
           goes_on : (ws : List (List (ℕ × Value))) → Between (done ++ p ∷ []) (slice_get (waves_of t)) (slice_get (waves_of (t + 1))) (slice_get ws) → length ws ≡ length d.nets →
-              Part (done ++ p ∷ []) (set values p v) ws (changed ++ p ∷ [])
+              Part answer d t (done ++ p ∷ []) (set values p v) ws (changed ++ p ∷ [])
           goes_on ws are as_many =
               let in_nets = slice_get_within d.nets p n here in
               let in_values : p < length values = rw part.as_many in_nets in
@@ -173,7 +167,7 @@ module _ (answer : Evaluation → ℕ → State) (d : Netlist) (t : ℕ) where
               }
 
           -- of one with one driver nothing more is recorded
-          pub went_alone : (k : ℕ) → lone_driver d n ≡ Some k → Part (done ++ p ∷ []) (set values p v) waves (changed ++ p ∷ [])
+          pub went_alone : (k : ℕ) → lone_driver d n ≡ Some k → Part answer d t (done ++ p ∷ []) (set values p v) waves (changed ++ p ∷ [])
           went_alone k alone =
               let same : slice_get waves p ≡ slice_get (waves_of (t + 1)) p =
               is_old done (slice_get (waves_of t)) (slice_get (waves_of (t + 1))) (slice_get waves) part.waves p not_done
@@ -195,7 +189,7 @@ module _ (answer : Evaluation → ℕ → State) (d : Netlist) (t : ℕ) where
             wave_reached reached =
                 ap (λ x. is_reached same_value standing x t v) (sym wave_is) ∙ reached (value answer d n) (λ u. refl) t begun v ∙ ap (same_value v) (old_value not_done)
 
-            pub went : Grows same_value standing → Part (done ++ p ∷ []) (set values p v) (set waves p (pushed same_value standing w t v)) (changed ++ p ∷ [])
+            pub went : Grows same_value standing → Part answer d t (done ++ p ∷ []) (set values p v) (set waves p (pushed same_value standing w t v)) (changed ++ p ∷ [])
             went grows =
                 let in_nets = slice_get_within d.nets p n here in
                 let in_waves : p < length waves = rw part.as_many_waves in_nets in

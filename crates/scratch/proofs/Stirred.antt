@@ -16,13 +16,13 @@ use Rattle.design.specs.Connections.{Connection, to_net, to_constant}
 use Rattle.design.specs.Names.{same_name}
 use Rattle.design.specs.Netlist.{NetEntry, GateEntry, Netlist, drivers_of, has_point, is_at_net, net_named, reads}
 use Rattle.fourstate.specs.kept.ValueLaws.{same_self}
-use Rattle.scratch.specs.kept.Places.{Announces, AreRising, Covers, changes_at, drives_at, has, is_due_at, passing, pends_at, point_at, reads_at}
+use Rattle.scratch.specs.kept.Places.{Announces, Covers, changes_at, drives_at, has, is_due_at, passing, pends_at, point_at, reads_at}
 use Rattle.scratch.specs.Run.{state_before, terminal_at, value}
 use Rattle.scratch.specs.Work.{is_due, is_stirred, same_values}
 use Rattle.scratch.proofs.Among.{and_false, any_from, any_to, has_at, has_filter, nat_itself}
-use Rattle.scratch.proofs.Passing.{are_passing}
+use Rattle.scratch.proofs.Passing.{has_place}
 use Rattle.scratch.proofs.Skips.{all_at, is_due_now, not_true}
-use Rattle.scratch.proofs.Still.{neither, still_net}
+use Rattle.scratch.proofs.Still.{still_net}
 
 or_swap : (a b : Bool) → (a || b) ≡ (b || a)
 or_swap true true = refl
@@ -114,16 +114,14 @@ module _ (answer : Evaluation → ℕ → State) (d : Netlist) (t : ℕ) (begun 
 
   module _ (current : (e : Evaluation) (t : ℕ) → (answer e t).current ≡ (due e.state t).current)
       (points : ℕ → List ℕ) (announces : Announces (point_at d.nets) points t) (output : ℕ → ℕ → Bool) (drive : (k m : ℕ) → drives_at d k m ≡ true → output k m ≡ true)
-      (gates : List ℕ) (due_gates : (k : ℕ) → has k gates ≡ is_due_at states k t) (nets : List ℕ)
-      (those : (m : ℕ) → has m nets ≡ (has m (points t) || list_any (λ k. output k m) gates)) where
-    keeps : (m : ℕ) (n : NetEntry) → slice_get d.nets m ≡ Some n → has m nets ≡ false → value answer d n t ≡ value answer d n (t - 1)
-    keeps m n at off =
-        let parts = neither (has m (points t)) (list_any (λ k. output k m) gates) (sym (those m) ∙ off) in
+      (gates : List ℕ) (due_gates : (k : ℕ) → has k gates ≡ is_due_at states k t) where
+    keeps : (m : ℕ) (n : NetEntry) → slice_get d.nets m ≡ Some n → has m (points t) ≡ false → list_any (λ k. output k m) gates ≡ false → value answer d n t ≡ value answer d n (t - 1)
+    keeps m n at undriven off =
         let no_point : has_point n.points t ≡ false = not_true (has_point n.points t) (λ h.
         let there = announces m t (omega arith) (ap (λ o. option_map_or (λ n. has_point n.points t) o false) at ∙ h) in
         let from = there.1 in let to = there.2 in
         let same : there.0 ≡ t = omega arith in
-        let never : false ≡ true = sym parts.0 ∙ ap (λ u. has m (points u)) (sym same) ∙ there.3 in cc) in
+        let never : false ≡ true = sym undriven ∙ ap (λ u. has m (points u)) (sym same) ∙ there.3 in cc) in
         let none : All (λ g. is_due (state_before answer d t g) t ≡ false) (drivers_of d n.name) =
         all_of_filter (λ g. same_name g.output n.name) (λ g. is_due (state_before answer d t g) t ≡ false) d.gates (λ k g here named.
         not_true (is_due (state_before answer d t g) t) (λ h.
@@ -132,16 +130,16 @@ module _ (answer : Evaluation → ℕ → State) (d : Netlist) (t : ℕ) (begun 
         let in_due : has k gates ≡ true = due_gates k ∙ ap (λ o. option_map_or (λ s. is_due s t) o false) (state_here k g here) ∙ h in
         let i = has_at k gates in_due in
         let any = any_to (λ k. output k m) gates i.0 k i.1 (drive k m drives) in
-        let never : false ≡ true = sym parts.1 ∙ any in cc)) in
+        let never : false ≡ true = sym off ∙ any in cc)) in
         still_at current n t begun no_point none
 
-    others_by : (m : ℕ) (o : Option NetEntry) → slice_get d.nets m ≡ o → has m nets ≡ false → option_map_or (λ n. not (same_value (value answer d n t) (value answer d n (t - 1)))) o false ≡ false
-    others_by m None at off = refl
-    others_by m (Some n) at off = ap (λ v. not (same_value v (value answer d n (t - 1)))) (keeps m n at off) ∙ ap not (same_self (value answer d n (t - 1)))
+    others_by : (m : ℕ) (o : Option NetEntry) → slice_get d.nets m ≡ o → has m (points t) ≡ false → list_any (λ k. output k m) gates ≡ false → option_map_or (λ n. not (same_value (value answer d n t) (value answer d n (t - 1)))) o false ≡ false
+    others_by m None at undriven off = refl
+    others_by m (Some n) at undriven off = ap (λ v. not (same_value v (value answer d n (t - 1)))) (keeps m n at undriven off) ∙ ap not (same_self (value answer d n (t - 1)))
 
     -- other nets keep their values
-    pub others : (m : ℕ) → has m nets ≡ false → changes_at answer d m t ≡ false
-    others m off = others_by m (slice_get d.nets m) refl off
+    pub others : (m : ℕ) → has m (points t) ≡ false → list_any (λ k. output k m) gates ≡ false → changes_at answer d m t ≡ false
+    others m undriven off = others_by m (slice_get d.nets m) refl undriven off
 
   module _ (distinct : AllPairs (λ n m. n.name ≢ m.name) d.nets) where
     -- the value that an input reads has changed
@@ -221,10 +219,9 @@ module _ (answer : Evaluation → ℕ → State) (d : Netlist) (t : ℕ) (begun 
 
     -- those that are looked at are the stirred gates
     pub looked : (readers : ℕ → List ℕ) → ((k m : ℕ) → has k (readers m) ≡ reads_at d k m) → (changed : List ℕ) → ((m : ℕ) → has m changed ≡ changes_at answer d m t) → (due gates : List ℕ) →
-        ((k : ℕ) → has k due ≡ is_due_at states k t) → AreRising 0 gates → ((k : ℕ) → has k gates ≡ (has k due || list_any (λ m. has k (readers m)) changed)) →
-        gates ≡ passing (λ g. is_stirred answer d g t) 0 d.gates
-    looked readers read changed change due gates due_gates rising those =
-        are_passing (λ g. is_stirred answer d g t) gates d.gates rising
-        (λ k. those k ∙ ap (λ (b : Bool). b || list_any (λ m. has k (readers m)) changed) (due_gates k)
+        ((k : ℕ) → has k due ≡ is_due_at states k t) → ((k : ℕ) → has k gates ≡ (has k due || list_any (λ m. has k (readers m)) changed)) →
+        (k : ℕ) → has k gates ≡ has k (passing (λ g. is_stirred answer d g t) 0 d.gates)
+    looked readers read changed change due gates due_gates those k =
+        those k ∙ ap (λ (b : Bool). b || list_any (λ m. has k (readers m)) changed) (due_gates k)
         ∙ ap (λ (b : Bool). is_due_at states k t || b) (any_alike (λ m. has k (readers m)) (λ m. reads_at d k m) (λ m. read k m) changed)
-        ∙ looked_by k (slice_get d.gates k) refl changed change)
+        ∙ looked_by k (slice_get d.gates k) refl changed change ∙ sym (has_place (λ g. is_stirred answer d g t) d.gates k)

@@ -3,6 +3,8 @@ pub mod Grown
 pub mod HorizonLaws
 pub mod Kept
 pub mod Lost
+pub mod Marks
+pub mod Nets
 pub mod PackedInputs
 pub mod Places
 pub mod Plain

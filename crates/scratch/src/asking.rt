@@ -14,8 +14,8 @@ ghost use Rattle.scratch.specs.Work.{is_stirred, stirred_at, work_at};
 ghost use Rattle.scratch.specs.kept.Work.{HasGrownOrNot};
 
 use crate::moment::task;
+use crate::setting::Setting;
 use crate::wiring::Wiring;
-use design::Design;
 use fourstate::Value;
 use gatestep::{Driver, StepFault, Stepper, Task};
 use std::alloc::AllocError;
@@ -71,27 +71,26 @@ fn evaluate_each<S: Stepper>(
 
 /// The answers to the tasks of the stirred gates, which are at these places.
 pub fn ask<S: Stepper>(
-    design: &Design,
-    wiring: &Wiring,
+    setting: &Setting,
     values: &[Value],
     states: &[Driver],
     gates: &[usize],
     stepper: &mut S,
-    t: u64,
     tasks: &mut Vec<Task>,
     answers: &mut Vec<Driver>,
 ) -> Result<(), StepFault>
-    requires wired { IsWiring (netlist design.now) wiring.now }
-    requires values { values.now ≡ map (λ n. value S.answer (netlist design.now) n t) (netlist design.now).nets }
-    requires states { states.now ≡ map (state_before S.answer (netlist design.now) t) (netlist design.now).gates }
-    requires gates { gates.now ≡ passing (λ g. is_stirred S.answer (netlist design.now) g t) 0 (netlist design.now).gates }
-    requires ready { All (PendingFrom t) states.now }
-    requires within { t ≤ MAX_TIME }
-    ensures answers { OnOk result (answers.new.items ≡ map (state_before S.answer (netlist design.now) (t + 1)) (stirred_at S.answer (netlist design.now) t)) }
-    ensures asked { OnOk result (S.asked stepper.new ≡ S.asked stepper.old ++ work_at S.answer (netlist design.now) t) }
-    ensures part { OnErr result (HasGrownOrNot (S.asked stepper.old) (S.asked stepper.new) (work_at S.answer (netlist design.now) t)) }
+    requires wired { IsWiring (netlist setting.now.design.now) setting.now.wiring.now }
+    requires values { values.now ≡ map (λ n. value S.answer (netlist setting.now.design.now) n setting.now.t) (netlist setting.now.design.now).nets }
+    requires states { states.now ≡ map (state_before S.answer (netlist setting.now.design.now) setting.now.t) (netlist setting.now.design.now).gates }
+    requires gates { gates.now ≡ passing (λ g. is_stirred S.answer (netlist setting.now.design.now) g setting.now.t) 0 (netlist setting.now.design.now).gates }
+    requires ready { All (PendingFrom setting.now.t) states.now }
+    requires within { setting.now.t ≤ MAX_TIME }
+    ensures answers { OnOk result (answers.new.items ≡ map (state_before S.answer (netlist setting.now.design.now) (setting.now.t + 1)) (stirred_at S.answer (netlist setting.now.design.now) setting.now.t)) }
+    ensures asked { OnOk result (S.asked stepper.new ≡ S.asked stepper.old ++ work_at S.answer (netlist setting.now.design.now) setting.now.t) }
+    ensures part { OnErr result (HasGrownOrNot (S.asked stepper.old) (S.asked stepper.new) (work_at S.answer (netlist setting.now.design.now) setting.now.t)) }
     ensures lost { S.losses stepper.new ≡ S.losses stepper.old + (if is_lost result then 1 else 0) }
 {
+    let Setting { wiring, t, .. } = *setting;
     if !stepper.deals(gates.len()) {
         evaluate_each(wiring, values, states, gates, stepper, t, answers)?;
         return Ok(());

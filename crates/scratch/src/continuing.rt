@@ -1,11 +1,12 @@
 //! A run that goes on from what stands up to the horizon.
 
-ghost use Rattle.std.specs.Prelude.{◌≡◌, ◌≤◌, ◌++◌, ℕ, suc, IfOk, OnErr, OnOk};
+ghost use Rattle.std.specs.Prelude.{◌≤◌, suc, IfOk, OnErr, OnOk};
 ghost use Rattle.design.specs.Keys.{netlist};
 ghost use Rattle.scratch.specs.kept.Kept.{IsWiring};
 ghost use Rattle.scratch.specs.kept.Lost.{CountsLoss};
 ghost use Rattle.scratch.specs.kept.Run.{IsRun};
 ghost use Rattle.scratch.specs.kept.Stands.{Stands};
+ghost use Rattle.scratch.specs.Asked.{IsAskedInPart, IsAskedInSomeOrder};
 ghost use Rattle.scratch.specs.kept.Work.{work_from};
 
 use crate::engine::Engine;
@@ -16,8 +17,8 @@ use std::alloc::Global;
 use waveform::Run;
 
 /// The run of the design by an engine of which the moments below `start` are done. It goes from one moment at which something
-/// happens to the next, and there asks for the stirred gates alone; a step is made only where there is one. After a fault what
-/// was asked is the work up to some moment.
+/// happens to the next, and there asks for the stirred gates alone, in any order; a step is made only where there is one. After a
+/// fault what was asked is a part of the work.
 pub fn run_on<S: Stepper>(
     alloc: Global,
     design: &Design,
@@ -30,9 +31,10 @@ pub fn run_on<S: Stepper>(
     requires stands { Stands S.answer (netlist design.now) engine start }
     requires within { start ≤ suc (netlist design.now).horizon }
     ensures run { IfOk result (IsRun S.answer design.now) }
-    ensures asked { OnOk result (S.asked stepper.new ≡ S.asked stepper.old ++ work_from S.answer (netlist design.now) start (suc (netlist design.now).horizon)) }
-    ensures part { OnErr result ((n : ℕ) × (start ≤ n) × (n ≤ suc (netlist design.now).horizon)
-        × (S.asked stepper.new ≡ S.asked stepper.old ++ work_from S.answer (netlist design.now) start n)) }
+    ensures asked { OnOk result (IsAskedInSomeOrder (S.asked stepper.old) (S.asked stepper.new)
+        (work_from S.answer (netlist design.now) start (suc (netlist design.now).horizon))) }
+    ensures part { OnErr result (IsAskedInPart (S.asked stepper.old) (S.asked stepper.new)
+        (work_from S.answer (netlist design.now) start (suc (netlist design.now).horizon))) }
     ensures lost { CountsLoss (S.losses stepper.old) (S.losses stepper.new) result }
 {
     let horizon = design.horizon();

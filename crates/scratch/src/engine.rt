@@ -8,21 +8,25 @@ ghost use Rattle.scratch.specs.kept.Kept.{IsWiring};
 ghost use Rattle.scratch.specs.kept.Lost.{CountsLoss};
 ghost use Rattle.scratch.specs.Run.{state_before};
 ghost use Rattle.scratch.specs.kept.Run.{IsRun};
-ghost use Rattle.scratch.specs.kept.Stands.{IsStirred, Stands};
+ghost use Rattle.scratch.specs.Asked.{IsAskedInPart, IsAskedInSomeOrder};
+ghost use Rattle.scratch.specs.kept.Stands.{AreFound, IsStirred, Stands};
 ghost use Rattle.scratch.specs.Work.{stirred_at, work_at, work_below};
 ghost use Rattle.scratch.specs.kept.Work.{HasGrownOrNot};
 
+use crate::answering::answer_each;
 use crate::asking::ask;
 use crate::completing::complete_waves;
+use crate::driving::drive_each;
 use crate::finishing::run_of_lines;
 use crate::opening::Opening;
 use crate::recording::Recording;
 use crate::resolving::resolve_nets;
+use crate::setting::Setting;
 use crate::settling::settle;
-use crate::stirring::{add_readers, find_due, find_nets};
+use crate::stirred_gates::StirredGates;
+use crate::stirring::{find_points, insert_all_readers, put_in_order};
 use crate::tallies::Tallies;
 use crate::wiring::Wiring;
-use bit_set::BitSet;
 use design::Design;
 use event_queue::EventQueue;
 use fourstate::Value;
@@ -47,9 +51,8 @@ pub struct Engine {
     pub points: EventQueue,
     // The lists of one moment, which live through the run.
     listed: Vec<usize>,
-    /// The gates that are stirred at the moment, in order.
-    pub gates: Vec<usize>,
-    stirred: BitSet,
+    /// The gates that are stirred at the moment.
+    pub gates: StirredGates,
     nets: Vec<usize>,
     changed: Vec<usize>,
     /// The tallies of the nets with many drivers.
@@ -75,14 +78,17 @@ impl Engine {
         ensures lost { CountsLoss (S.losses stepper.old) (S.losses stepper.new) result }
     {
         let mut opening = Opening::before::<S>(alloc, design, wiring)?;
-        ask(
+        let setting = Setting {
             design,
             wiring,
+            t: 0,
+        };
+        ask(
+            &setting,
             opening.values.as_slice(),
             opening.states.as_slice(),
             opening.gates.as_slice(),
             stepper,
-            0,
             &mut opening.tasks,
             &mut opening.answers,
         )?;
@@ -116,8 +122,7 @@ impl Engine {
             events,
             points,
             listed: Vec::new(alloc),
-            gates: Vec::new(alloc),
-            stirred: BitSet::new(alloc),
+            gates: StirredGates::new(alloc),
             nets: Vec::new(alloc),
             changed: Vec::new(alloc),
             tallies,
@@ -159,28 +164,81 @@ impl Engine {
         requires stands { Stands S.answer (netlist design.now) self.old t }
         requires within { t ≤ MAX_TIME }
         ensures stands { OnOk result (Stands S.answer (netlist design.now) self.new (t + 1)) }
+        ensures asked { OnOk result (IsAskedInSomeOrder (S.asked stepper.old) (S.asked stepper.new) (work_at S.answer (netlist design.now) t)) }
+        ensures part { OnErr result (IsAskedInPart (S.asked stepper.old) (S.asked stepper.new) (work_at S.answer (netlist design.now) t)) }
+        ensures lost { CountsLoss (S.losses stepper.old) (S.losses stepper.new) result }
+    {
+        self.stir::<S>(alloc, design, wiring, t)?;
+        if stepper.deals(self.gates.len()) {
+            self.put_in_order::<S>(design, t);
+            self.ask(design, wiring, stepper, t)?;
+            self.settle::<S>(design, t)?;
+        } else {
+            self.answer(design, wiring, stepper, t)?;
+        }
+        Ok(())
+    }
+
+    /// Asks for the gates that are stirred at the moment `t`, which stand in order.
+    fn ask<S: Stepper>(
+        &mut self,
+        design: &Design,
+        wiring: &Wiring,
+        stepper: &mut S,
+        t: u64,
+    ) -> Result<(), StepFault>
+        requires wired { IsWiring (netlist design.now) wiring.now }
+        requires stirred { IsStirred S.answer (netlist design.now) self.old t }
+        requires within { t ≤ MAX_TIME }
+        ensures stirred { IsStirred S.answer (netlist design.now) self.new t }
+        ensures answers { OnOk result (self.new.answers.items ≡ map (state_before S.answer (netlist design.now) (t + 1)) (stirred_at S.answer (netlist design.now) t)) }
         ensures asked { OnOk result (S.asked stepper.new ≡ S.asked stepper.old ++ work_at S.answer (netlist design.now) t) }
         ensures part { OnErr result (HasGrownOrNot (S.asked stepper.old) (S.asked stepper.new) (work_at S.answer (netlist design.now) t)) }
         ensures lost { CountsLoss (S.losses stepper.old) (S.losses stepper.new) result }
     {
-        self.stir::<S>(alloc, design, wiring, t)?;
         ask(
-            design,
-            wiring,
+            &Setting { design, wiring, t },
             self.values.as_slice(),
             self.states.as_slice(),
             self.gates.as_slice(),
             stepper,
-            t,
             &mut self.tasks,
             &mut self.answers,
+        )
+    }
+
+    /// Asks for the gates that are stirred at the moment `t` one after another, and takes each answer for its gate's state. After
+    /// a fault what stands is not known.
+    fn answer<S: Stepper>(
+        &mut self,
+        design: &Design,
+        wiring: &Wiring,
+        stepper: &mut S,
+        t: u64,
+    ) -> Result<(), AllocError>
+        requires none_lost { S.losses stepper.old ≡ 0 }
+        requires wired { IsWiring (netlist design.now) wiring.now }
+        requires found { AreFound S.answer (netlist design.now) self.old t }
+        requires within { t ≤ MAX_TIME }
+        ensures stands { OnOk result (Stands S.answer (netlist design.now) self.new (t + 1)) }
+        ensures asked { OnOk result (IsAskedInSomeOrder (S.asked stepper.old) (S.asked stepper.new) (work_at S.answer (netlist design.now) t)) }
+        ensures part { OnErr result (IsAskedInPart (S.asked stepper.old) (S.asked stepper.new) (work_at S.answer (netlist design.now) t)) }
+        ensures lost { S.losses stepper.new ≡ S.losses stepper.old }
+    {
+        answer_each(
+            &Setting { design, wiring, t },
+            self.values.as_slice(),
+            self.gates.as_slice(),
+            stepper,
+            &mut self.states,
+            &mut self.traces,
+            &mut self.events,
         )?;
-        self.settle::<S>(alloc, design, t)?;
         Ok(())
     }
 
-    /// Goes on to what the nets have at the moment `t`, before which all is done, and finds the stirred gates. After a fault
-    /// what stands is not known.
+    /// Goes on to what the nets have at the moment `t`, before which all is done, and finds the stirred gates, in no order. After
+    /// a fault what stands is not known.
     pub fn stir<S: Stepper>(
         &mut self,
         alloc: Global,
@@ -191,67 +249,64 @@ impl Engine {
         requires wired { IsWiring (netlist design.now) wiring.now }
         requires stands { Stands S.answer (netlist design.now) self.old t }
         requires within { t ≤ MAX_TIME }
-        ensures { OnOk result (IsStirred S.answer (netlist design.now) self.new t) }
+        ensures { OnOk result (AreFound S.answer (netlist design.now) self.new t) }
     {
         design.lawful();
-        find_due(
-            &mut self.events,
+        let setting = Setting { design, wiring, t };
+        self.listed.clear();
+        self.events.take(t, &mut self.listed)?;
+        find_points(alloc, design, &mut self.points, t, &mut self.nets)?;
+        drive_each::<S>(
+            &setting,
             self.states.as_slice(),
-            t,
-            &mut self.listed,
+            self.listed.as_slice(),
+            &mut self.values,
+            &mut self.nets,
+            &mut self.changed,
             &mut self.gates,
         )?;
         self.tallies.follow(
             design,
             wiring,
             self.states.as_slice(),
-            self.gates.as_slice(),
+            self.listed.as_slice(),
             t,
         );
-        find_nets(
-            alloc,
-            design,
-            &mut self.points,
-            wiring,
-            self.gates.as_slice(),
-            t,
-            &mut self.nets,
-        )?;
+        put_in_order(&mut self.nets);
+        let driven = self.changed.len();
         resolve_nets::<S>(
-            design,
-            wiring,
+            &setting,
             self.states.as_slice(),
             self.nets.as_slice(),
-            t,
             &mut self.tallies,
             &mut self.values,
             &mut self.waves,
             &mut self.changed,
         )?;
-        add_readers(
-            wiring,
-            self.changed.as_slice(),
-            &mut self.gates,
-            &mut self.stirred,
-        )?;
+        let others = &self.changed.as_slice()[driven..];
+        insert_all_readers(wiring, others, &mut self.gates)?;
         Ok(())
+    }
+
+    /// Puts the gates that are stirred at the moment `t` in order.
+    pub fn put_in_order<S: Stepper>(&mut self, design: &Design, t: u64)
+        requires { AreFound S.answer (netlist design.now) self.old t }
+        ensures { IsStirred S.answer (netlist design.now) self.new t }
+    {
+        let _design = design;
+        let _moment = t;
+        self.gates.put_in_order();
     }
 
     /// Takes the answers of the gates that are stirred at the moment `t` for their states. After a fault what stands is not
     /// known.
-    pub fn settle<S: Stepper>(
-        &mut self,
-        alloc: Global,
-        design: &Design,
-        t: u64,
-    ) -> Result<(), AllocError>
+    pub fn settle<S: Stepper>(&mut self, design: &Design, t: u64) -> Result<(), AllocError>
         requires stirred { IsStirred S.answer (netlist design.now) self.old t }
         requires within { t ≤ MAX_TIME }
         requires answers { self.old.answers.items ≡ map (state_before S.answer (netlist design.now) (t + 1)) (stirred_at S.answer (netlist design.now) t) }
         ensures { OnOk result (Stands S.answer (netlist design.now) self.new (t + 1)) }
     {
         settle::<S>(
-            alloc,
             design,
             self.gates.as_slice(),
             self.answers.as_slice(),

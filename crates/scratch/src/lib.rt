@@ -1,9 +1,11 @@
 //! The run of a design from scratch: what each net has and in which state each gate's driver is, at each moment.
 #![tactic(auto)]
 
+mod answering;
 mod asking;
 mod completing;
 mod continuing;
+mod driving;
 mod engine;
 mod extending;
 mod finishing;
@@ -17,7 +19,9 @@ mod recording;
 mod resolving;
 mod resuming;
 mod run;
+mod setting;
 mod settling;
+mod stirred_gates;
 mod stirring;
 mod tallies;
 mod tally;
@@ -32,5 +36,6 @@ pub use opening::Opening;
 pub use packed_input::PackedInput;
 pub use resuming::trace_at;
 pub use run::{simulate, simulate_wired};
+pub use stirred_gates::StirredGates;
 pub use waves::{wave_at, wave_named};
 pub use wiring::{Cell, Input, Wiring, wire};

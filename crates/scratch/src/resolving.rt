@@ -1,12 +1,13 @@
 //! The values of nets at a moment, from the states of the gates.
 
-ghost use Rattle.std.specs.Prelude.{◌≡◌, ◌<◌, ◌≤◌, ◌+◌, ◌-◌, ℕ, Some, false, not, map, length, slice_get, unwrap_or, OnOk, IfOk, IfSome};
+ghost use Rattle.std.specs.Prelude.{List, ◌≡◌, ◌<◌, ◌≤◌, ◌+◌, ◌++◌, ℕ, Some, false, not, map, length, slice_get, unwrap_or, OnOk, IfOk, IfSome};
 ghost use Rattle.fourstate.specs.declared.limits.TheConstants.{MAX_TIME};
 ghost use Rattle.fourstate.specs.Nets.{net_of};
 ghost use Rattle.fourstate.specs.Values.{same_value};
 ghost use Rattle.design.specs.Keys.{netlist};
 ghost use Rattle.design.specs.kept.Places.{driver_places};
 ghost use Rattle.scratch.specs.kept.Kept.{IsWiring, currents_of, net_from, values_at};
+ghost use Rattle.scratch.specs.kept.Nets.{Part};
 ghost use Rattle.scratch.specs.kept.Places.{changes_at, has};
 ghost use Rattle.scratch.specs.kept.Recorded.{recorded_below};
 ghost use Rattle.scratch.specs.Run.{state_before, value};
@@ -14,6 +15,7 @@ ghost use Rattle.scratch.specs.kept.Tallies.{Counts};
 ghost use Rattle.scratch.specs.kept.Tally.{tally_of};
 ghost use Rattle.scratch.specs.declared.tally.Tally.{Tally};
 
+use crate::setting::Setting;
 use crate::tallies::Tallies;
 use crate::wiring::Wiring;
 use design::Design;
@@ -104,51 +106,57 @@ fn resolved(
 
 /// Whether the two values differ.
 #[inline(always)]
-fn is_other(value: Value, other: Value) -> bool
+pub fn is_other(value: Value, other: Value) -> bool
     ensures { result ≡ not (same_value value other) }
 {
     value != other
 }
 
-/// Goes on to the values at the moment `t`, where nets at other places than these keep theirs, and finds the nets that have
-/// another one. The wave of a net to which one driver alone gives its value is found later, from the driver's trace.
+/// Goes on to the values at the moment, where nets at other places than these, or those that are listed as changed, have theirs,
+/// and lists the other nets that have another value than before. The wave of a net to which one driver alone gives its value is
+/// found later, from the driver's trace.
 pub fn resolve_nets<S: Stepper>(
-    design: &Design,
-    wiring: &Wiring,
+    setting: &Setting,
     states: &[Driver],
     nets: &[usize],
-    t: u64,
     tallies: &mut Tallies,
     values: &mut Vec<Value>,
     waves: &mut Lines<Value>,
     changed: &mut Vec<usize>,
 ) -> Result<(), AllocError>
-    requires wired { IsWiring (netlist design.now) wiring.now }
-    requires begun { 0 < t }
-    requires within { t ≤ MAX_TIME }
-    requires states { states.now ≡ map (state_before S.answer (netlist design.now) t) (netlist design.now).gates }
-    requires counts { Counts (netlist design.now) tallies.old (currents_of states.now t) }
-    requires values { values.old.items ≡ map (λ n. value S.answer (netlist design.now) n (t - 1)) (netlist design.now).nets }
-    requires waves { waves.old ≡ map (λ n. recorded_below S.answer (netlist design.now) n t) (netlist design.now).nets }
-    requires others { (k : ℕ) → has k nets.now ≡ false → changes_at S.answer (netlist design.now) k t ≡ false }
-    ensures counts { OnOk result (Counts (netlist design.now) tallies.new (currents_of states.now t)) }
-    ensures values { OnOk result (values.new.items ≡ map (λ n. value S.answer (netlist design.now) n t) (netlist design.now).nets) }
-    ensures waves { OnOk result (waves.new ≡ map (λ n. recorded_below S.answer (netlist design.now) n (t + 1)) (netlist design.now).nets) }
-    ensures changed { OnOk result ((k : ℕ) → has k changed.new.items ≡ changes_at S.answer (netlist design.now) k t) }
+    requires wired { IsWiring (netlist setting.now.design.now) setting.now.wiring.now }
+    requires begun { 0 < setting.now.t }
+    requires within { setting.now.t ≤ MAX_TIME }
+    requires states { states.now ≡ map (state_before S.answer (netlist setting.now.design.now) setting.now.t) (netlist setting.now.design.now).gates }
+    requires counts { Counts (netlist setting.now.design.now) tallies.old (currents_of states.now setting.now.t) }
+    requires part { Part S.answer (netlist setting.now.design.now) setting.now.t changed.old.items values.old.items waves.old changed.old.items }
+    requires others { (k : ℕ) → has k nets.now ≡ false → has k changed.old.items ≡ false → changes_at S.answer (netlist setting.now.design.now) k setting.now.t ≡ false }
+    ensures counts { OnOk result (Counts (netlist setting.now.design.now) tallies.new (currents_of states.now setting.now.t)) }
+    ensures values { OnOk result (values.new.items ≡ map (λ n. value S.answer (netlist setting.now.design.now) n setting.now.t) (netlist setting.now.design.now).nets) }
+    ensures waves { OnOk result (waves.new ≡ map (λ n. recorded_below S.answer (netlist setting.now.design.now) n (setting.now.t + 1)) (netlist setting.now.design.now).nets) }
+    ensures changed { OnOk result ((k : ℕ) → has k changed.new.items ≡ changes_at S.answer (netlist setting.now.design.now) k setting.now.t) }
+    ensures grows { OnOk result ((more : List ℕ) × (changed.new.items ≡ changed.old.items ++ more)) }
 {
+    let setting = *setting;
     laws::push_to_changes::<Value>();
     laws::reached_by_changes::<Value>();
     laws::changes_lie_before::<Value>();
     laws::no_change::<Value>();
-    changed.clear();
     for place in nets {
         if *place < values.len() {
-            let value = resolved(design, wiring, *place, states, t, tallies)?;
+            let value = resolved(
+                setting.design,
+                setting.wiring,
+                *place,
+                states,
+                setting.t,
+                tallies,
+            )?;
             let former = values[*place];
             if is_other(value, former) {
                 values[*place] = value;
-                if wiring.lone_drivers[*place].is_none() {
-                    waves.push_known(*place, t, former, value)?;
+                if setting.wiring.lone_drivers[*place].is_none() {
+                    waves.push_known(*place, setting.t, former, value)?;
                 }
                 changed.push(*place)?;
             }

@@ -12,13 +12,12 @@ ghost use Rattle.scratch.specs.Work.{is_stirred, stirred_at};
 use design::Design;
 use event_queue::EventQueue;
 use gatestep::{Driver, Stepper};
-use std::alloc::{AllocError, Global};
+use std::alloc::AllocError;
 use waveform::{Lines, laws};
 
 /// Takes the answers of the stirred gates, which are at these places, for their states, and notes their events; the states of
 /// other gates stay.
 pub fn settle<S: Stepper>(
-    alloc: Global,
     design: &Design,
     gates: &[usize],
     answers: &[Driver],
@@ -41,6 +40,7 @@ pub fn settle<S: Stepper>(
     ensures events { OnOk result (Covers (pends_at states.new.items) (noted events.new) (t + 1)) }
     ensures early { OnOk result ((u : ℕ) → u < t + 1 → noted events.new u ≡ []) }
 {
+    let alloc = *states.allocator();
     design.lawful();
     laws::push_to_changes::<Driver>();
     laws::reached_by_changes::<Driver>();

@@ -1,14 +1,27 @@
 -- Words for places in the order of the gates and of the nets. Where there is no gate or no net, nothing is so.
-use Rattle.std.specs.Prelude.{◌≡◌, ◌≤◌, ◌-◌, Bool, false, true, not, ℕ, nat_eq, List, map, slice_get}
-use Rattle.std.specs.List.{enumerate_from, filter}
+use Rattle.std.specs.Prelude.{◌≡◌, ◌≤◌, ◌-◌, Bool, false, true, not, ℕ, suc, nat_eq, List, [], ◌∷◌, map, slice_get, if◌then◌else◌}
+use Rattle.std.specs.List.{enumerate_from, filter, list_any}
 use Rattle.std.specs.Option.{option_map_or}
 use Rattle.fourstate.specs.Values.{same_value}
-pub use Rattle.bit_set.specs.kept.Numbers.{AreRising, has}
 use Rattle.gatestep.specs.Step.{State, Evaluation}
 use Rattle.design.specs.Names.{same_name}
 use Rattle.design.specs.Netlist.{NetEntry, Netlist, has_point, reads}
 use Rattle.scratch.specs.Run.{value}
 use Rattle.scratch.specs.Work.{is_due}
+
+-- a place is among places
+abbrev pub has : ℕ → List ℕ → Bool
+has k places = list_any (nat_eq k) places
+
+-- places that rise, from a on
+abbrev pub AreRising : ℕ → List ℕ → Type 0
+AreRising a [] = Unit {0}
+AreRising a (k ∷ ks) = (a ≤ k) × AreRising (suc k) ks
+
+-- each place is there once
+abbrev pub AreApart : List ℕ → Type 0
+AreApart [] = Unit {0}
+AreApart (k ∷ ks) = (has k ks ≡ false) × AreApart ks
 
 -- the places of the elements that pass a test, the first element at a
 abbrev pub passing : {X : Type 0} → (X → Bool) → ℕ → List X → List ℕ
@@ -53,3 +66,7 @@ Announces wanted noted n = (k t : ℕ) → n ≤ t → wanted k t ≡ true → I
 -- what was noted stays noted
 abbrev pub Keeps : (old new : ℕ → List ℕ) → Type 0
 Keeps old new = (k t : ℕ) → has k (old t) ≡ true → has k (new t) ≡ true
+
+-- at the places `done` it is new, elsewhere as it was
+abbrev pub Between : {X : Type 0} → (done : List ℕ) → (old new now : ℕ → X) → Type 0
+Between done old new now = (k : ℕ) → now k ≡ (if has k done then new k else old k)

@@ -1,6 +1,7 @@
-use Rattle.std.proofs.Common.{◌≡◌, ◌≤◌, ◌-◌, ◌++◌, suc}
+use Rattle.std.proofs.Common.{◌≡◌, ◌≤◌, ◌-◌, suc}
 use Rattle.design.specs.Keys.{netlist}
 use Rattle.scratch.specs.kept.Stands.{Stands}
+use Rattle.scratch.specs.Asked.{IsAskedInSomeOrder}
 use Rattle.scratch.specs.kept.Work.{work_from}
 use Rattle.scratch.proofs.continuing.run_on.Given as goal
 
@@ -13,7 +14,7 @@ invariant-loop-t g l =
       stands : Stands answer d l.engine l.t;
       begun : l.fn.start ≤ l.t;
       within : l.t ≤ suc l.horizon;
-      asked : g.S.Stepper.asked l.stepper ≡ g.S.Stepper.asked l.fn.stepper ++ work_from answer d l.fn.start l.t;
+      asked : IsAskedInSomeOrder (g.S.Stepper.asked l.fn.stepper) (g.S.Stepper.asked l.stepper) (work_from answer d l.fn.start l.t);
       losses : g.S.Stepper.losses l.stepper ≡ g.S.Stepper.losses l.fn.stepper;
     }
 

@@ -1,9 +1,10 @@
-use Rattle.std.proofs.Common.{◌≡◌, ◌≤◌, ◌+◌, ◌++◌, subst, suc, arith}
+use Rattle.std.proofs.Common.{◌≡◌, ◌+◌, subst, suc, arith}
 use Rattle.design.specs.Keys.{netlist}
 use Rattle.scratch.specs.kept.Stands.{Stands}
 use Rattle.scratch.specs.kept.Work.{work_from}
-use Rattle.scratch.specs.kept.Grown.{grown_all, grown_none}
-use Rattle.scratch.proofs.Asked.{early_from, err_on, held_err, ok_on}
+use Rattle.scratch.specs.Asked.{IsAskedInPart, IsAskedInSomeOrder}
+use Rattle.scratch.specs.kept.Grown.{grown_none}
+use Rattle.scratch.proofs.Asked.{err_on, held_err, ok_on}
 use Rattle.scratch.proofs.extending.extend.Goals as goal
 
 pub run_on-requires-clause-stands : goal.run_on-requires-clause-stands
@@ -17,20 +18,13 @@ pub returns-clause-asked : goal.returns-clause-asked
 returns-clause-asked g c =
     let asked = g.S.Stepper.asked in let d = netlist c.args.design.now in
     let start : c.horizon-start.result + 1 ≡ suc (netlist c.args.former.now).horizon = let is = c.horizon-start.ensures.horizon in omega arith in
-    ok_on c.run_on.result
-    (λ more. grown_all (asked c.args.stepper.now) (asked c.run_on.new.stepper) (work_from g.S.Stepper.answer d (suc (netlist c.args.former.now).horizon) (suc d.horizon))
-    (subst (λ n. asked c.run_on.new.stepper ≡ asked c.args.stepper.now ++ work_from g.S.Stepper.answer d n (suc d.horizon)) start more))
-    c.run_on.ensures.asked
+    ok_on c.run_on.result (subst (λ n. IsAskedInSomeOrder (asked c.args.stepper.now) (asked c.run_on.new.stepper) (work_from g.S.Stepper.answer d n (suc d.horizon))) start) c.run_on.ensures.asked
 
 pub returns-clause-part : goal.returns-clause-part
 returns-clause-part g c =
     let asked = g.S.Stepper.asked in let d = netlist c.args.design.now in
     let start : c.horizon-start.result + 1 ≡ suc (netlist c.args.former.now).horizon = let is = c.horizon-start.ensures.horizon in omega arith in
-    err_on c.run_on.result
-    (λ some. early_from g.S.Stepper.answer d (asked c.args.stepper.now) (asked c.run_on.new.stepper) (suc d.horizon) (suc (netlist c.args.former.now).horizon) some.0
-    (subst (λ n. n ≤ some.0) start some.1) some.2
-    (subst (λ n. asked c.run_on.new.stepper ≡ asked c.args.stepper.now ++ work_from g.S.Stepper.answer d n some.0) start some.3))
-    c.run_on.ensures.part
+    err_on c.run_on.result (subst (λ n. IsAskedInPart (asked c.args.stepper.now) (asked c.run_on.new.stepper) (work_from g.S.Stepper.answer d n (suc d.horizon))) start) c.run_on.ensures.part
 
 pub returns-in_err-engine-clause-part : goal.returns-in_err-engine-clause-part
 returns-in_err-engine-clause-part g c =

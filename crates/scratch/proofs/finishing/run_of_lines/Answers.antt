@@ -1,6 +1,5 @@
 use Rattle.std.proofs.Common.{subst}
 use Rattle.catalog.specs.kept.Catalog.{keys_of}
-use Rattle.design.specs.Keys.{netlist}
 use Rattle.scratch.specs.kept.Recordings.{AreUnder}
 use Rattle.scratch.proofs.Keyed.{traces_under, waves_under}
 use Rattle.scratch.proofs.finishing.run_of_lines.Goals as goal

@@ -1,24 +1,18 @@
 use Rattle.std.proofs.Common.{suc, arith}
 use Rattle.design.specs.Keys.{netlist}
-use Rattle.scratch.specs.Work.{work_below}
-use Rattle.scratch.specs.kept.Grown.{grown_all}
-use Rattle.scratch.proofs.Asked.{early, early_at_first, err_on, from_scratch, held_err, ok_on}
+use Rattle.scratch.proofs.Asked.{early_at_first, err_on, from_scratch, held_err, ok_on, part_from_scratch}
 use Rattle.scratch.proofs.run.simulate_wired.Goals as goal
 
 pub returns-clause-asked : goal.returns-clause-asked
 returns-clause-asked g c =
     let asked = g.S.Stepper.asked in let d = netlist c.args.design.now in
-    ok_on c.run_on.result
-    (λ more. grown_all (asked c.args.stepper.now) (asked c.run_on.new.stepper) (work_below g.S.Stepper.answer d (suc d.horizon))
-    (from_scratch g.S.Stepper.answer d (asked c.args.stepper.now) (asked c.open.new.stepper) (asked c.run_on.new.stepper) (suc d.horizon) (omega arith) c.in_ok-engine.ensures.asked more))
+    ok_on c.run_on.result (from_scratch g.S.Stepper.answer d (asked c.args.stepper.now) (asked c.open.new.stepper) (asked c.run_on.new.stepper) (suc d.horizon) (omega arith) c.in_ok-engine.ensures.asked)
     c.run_on.ensures.asked
 
 pub returns-clause-part : goal.returns-clause-part
 returns-clause-part g c =
     let asked = g.S.Stepper.asked in let d = netlist c.args.design.now in
-    err_on c.run_on.result
-    (λ some. early g.S.Stepper.answer d (asked c.args.stepper.now) (asked c.run_on.new.stepper) (suc d.horizon) some.0 some.2
-    (from_scratch g.S.Stepper.answer d (asked c.args.stepper.now) (asked c.open.new.stepper) (asked c.run_on.new.stepper) some.0 some.1 c.in_ok-engine.ensures.asked some.3))
+    err_on c.run_on.result (part_from_scratch g.S.Stepper.answer d (asked c.args.stepper.now) (asked c.open.new.stepper) (asked c.run_on.new.stepper) (suc d.horizon) (omega arith) c.in_ok-engine.ensures.asked)
     c.run_on.ensures.part
 
 pub returns-in_err-engine-clause-part : goal.returns-in_err-engine-clause-part

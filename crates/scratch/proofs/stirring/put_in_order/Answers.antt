@@ -4,8 +4,8 @@ use Rattle.std.proofs.lemmas.List.Sorted.{Contains-permutation, IsPermutation-sy
 use Rattle.scratch.proofs.Among.{same_among}
 use Rattle.scratch.proofs.stirring.put_in_order.Goals as goal
 
-pub returns : goal.returns
-returns c =
+pub returns-then-len-gt1 : goal.returns-then-len-gt1
+returns-then-len-gt1 c =
     let was = c.args.places.now.items in
     let moved = c.sort_unstable.ensures.permutation in
     let sorted = c.sort_unstable.new.self.items in

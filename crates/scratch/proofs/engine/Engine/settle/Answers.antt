@@ -9,7 +9,7 @@ use Rattle.scratch.proofs.Counting.{settled_currents}
 use Rattle.scratch.proofs.engine.Engine.settle.Goals as goal
 
 pub settle-requires-clause-gates : goal.settle-requires-clause-gates
-settle-requires-clause-gates g c = c.as_slice.ensures.value ∙ c.requires.stirred.gates
+settle-requires-clause-gates g c = c.as_slice.ensures.value ∙ c.requires.stirred.in_order
 
 pub settle-requires-clause-answers : goal.settle-requires-clause-answers
 settle-requires-clause-answers g c = c.as_slice-2.ensures.value ∙ c.requires.answers
@@ -21,7 +21,7 @@ settle-requires-clause-beside g c =
     (settle-requires-clause-gates g c) (settle-requires-clause-answers g c)
 
 pub settle-requires-clause-events : goal.settle-requires-clause-events
-settle-requires-clause-events g c = rw c.as_slice.ensures.value c.requires.stirred.events
+settle-requires-clause-events g c = rw c.as_slice.ensures.value c.requires.stirred.found.events
 
 pub returns : goal.returns
 returns g c =
@@ -30,15 +30,15 @@ returns g c =
     record {
       begun = omega arith;
       states = c.in_ok-settle.ensures.states;
-      values = rw back c.requires.stirred.values;
-      waves = c.requires.stirred.waves;
+      values = rw back c.requires.stirred.found.values;
+      waves = c.requires.stirred.found.waves;
       traces = c.in_ok-settle.ensures.traces;
       events = c.in_ok-settle.ensures.events;
-      points = c.requires.stirred.points;
+      points = c.requires.stirred.found.points;
       no_early_event = c.in_ok-settle.ensures.early;
-      no_early_point = c.requires.stirred.no_early_point;
+      no_early_point = c.requires.stirred.found.no_early_point;
       counts =
           subst (Counts d c.args.self.now.tallies)
-          (settled_currents answer d g.met.S.Stepper.answer_current t c.args.self.now.states.items c.settle.new.states.items c.requires.stirred.states c.in_ok-settle.ensures.states)
-          c.requires.stirred.counts;
+          (settled_currents answer d g.met.S.Stepper.answer_current t c.args.self.now.states.items c.settle.new.states.items c.requires.stirred.found.states c.in_ok-settle.ensures.states)
+          c.requires.stirred.found.counts;
     }

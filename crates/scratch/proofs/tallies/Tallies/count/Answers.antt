@@ -1,4 +1,4 @@
-use Rattle.std.proofs.Common.{◌≡◌, ◌∙◌, ap}
+use Rattle.std.proofs.Common.{◌∙◌, ap}
 use Rattle.design.specs.Keys.{netlist}
 use Rattle.scratch.specs.kept.Kept.{places_at, values_at}
 use Rattle.scratch.specs.kept.Tally.{tally_of}

@@ -1,11 +1,11 @@
-use Rattle.std.proofs.Common.{◌≡◌, ◌<◌, ◌+◌, ◌∙◌, ◌++◌, ◌∷◌, [], ap, sym, map, take, length, slice_get, slice_index_or, subst, arith}
+use Rattle.std.proofs.Common.{◌≡◌, ◌<◌, ◌+◌, ◌∙◌, ◌++◌, ◌∷◌, [], ap, sym, take, length, slice_get, slice_index_or, arith}
 use Rattle.std.proofs.Math.ListN.{set}
 use Rattle.std.proofs.lemmas.List.{length-map, length-set, take_all}
 use Rattle.std.proofs.lemmas.Option.{slice_get-get_or}
 use Rattle.gatestep.specs.Step.{due}
 use Rattle.scratch.specs.kept.Kept.{currents_of}
 use Rattle.scratch.specs.kept.Places.{has}
-use Rattle.scratch.proofs.Between.{Between, finish, set_apart, step}
+use Rattle.scratch.proofs.Between.{finish, set_apart, step}
 use Rattle.scratch.proofs.Lists.{take_next}
 use Rattle.scratch.proofs.Counting.{at, set_as, undue}
 use Rattle.scratch.proofs.tallies.Tallies.follow.Goals as goal

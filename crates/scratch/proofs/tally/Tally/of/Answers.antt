@@ -1,4 +1,4 @@
-use Rattle.std.proofs.Common.{◌≡◌, ◌<◌, ◌^◌, ap, length, slice_index_or, arith}
+use Rattle.std.proofs.Common.{◌<◌, ◌^◌, ap, length, slice_index_or, arith}
 use Rattle.std.proofs.lemmas.Option.{slice_get-get_or}
 use Rattle.fourstate.specs.declared.value.Value.TheVariants.{One, Unknown, Zero}
 use Rattle.scratch.specs.declared.tally.Tally.{Tally}

@@ -1,4 +1,0 @@
-pub mod Lowest
-pub mod Numbers
-pub mod Upper
-pub mod Words
