@@ -113,12 +113,6 @@ bits_more k f xs i x first prev now at is before =
     is ∙ ap (λ (b : Bool). b || has k (f x)) before ∙ or_assoc first (list_any (λ y. has k (f y)) (take i xs)) (has k (f x))
     ∙ ap (λ (b : Bool). first || b) (sym (any_more (λ y. has k (f y)) xs i x at))
 
--- a list to which the places of one element more are added
-pub members_more : {X : Type 0} (k : ℕ) (f : X → List ℕ) (xs : List X) (i : ℕ) (x : X) (first prev now : List ℕ) → slice_get xs i ≡ Some x → now ≡ prev ++ f x →
-    has k prev ≡ (has k first || list_any (λ y. has k (f y)) (take i xs)) → has k now ≡ (has k first || list_any (λ y. has k (f y)) (take (i + 1) xs))
-members_more k f xs i x first prev now at is before =
-    bits_more k f xs i x (has k first) (has k prev) (has k now) at (ap (has k) is ∙ list_any-append (nat_eq k) prev (f x)) before
-
 -- Rising places.
 
 -- no place below a is among places that rise from a on

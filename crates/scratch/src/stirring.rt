@@ -1,18 +1,17 @@
 //! The nets with stimulus points at a moment, and the gates that read some nets.
 
-ghost use Rattle.std.specs.Prelude.{◌≡◌, ◌<◌, ◌≤◌, ◌+◌, ◌++◌, ◌||◌, [], ℕ, true, OnOk};
-ghost use Rattle.std.specs.List.{filter, list_any};
-ghost use Rattle.event_queue.specs.kept.Noted.{IsTaken, noted};
+ghost use Rattle.std.specs.Prelude.{◌≡◌, ◌<◌, ◌≤◌, ◌+◌, ◌||◌, [], ℕ, true, OnOk};
+ghost use Rattle.std.specs.List.{list_any};
+ghost use Rattle.event_queue.specs.kept.Noted.{noted};
 ghost use Rattle.design.specs.Keys.{netlist};
-ghost use Rattle.scratch.specs.kept.Kept.{output_at, places_at};
-ghost use Rattle.scratch.specs.kept.Places.{Announces, IsNotedWithin, Keeps, has, is_due_at, point_at};
+ghost use Rattle.scratch.specs.kept.Kept.{places_at};
+ghost use Rattle.scratch.specs.kept.Places.{Announces, IsNotedWithin, Keeps, has, point_at};
 
 use crate::noting::note_next_point;
 use crate::stirred_gates::StirredGates;
 use crate::wiring::Wiring;
 use design::Design;
 use event_queue::EventQueue;
-use gatestep::Driver;
 use std::alloc::{AllocError, Global};
 
 /// Takes the nets that have a stimulus point at the moment `t`, and notes their next ones.
