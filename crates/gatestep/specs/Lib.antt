@@ -1,4 +1,5 @@
 pub mod Faults
+pub mod Jobs
 pub mod Record
 pub mod Step
 pub mod Tasks

@@ -1,3 +1,4 @@
 pub mod Drivers
+pub mod Jobs
 pub mod StepLaws
 pub mod Tasks

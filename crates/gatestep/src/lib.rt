@@ -3,6 +3,7 @@
 
 mod driver;
 mod fault;
+mod job;
 mod record;
 mod serial;
 mod stepper;
@@ -10,6 +11,7 @@ mod task;
 
 pub use driver::Driver;
 pub use fault::StepFault;
+pub use job::{Job, Outcome};
 pub use record::Record;
 pub use serial::Serial;
 pub use stepper::Stepper;

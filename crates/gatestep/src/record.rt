@@ -13,8 +13,8 @@ use std::slice;
 const _: () = prove!(size_of::<Record>() == 0);
 
 /// What a stepper was asked so far, in order, each task with its moment, and how many of its steps lost a worker. It
-/// takes no bytes, contracts alone read it, and only `add` changes it, which `add_one` calls: a proof outside this module
-/// that names it is to be refused in review.
+/// takes no bytes, contracts alone read it, and only `add` and `append` change it; `add_one` calls the first: a proof outside
+/// this module that names it is to be refused in review.
 #[derive(Drop)]
 pub struct Record {
     seal: (),
@@ -38,6 +38,12 @@ impl Record {
     #[inline(always)]
     pub fn add(&mut self, tasks: &[Task], t: u64, lost: bool)
         ensures { (self.new.asked ≡ self.old.asked ++ at_moment t tasks.now) × (self.new.losses ≡ self.old.losses + (if lost then 1 else 0)) }
+    {}
+
+    /// Adds what another record has, after what is there. Nothing runs.
+    #[inline(always)]
+    pub fn append(&mut self, other: &Record)
+        ensures { (self.new.asked ≡ self.old.asked ++ other.now.asked) × (self.new.losses ≡ self.old.losses + other.now.losses) }
     {}
 
     /// Adds a task that was asked by itself, at the moment `t`. Nothing runs.

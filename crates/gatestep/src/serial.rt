@@ -10,9 +10,11 @@ ghost use Rattle.gatestep.specs.Tasks.{IsReady, PendingFrom};
 
 use crate::driver::Driver;
 use crate::fault::StepFault;
+use crate::job::Job;
 use crate::record::Record;
 use crate::stepper::Stepper;
 use crate::task::{Task, next};
+use std::alloc::{AllocError, Global};
 
 /// Evaluates gates one after another, on the caller's thread.
 #[derive(Drop)]
@@ -30,6 +32,25 @@ impl Serial {
         Serial {
             history: Record::new(),
         }
+    }
+
+    /// Counts what another record has as asked after all that was, where no worker was lost in it. Nothing runs.
+    #[inline(always)]
+    pub fn append(&mut self, other: &Record)
+        requires none_lost { other.now.losses ≡ 0 }
+        ensures asked { ⟦<Serial as Stepper>⟧.asked self.new ≡ ⟦<Serial as Stepper>⟧.asked self.old ++ other.now.asked }
+    {
+        self.history.append(other);
+    }
+
+    /// What it was asked.
+    #[inline(always)]
+    pub fn into_record(self) -> Record
+        ensures asked { result.asked ≡ ⟦<Serial as Stepper>⟧.asked self }
+        ensures losses { result.losses ≡ 0 }
+    {
+        let Serial { history } = self;
+        history
     }
 }
 
@@ -74,6 +95,29 @@ impl Stepper for Serial {
     fn evaluate(&mut self, task: &Task, t: u64) -> Driver {
         self.history.add_one(task, t);
         next(task, t)
+    }
+
+    /// It deals to nobody.
+    #[inline(always)]
+    fn takes_jobs(&self) -> bool
+        ensures { result ≡ false }
+    {
+        self.deals(0)
+    }
+
+    /// It does them one after another, on the caller's thread.
+    fn run_jobs<J: Job + Sync>(
+        &mut self,
+        alloc: Global,
+        jobs: &[J],
+    ) -> Result<Vec<J::Output>, AllocError> {
+        let mut outputs = Vec::with_capacity(alloc, jobs.len())?;
+        for job in jobs {
+            let outcome = job.run();
+            self.history.append(&outcome.record);
+            outputs.push(outcome.output?)?;
+        }
+        Ok(outputs)
     }
 
     ghost answer_current = { advance_current };

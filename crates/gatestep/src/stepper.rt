@@ -1,9 +1,11 @@
 //! Who evaluates gates.
 
-ghost use Rattle.std.specs.Prelude.{◌≡◌, ℕ, ◌+◌, ◌<◌, ◌≤◌, List, [], ◌∷◌, ◌++◌, length, map, All, OnOk, OnErr, if◌then◌else◌};
+ghost use Rattle.std.specs.Prelude.{◌≡◌, ℕ, ◌+◌, ◌<◌, ◌≤◌, List, [], ◌∷◌, ◌++◌, length, map, All, IfOk, OnOk, OnErr, if◌then◌else◌};
 ghost use Rattle.std.specs.Bool.{OnFalse};
+ghost use Rattle.std.specs.List.{AllZip, flat_map};
 ghost use Rattle.fourstate.specs.declared.limits.TheConstants.{MAX_DELAY, MAX_TIME};
 ghost use Rattle.gatestep.specs.Faults.{is_lost};
+ghost use Rattle.gatestep.specs.Jobs.{IsPart};
 ghost use Rattle.gatestep.specs.Record.{at_moment};
 ghost use Rattle.gatestep.specs.Step.{State, Evaluation, due};
 ghost use Rattle.gatestep.specs.Tasks.{IsReady, PendingFrom};
@@ -11,7 +13,9 @@ ghost use Rattle.gatestep.specs.kept.Tasks.{IsTask, PendingBefore, NothingDue, a
 
 use crate::driver::Driver;
 use crate::fault::StepFault;
+use crate::job::Job;
 use crate::task::Task;
+use std::alloc::{AllocError, Global};
 
 /// Who evaluates gates. Generic code knows the answers by `answer` alone, and can't compute them by itself.
 pub trait Stepper {
@@ -50,6 +54,23 @@ pub trait Stepper {
         ensures answer { result ≡ answer task.now t }
         ensures later { PendingFrom (t + 1) result }
         ensures recorded { asked self.new ≡ asked self.old ++ (task.now, t) ∷ [] }
+        ensures lost { losses self.new ≡ losses self.old };
+
+    /// Whether whole jobs are best asked of it, since it deals them to others. No answer depends on it.
+    fn takes_jobs(&self) -> bool;
+
+    /// Does each of these jobs, and gives what they give in the order of the jobs. All that they ask counts as asked, job after
+    /// job. It fails where memory runs out, and then what was asked is a part of that.
+    fn run_jobs<J: Job + Sync>(
+        &mut self,
+        alloc: Global,
+        jobs: &[J],
+    ) -> Result<Vec<J::Output>, AllocError>
+        requires none_lost { losses self.old ≡ 0 }
+        requires ready { All (J.ready answer) jobs.now }
+        ensures outputs { IfOk result (λ outputs. AllZip (J.gives answer) jobs.now outputs.items) }
+        ensures asked { OnOk result (asked self.new ≡ asked self.old ++ flat_map (J.work answer) jobs.now) }
+        ensures part { OnErr result ((piece : List (Evaluation × ℕ)) × IsPart piece (flat_map (J.work answer) jobs.now) × (asked self.new ≡ asked self.old ++ piece)) }
         ensures lost { losses self.new ≡ losses self.old };
 
     /// An answer's current value is that of the task's state once a due event has become current.
