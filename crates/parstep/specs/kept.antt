@@ -1,4 +1,5 @@
 pub mod Dealt
+pub mod Jobs
 pub mod Sends
 pub mod Shares
 pub mod Workers

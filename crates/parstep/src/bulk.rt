@@ -1,6 +1,6 @@
 //! A stepper over a parallel map.
 
-ghost use Rattle.std.specs.Prelude.{true, [], ◌≡◌, ◌<◌, ◌≤◌, ◌+◌, ◌++◌, length, map, All, OnOk, OnErr, IfOk, if◌then◌else◌};
+ghost use Rattle.std.specs.Prelude.{true, false, [], ◌≡◌, ◌<◌, ◌≤◌, ◌+◌, ◌++◌, length, map, All, OnOk, OnErr, IfOk, if◌then◌else◌};
 ghost use Rattle.fourstate.specs.declared.limits.TheConstants.{MAX_TIME};
 ghost use Rattle.gatestep.specs.Faults.{is_lost};
 ghost use Rattle.gatestep.specs.Record.{at_moment};
@@ -9,7 +9,7 @@ ghost use Rattle.gatestep.specs.kept.StepLaws.{advance_current, advance_later, a
 ghost use Rattle.gatestep.specs.Tasks.{IsReady, PendingFrom};
 
 use crate::shareable::Shareable;
-use gatestep::{Driver, Record, StepFault, Stepper, Task, next};
+use gatestep::{Driver, Job, Record, Serial, StepFault, Stepper, Task, next};
 use rayon::prelude::*;
 use std::alloc::{AllocError, Global};
 use std::thread::Threads;
@@ -92,6 +92,25 @@ impl<R: Threads + Sync + Drop> Stepper for Bulk<R> {
     fn evaluate(&mut self, task: &Task, t: u64) -> Driver {
         self.history.add_one(task, t);
         next(task, t)
+    }
+
+    /// It deals no jobs.
+    fn takes_jobs(&self) -> bool
+        ensures { result ≡ false }
+    {
+        false
+    }
+
+    /// It does them one after another, on the caller's thread.
+    fn run_jobs<J: Job + Sync>(
+        &mut self,
+        alloc: Global,
+        jobs: &[J],
+    ) -> Result<Vec<J::Output>, AllocError> {
+        let mut alone = Serial::new();
+        let outputs = alone.run_jobs(alloc, jobs);
+        self.history.append(&alone.into_record());
+        outputs
     }
 
     ghost answer_current = { advance_current };

@@ -1,7 +1,6 @@
 //! Steppers that evaluate in several threads.
 #![tactic(auto)]
 
-mod adaptive;
 mod bulk;
 mod compare;
 mod deal;
@@ -9,14 +8,16 @@ mod gather;
 pub mod laws;
 mod limits;
 mod message;
+mod parallel;
+mod places;
 mod pool;
 mod seat;
 mod shareable;
 mod start;
 mod worker;
 
-pub use adaptive::{Adaptive, LEAST_DEALT};
 pub use bulk::Bulk;
 pub use limits::MAX_WORKERS;
+pub use parallel::Parallel;
 pub use pool::Pool;
 pub use worker::{Probe, Quiet};

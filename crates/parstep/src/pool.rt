@@ -1,6 +1,6 @@
 //! A stepper over threads that live on.
 
-ghost use Rattle.std.specs.Prelude.{true, [], ◌≡◌, ◌<◌, ◌≤◌, ◌+◌, ◌++◌, ℕ, length, map, vec_len, All, OnOk, OnErr, IfOk, IfErr, Err, if◌then◌else◌, nat_lt};
+ghost use Rattle.std.specs.Prelude.{true, false, [], ◌≡◌, ◌<◌, ◌≤◌, ◌+◌, ◌++◌, ℕ, length, map, vec_len, All, OnOk, OnErr, IfOk, IfErr, Err, if◌then◌else◌, nat_lt};
 ghost use Rattle.fourstate.specs.declared.limits.TheConstants.{MAX_TIME};
 ghost use Rattle.gatestep.specs.Faults.{is_lost};
 ghost use Rattle.gatestep.specs.Record.{at_moment};
@@ -14,8 +14,8 @@ use crate::limits::MAX_WORKERS;
 use crate::seat::Seat;
 use crate::start::start_all;
 use crate::worker::Probe;
-use gatestep::{Driver, Record, StepFault, Stepper, Task, next};
-use std::alloc::Global;
+use gatestep::{Driver, Job, Record, Serial, StepFault, Stepper, Task, next};
+use std::alloc::{AllocError, Global};
 use std::marker::PhantomData;
 use std::sync::Wait;
 use std::thread::Threads;
@@ -115,6 +115,25 @@ impl<P: Probe, R: Wait + Drop> Stepper for Pool<P, R> {
     fn evaluate(&mut self, task: &Task, t: u64) -> Driver {
         self.history.add_one(task, t);
         next(task, t)
+    }
+
+    /// It deals no jobs.
+    fn takes_jobs(&self) -> bool
+        ensures { result ≡ false }
+    {
+        false
+    }
+
+    /// It does them one after another, on the caller's thread.
+    fn run_jobs<J: Job + Sync>(
+        &mut self,
+        alloc: Global,
+        jobs: &[J],
+    ) -> Result<Vec<J::Output>, AllocError> {
+        let mut alone = Serial::new();
+        let outputs = alone.run_jobs(alloc, jobs);
+        self.history.append(&alone.into_record());
+        outputs
     }
 
     ghost answer_current = { advance_current };
