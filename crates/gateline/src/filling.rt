@@ -100,6 +100,7 @@ pub fn find_inputs<S: Stepper>(
     requires lines { length waves.old ≡ length (netlist design.now).nets }
     requires found { AreFound S.answer (netlist design.now) found.old waves.old }
     ensures found { AreFound S.answer (netlist design.now) found.new waves.new }
+    ensures marked { OnOk result (AreMarked found.new cell.now.inputs) }
     ensures known { OnOk result (AreKnown S.answer (netlist design.now) waves.new cell.now.inputs) }
     ensures kept { KeepsMarks found.old found.new }
 {

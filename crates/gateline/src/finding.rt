@@ -8,6 +8,7 @@ ghost use Rattle.fourstate.specs.declared.limits.TheConstants.{MAX_TIME};
 ghost use Rattle.gateline.specs.kept.Known.{AreTraced, IsTraceBelow, current_by};
 ghost use Rattle.scratch.specs.Run.{wave_of};
 ghost use Rattle.scratch.specs.kept.Kept.{IsWiring};
+ghost use Rattle.scratch.specs.kept.Run.{trace_of};
 ghost use Rattle.waveform.specs.Changes.{wave_changes_below};
 ghost use Rattle.waveform.specs.kept.Currents.{currents};
 
@@ -100,6 +101,34 @@ fn driver_waves(
         waves.push(wave_at_place(alloc, traces, *place as usize, end)?)?;
     }
     Ok(waves)
+}
+
+/// The wave of the net at a place in the order of the design's nets that a gate drives alone, where this is the gate's trace. It fails
+/// where memory runs out.
+pub fn find_lone_wave<S: Stepper>(
+    alloc: Global,
+    design: &Design,
+    wiring: &Wiring,
+    place: usize,
+    driver: usize,
+    trace: &Trace,
+) -> Result<Wave, AllocError>
+    requires wired { IsWiring (netlist design.now) wiring.now }
+    requires there { place < length (netlist design.now).nets }
+    requires lone { slice_get wiring.now.lone_drivers.items place ≡ Some (Some driver) }
+    requires driver { driver < length (netlist design.now).gates }
+    requires trace { IfSome (slice_get (netlist design.now).gates driver) (λ g. trace.now ≡ trace_of S.answer (netlist design.now) g) }
+    ensures { IfOk result (λ wave. Some wave ≡ slice_get (map (wave_of S.answer (netlist design.now)) (netlist design.now).nets) place) }
+{
+    let _wiring = wiring;
+    let _net = design.net_at(place);
+    let _driver = driver;
+    design.lawful();
+    crate::laws::net_by_places();
+    laws::value_of_changes::<Driver>();
+    laws::changes_lie_before::<Driver>();
+    laws::same_changes::<Value>();
+    driver_wave(alloc, trace, design.horizon() + 1)
 }
 
 /// The wave of the net at a place in the order of the design's nets, where the traces of all its drivers are found. It fails where

@@ -14,6 +14,7 @@ mod readers;
 mod walk;
 
 pub use filling::{find_inputs, find_rest};
+pub use finding::find_lone_wave;
 pub use gate::follow_gate;
 pub use inputs_table::InputsTable;
 pub use line::Start;

@@ -7,6 +7,7 @@ use Rattle.std.specs.Option.{option_map_or}
 use Rattle.std.proofs.lemmas.List.Elements.{filter-append}
 use Rattle.std.proofs.lemmas.Option.{slice_get_within}
 use Rattle.gatestep.specs.Step.{State, Evaluation}
+use Rattle.gatestep.proofs.Jobs.{part_moved}
 use Rattle.design.specs.Netlist.{GateEntry, Netlist}
 use Rattle.waveform.specs.Changes.{wave_at}
 use Rattle.waveform.specs.Entries.{same_state}
@@ -21,11 +22,11 @@ use Rattle.rundiff.specs.Dirty.{is_dirty, is_new, same_task}
 use Rattle.rundiff.specs.kept.OldLines.{HoldsEach}
 use Rattle.rundiff.specs.kept.OldRuns.{AreOldRun, OldRunRecord, state_till}
 use Rattle.rundiff.specs.kept.Places.{blank_gate, gate_at}
-use Rattle.ordering.specs.kept.Gates.{IsBeginning, column_of, gate_work_from, moments_from}
+use Rattle.ordering.specs.kept.Gates.{column_of, gate_work_from, moments_from}
 use Rattle.ordering.specs.kept.OldRuns.{IsOldRun, line_at, wanted_at}
 use Rattle.ordering.specs.kept.Order.{each_in_order, is_order, order_work_from}
 use Rattle.ordering.specs.kept.Reworks.{rework_from}
-use Rattle.ordering.proofs.Orders.{begun_is_part, rows_ordered}
+use Rattle.ordering.proofs.Orders.{rows_ordered}
 
 index_there : {X : Type 0} (xs : List X) (k : ℕ) (x d : X) → slice_get xs k ≡ Some x → slice_index_or xs k d ≡ x
 index_there [] k x d there = absurd (cc)
@@ -140,7 +141,6 @@ module _ (answer : Evaluation → ℕ → State) (old new : Netlist) (run : OldR
       pub beside_all : now ≡ before ++ order_work_from answer new (Some lent) a (suc new.horizon) order → IsAskedInSomeOrder before now (rework_from answer old new a (suc new.horizon))
       beside_all e = (order_work_from answer new (Some lent) a (suc new.horizon) order, reordered, e)
 
-      pub beside_part : (piece : List (Evaluation × ℕ)) → IsBeginning piece (order_work_from answer new (Some lent) a (suc new.horizon) order) → now ≡ before ++ piece →
-          IsAskedInPart before now (rework_from answer old new a (suc new.horizon))
-      beside_part piece begun e =
-          (piece, begun_is_part (rework_from answer old new a (suc new.horizon)) (order_work_from answer new (Some lent) a (suc new.horizon) order) piece reordered begun, e)
+      pub beside_part : IsAskedInPart before now (order_work_from answer new (Some lent) a (suc new.horizon) order) → IsAskedInPart before now (rework_from answer old new a (suc new.horizon))
+      beside_part part =
+          (part.0, part_moved (rework_from answer old new a (suc new.horizon)) (order_work_from answer new (Some lent) a (suc new.horizon) order) part.0 reordered part.1, part.2)

@@ -1,8 +1,10 @@
 pub mod Asked
+pub mod Batching
 pub mod Besides
 pub mod Columns
 pub mod Counts
 pub mod EarlierTraces
+pub mod Jobs
 pub mod Marks
 pub mod Orders
 pub mod Places

@@ -126,7 +126,7 @@ module _ (d : Netlist) (w : Wiring) (wired : IsWiring d w) where
       list_all-map (is_ready_by w f) (input_of d) g.inputs
       ∙ ap (λ test. list_all test g.inputs) (λ i c. ready_is f (input_of d c) i)
 
-  come_is : (f : ℕ → Bool) (k : ℕ) → may_come_by w f k ≡ may_come d f k
+  pub come_is : (f : ℕ → Bool) (k : ℕ) → may_come_by w f k ≡ may_come d f k
   come_is f k =
       ap (λ (l : List CellRecord). not (f k) && option_map_or (λ (cell : CellRecord). list_all (is_ready_by w f) cell.inputs) (slice_get l k) false) wired.cells
       ∙ ap (λ (o : Option CellRecord). not (f k) && option_map_or (λ (cell : CellRecord). list_all (is_ready_by w f) cell.inputs) o false) (slice_get-map (cell_of d) d.gates k)

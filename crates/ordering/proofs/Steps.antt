@@ -42,7 +42,7 @@ module _ (answer : Evaluation → ℕ → State) (d : Netlist) (beside : Option 
             ∙ map-append task (filter stirred some) (filter stirred begun.0),
       )
 
-  gate_begins : (k : ℕ) (g : GateEntry) (a n m : ℕ) → n ≤ m → IsBeginning (gate_work k g a n) (gate_work k g a m)
+  pub gate_begins : (k : ℕ) (g : GateEntry) (a n m : ℕ) → n ≤ m → IsBeginning (gate_work k g a n) (gate_work k g a m)
   gate_begins k g a n m low =
       let some = moments_begin n m low in
       work_begins k g (moments_from a n) (moments_from a m)

@@ -20,6 +20,7 @@ use Rattle.scratch.specs.kept.Places.{has}
 use Rattle.scratch.specs.kept.Run.{trace_of}
 use Rattle.gateline.specs.kept.Known.{AreSupplied, AreTraced, IsTraced}
 use Rattle.waveform.specs.Timelines.{moments}
+use Rattle.ordering.specs.kept.Batches.{StayTraced}
 use Rattle.ordering.specs.kept.Gates.{IsBeginning}
 use Rattle.ordering.specs.kept.Order.{is_order, is_ready, may_come, may_follow}
 use Rattle.ordering.proofs.Orders.{all_below, first_of_both, second_of_both}
@@ -80,11 +81,19 @@ module _ (answer : Evaluation → ℕ → State) (d : Netlist) (traces new : Lis
         by None at is = absurd (let x = there d.gates k within in let e = x.1 in cc)
         by (Some g) at is = (g, at, is)
 
-    new_traced : IsTraced answer d new k
+    pub new_traced : IsTraced answer d new k
     new_traced =
         let low : k < length traces = omega arith in
         ap (λ l. slice_get l k) written.2 ∙ set_here traces k (trace_of answer d written.0) low ∙ sym (ap (option_map (trace_of answer d)) written.1)
         ∙ sym (slice_get-map (trace_of answer d) d.gates k)
+
+    -- the traces that were found stay so
+    pub stay_traced : StayTraced answer d traces new
+    stay_traced p before = by (nat_eq p k) refl
+      where
+        by : (b : Bool) → nat_eq p k ≡ b → IsTraced answer d new p
+        by true e = let at = nat_same p k e in rw at new_traced
+        by false e = ap (λ l. slice_get l p) written.2 ∙ set_apart traces k p (trace_of answer d written.0) e ∙ before
 
     -- with its trace one gate more is traced
     pub one_traced : (done : List ℕ) → ((p : ℕ) → has p done ≡ true → IsTraced answer d traces p) → (p : ℕ) → has p (done ++ k ∷ []) ≡ true → IsTraced answer d new p
@@ -92,9 +101,7 @@ module _ (answer : Evaluation → ℕ → State) (d : Netlist) (traces new : Lis
       where
         by : (b : Bool) → nat_eq p k ≡ b → IsTraced answer d new p
         by true e = let at = nat_same p k e in rw at new_traced
-        by false e =
-            let earlier : has p done ≡ true = sym (or_off (has p done) (nat_eq p k) e) ∙ sym (has_more p k done) ∙ on in
-            ap (λ l. slice_get l p) written.2 ∙ set_apart traces k p (trace_of answer d written.0) e ∙ before p earlier
+        by false e = stay_traced p (before p (sym (or_off (has p done) (nat_eq p k) e) ∙ sym (has_more p k done) ∙ on))
           where
             or_off : (a b : Bool) → b ≡ false → (a || b) ≡ a
             or_off true b h = refl
@@ -135,10 +142,6 @@ pub none_begins : {A : Type 0} (xs : List A) → IsBeginning [] xs
 none_begins xs = (xs, refl)
 
 -- What follows from the answer of a call.
-
-pub on_err : {A E : Type 0} {P : Type 0} (r : Result A E) → P → OnErr r P
-on_err (Ok x) p = tt
-on_err (Err e) p = p
 
 pub of_there : {X : Type 0} (o : Option X) (x : X) (P : X → Type 0) → o ≡ Some x → IfSome o P → P x
 of_there None x P e p = cc

@@ -11,7 +11,8 @@ ghost use Rattle.ordering.specs.kept.Order.{is_order};
 ghost use Rattle.ordering.specs.kept.Reworks.{rework_from};
 
 use crate::earlier::EarlierRun;
-use crate::following::{Begin, run_in_order};
+use crate::following::Begin;
+use crate::in_order::run_in_order;
 use gatestep::Stepper;
 use rundiff::{Former, OldRun, laws};
 use scratch::Wiring;

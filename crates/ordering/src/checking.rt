@@ -60,7 +60,7 @@ fn are_ready(wiring: &Wiring, marks: &[bool], inputs: &[PackedInput]) -> bool
 }
 
 /// The gate at a place may come next: it is not marked, and all that drive what it reads are.
-fn may_come(wiring: &Wiring, marks: &[bool], place: u32) -> bool
+pub fn may_come(wiring: &Wiring, marks: &[bool], place: u32) -> bool
     ensures may { result ≡ may_come_by wiring.now (is_marked marks.now) place }
     ensures within { result ≡ true → place < length wiring.now.cells.items }
 {

@@ -12,7 +12,8 @@ ghost use Rattle.ordering.specs.kept.Order.{is_order};
 
 use crate::earlier::EarlierRun;
 use crate::finding::find_order;
-use crate::following::{Begin, run_in_order};
+use crate::following::Begin;
+use crate::in_order::run_in_order;
 use design::Design;
 use gatestep::{StepFault, Stepper};
 use scratch::{Wiring, wire};

@@ -1,12 +1,15 @@
 //! The gates of a design one after another, each after all that drive what it reads.
 #![tactic(auto)]
 
+mod batches;
 mod beside;
 mod checking;
+mod dealing;
 mod earlier;
 mod extending;
 mod finding;
 mod following;
+mod in_order;
 pub mod laws;
 mod lines;
 mod old_run;

@@ -10,7 +10,8 @@ ghost use Rattle.scratch.specs.kept.Run.{IsRun};
 ghost use Rattle.ordering.specs.kept.Order.{is_order};
 
 use crate::finding::find_order;
-use crate::following::{Begin, run_in_order};
+use crate::following::Begin;
+use crate::in_order::run_in_order;
 use design::Design;
 use gatestep::{StepFault, Stepper};
 use scratch::{Wiring, simulate_wired, wire};

@@ -1,10 +1,7 @@
 -- What was asked of a stepper, where the order is left open.
 use Rattle.std.specs.Prelude.{◌≡◌, ℕ, List, ◌++◌, IsPermutation}
+pub use Rattle.gatestep.specs.Jobs.{IsPart}
 use Rattle.gatestep.specs.Step.{Evaluation}
-
--- a list is a part of another one: with some more elements it has the same ones, in some order
-abbrev pub IsPart : {A : Type 0} → (part whole : List A) → Type 0
-IsPart {A = A} part whole = (rest : List A) × IsPermutation whole (part ++ rest)
 
 -- what was asked has grown by this work, in some order: by each entry as often as the work has it, and by no others
 abbrev pub IsAskedInSomeOrder : (old new work : List (Evaluation × ℕ)) → Type 0

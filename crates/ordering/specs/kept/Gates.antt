@@ -1,6 +1,7 @@
 -- What a run asks, gate after gate.
 use Rattle.std.specs.Prelude.{◌≡◌, ◌&&◌, Bool, ℕ, List, ◌++◌, map, sum_by, count_by}
 use Rattle.std.specs.List.{filter, flat_map}
+pub use Rattle.gatestep.specs.Jobs.{IsBeginning}
 use Rattle.gatestep.specs.Step.{State, Evaluation}
 use Rattle.design.specs.Netlist.{GateEntry, Netlist}
 use Rattle.waveform.specs.Timelines.{moments}
@@ -31,7 +32,3 @@ column_of answer d asks times g = map (λ t. (task_at answer d g t, t)) (filter 
 -- how many pairs of a gate and a moment below n there are at which the gate is stirred and what is asked of it passes a test
 abbrev pub stirred_pairs : (Evaluation → ℕ → State) → Netlist → ℕ → (Evaluation × ℕ → Bool) → ℕ
 stirred_pairs answer d n test = sum_by (λ g. count_by (λ t. is_stirred answer d g t && test (task_at answer d g t, t)) (moments n)) d.gates
-
--- a list is a beginning of another one
-abbrev pub IsBeginning : {A : Type 0} → (piece whole : List A) → Type 0
-IsBeginning {A = A} piece whole = (rest : List A) × (whole ≡ piece ++ rest)

@@ -20,6 +20,10 @@ loop-input-preserved g c =
       kept = λ m marked. c.in_ok-find_input.ensures.kept m (c.loop-input.invariant.kept m marked);
     }
 
+pub returns-clause-marked : goal.returns-clause-marked
+returns-clause-marked g c =
+    subst (AreMarked c.loop-input.found) (take_all c.loop-input.input-index c.inputs-input-items.result.now c.loop-input-test.false ∙ c.inputs-input-items.ensures.inputs) c.loop-input.invariant.marked
+
 pub returns-clause-known : goal.returns-clause-known
 returns-clause-known g c =
     let answer = g.S.Stepper.answer in let d = netlist c.args.design.now in

@@ -32,6 +32,6 @@ returns-clause-part g c =
     let law = c.dirty_by_lines.ensures in let states = law.states old new run c.lawful.ensures.design c.requires.old in let inputs = law.inputs old new run c.lawful-2.ensures.design c.requires.old in
     let whole = law.trace old new run c.lawful.ensures.design c.requires.old in
     err_on c.run_in_order.result
-    (λ begun. beside_part answer old new run c.requires.old c.requires.horizon states inputs whole (law.dirty old new) c.args.old refl (begin_after c.args.earlier) c.args.order.now c.requires.order
-    (g.S.Stepper.asked c.args.stepper.now) (g.S.Stepper.asked c.run_in_order.new.stepper) begun.0 begun.1 begun.2)
+    (beside_part answer old new run c.requires.old c.requires.horizon states inputs whole (law.dirty old new) c.args.old refl (begin_after c.args.earlier) c.args.order.now c.requires.order
+    (g.S.Stepper.asked c.args.stepper.now) (g.S.Stepper.asked c.run_in_order.new.stepper))
     c.run_in_order.ensures.part

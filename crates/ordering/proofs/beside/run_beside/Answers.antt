@@ -3,7 +3,7 @@ use Rattle.design.specs.Keys.{netlist}
 use Rattle.scratch.specs.kept.Grown.{grown_none}
 use Rattle.ordering.specs.kept.Earlier.{begin_after}
 use Rattle.ordering.specs.kept.Reworks.{rework_from}
-use Rattle.ordering.proofs.Supplied.{on_err}
+use Rattle.gatestep.proofs.Jobs.{on_err}
 use Rattle.ordering.proofs.beside.run_beside.Goals as goal
 
 pub returns-in_err-old-clause-part : goal.returns-in_err-old-clause-part

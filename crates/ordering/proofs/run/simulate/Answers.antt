@@ -2,7 +2,7 @@ use Rattle.std.proofs.Common.{suc}
 use Rattle.design.specs.Keys.{netlist}
 use Rattle.scratch.specs.Work.{work_below}
 use Rattle.scratch.specs.kept.Grown.{grown_none}
-use Rattle.ordering.proofs.Supplied.{on_err}
+use Rattle.gatestep.proofs.Jobs.{on_err}
 use Rattle.ordering.proofs.run.simulate.Goals as goal
 
 pub returns-in_err-wiring-clause-part : goal.returns-in_err-wiring-clause-part
