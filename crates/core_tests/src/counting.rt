@@ -1,10 +1,11 @@
 //! A stepper that counts what it is asked, and may lose its worker.
 
-ghost use Rattle.std.specs.Prelude.{◌≡◌, nat_lt};
+ghost use Rattle.std.specs.Prelude.{◌≡◌, false, nat_lt};
 ghost use Rattle.gatestep.specs.Step.{advance};
 ghost use Rattle.gatestep.specs.kept.StepLaws.{advance_current, advance_later, advance_near, advance_stays};
 
-use gatestep::{Driver, Record, Serial, StepFault, Stepper, Task, next};
+use gatestep::{Driver, Job, Record, Serial, StepFault, Stepper, Task, next};
+use std::alloc::{AllocError, Global};
 use std::process::Abort;
 
 /// Passes steps on to `Serial`, and counts them. It deals the steps of so many tasks or more, and makes so many steps before
@@ -97,6 +98,21 @@ impl Stepper for Counting {
         self.latest = t;
         self.history.add_one(task, t);
         next(task, t)
+    }
+
+    fn takes_jobs(&self) -> bool {
+        false
+    }
+
+    fn run_jobs<J: Job + Sync>(
+        &mut self,
+        alloc: Global,
+        jobs: &[J],
+    ) -> Result<Vec<J::Output>, AllocError> {
+        let mut alone = Serial::new();
+        let outputs = alone.run_jobs(alloc, jobs);
+        self.history.append(&alone.into_record());
+        outputs
     }
 
     ghost answer_current = { advance_current };

@@ -1,6 +1,6 @@
 //! Runs from scratch and up to a later horizon.
 
 mod counts;
-mod extended;
+pub mod extended;
 mod keyed;
 mod random;

@@ -1,14 +1,14 @@
 //! A session whose stepper loses its worker.
 
-ghost use Rattle.std.specs.Prelude.{◌≡◌, nat_lt};
+ghost use Rattle.std.specs.Prelude.{◌≡◌, false, nat_lt};
 ghost use Rattle.gatestep.specs.Step.{advance};
 ghost use Rattle.gatestep.specs.kept.StepLaws.{advance_current, advance_later, advance_near, advance_stays};
 
 use crate::compare::equal;
 use devices::Device;
-use gatestep::{Driver, Record, Serial, StepFault, Stepper, Task, next};
+use gatestep::{Driver, Job, Record, Serial, StepFault, Stepper, Task, next};
 use session::{Options, SessionFault, run};
-use std::alloc::Global;
+use std::alloc::{AllocError, Global};
 use std::process::Abort;
 use std::random::RandomSource;
 use std::sync::Wait;
@@ -65,6 +65,21 @@ impl Stepper for Losing {
     fn evaluate(&mut self, task: &Task, t: u64) -> Driver {
         self.history.add_one(task, t);
         next(task, t)
+    }
+
+    fn takes_jobs(&self) -> bool {
+        false
+    }
+
+    fn run_jobs<J: Job + Sync>(
+        &mut self,
+        alloc: Global,
+        jobs: &[J],
+    ) -> Result<Vec<J::Output>, AllocError> {
+        let mut alone = Serial::new();
+        let outputs = alone.run_jobs(alloc, jobs);
+        self.history.append(&alone.into_record());
+        outputs
     }
 
     ghost answer_current = { advance_current };

@@ -10,7 +10,7 @@ use bench::Bench;
 use devices::Device;
 use edits::Edit;
 use gatestep::{Serial, Stepper};
-use parstep::{Adaptive, Bulk, Pool, Quiet};
+use parstep::{Bulk, Parallel, Pool, Quiet};
 use std::alloc::Global;
 use std::process::Abort;
 use std::sync::Wait;
@@ -93,8 +93,7 @@ fn compare<R: Threads + Wait + Abort + Copy + Drop + Send + Sync + 'static>(
     check_pool(rt, alloc, gates, 1, wanted.as_slice());
     check_pool(rt, alloc, gates, 2, wanted.as_slice());
     check_pool(rt, alloc, gates, 64, wanted.as_slice());
-    let stepper = Adaptive::open(rt, alloc, 2, Quiet).expect(&rt, "a stepper");
-    let bytes = dump(&rt, alloc, gates, stepper);
+    let bytes = dump(&rt, alloc, gates, Parallel::open(rt, 2));
     equal(&rt, "bytes", bytes.as_slice(), wanted.as_slice());
     wanted
 }

@@ -6,9 +6,8 @@ ghost use Rattle.parstep.specs.declared.limits.TheConstants.{MAX_WORKERS};
 use super::tasks::{MOMENT, tasks};
 use crate::compare::equal;
 use crate::dice::Dice;
-use design::MAX_GATES;
 use gatestep::{Serial, Stepper};
-use parstep::{Adaptive, Bulk, LEAST_DEALT, Pool, Quiet};
+use parstep::{Bulk, Parallel, Pool, Quiet};
 use std::alloc::Global;
 use std::process::Abort;
 use std::sync::Wait;
@@ -84,13 +83,6 @@ fn steps_by_a_parallel_map(rt: HostRuntime) {
 }
 
 #[test]
-fn small_steps_beside_two_workers(rt: HostRuntime) {
-    let mut stepper = Adaptive::open(rt, rt.alloc(), 2, Quiet).expect(&rt, "a stepper");
-    compare_many(&rt, rt.alloc(), &mut stepper, 30);
-}
-
-// `LEAST_DEALT` is one more than a design has gates, and stands in a crate that knows no designs.
-#[test]
-fn no_step_of_a_design_is_dealt(rt: HostRuntime) {
-    assert!(&rt; MAX_GATES < LEAST_DEALT);
+fn steps_beside_two_workers(rt: HostRuntime) {
+    compare_many(&rt, rt.alloc(), &mut Parallel::open(rt, 2), 30);
 }

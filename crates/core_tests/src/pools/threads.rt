@@ -9,7 +9,7 @@ use super::tasks::{MOMENT, tasks};
 use crate::dice::Dice;
 use crossbeam_channel::{Sender, bounded};
 use gatestep::Stepper;
-use parstep::{Adaptive, LEAST_DEALT, Pool, Probe, Quiet};
+use parstep::{Pool, Probe, Quiet};
 use std::alloc::Global;
 use std::process::Abort;
 use std::sync::{Arc, Wait};
@@ -78,19 +78,6 @@ fn each_piece_waits_for_the_other(rt: HostRuntime) {
 fn sixty_four_pieces_at_once(rt: HostRuntime) {
     step_held(rt, rt.alloc(), 64, 130, Hold::ForAll(64));
     step_held(rt, rt.alloc(), 64, 4_096, Hold::ForAll(64));
-}
-
-// Of a step with one task less than are dealt no worker gets a piece.
-#[test]
-fn a_small_step_and_a_large_one(rt: HostRuntime) {
-    let (probe, calls) = holding(rt, rt.alloc(), Hold::ForAll(2));
-    let mut stepper = Adaptive::open(rt, rt.alloc(), 2, probe).expect(&rt, "a stepper");
-    let least = LEAST_DEALT as u64;
-    compare(&rt, rt.alloc(), &mut Dice(5), &mut stepper, least - 1);
-    calls.check(&rt, 0);
-    compare(&rt, rt.alloc(), &mut Dice(5), &mut stepper, least);
-    calls.check(&rt, 2);
-    drop(calls);
 }
 
 // One worker gets all gates that a design can have as one piece.

@@ -11,7 +11,7 @@ use crate::edit_lists::edit_lines::design_of;
 use crate::waves::{Named, check_waves};
 use design::Design;
 use fourstate::MAX_TIME;
-use gatestep::Serial;
+use gatestep::{Serial, Stepper};
 use ordering::extend;
 use std::alloc::Global;
 use std::process::Abort;
@@ -27,13 +27,14 @@ fn ending_at(rt: &impl Abort, design: &Design, horizon: u64) -> Design
 }
 
 /// The run of the design that goes on from its run up to an earlier horizon; the stepper is asked for what comes after that alone.
-pub fn longer(
+pub fn longer<S: Stepper>(
     rt: &impl Abort,
     alloc: Global,
     design: &Design,
     horizon: u64,
-    stepper: &mut Counting,
+    stepper: &mut S,
 ) -> Run
+    requires { S.answer ≡ advance }
     ensures { IsRun advance design.now result }
 {
     let former = ending_at(rt, design, horizon);
