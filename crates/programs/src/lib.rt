@@ -4,6 +4,7 @@
 mod command_line;
 mod fault_lines;
 mod file;
+mod memory;
 mod not_started;
 mod numbers;
 mod refusal;
@@ -15,6 +16,7 @@ mod words_fault;
 pub use command_line::{option_of, parse, positional, program};
 pub use fault_lines::{Breakdown, break_off, say_breakdown, say_design};
 pub use file::{all_bytes_of, breakdown_of, first_bytes_of, text_of};
+pub use memory::keep_freed_memory;
 pub use not_started::{StopCause, stop};
 pub use numbers::number_of;
 pub use refusal::{say_missing, say_range, say_value, say_words_fault};

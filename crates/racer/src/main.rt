@@ -25,7 +25,9 @@ use complaint::StartFault;
 use devices::Device;
 use ending::ending;
 use lexing::MAX_TEXT;
-use programs::{Breakdown, all_bytes_of, break_off, first_bytes_of, stop, text_of};
+use programs::{
+    Breakdown, all_bytes_of, break_off, first_bytes_of, keep_freed_memory, stop, text_of,
+};
 use std::alloc::Global;
 use std::env;
 use std::fs::File;
@@ -33,6 +35,7 @@ use std::process::ExitCode;
 use std::rt::Files;
 
 fn main(rt: HostRuntime) -> ExitCode {
+    keep_freed_memory(rt.alloc());
     let mut output = Device::new(rt.stdout());
     let mut errors = Device::new(rt.stderr());
     let status = match start::asked(rt.alloc(), env::args(&rt)) {
