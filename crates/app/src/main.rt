@@ -17,13 +17,14 @@ mod start;
 use complaint::StartFault;
 use devices::Device;
 use lexing::MAX_TEXT;
-use programs::{Breakdown, break_off, first_bytes_of, stop};
+use programs::{Breakdown, break_off, first_bytes_of, keep_freed_memory, stop};
 use refusal::Refusal;
 use std::env;
 use std::fs::File;
 use std::process::ExitCode;
 
 fn main(rt: HostRuntime) -> ExitCode {
+    keep_freed_memory(rt.alloc());
     let mut sink = Device::new(rt.stdout());
     let mut errors = Device::new(rt.stderr());
     let program = start::program_of(env::args(&rt));

@@ -12,8 +12,7 @@ use crate::program::Program;
 use crate::start::unread;
 use devices::{Sink, Source};
 use gatestep::Serial;
-use lexing::MAX_TEXT;
-use parstep::{Adaptive, Quiet};
+use parstep::Parallel;
 use session::{Options, SessionFault};
 use std::io;
 use std::random::RandomSource;
@@ -23,7 +22,7 @@ use std::thread::Threads;
 /// Answers the lines of the source on the sink, for the design that a file spells. `file` is what the reading of it gave; a
 /// file that can't be read is a failed read (own). Any number of workers gives the same answers.
 pub fn run_session<
-    T: AllocGlobal + RandomSource + Threads + Wait + Copy + Drop + Send + 'static,
+    T: AllocGlobal + RandomSource + Threads + Wait + Copy + Drop + Sync,
     R: Source,
     W: Sink,
 >(
@@ -48,10 +47,9 @@ pub fn run_session<
     }
 }
 
-// The session over the text. No worker is started for a text that is refused since it is too long: so out of memory, which
-// is the answer where a thread can't be started, comes only of a text within its limit.
+// The session over the text. One worker starts no thread.
 fn run_text<
-    T: AllocGlobal + RandomSource + Threads + Wait + Copy + Drop + Send + 'static,
+    T: AllocGlobal + RandomSource + Threads + Wait + Copy + Drop + Sync,
     R: Source,
     W: Sink,
 >(
@@ -72,11 +70,9 @@ fn run_text<
         delay: args.delay,
         tools: program.is_tool(),
     };
-    if args.workers <= DEFAULT_WORKERS || text.len() > MAX_TEXT {
+    if args.workers <= DEFAULT_WORKERS {
         return session::run(rt, rt.alloc(), text, &options, source, sink, Serial::new());
     }
-    match Adaptive::open(*rt, rt.alloc(), args.workers, Quiet) {
-        Ok(stepper) => session::run(rt, rt.alloc(), text, &options, source, sink, stepper),
-        Err(_) => Err(SessionFault::OutOfMemory),
-    }
+    let stepper = Parallel::open(*rt, args.workers);
+    session::run(rt, rt.alloc(), text, &options, source, sink, stepper)
 }
