@@ -5,7 +5,6 @@ ghost use Rattle.vtext.specs.Bits.{bit_names};
 ghost use Rattle.vtext.specs.kept.Readings.{view};
 ghost use Rattle.vtext.specs.Turns.{turn};
 ghost use Rattle.vtext.specs.kept.Turns.{IsTurn};
-ghost use Rattle.vtext.specs.Walks.{word_at};
 
 use crate::bits::BitName;
 use crate::draft::Draft;
@@ -15,18 +14,15 @@ use crate::turn::Turn;
 use crate::word::{Placed, Word};
 use std::alloc::{AllocError, Global};
 
-/// The word at a place.
-fn word_at(words: &[Placed], place: usize) -> Option<Word>
-    ensures { result ≡ word_at words.now place }
-{
-    match words.get(place) {
-        Some(next) => Some(next.word),
-        None => None,
-    }
+/// A word, and the one behind it, if there is one.
+#[derive(Clone, Copy)]
+pub struct Lookahead {
+    pub next: Placed,
+    pub after: Option<Word>,
 }
 
 impl Draft {
-    /// Reads one word more in a state of the parser; `after` is the place of the word after it.
+    /// Reads one word more in a state of the parser.
     pub fn turn(
         &mut self,
         alloc: Global,
@@ -34,14 +30,13 @@ impl Draft {
         names: &Names,
         bits: &[BitName],
         state: ParserState,
-        next: Placed,
-        words: &[Placed],
-        after: usize,
+        ahead: Lookahead,
     ) -> Result<Turn, AllocError>
         requires room { (view self.old).unnamed < 2 ^ 64 - 1 }
         requires bits { bits.now ≡ bit_names names.now }
-        ensures { IfOk result (λ made. IsTurn made (view self.new) (turn default names.now (view self.old) state next (word_at words.now after))) }
+        ensures { IfOk result (λ made. IsTurn made (view self.new) (turn default names.now (view self.old) state ahead.next ahead.after)) }
     {
+        let Lookahead { next, after } = ahead;
         match state {
             ParserState::Outside => Ok(self.outside(next.start, next.word)),
             ParserState::ModuleName => Ok(self.module_name(next.word)),
@@ -55,7 +50,7 @@ impl Draft {
             ParserState::InlineNext => Ok(self.inline_next(next.word)),
             ParserState::InlineMore => self.inline_more(names, bits, next.word),
             ParserState::HeaderEnd => Ok(self.header_end(next.word)),
-            ParserState::Items => self.items(alloc, default, next.word, word_at(words, after)),
+            ParserState::Items => self.items(alloc, default, next.word, after),
             ParserState::PortStart => self.port_start(names, bits, next.word),
             ParserState::PortKind => self.port_kind(names, bits, next.word),
             ParserState::PortName => self.port_name(names, bits, next.word),
@@ -83,11 +78,7 @@ impl Draft {
             ParserState::OffEnd => Ok(self.off_end(next.word)),
             ParserState::InstanceStart => self.instance_start(next.word),
             ParserState::InstanceOpen => Ok(self.instance_open(next.word)),
-            ParserState::TerminalStart => self.terminal_start(
-                names,
-                next.word,
-                word_at(words, after),
-            ),
+            ParserState::TerminalStart => self.terminal_start(names, next.word, after),
             ParserState::TerminalEnd => self.terminal_end(alloc, names, next.word),
             ParserState::IndexStart(of) => Ok(self.index_start(of, next.word)),
             ParserState::Index(of) => self.index(of, next.word),
@@ -95,27 +86,13 @@ impl Draft {
             ParserState::InstanceEnd => Ok(self.list_next(ParserState::InstanceStart, next.word)),
             ParserState::ModuleInstanceName => self.module_instance_name(next.start, next.word),
             ParserState::ModuleInstanceOpen => Ok(self.module_instance_open(next.word)),
-            ParserState::Connections => self.connections(
-                alloc,
-                names,
-                next.word,
-                word_at(words, after),
-            ),
-            ParserState::OrderedStart => self.ordered_start(
-                alloc,
-                names,
-                next.word,
-                word_at(words, after),
-            ),
+            ParserState::Connections => self.connections(alloc, names, next.word, after),
+            ParserState::OrderedStart => self.ordered_start(alloc, names, next.word, after),
             ParserState::OrderedEnd => self.ordered_end(alloc, next.word),
             ParserState::NamedStart => Ok(self.named_start(next.word)),
             ParserState::NamedPort => Ok(self.named_port(next.word)),
             ParserState::NamedOpen => Ok(self.named_open(next.word)),
-            ParserState::NamedTerminal => self.named_terminal(
-                names,
-                next.word,
-                word_at(words, after),
-            ),
+            ParserState::NamedTerminal => self.named_terminal(names, next.word, after),
             ParserState::NamedClose => Ok(self.named_close(next.word)),
             ParserState::NamedEnd => self.named_end(alloc, next.word),
             ParserState::ModuleInstanceEnd => {

@@ -13,7 +13,8 @@ use crate::draft::Draft;
 use crate::names::Names;
 use crate::parser_state::ParserState;
 use crate::turn::Turn;
-use crate::word::Placed;
+use crate::turns::Lookahead;
+use crate::word::{Placed, Word};
 use std::alloc::{AllocError, Global};
 
 /// Why a list of words was refused.
@@ -32,6 +33,16 @@ impl From<AllocError> for Refusal {
 
     fn from(_error: AllocError) -> Refusal {
         Refusal::OutOfMemory
+    }
+}
+
+/// The word at a place.
+fn word_at(words: &[Placed], place: usize) -> Option<Word>
+    ensures { result ≡ word_at words.now place }
+{
+    match words.get(place) {
+        Some(next) => Some(next.word),
+        None => None,
     }
 }
 
@@ -56,9 +67,10 @@ pub fn walk(
             names,
             bits.as_slice(),
             state,
-            words[i],
-            words,
-            i + 1,
+            Lookahead {
+                next: words[i],
+                after: word_at(words, i + 1),
+            },
         )? {
             Turn::To(to) => state = to,
             Turn::Refused(cause) => return Err(Refusal::Fault(i, cause)),

@@ -1,10 +1,10 @@
-use Rattle.std.proofs.Common.{◌≡◌, ◌+◌, length, ap, refl, sym, subst, None, arith}
+use Rattle.std.proofs.Common.{◌≡◌, length, ap, sym, subst, None, arith}
 use Rattle.vtext.specs.declared.cause.Cause.TheVariants.{Syntax}
 use Rattle.vtext.specs.declared.parser_state.ParserState.{ParserState}
 use Rattle.vtext.specs.declared.parser_state.ParserState.TheVariants.{Outside}
 use Rattle.vtext.specs.Readings.{Reading}
 use Rattle.vtext.specs.kept.Readings.{view}
-use Rattle.vtext.specs.Walks.{IsFault, Leads, start, word_at}
+use Rattle.vtext.specs.Walks.{IsFault, Leads, start}
 use Rattle.vtext.proofs.SoundWalks.{room_left}
 use Rattle.vtext.proofs.WalkLemmas.{ended, refused_at, refused_end, turned}
 use Rattle.vtext.proofs.walks.walk.Goals as goal
@@ -20,14 +20,14 @@ turn-requires-clause-room c =
 pub loop-i-preserved : goal.loop-i-preserved
 loop-i-preserved c = record {
   leads =
-      turned c.args.default c.args.names.now c.args.words.now c.loop-i.i _ (word_at c.args.words.now (c.loop-i.i + 1)) (record { state = c.loop-i.state; so_far = view c.loop-i.draft })
-      (record { state = c.in-To.to; so_far = view c.turn.new.self }) c.loop-i-test.true c.loop-i.invariant.leads refl (rw c.in-To.is at c.in_ok-to.ensures);
+      turned c.args.default c.args.names.now c.args.words.now c.loop-i.i _ c.word_at.result (record { state = c.loop-i.state; so_far = view c.loop-i.draft })
+      (record { state = c.in-To.to; so_far = view c.turn.new.self }) c.loop-i-test.true c.loop-i.invariant.leads c.word_at.ensures (rw c.in-To.is at c.in_ok-to.ensures);
 }
 
 pub returns-in-Refused-clause-fault : goal.returns-in-Refused-clause-fault
 returns-in-Refused-clause-fault c =
-    refused_at c.args.default c.args.names.now c.args.words.now c.loop-i.i _ (word_at c.args.words.now (c.loop-i.i + 1)) (record { state = c.loop-i.state; so_far = view c.loop-i.draft })
-    c.in-Refused.cause c.loop-i-test.true c.loop-i.invariant.leads refl (rw c.in-Refused.is at c.in_ok-to.ensures)
+    refused_at c.args.default c.args.names.now c.args.words.now c.loop-i.i _ c.word_at.result (record { state = c.loop-i.state; so_far = view c.loop-i.draft })
+    c.in-Refused.cause c.loop-i-test.true c.loop-i.invariant.leads c.word_at.ensures (rw c.in-Refused.is at c.in_ok-to.ensures)
 
 pub returns-in-Outside-clause-text : goal.returns-in-Outside-clause-text
 returns-in-Outside-clause-text c =
