@@ -15,6 +15,7 @@ use crate::timeline::Timeline;
 use event_queue::{EventQueue, PAGE, Page};
 use std::alloc::{AllocError, Global};
 use std::marker::Model;
+use std::ops::Range;
 
 /// Timelines of a run that are read together, from moment to moment (own). The entries of a page of
 /// moments are put in order of time at once, timeline by timeline: so a processor waits once for
@@ -125,8 +126,7 @@ impl<'a, V: Sample> Replay<'a, V> {
             &mut self.page,
             &mut self.turns,
             &mut self.due,
-            from,
-            done,
+            from..done,
         );
         if result.is_err() {
             self.lines.clear();
@@ -146,8 +146,8 @@ impl<'a, V: Sample> Replay<'a, V> {
     }
 }
 
-/// Reads on from the moment `from` until all moments below `until` are done. Only pages for which a
-/// timeline is noted are gone to.
+/// Reads on until these moments are done, where those before them are. Only pages for which a timeline is
+/// noted are gone to.
 fn read_until<V: Sample>(
     alloc: Global,
     lines: &mut Vec<Reading<V>>,
@@ -155,19 +155,19 @@ fn read_until<V: Sample>(
     page: &mut Page<(usize, V::Entry)>,
     turns: &mut EventQueue,
     due: &mut Vec<usize>,
-    from: u64,
-    until: u64,
+    moments: Range<u64>,
 ) -> Result<(), AllocError>
-    requires order { from ≤ until }
-    requires within { until ≤ TIME_END }
-    requires in_hand { AreInHand V.stored page.old turns.old from (readings lines.old.items) }
-    requires have_values { HaveValues V.same V.drift V.stored values.old.items from (readings lines.old.items) }
-    ensures in_hand { OnOk result (AreInHand V.stored page.new turns.new until (readings lines.new.items)) }
-    ensures have_values { OnOk result (HaveValues V.same V.drift V.stored values.new.items until (readings lines.new.items)) }
+    requires order { moments.start ≤ moments.end }
+    requires within { moments.end ≤ TIME_END }
+    requires in_hand { AreInHand V.stored page.old turns.old moments.start (readings lines.old.items) }
+    requires have_values { HaveValues V.same V.drift V.stored values.old.items moments.start (readings lines.old.items) }
+    ensures in_hand { OnOk result (AreInHand V.stored page.new turns.new moments.end (readings lines.new.items)) }
+    ensures have_values { OnOk result (HaveValues V.same V.drift V.stored values.new.items moments.end (readings lines.new.items)) }
     ensures lines { OnOk result (map (λ line. line.entries.now) lines.new.items ≡ map (λ line. line.entries.now) lines.old.items) }
 {
+    let until = moments.end;
     let pages = (until + (PAGE - 1)) / PAGE;
-    let mut done = from;
+    let mut done = moments.start;
     // The pages below it are read, so there are ever fewer to come.
     let mut next = 0;
     while let Some(number) = first_below(turns, pages) {

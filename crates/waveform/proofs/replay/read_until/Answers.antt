@@ -13,7 +13,7 @@ loop-number-preserved g c =
     let stored = g.V.Sample.stored in let inv = c.loop-number.invariant in let number = c.in-Some.number in let start = number * PAGE in
     let old = readings c.loop-number.lines.items in
     let new = readings c.read_page.new.lines.items in
-    let below : number < (c.args.until + (PAGE - 1)) / PAGE = c.in-Some.ensures.below in
+    let below : number < (c.args.moments.end + (PAGE - 1)) / PAGE = c.in-Some.ensures.below in
     let order : c.loop-number.done ≤ start = starts_later c.loop-number.turns number c.loop-number.done inv.in_hand.later c.in-Some.ensures.noted in
     let values = c.loop-number.values in
     let len : length c.turn_to.new.values.items ≡ length values.items = (let kept = c.turn_to.ensures.length in omega (arith, values.ok.0, c.turn_to.new.values.ok.0)) in
@@ -34,9 +34,9 @@ loop-number-preserved g c =
 
 pub returns-clause-have_values : goal.returns-clause-have_values
 returns-clause-have_values g c =
-    let stored = g.V.Sample.stored in let inv = c.loop-number.invariant in let pages = (c.args.until + (PAGE - 1)) / PAGE in
+    let stored = g.V.Sample.stored in let inv = c.loop-number.invariant in let pages = (c.args.moments.end + (PAGE - 1)) / PAGE in
     let old = readings c.loop-number.lines.items in
     let values = c.loop-number.values in
     let len : length c.pass.new.values.items ≡ length values.items = (let kept = c.pass.ensures.length in omega (arith, values.ok.0, c.pass.new.values.ok.0)) in
-    values_passed stored c.loop-number.done c.args.until pages old c.loop-number.page c.loop-number.turns inv.order c.in_default.ensures.none inv.in_hand
+    values_passed stored c.loop-number.done c.args.moments.end pages old c.loop-number.page c.loop-number.turns inv.order c.in_default.ensures.none inv.in_hand
     g.V.Sample.same g.V.Sample.drift values.items c.pass.new.values.items inv.have_values len c.pass.ensures.given (omega arith)
