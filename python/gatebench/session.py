@@ -49,7 +49,7 @@ class Session(Edits[int], Questions):
 
     The design is a file, `Session("m.v")`, or a text, `Session(text="module m; endmodule")`. `horizon` is the last
     moment that is simulated, in time units; `delay` is the delay of gates that the text writes without one; `workers`
-    is the number of threads that evaluate. What is not given is the program's default. `program` is the path of the
+    is how many threads may follow gates at once. What is not given is the program's default. `program` is the path of the
     program (`program_path` says where it is looked for); `timeout` is for how many seconds the program may neither take
     nor give a byte before TimedOut is raised, None for ever.
 
