@@ -175,15 +175,15 @@ fn asked_of_rings(rt: &impl Abort, alloc: Global, count: u64) -> Asked {
 
 // The old run keeps 397 states of each ring's gate and 4 points, and what differs is asked for at each moment from 6 on: 395 times. Before
 // 5 the stimulus is the same, and nothing is looked at. Looked at are a, n0 and g0 at 5 and 6; n0 and g0 at each moment behind it. A look
-// counts as 7 states, so a moment of two looks as 14, of which a run from scratch keeps not quite one for each ring. The excess comes to
-// a fifth of all states after the moments 10, 47 and 197, beside one ring, five and ten. Beside twelve rings it never does, and beside
-// fifteen there is none.
+// counts as 15 states, so a moment of two looks as 30, of which a run from scratch keeps not quite one for each ring. The excess comes to
+// a fifth of all states after the moments 6, 43 and 158, beside one ring, ten and twenty. Beside 26 rings it never does, and beside 31
+// there is none.
 const BESIDE_RINGS: [(u64, Asked); 5] = [
-    (1, (5, 5, 390)),
-    (5, (42, 42, 353)),
-    (10, (192, 192, 203)),
-    (12, (395, 395, 0)),
-    (15, (395, 395, 0)),
+    (1, (1, 1, 394)),
+    (10, (38, 38, 357)),
+    (20, (153, 153, 242)),
+    (26, (395, 395, 0)),
+    (31, (395, 395, 0)),
 ];
 
 #[test]
