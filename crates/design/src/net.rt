@@ -9,6 +9,7 @@ ghost use Rattle.design.specs.kept.Records.{IsNetChange, net_changed, net_with_k
 
 use crate::name::Name;
 use crate::net_change::NetChange;
+use crate::net_points::Points;
 use crate::stimulus::Stimulus;
 use catalog::Named;
 use fourstate::{NetKind, Value};
@@ -85,6 +86,13 @@ impl Net {
         ensures { result ≡ length self.now.points }
     {
         self.stimulus.len()
+    }
+
+    /// The stimulus points, in order of time.
+    pub fn points(&self) -> Points<'_>
+        ensures { result ≡ self.now.points }
+    {
+        self.stimulus.points()
     }
 
     /// The value that the stimulus gives at the moment `t`: that of the latest point at or before it, x without one

@@ -5,7 +5,7 @@ ghost use Rattle.std.specs.List.{filter};
 ghost use Rattle.design.specs.kept.Lawful.{AreRising};
 ghost use Rattle.design.specs.kept.Pieces.{AreFilled, points_in, points_of};
 
-use crate::piece::Piece;
+use crate::piece::{Piece, list_of};
 use crate::pieces::home_of;
 use crate::points::count_until;
 use fourstate::Value;
@@ -40,13 +40,6 @@ fn later_part(pieces: &[Piece], t: u64) -> (&[(u64, Value)], &[Piece])
         points_behind(points, count),
         pieces_behind(pieces, home + 1),
     )
-}
-
-/// The points of a piece.
-fn list_of(piece: &Piece) -> &[(u64, Value)]
-    ensures { result.now ≡ points_in piece.now }
-{
-    piece
 }
 
 /// The points behind the first ones, so many.

@@ -18,6 +18,14 @@ pub(crate) const MAX_PIECE: usize = 2_048;
 /// Some points that follow one another, which copies share as a whole.
 pub(crate) type Piece = Arc<Vec<(u64, Value)>>;
 
+/// The points of a piece.
+#[inline]
+pub(crate) fn list_of(piece: &Piece) -> &[(u64, Value)]
+    ensures { result.now ≡ points_in piece.now }
+{
+    piece
+}
+
 /// Whether the first point is at or before the moment `t`.
 pub(crate) fn begins_by(piece: &Piece, t: u64) -> bool
     ensures { result ≡ begins_by t (points_in piece.now) }

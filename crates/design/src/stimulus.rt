@@ -9,6 +9,7 @@ ghost use Rattle.design.specs.Netlist.{has_point, stimulus};
 ghost use Rattle.design.specs.kept.Netlist.{next_point};
 ghost use Rattle.design.specs.kept.Pieces.{AreFilled, points_in, points_of};
 
+use crate::net_points::Points;
 use crate::parting::{is_same, part_after};
 use crate::piece::Piece;
 use crate::point_list::PointList;
@@ -96,6 +97,13 @@ impl Stimulus {
             return Some(t);
         }
         part_after(self.pieces(), other.pieces(), t)
+    }
+
+    /// The points, one after another.
+    pub fn points(&self) -> Points<'_>
+        ensures { result ≡ self.now }
+    {
+        Points::new(self.pieces())
     }
 
     /// The pieces that have the points.

@@ -55,9 +55,22 @@ fn check_next(rt: &impl Abort, design: &Design, net: NetKey, next: &[(u64, Optio
     }
 }
 
+/// The points one after another are so many of this value, from 0 on and four units apart, and no more.
+fn check_each(rt: &impl Abort, design: &Design, net: NetKey, count: u64, value: Value) {
+    assert!(rt; design.net_place_of(net).is_some());
+    let mut number: u64 = 0;
+    for (t, given) in design.net_of(net).points() {
+        equal(rt, number, t, moment(0, number));
+        equal(rt, t, given, value);
+        number = number.saturating_add(1);
+    }
+    equal(rt, "points", number, count);
+}
+
 // 1 at 0, 4, .. 19,996.
 fn check_first(rt: &impl Abort, design: &Design, a: NetKey) {
     check_count(rt, design, a, 5_000);
+    check_each(rt, design, a, 5_000, Value::One);
     check_set(rt, design, a, &[(0, true), (2, false), (19_996, true)]);
     // Around the pieces' ends too.
     check_next(
