@@ -1,11 +1,9 @@
 -- Lists in order of time, found by the next moment.
-use Rattle.std.proofs.Common.{◌≡◌, ◌<◌, ◌≤◌, ◌==◌, ℕ, nat_lt, nat_le, List, [], ◌∷◌, ◌++◌, Option, Some, None, Bool, true, false, refl, ap, arith, sym, subst, ◌∙◌, option_map, All, AllPairs, length, suc}
+use Rattle.std.proofs.Common.{◌≡◌, ◌<◌, ◌≤◌, ℕ, nat_lt, nat_le, List, [], ◌∷◌, ◌++◌, Option, Some, None, Bool, true, false, refl, ap, arith, sym, subst, ◌∙◌}
 use Rattle.std.proofs.lemmas.Bool.Decides.{nat_tests}
-use Rattle.std.proofs.lemmas.List.Elements.{filter-append, recursion_from_All}
-use Rattle.std.specs.List.{AllByRecursion, filter, last_or, slice_index_or}
+use Rattle.std.proofs.lemmas.List.Elements.{filter-append}
+use Rattle.std.specs.List.{AllByRecursion, filter}
 use Rattle.fourstate.specs.declared.value.Value.{Value}
-use Rattle.design.specs.Netlist.{has_point, stimulus}
-use Rattle.design.specs.kept.Netlist.{next_point}
 use Rattle.waveform.specs.Timelines.{entries_after, entries_until, first_after}
 use Rattle.waveform.specs.kept.Timelines.{AreInTurn, IsTimeline}
 use Rattle.listing.specs.Windows.{changes_between}
@@ -128,100 +126,6 @@ none_between (x ∷ xs) t u le =
           let not = lt_no t x.0 (omega arith) in
           rw h (rw not (none_between xs t u le))
       | false ↦ λ h. rw h (none_between xs t u le)
-    ] refl
-
--- Points of a stimulus.
-
-each_above : (t : ℕ) (xs : List (ℕ × Value)) → ((i : ℕ) (d : ℕ × Value) → i < length xs → t < (slice_index_or xs i d).0) → AreAbove t xs
-each_above t [] each = tt
-each_above t (x ∷ xs) each = (each 0 x (omega arith), each_above t xs (λ i d within. each (suc i) d (omega arith)))
-
-pub rises_from : (xs : List (ℕ × Value)) → AllPairs (λ p q. p.0 < q.0) xs → Rises xs
-rises_from [] pairs = tt
-rises_from (x ∷ xs) pairs = (
-  each_above x.0 xs (λ i d within. pairs 0 (suc i) d (omega arith) (omega arith)),
-  rises_from xs (λ i j d before within. pairs (suc i) (suc j) d (omega arith) (omega arith)),
-)
-
-next_by : (xs : List (ℕ × Value)) (t u : ℕ) (o : Option (ℕ × Value)) → first_after xs t ≡ o → option_map (λ p. p.0) o ≡ Some u
-    → (e : ℕ × Value) × (first_after xs t ≡ Some e) × (e.0 ≡ u)
-next_by xs t u None h m = absurd (cc)
-next_by xs t u (Some e) h m = (e, h, cc)
-
-last_added : (o : Option (ℕ × Value)) (xs : List (ℕ × Value)) (e : ℕ × Value) → last_or o (xs ++ e ∷ []) ≡ Some e
-last_added o [] e = refl
-last_added o (x ∷ xs) e = last_added (Some x) xs e
-
-value_of_last : (xs ws : List (ℕ × Value)) (t : ℕ) (e : ℕ × Value) → entries_until xs t ≡ ws ++ e ∷ [] → stimulus xs t ≡ e.1
-value_of_last xs ws t e until = let last = last_added None ws e in rw (until, last) refl
-
-pair : (a b : ℕ) (v w : Value) → a ≡ b → v ≡ w → ◌≡◌ {A = ℕ × Value} (a, v) (b, w)
-pair a b v w e f = cc
-
-pub point_later : (xs : List (ℕ × Value)) (t u : ℕ) → next_point xs t ≡ Some u → t < u
-point_later xs t u found = let at = next_by xs t u (first_after xs t) refl found in subst (λ (n : ℕ). t < n) at.2 (next_later xs t at.0 at.1)
-
-next_within : (m : ℕ) (xs : List (ℕ × Value)) (t : ℕ) (e : ℕ × Value) → AllByRecursion (λ p. p.0 ≤ m) xs → first_after xs t ≡ Some e → e.0 ≤ m
-next_within m [] t e each found = absurd (cc)
-next_within m (x ∷ xs) t e each found =
-    elim (nat_lt t x.0) as (λ b. nat_lt t x.0 ≡ b → e.0 ≤ m) [
-      | true ↦ λ h. let same : x ≡ e = (let at = rw h at found in cc) in subst (λ (y : ℕ × Value). y.0 ≤ m) same each.0
-      | false ↦ λ h. next_within m xs t e each.1 (rw h at found)
-    ] refl
-
-pub point_within : (m : ℕ) (xs : List (ℕ × Value)) (t u : ℕ) → All (λ p. p.0 ≤ m) xs → next_point xs t ≡ Some u → u ≤ m
-point_within m xs t u each found =
-    let at = next_by xs t u (first_after xs t) refl found in
-    subst (λ (n : ℕ). n ≤ m) at.2 (next_within m xs t at.0 (recursion_from_All (λ (p : ℕ × Value). p.0 ≤ m) xs each) at.1)
-
--- the points up to the next one
-pub until_point : (xs : List (ℕ × Value)) (t u : ℕ) → Rises xs → next_point xs t ≡ Some u → entries_until xs u ≡ entries_until xs t ++ (u, stimulus xs u) ∷ []
-until_point xs t u rises found =
-    let at = next_by xs t u (first_after xs t) refl found in
-    let e = at.0 in
-    let until : entries_until xs u ≡ entries_until xs t ++ e ∷ [] = subst (λ (n : ℕ). entries_until xs n ≡ entries_until xs t ++ e ∷ []) at.2 (until_next xs t e rises at.1) in
-    let same : ◌≡◌ {A = ℕ × Value} (u, stimulus xs u) e = pair u e.0 (stimulus xs u) e.1 (sym at.2) (value_of_last xs (entries_until xs t) u e until) in
-    until ∙ ap (λ p. entries_until xs t ++ p ∷ []) (sym same)
-
-none_by : (xs : List (ℕ × Value)) (t : ℕ) (o : Option (ℕ × Value)) → first_after xs t ≡ o → option_map (λ p. p.0) o ≡ None → first_after xs t ≡ None
-none_by xs t None h m = h
-none_by xs t (Some e) h m = absurd (cc)
-
-pub until_last : (xs : List (ℕ × Value)) (t : ℕ) → next_point xs t ≡ None → entries_until xs t ≡ xs
-until_last xs t none = until_none xs t t (omega arith) (none_by xs t (first_after xs t) refl none)
-
-zero_or_later : (n : ℕ) → (n == 0) ≡ false → 0 < n
-zero_or_later n h = grind (arith, nat_tests)
-
-is_zero : (n : ℕ) → (n == 0) ≡ true → n ≡ 0
-is_zero n h = grind (arith, nat_tests)
-
-not_zero : (n : ℕ) → 0 < n → (n == 0) ≡ false
-not_zero n h = grind (arith, nat_tests)
-
-no_point : (xs : List (ℕ × Value)) → AreAbove 0 xs → has_point xs 0 ≡ false
-no_point [] above = refl
-no_point (x ∷ xs) above = let h = not_zero x.0 above.0 in rw h (no_point xs above.1)
-
-pub no_point_at_first : (xs : List (ℕ × Value)) → Rises xs → has_point xs 0 ≡ false → entries_until xs 0 ≡ []
-no_point_at_first [] rises none = refl
-no_point_at_first (x ∷ xs) rises none =
-    elim (x.0 == 0) as (λ b. (x.0 == 0) ≡ b → entries_until (x ∷ xs) 0 ≡ []) [
-      | true ↦ λ h. absurd (let at = rw h at none in cc)
-      | false ↦ λ h. none_until 0 (x ∷ xs) (zero_or_later x.0 h, lower x.0 0 xs (omega arith) rises.0)
-    ] refl
-
-pub point_at_first : (xs : List (ℕ × Value)) → Rises xs → has_point xs 0 ≡ true → entries_until xs 0 ≡ (0, stimulus xs 0) ∷ []
-point_at_first [] rises some = absurd (cc)
-point_at_first (x ∷ xs) rises some =
-    elim (x.0 == 0) as (λ b. (x.0 == 0) ≡ b → entries_until (x ∷ xs) 0 ≡ (0, stimulus (x ∷ xs) 0) ∷ []) [
-      | true ↦ λ h.
-          let none : x.0 ≡ 0 = is_zero x.0 h in
-          let until : entries_until (x ∷ xs) 0 ≡ x ∷ [] = kept (λ q. nat_le q.0 0) x xs [] (le_yes x.0 0 (omega arith)) (none_until 0 xs (lower x.0 0 xs (omega arith) rises.0)) in
-          let same : ◌≡◌ {A = ℕ × Value} (0, stimulus (x ∷ xs) 0) x = pair 0 x.0 (stimulus (x ∷ xs) 0) x.1 (sym none) (value_of_last (x ∷ xs) [] 0 x until) in
-          until ∙ ap (λ p. p ∷ []) (sym same)
-      | false ↦ λ h. absurd (
-          let none : has_point (x ∷ xs) 0 ≡ false = no_point (x ∷ xs) (zero_or_later x.0 h, lower x.0 0 xs (omega arith) rises.0) in cc)
     ] refl
 
 -- Changes of a wave.
