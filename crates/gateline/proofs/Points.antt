@@ -1,14 +1,13 @@
 -- The stimulus of an input between two of its points.
-use Rattle.std.proofs.Common.{◌≡◌, ◌<◌, ◌≤◌, ◌∙◌, ap, sym, refl, cond, Bool, true, false, not, ℕ, zero, suc, List, [], ◌∷◌, Some, None, IfSome, All, arith}
-use Rattle.std.specs.List.{filter, find, last_or}
-use Rattle.std.specs.Option.{option_map, option_map_or}
-use Rattle.std.specs.Prelude.{nat_le, nat_lt}
+use Rattle.std.proofs.Common.{◌≡◌, ◌<◌, ◌≤◌, ◌∙◌, ap, sym, subst, refl, Bool, true, false, not, ℕ, zero, suc, List, [], ◌∷◌, ◌++◌, append_assoc, All, Option, None, Some, arith}
+use Rattle.std.specs.List.{filter, last_or}
+use Rattle.std.specs.Option.{option_map_or}
+use Rattle.std.specs.Prelude.{nat_le}
 use Rattle.std.proofs.lemmas.Bool.{le-leb, lt-leb}
-use Rattle.std.proofs.lemmas.Bool.Decides.{nat_tests}
-use Rattle.std.proofs.lemmas.List.Elements.{All-cons, All-head, All-tail, All-weaker}
+use Rattle.std.proofs.lemmas.List.{append-nil}
+use Rattle.std.proofs.lemmas.List.Elements.{All-cons, All-head, All-nil, All-push, All-tail, All-weaker, filter-append}
 use Rattle.design.specs.Netlist.{stimulus}
 use Rattle.design.specs.kept.Lawful.{AreRising}
-use Rattle.design.specs.kept.Netlist.{next_point}
 use Rattle.fourstate.specs.Values.{same_value}
 use Rattle.fourstate.specs.declared.value.Value.{Value}
 use Rattle.fourstate.specs.declared.value.Value.TheVariants.{Unknown}
@@ -22,47 +21,28 @@ none_kept p (x ∷ xs) none =
     let here = All-head (λ x. p x ≡ false) x xs none in
     rw here (none_kept p xs (All-tail (λ x. p x ≡ false) x xs none))
 
--- the points behind the first one are rising, and lie after it
-rest : (p : ℕ × Value) (ps : List (ℕ × Value)) → AreRising (p ∷ ps) → AreRising ps
-rest p ps rising = λ i j d below within. rising (suc i) (suc j) d (omega arith) (omega arith)
+all_kept : {X : Type 0} (p : X → Bool) (xs : List X) → All (λ x. p x ≡ true) xs → filter p xs ≡ xs
+all_kept p [] all = refl
+all_kept p (x ∷ xs) all =
+    let here = All-head (λ x. p x ≡ true) x xs all in
+    rw here (ap (λ l. x ∷ l) (all_kept p xs (All-tail (λ x. p x ≡ true) x xs all)))
 
-after : (p : ℕ × Value) (ps : List (ℕ × Value)) → AreRising (p ∷ ps) → All (λ q. p.0 < q.0) ps
-after p ps rising = λ k d within. rising 0 (suc k) d (omega arith) (omega arith)
+-- the value of the last one of some points
+abbrev value_of : List (ℕ × Value) → Value
+value_of points = option_map_or (λ point. point.1) (last_or None points) Unknown
 
--- up to the moment before the first point after t no more points come
-no_more : (t u : ℕ) (points : List (ℕ × Value)) → AreRising points → t ≤ u → IfSome (next_point points t) (λ m. u < m) →
-    filter (λ point. nat_le point.0 u) points ≡ filter (λ point. nat_le point.0 t) points
-no_more t u [] rising from next = refl
-no_more t u (p ∷ ps) rising from next = by (nat_lt t p.0) refl next (no_more t u ps (rest p ps rising) from)
-  where
-    none : (m : ℕ) → m < p.0 → filter (λ (point : ℕ × Value). nat_le point.0 m) (p ∷ ps) ≡ []
-    none m low =
-        none_kept (λ (point : ℕ × Value). nat_le point.0 m) (p ∷ ps)
-        (All-cons (λ (point : ℕ × Value). nat_le point.0 m ≡ false) p ps (lt-leb p.0 m low)
-        (All-weaker (λ (q : ℕ × Value). p.0 < q.0) (λ (point : ℕ × Value). nat_le point.0 m ≡ false) (λ q h. lt-leb q.0 m (omega arith)) ps (after p ps rising)))
+-- where some points have come, and the others come later, the stimulus has the value of the last one that came
+stands : (come later : List (ℕ × Value)) (u : ℕ) → All (λ p. p.0 ≤ u) come → All (λ p. u < p.0) later → stimulus (come ++ later) u ≡ value_of come
+stands come later u early late =
+    ap (λ ps. option_map_or (λ point. point.1) (last_or None ps) Unknown)
+    (filter-append (λ (p : ℕ × Value). nat_le p.0 u) come later
+    ∙ ap (λ l. l ++ filter (λ p. nat_le p.0 u) later) (all_kept (λ (p : ℕ × Value). nat_le p.0 u) come (All-weaker (λ (p : ℕ × Value). p.0 ≤ u) (λ p. nat_le p.0 u ≡ true) (λ p h. le-leb p.0 u h) come early))
+    ∙ ap (λ l. come ++ l) (none_kept (λ (p : ℕ × Value). nat_le p.0 u) later (All-weaker (λ (p : ℕ × Value). u < p.0) (λ p. nat_le p.0 u ≡ false) (λ p h. lt-leb p.0 u h) later late))
+    ∙ append-nil come)
 
-    by : (b : Bool) → nat_lt t p.0 ≡ b → IfSome (option_map (λ (point : ℕ × Value). point.0) (cond b (Some p) (find (λ (point : ℕ × Value). nat_lt t point.0) ps))) (λ m. u < m) →
-        (IfSome (next_point ps t) (λ m. u < m) → filter (λ (point : ℕ × Value). nat_le point.0 u) ps ≡ filter (λ (point : ℕ × Value). nat_le point.0 t) ps) →
-        filter (λ (point : ℕ × Value). nat_le point.0 u) (p ∷ ps) ≡ filter (λ (point : ℕ × Value). nat_le point.0 t) (p ∷ ps)
-    by true is low more = rw (none u low, none t (omega arith)) refl
-    by false is low more =
-        let early : p.0 ≤ t = grind (arith, nat_tests) in
-        rw (le-leb p.0 u (omega arith), le-leb p.0 t early) (ap (λ (qs : List (ℕ × Value)). p ∷ qs) (more low))
-
--- so the stimulus stays
-pub stimulus_stays : (points : List (ℕ × Value)) → AreRising points → (t u : ℕ) → t ≤ u → IfSome (next_point points t) (λ m. u < m) → stimulus points u ≡ stimulus points t
-stimulus_stays points rising t u from next =
-    ap (λ (ps : List (ℕ × Value)). option_map_or (λ point. point.1) (last_or None ps) Unknown) (no_more t u points rising from next)
-
--- the first point after t lies after it
-pub next_later : (points : List (ℕ × Value)) (t : ℕ) → IfSome (next_point points t) (λ m. t < m)
-next_later [] t = tt
-next_later (p ∷ ps) t = by (nat_lt t p.0) refl (next_later ps t)
-  where
-    by : (b : Bool) → nat_lt t p.0 ≡ b → IfSome (next_point ps t) (λ m. t < m) →
-        IfSome (option_map (λ (point : ℕ × Value). point.0) (cond b (Some p) (find (λ (point : ℕ × Value). nat_lt t point.0) ps))) (λ m. t < m)
-    by true is later = grind (arith, nat_tests)
-    by false is later = later
+last_added : (o : Option (ℕ × Value)) (xs : List (ℕ × Value)) (p : ℕ × Value) → last_or o (xs ++ p ∷ []) ≡ Some p
+last_added o [] p = refl
+last_added o (x ∷ xs) p = last_added (Some x) xs p
 
 -- a function that stays does not change
 pub no_change_between : (f : ℕ → Value) (t r : ℕ) → ((u : ℕ) → t ≤ u → u < r → f u ≡ f t) → (k : ℕ) → suc t ≤ k → k < r → is_change same_value standing f k ≡ false
@@ -70,3 +50,95 @@ no_change_between f t r still zero high low = absurd (omega arith)
 no_change_between f t r still (suc j) high low =
     ap (λ v. not (same_value v (f j))) (still (suc j) (omega arith) low ∙ sym (still j (omega arith) (omega arith)))
     ∙ ap not (same_self (f j))
+
+-- so the stimulus does not change from the moment after a point, or after 0, up to the one at which the next point comes
+no_point_between : (points come later : List (ℕ × Value)) (m r : ℕ) → points ≡ come ++ later → 0 < m → All (λ p. p.0 < m) come → All (λ p. r ≤ p.0) later →
+    (k : ℕ) → m ≤ k → k < r → is_change same_value standing (stimulus points) k ≡ false
+no_point_between points come later zero r is begun early late = absurd (omega arith)
+no_point_between points come later (suc m) r is begun early late = no_change_between (stimulus points) m r (λ u high low. at u high low ∙ sym (at m (omega arith) (omega arith)))
+  where
+    at : (u : ℕ) → m ≤ u → u < r → stimulus points u ≡ value_of come
+    at u high low =
+        ap (λ ps. stimulus ps u) is
+        ∙ stands come later u (All-weaker (λ (p : ℕ × Value). p.0 < suc m) (λ p. p.0 ≤ u) (λ p h. omega arith) come early) (All-weaker (λ (p : ℕ × Value). r ≤ p.0) (λ p. u < p.0) (λ p h. omega arith) later late)
+
+-- The points of an input, gone through in order of time.
+
+-- some points have come, all before m, and of the others, which come later, only one at 0 lies before m
+pub record AreApart (points come later : List (ℕ × Value)) (m : ℕ) : Type 0 where
+  pub whole : points ≡ come ++ later
+  pub rising : AreRising later
+  pub early : All (λ p. p.0 < m) come
+  pub late : All (λ p. 0 < p.0 → m ≤ p.0) later
+
+-- at first all of them come later
+pub all_later : (points later : List (ℕ × Value)) → points ≡ later → AreRising points → AreApart points [] later 1
+all_later points later is rising =
+    record { whole = is; rising = subst AreRising is rising; early = All-nil (λ (p : ℕ × Value). p.0 < 1); late = λ k d below some. omega arith }
+
+-- where none is left, no change comes
+pub none_left : (points come later : List (ℕ × Value)) (m r : ℕ) → AreApart points come later m → later ≡ [] → 0 < m →
+    (k : ℕ) → m ≤ k → k < r → is_change same_value standing (stimulus points) k ≡ false
+none_left points come later m r apart none begun =
+    no_point_between points come later m r apart.whole begun apart.early (subst (All (λ (p : ℕ × Value). r ≤ p.0)) (sym none) (All-nil (λ (p : ℕ × Value). r ≤ p.0)))
+
+-- where p is the next one
+module _ (points come left : List (ℕ × Value)) (m : ℕ) (p : ℕ × Value) (later : List (ℕ × Value)) (before : AreApart points come left m) (next : left ≡ p ∷ later) where
+  whole : points ≡ come ++ p ∷ later
+  whole = before.whole ∙ ap (λ l. come ++ l) next
+
+  whole_then : points ≡ (come ++ p ∷ []) ++ later
+  whole_then = whole ∙ sym (append_assoc come (p ∷ []) later)
+
+  rising : AreRising (p ∷ later)
+  rising = subst AreRising next before.rising
+
+  rising_then : AreRising later
+  rising_then = λ i j d below within. rising (suc i) (suc j) d (omega arith) (omega arith)
+
+  after : All (λ q. p.0 < q.0) later
+  after = λ k d within. rising 0 (suc k) d (omega arith) (omega arith)
+
+  late : All (λ q. 0 < q.0 → m ≤ q.0) (p ∷ later)
+  late = subst (All (λ q. 0 < q.0 → m ≤ q.0)) next before.late
+
+  -- it lies at m or later, unless it is at 0
+  pub late_here : 0 < p.0 → m ≤ p.0
+  late_here = All-head (λ (q : ℕ × Value). 0 < q.0 → m ≤ q.0) p later late
+
+  -- once one at 0 has come, m stays
+  pub after_first : 0 < m → p.0 ≤ 0 → AreApart points (come ++ p ∷ []) later m
+  after_first begun first =
+      record {
+        whole = whole_then;
+        rising = rising_then;
+        early = All-push (λ (q : ℕ × Value). q.0 < m) come p before.early (omega arith);
+        late = All-tail (λ (q : ℕ × Value). 0 < q.0 → m ≤ q.0) p later late;
+      }
+
+  early_here : 0 < p.0 → All (λ q. q.0 < p.0) come
+  early_here some = let here = late_here some in All-weaker (λ (q : ℕ × Value). q.0 < m) (λ q. q.0 < p.0) (λ q h. omega arith) come before.early
+
+  -- once another one has come, those left lie after it
+  pub after_next : 0 < p.0 → AreApart points (come ++ p ∷ []) later (suc p.0)
+  after_next some =
+      record {
+        whole = whole_then;
+        rising = rising_then;
+        early = All-push (λ (q : ℕ × Value). q.0 < suc p.0) come p (All-weaker (λ (q : ℕ × Value). q.0 < p.0) (λ q. q.0 < suc p.0) (λ q h. omega arith) come (early_here some)) (omega arith);
+        late = All-weaker (λ (q : ℕ × Value). p.0 < q.0) (λ q. 0 < q.0 → suc p.0 ≤ q.0) (λ q h _. omega arith) later after;
+      }
+
+  -- up to it, or an earlier moment, no change comes
+  pub none_before : (r : ℕ) → 0 < m → r ≤ p.0 → (k : ℕ) → m ≤ k → k < r → is_change same_value standing (stimulus points) k ≡ false
+  none_before r begun low =
+      no_point_between points come (p ∷ later) m r whole begun before.early
+      (All-cons (λ (q : ℕ × Value). r ≤ q.0) p later low (All-weaker (λ (q : ℕ × Value). p.0 < q.0) (λ q. r ≤ q.0) (λ q h. omega arith) later after))
+
+  -- it gives the value at its moment
+  pub value_there : 0 < p.0 → stimulus points p.0 ≡ p.1
+  value_there some =
+      ap (λ ps. stimulus ps p.0) whole_then
+      ∙ stands (come ++ p ∷ []) later p.0
+      (All-push (λ (q : ℕ × Value). q.0 ≤ p.0) come p (All-weaker (λ (q : ℕ × Value). q.0 < p.0) (λ q. q.0 ≤ p.0) (λ q h. omega arith) come (early_here some)) (omega arith)) after
+      ∙ ap (λ o. option_map_or (λ (q : ℕ × Value). q.1) o Unknown) (last_added None come p)

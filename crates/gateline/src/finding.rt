@@ -1,6 +1,6 @@
 //! The wave of a net, found from what gives it its value.
 
-ghost use Rattle.std.specs.Prelude.{◌≡◌, ◌+◌, ◌<◌, ◌≤◌, ℕ, All, length, map, slice_get, IfOk, IfSome, Some};
+ghost use Rattle.std.specs.Prelude.{◌≡◌, ◌+◌, ◌<◌, ◌≤◌, All, length, map, slice_get, IfOk, IfSome, Some};
 ghost use Rattle.design.specs.Keys.{netlist};
 ghost use Rattle.design.specs.Netlist.{stimulus};
 ghost use Rattle.design.specs.kept.Places.{driver_places};
@@ -20,34 +20,25 @@ use scratch::Wiring;
 use std::alloc::{AllocError, Global};
 use waveform::{Trace, Wave, append_currents, laws};
 
-/// The moment of the first stimulus point after `t` and before `end`, all in time units; `end` where there is none.
-fn next_point(net: &Net, t: u64, end: u64) -> u64
-    requires { t < end }
-    ensures from { t < result }
-    ensures within { result ≤ end }
-    ensures still { (u : ℕ) → t ≤ u → u < result → stimulus net.now.points u ≡ stimulus net.now.points t }
-{
-    net.lawful();
-    match net.next_point(t) {
-        Some(time) => time.min(end),
-        None => end,
-    }
-}
-
 /// The wave of an input of the design before the moment `end`, in time units, by its points.
 fn input_wave(alloc: Global, net: &Net, end: u64) -> Result<Wave, AllocError>
     requires begun { 0 < end }
     requires within { end ≤ MAX_TIME + 1 }
     ensures { IfOk result (λ wave. wave ≡ wave_changes_below (stimulus net.now.points) end) }
 {
+    net.lawful();
     laws::push_to_changes::<Value>();
     laws::changes_lie_before::<Value>();
     laws::no_change::<Value>();
     let mut wave = Wave::open(alloc, net.stimulus_at(0))?;
-    let mut t = next_point(net, 0, end);
-    while t < end {
-        wave.push(t, net.stimulus_at(t))?;
-        t = next_point(net, t, end);
+    for (t, value) in net.points() {
+        if t == 0 {
+            continue;
+        }
+        if t >= end {
+            break;
+        }
+        wave.push(t, value)?;
     }
     Ok(wave)
 }

@@ -1,16 +1,16 @@
-use Rattle.std.proofs.Common.{◌≡◌, ◌<◌, ◌≤◌, ◌-◌}
+use Rattle.std.proofs.Common.{◌≡◌, ◌<◌, ◌≤◌, ℕ}
 use Rattle.design.specs.Netlist.{stimulus}
+use Rattle.gateline.proofs.Points.{AreApart}
 use Rattle.gateline.proofs.finding.input_wave.Given as goal
 use Rattle.waveform.specs.Changes.{wave_changes_below}
 
--- the wave has all changes before the moment, at which the next point comes
+-- the wave has all changes before a moment, behind the points so far
 abbrev pub invariant-loop-t : goal.invariant-loop-t
 invariant-loop-t l =
     record {
-      begun : 0 < l.t;
-      within : l.t ≤ l.end;
-      wave : l.wave ≡ wave_changes_below (stimulus l.net.points) l.t;
+      upto : ℕ;
+      begun : 0 < upto;
+      within : upto ≤ l.end;
+      apart : AreApart l.net.points l.yielded l.t-iterator upto;
+      wave : l.wave ≡ wave_changes_below (stimulus l.net.points) upto;
     }
-
-abbrev pub decreases-loop-t : goal.decreases-loop-t
-decreases-loop-t l = l.end - l.t
