@@ -18,6 +18,8 @@ mod event_queues;
 #[cfg(test)]
 mod floors;
 #[cfg(test)]
+mod lookups;
+#[cfg(test)]
 mod partings;
 #[cfg(test)]
 mod patches;
