@@ -19,7 +19,7 @@ use Rattle.scratch.specs.Work.{inputs_at, is_stirred, same_values, task_at}
 use Rattle.scratch.specs.kept.Kept.{cell_of, input_of, input_value}
 use Rattle.gateline.specs.kept.OldLines.{IsFollowedAt, IsOldLine, OldRecord, wanted_beside}
 use Rattle.rundiff.specs.Dirty.{is_dirty, is_new, same_task}
-use Rattle.rundiff.specs.kept.OldLines.{HoldsEach}
+use Rattle.rundiff.specs.kept.OldRuns.{HoldsEach}
 use Rattle.rundiff.specs.kept.OldRuns.{AreOldRun, OldRunRecord, state_till}
 use Rattle.rundiff.specs.kept.Places.{blank_gate, gate_at}
 use Rattle.ordering.specs.kept.Gates.{column_of, gate_work_from, moments_from}

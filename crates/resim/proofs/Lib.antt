@@ -4,6 +4,6 @@ pub mod Cutting
 pub mod Fronts
 pub mod Levels
 pub mod Reworks
-pub mod Weaving
+pub mod Sweeps
 pub mod Behind
 pub mod Changes

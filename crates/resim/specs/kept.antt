@@ -1,4 +1,3 @@
-pub mod Asking
 pub mod Changes
 pub mod Cuts
 pub mod Reruns

@@ -218,7 +218,7 @@ fn pass<S: Stepper>(
 }
 
 /// The answers to some tasks; no step is made where there is none.
-pub fn step_some<S: Stepper>(
+fn step_some<S: Stepper>(
     stepper: &mut S,
     tasks: &[Task],
     t: u64,

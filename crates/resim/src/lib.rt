@@ -1,7 +1,6 @@
 //! The run of a design from the run of a former one: only what differs is evaluated.
 #![tactic(auto)]
 
-mod asking;
 mod changed;
 mod cut;
 mod incremental;
@@ -17,4 +16,4 @@ pub use changed::Changed;
 pub use cut::shorten;
 pub use incremental::{rerun, rerun_changed, rerun_touched};
 pub use level::follow;
-pub use spending::{LOOK_COST, Limit, RUN_SHARE};
+pub use spending::Limit;

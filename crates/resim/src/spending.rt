@@ -7,10 +7,10 @@ use waveform::Run;
 
 /// To look at a net or a gate beside the old run, or at one driver more of a net, takes about as long as a run from scratch takes
 /// for so many of the states that it keeps of gates (own).
-pub const LOOK_COST: u64 = 15;
+const LOOK_COST: u64 = 15;
 
 /// A run goes on through the whole design once looks took one of so many parts of a run from scratch too much (own).
-pub const RUN_SHARE: u64 = 5;
+const RUN_SHARE: u64 = 5;
 
 /// When a run that follows what differs goes on through the whole design. The run is the same in any case.
 #[derive(Clone, Copy)]

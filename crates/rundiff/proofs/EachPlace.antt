@@ -2,7 +2,7 @@
 use Rattle.std.proofs.Common.{◌≡◌, ◌<◌, ◌∙◌, ap, sym, subst, refl, ℕ, zero, suc, ◌+◌, List, [], ◌∷◌, ◌++◌, Some, get_or, length, map, take, arith}
 use Rattle.std.proofs.lemmas.List.{map-append, take_more}
 use Rattle.std.specs.Prelude.{IfSome, slice_get, slice_index_or}
-use Rattle.rundiff.specs.kept.OldLines.{HoldsEach}
+use Rattle.rundiff.specs.kept.OldRuns.{HoldsEach}
 
 pub holds_more : {X : Type 0} (P : ℕ → X → Type 0) (xs : List X) (x : X) → HoldsEach xs P → P (length xs) x → HoldsEach (xs ++ x ∷ []) P
 holds_more P [] x each here zero = here

@@ -1,5 +1,5 @@
 -- The run of an old design by the places of a new one, as lines and as what is read of it.
-use Rattle.std.proofs.Common.{◌≡◌, ◌<◌, ◌≤◌, ◌∙◌, ap, sym, refl, ℕ, zero, suc, List, [], map, length, Option}
+use Rattle.std.proofs.Common.{◌≡◌, ◌<◌, ◌≤◌, ◌∙◌, ap, sym, refl, ℕ, suc, List, [], map, length, Option}
 use Rattle.std.specs.Prelude.{unwrap_or}
 use Rattle.std.specs.List.{slice_index_or}
 use Rattle.std.specs.Option.{option_map}
@@ -18,35 +18,14 @@ use Rattle.scratch.specs.kept.Kept.{input_of, input_value}
 use Rattle.scratch.specs.Work.{inputs_at}
 use Rattle.scratch.specs.declared.wiring.Input.TheVariants.{At}
 use Rattle.rundiff.specs.kept.Fronts.{named_state}
-use Rattle.rundiff.specs.kept.OldLines.{AreOldLines, former_state}
-use Rattle.rundiff.specs.kept.OldRuns.{AreOldRun, OldRunRecord, state_till}
+use Rattle.rundiff.specs.kept.OldRuns.{AreOldRun, OldRunRecord}
 use Rattle.rundiff.specs.kept.Places.{blank_gate, gate_at}
-use Rattle.rundiff.specs.declared.old_lines.OldLines.{OldLines}
 use Rattle.rundiff.proofs.ByPlace.{get_at}
 use Rattle.rundiff.proofs.Lists.{all_pass}
 use Rattle.rundiff.proofs.ReadBefore.{all_read, stored_trace}
 use Rattle.rundiff.proofs.Tasks.{old_settled}
 
--- the run that the lines are of
-abbrev pub run_of : OldLines → OldRunRecord
-run_of lines = record { waves = lines.waves.lines; traces = lines.traces.lines; others = lines.others.items }
-
-pub former_is : (lines : OldLines) (p t : ℕ) → former_state lines p t ≡ state_till (slice_index_or lines.traces.lines p []) t
-former_is lines p zero = refl
-former_is lines p (suc t) = refl
-
 module _ (answer : Evaluation → ℕ → State) (old new : Netlist) where
-  pub run_of_lines : (lines : OldLines) → AreOldLines answer old new lines → AreOldRun answer old new (run_of lines)
-  run_of_lines lines right =
-      record {
-        wave_count = right.wave_count;
-        trace_count = right.trace_count;
-        other_count = right.other_count;
-        waves = right.waves;
-        traces = right.traces;
-        others = right.others;
-      }
-
   module _ (run : OldRunRecord) (right : AreOldRun answer old new run) where
     -- an input reads the value of a wave among those of all nets
     read_wave : (t p : ℕ) → p < length run.waves → input_value (map (λ wave. wave_at wave t) run.waves) (At p) ≡ wave_at (slice_index_or run.waves p []) t

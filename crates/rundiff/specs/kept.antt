@@ -4,7 +4,6 @@ pub mod Fronts
 pub mod Inputs
 pub mod Kept
 pub mod Noting
-pub mod OldLines
 pub mod OldRuns
 pub mod PlaceMaps
 pub mod Places

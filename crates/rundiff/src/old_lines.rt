@@ -1,49 +1,51 @@
-//! What the old run has of the nets and gates of the new design, by their places there, so that no name is looked at again.
-//! The lines are read together as time goes on: at a moment `t` the values of the nets at it, and first the states of the
-//! gates before it, then those after it.
+//! What the old run knows of the answers for the gates of the new design, by their places there, so that no name is looked at
+//! again. Time goes on from look to look, so each looks first where the line was looked up last.
 
-ghost use Rattle.std.specs.Prelude.{◌≡◌, ◌<◌, ◌≤◌, ℕ, suc, false, not, All, IfOk, OnOk, length, map};
+ghost use Rattle.std.specs.Prelude.{◌≡◌, ◌<◌, ◌≤◌, [], false, not, All, IfOk, length, map};
+ghost use Rattle.std.specs.List.{slice_index_or};
 ghost use Rattle.fourstate.specs.declared.limits.TheConstants.{MAX_TIME};
-ghost use Rattle.gatestep.specs.Step.{Evaluation, State};
 ghost use Rattle.design.specs.Keys.{netlist};
-ghost use Rattle.design.specs.Netlist.{Netlist};
 ghost use Rattle.scratch.specs.kept.Kept.{cell_of, evaluation_from, input_value};
 ghost use Rattle.scratch.specs.Run.{state_after};
 ghost use Rattle.scratch.specs.kept.Run.{IsRun};
 ghost use Rattle.scratch.specs.Work.{same_values, task_at};
 ghost use Rattle.rundiff.specs.Dirty.{is_dirty};
-ghost use Rattle.rundiff.specs.kept.OldLines.{AreOldLines, HasWave, former_state, former_value, traces_done, waves_done};
+ghost use Rattle.rundiff.specs.kept.OldRuns.{AreOldRun, HasWave, old_value, state_till};
 ghost use Rattle.rundiff.specs.kept.Places.{gate_at};
 
 use crate::former::Former;
 use crate::old_run::OldRun;
+use design::Design;
 use fourstate::Value;
 use gatestep::{Driver, Stepper};
-use scratch::{Cell, Input, read_input};
+use scratch::{Beside, Cell, Input, Present, read_input};
 use std::alloc::{AllocError, Global};
-use waveform::{Lines, Replay, Sample, Timeline, laws};
-
-/// One entry of so many is spare in the room that is made for a new line beside an old one (own).
-const SPARE: usize = 8;
+use std::marker::Model;
+use waveform::{Lookup, Sample, Timeline, laws};
 
 /// The old run by the places of the new design.
 #[derive(Drop)]
 pub struct OldLines<'a> {
-    /// Of each net, the wave of the net of its name.
-    waves: Replay<'a, Value>,
-    /// Of each gate, the trace of the gate of its name.
-    traces: Replay<'a, Driver>,
-    /// Of each gate, whether the old design has no such gate.
+    design: &'a Design,
+    waves: Vec<Lookup<'a, Value>>,
+    traces: Vec<Lookup<'a, Driver>>,
     others: Vec<bool>,
 }
 
+impl<'a> Model for OldLines<'a> {
+    ghost use Rattle.rundiff.specs.kept.OldRuns.{OldLinesRecord};
+
+    ghost Value = { OldLinesRecord };
+
+    ghost view = { λ a. record { design = a.design.now; run = record { waves = a.waves.items; traces = a.traces.items; others = a.others.items } } };
+}
+
 impl<'a> OldLines<'a> {
-    /// The lines of the old run, and the blank ones where the old design has nothing of a name. No moment is done.
+    /// The lines of the old run, and the blank ones where the old design has nothing of a name. It fails where memory runs out.
     pub fn find<S: Stepper>(alloc: Global, former: &Former<'a>) -> Result<OldLines<'a>, AllocError>
         requires run { IsRun S.answer former.now.old.now former.now.run.now }
-        ensures lines { IfOk result (AreOldLines S.answer (netlist former.now.old.now) (netlist former.now.new.now)) }
-        ensures waves { IfOk result (λ lines. waves_done lines ≡ 0) }
-        ensures traces { IfOk result (λ lines. traces_done lines ≡ 0) }
+        ensures design { IfOk result (λ lines. lines.design ≡ former.now.old.now) }
+        ensures run { IfOk result (λ lines. AreOldRun S.answer (netlist former.now.old.now) (netlist former.now.new.now) lines.run) }
     {
         let run = OldRun::find::<S>(alloc, former)?;
         let OldRun {
@@ -52,73 +54,31 @@ impl<'a> OldLines<'a> {
             others,
         } = run;
         Ok(OldLines {
-            waves: replay_of(alloc, waves.as_slice())?,
-            traces: replay_of(alloc, traces.as_slice())?,
+            design: former.old,
+            waves: lookups_of(alloc, waves.as_slice())?,
+            traces: lookups_of(alloc, traces.as_slice())?,
             others,
         })
     }
 
-    /// Makes room in the lines of a new run, which are by the same places, for about as many entries as those of the old one
-    /// have.
-    pub fn make_room(
-        &self,
-        waves: &mut Lines<Value>,
-        traces: &mut Lines<Driver>,
-    ) -> Result<(), AllocError>
-        ensures waves { OnOk result (waves.new ≡ waves.old) }
-        ensures traces { OnOk result (traces.new ≡ traces.old) }
-    {
-        make_room_beside(&self.waves, waves)?;
-        make_room_beside(&self.traces, traces)?;
-        Ok(())
-    }
-
-    /// Goes on to the moment `t`: then the values of the nets at it are known, and the states of the gates before it. It fails
-    /// where memory runs out, and then the lines are to be dropped.
-    pub fn advance(&mut self, alloc: Global, t: u64) -> Result<(), AllocError>
-        requires waves { waves_done self.old ≤ t }
-        requires traces { traces_done self.old ≤ t }
-        requires within { t ≤ MAX_TIME }
-        ensures lines { OnOk result ((answer : Evaluation → ℕ → State) (old new : Netlist) → AreOldLines answer old new self.old → AreOldLines answer old new self.new) }
-        ensures waves { OnOk result (waves_done self.new ≡ suc t) }
-        ensures traces { OnOk result (traces_done self.new ≡ t) }
-    {
-        self.waves.advance(alloc, t + 1)?;
-        self.traces.advance(alloc, t)?;
-        Ok(())
-    }
-
-    /// Goes past the moment `t` with the gates: then their states after it are known. It fails where memory runs out, and then
-    /// the lines are to be dropped.
-    pub fn pass(&mut self, alloc: Global, t: u64) -> Result<(), AllocError>
-        requires traces { traces_done self.old ≤ suc t }
-        requires within { t ≤ MAX_TIME }
-        ensures lines { OnOk result ((answer : Evaluation → ℕ → State) (old new : Netlist) → AreOldLines answer old new self.old → AreOldLines answer old new self.new) }
-        ensures waves { OnOk result (waves_done self.new ≡ waves_done self.old) }
-        ensures traces { OnOk result (traces_done self.new ≡ suc t) }
-    {
-        self.traces.advance(alloc, t + 1)?;
-        Ok(())
-    }
-
-    /// What an input of a gate of the new design reads in the old run at the moment `t`.
+    /// What an input of a gate of the new design read in the old run at the moment `t`.
     #[inline(always)]
-    fn value(&self, input: Input, t: u64) -> Value
-        requires waves { waves_done self.now ≡ suc t }
-        requires there { HasWave self.now input }
-        ensures { result ≡ former_value self.now t input }
+    fn value(&mut self, input: Input, t: u64) -> Value
+        requires there { HasWave self.old.run input }
+        ensures value { result ≡ old_value self.old.run t input }
+        ensures same { self.new ≡ self.old }
     {
         match input {
-            Input::At(place) => self.waves.at(place as usize, t),
+            Input::At(place) => self.waves[place as usize].at(t),
             Input::Fixed(value) => value,
         }
     }
 
     /// Whether the inputs of a gate of the new design read in the old run what they read where the nets have these values.
-    fn are_read(&self, cell: &Cell, values: &[Value], t: u64) -> bool
-        requires waves { waves_done self.now ≡ suc t }
-        requires there { All (HasWave self.now) cell.now.inputs }
-        ensures { result ≡ same_values (map (former_value self.now t) cell.now.inputs) (map (input_value values.now) cell.now.inputs) }
+    fn are_read(&mut self, cell: &Cell, values: &[Value], t: u64) -> bool
+        requires there { All (HasWave self.old.run) cell.now.inputs }
+        ensures read { result ≡ same_values (map (old_value self.old.run t) cell.now.inputs) (map (input_value values.now) cell.now.inputs) }
+        ensures same { self.new ≡ self.old }
     {
         let inputs = cell.inputs();
         for i in 0..inputs.len() {
@@ -132,93 +92,102 @@ impl<'a> OldLines<'a> {
         true
     }
 
-    /// The state before the moment `t`, in the old run, of the gate at a place.
+    /// The state in the old run, before the moment `t`, of the gate at a place.
     #[inline(always)]
-    fn state_before(&self, place: usize, t: u64) -> Driver
-        requires traces { traces_done self.now ≡ t }
-        requires there { place < length self.now.traces.lines }
-        ensures { result ≡ former_state self.now place t }
+    fn state_before(&mut self, place: usize, t: u64) -> Driver
+        requires there { place < length self.old.run.traces }
+        ensures state { result ≡ state_till (slice_index_or self.old.run.traces place []) t }
+        ensures same { self.new ≡ self.old }
     {
         if t == 0 {
             return Driver::start();
         }
-        self.traces.at(place, t - 1)
+        self.traces[place].at(t - 1)
     }
 
-    /// Whether the gate at a place is not dirty at the moment `t`; given are its state before the moment and the values of the
-    /// nets at it.
+    /// Whether the gate at a place is not dirty at the present moment, before which it is in this state.
     #[inline(always)]
-    pub fn is_clean<S: Stepper>(
-        &self,
-        former: &Former,
+    fn is_clean<S: Stepper>(
+        &mut self,
+        present: &Present,
         cell: &Cell,
         place: usize,
         state: Driver,
-        values: &[Value],
-        t: u64,
     ) -> bool
-        requires lines { AreOldLines S.answer (netlist former.now.old.now) (netlist former.now.new.now) self.now }
-        requires waves { waves_done self.now ≡ suc t }
-        requires traces { traces_done self.now ≡ t }
-        requires there { place < length (netlist former.now.new.now).gates }
-        requires within { t ≤ (netlist former.now.old.now).horizon }
-        requires cell { cell.now ≡ cell_of (netlist former.now.new.now) (gate_at (netlist former.now.new.now) place) }
-        requires task { evaluation_from values.now cell.now state ≡ task_at S.answer (netlist former.now.new.now) (gate_at (netlist former.now.new.now) place) t }
-        ensures { result ≡ not (is_dirty S.answer (netlist former.now.old.now) (netlist former.now.new.now) (gate_at (netlist former.now.new.now) place) t) }
+        requires lines { AreOldRun S.answer (netlist self.old.design) (netlist present.now.design.now) self.old.run }
+        requires there { place < length (netlist present.now.design.now).gates }
+        requires within { present.now.t ≤ (netlist self.old.design).horizon }
+        requires cell { cell.now ≡ cell_of (netlist present.now.design.now) (gate_at (netlist present.now.design.now) place) }
+        requires task { evaluation_from present.now.values.now cell.now state ≡ task_at S.answer (netlist present.now.design.now) (gate_at (netlist present.now.design.now) place) present.now.t }
+        ensures clean { result ≡ not (is_dirty S.answer (netlist self.old.design) (netlist present.now.design.now) (gate_at (netlist present.now.design.now) place) present.now.t) }
+        ensures same { self.new ≡ self.old }
     {
-        former.old.lawful();
-        former.new.lawful();
+        self.design.lawful();
+        present.design.lawful();
         laws::value_of_changes::<Value>();
         laws::value_of_changes::<Driver>();
         if self.others[place] {
             return false;
         }
-        if !self.state_before(place, t).is_same(state) {
+        if !self.state_before(place, present.t).is_same(state) {
             return false;
         }
-        self.are_read(cell, values, t)
+        self.are_read(cell, present.values, present.t)
     }
 
-    /// The state after the moment `t` of the gate at a place, which is not dirty then.
+    /// The state after the present moment of the gate at a place, which is not dirty then.
     #[inline(always)]
-    pub fn state_after<S: Stepper>(&self, former: &Former, place: usize, t: u64) -> Driver
-        requires lines { AreOldLines S.answer (netlist former.now.old.now) (netlist former.now.new.now) self.now }
-        requires traces { traces_done self.now ≡ suc t }
-        requires there { place < length (netlist former.now.new.now).gates }
-        requires clean { is_dirty S.answer (netlist former.now.old.now) (netlist former.now.new.now) (gate_at (netlist former.now.new.now) place) t ≡ false }
-        ensures { result ≡ state_after S.answer (netlist former.now.new.now) (gate_at (netlist former.now.new.now) place) t }
+    fn state_after<S: Stepper>(&mut self, present: &Present, place: usize) -> Driver
+        requires lines { AreOldRun S.answer (netlist self.old.design) (netlist present.now.design.now) self.old.run }
+        requires there { place < length (netlist present.now.design.now).gates }
+        requires within { present.now.t ≤ MAX_TIME }
+        requires clean { is_dirty S.answer (netlist self.old.design) (netlist present.now.design.now) (gate_at (netlist present.now.design.now) place) present.now.t ≡ false }
+        ensures state { result ≡ state_after S.answer (netlist present.now.design.now) (gate_at (netlist present.now.design.now) place) present.now.t }
+        ensures same { self.new ≡ self.old }
     {
-        former.old.lawful();
-        let _design = former.new;
+        self.design.lawful();
         laws::value_of_changes::<Driver>();
-        self.traces.at(place, t)
+        self.state_before(place, present.t + 1)
     }
 }
 
-/// Makes room in each line for as many entries as the old one at its place has, and a few more.
-fn make_room_beside<V: Sample>(olds: &Replay<V>, lines: &mut Lines<V>) -> Result<(), AllocError>
-    ensures { OnOk result (lines.new ≡ lines.old) }
-{
-    for place in 0..lines.len() {
-        if place < olds.len() {
-            let count = olds.entry_count(place);
-            lines.make_room(place, count.saturating_add(count / SPARE))?;
+impl<'a> Beside for OldLines<'a> {
+    ghost use Rattle.design.specs.Keys.{netlist};
+    ghost use Rattle.rundiff.specs.Dirty.{is_dirty};
+    ghost use Rattle.rundiff.specs.kept.OldRuns.{AreOldRun};
+
+    ghost fits = { λ answer design lines. AreOldRun answer (netlist lines.design) design lines.run };
+
+    ghost is_open = { λ answer design lines. is_dirty answer (netlist lines.design) design };
+
+    #[inline(always)]
+    fn known_answer<S: Stepper>(
+        &mut self,
+        present: &Present,
+        place: usize,
+        state: Driver,
+    ) -> Option<Driver> {
+        if present.t > self.design.horizon() {
+            return None;
         }
+        let cell = &present.wiring.cells[place];
+        if !self.is_clean::<S>(present, cell, place, state) {
+            return None;
+        }
+        Some(self.state_after::<S>(present, place))
     }
-    Ok(())
 }
 
-/// Timelines that are read together. No moment is done.
-fn replay_of<'a, V: Sample>(
+/// Timelines of which nothing was looked up.
+fn lookups_of<'a, V: Sample>(
     alloc: Global,
     lines: &[&'a Timeline<V>],
-) -> Result<Replay<'a, V>, AllocError>
-    ensures lines { IfOk result (λ replay. replay.lines ≡ map (λ line. line.now) lines.now) }
-    ensures done { IfOk result (λ replay. replay.done ≡ 0) }
+) -> Result<Vec<Lookup<'a, V>>, AllocError>
+    ensures { IfOk result (λ lookups. lookups.items ≡ map (λ line. line.now) lines.now) }
 {
-    let mut replay = Replay::new(alloc)?;
+    let mut lookups = Vec::with_capacity(alloc, lines.len())?;
     for i in 0..lines.len() {
-        replay.push(alloc, lines[i])?;
+        lookups.push(Lookup::new(lines[i]))?;
     }
-    Ok(replay)
+    Ok(lookups)
 }

@@ -9,7 +9,7 @@ ghost use Rattle.scratch.specs.kept.Run.{IsRun};
 ghost use Rattle.rundiff.specs.Dirty.{is_new};
 ghost use Rattle.rundiff.specs.kept.Fronts.{named_state};
 ghost use Rattle.rundiff.specs.kept.Kept.{read_at};
-ghost use Rattle.rundiff.specs.kept.OldLines.{HoldsEach};
+ghost use Rattle.rundiff.specs.kept.OldRuns.{HoldsEach};
 ghost use Rattle.rundiff.specs.kept.OldRuns.{AreOldRun};
 ghost use Rattle.rundiff.specs.kept.Places.{gate_at, net_at};
 

@@ -16,7 +16,6 @@ pub mod Marking
 pub mod Moments
 pub mod NetSteps
 pub mod Notes
-pub mod OneTask
 pub mod Passing
 pub mod Places
 pub mod Readers

@@ -21,11 +21,11 @@ use Rattle.scratch.specs.kept.Quiet.{IsQuiet}
 use Rattle.scratch.specs.kept.Recorded.{recorded_below}
 use Rattle.scratch.specs.Run.{state_after, state_before, value}
 use Rattle.scratch.specs.kept.Stands.{Stands}
-use Rattle.scratch.specs.Work.{is_due, is_stirred, stirred_at, work_below}
+use Rattle.scratch.specs.Work.{is_due, is_stirred, stirred_at}
 use Rattle.scratch.specs.declared.engine.Engine.{Engine}
 use Rattle.scratch.proofs.Recorded.{recorded_moves}
 use Rattle.scratch.proofs.Runs.{map_where, ready_all}
-use Rattle.scratch.proofs.Still.{Stays, none_kept, quiet_gate, quiet_idle, quiet_net, still_after, trace_stays, wave_stays}
+use Rattle.scratch.proofs.Still.{Stays, none_kept, quiet_gate, quiet_net, still_after, trace_stays, wave_stays}
 
 pub all_at : {X : Type 0} (P : X → Type 0) (xs : List X) (k : ℕ) (x : X) → All P xs → slice_get xs k ≡ Some x → P x
 all_at P [] k x all is = absurd (cc)
@@ -70,7 +70,6 @@ module _ (answer : Evaluation → ℕ → State) (d : Netlist)
   -- the moments from n to u are done as it stands
   pub record Skipped (e : Engine) (n u : ℕ) : Type 0 where
     pub stands : Stands answer d e u
-    pub idle : work_below answer d u ≡ work_below answer d n
     pub quiet : (w : ℕ) → n ≤ w → w < u → stirred_at answer d w ≡ []
 
   module _ (e : Engine) (v : ℕ) (s : Stands answer d e (suc v)) (no_event : noted e.events (suc v) ≡ []) (no_point : noted e.points (suc v) ≡ []) where
@@ -137,7 +136,6 @@ module _ (answer : Evaluation → ℕ → State) (d : Netlist)
                 no_early_point = λ t below. early_on (noted e.points) no_point s.no_early_point t (search arith);
                 counts = s.counts;
               };
-          idle = quiet_idle answer d current v quiet;
           quiet = λ w from low. let same : suc v ≡ w = omega arith in ap (stirred_at answer d) (sym same) ∙ none_kept (λ g. is_stirred answer d g (suc v)) d.gates calm;
         }
 
@@ -149,12 +147,12 @@ module _ (answer : Evaluation → ℕ → State) (d : Netlist)
   skip_by e n zero s no_event no_point = absurd (let b = s.stands.begun in omega arith)
   skip_by e n (suc v) s no_event no_point =
       let one = skip_one e v s.stands no_event no_point in
-      record { stands = one.stands; idle = one.idle ∙ s.idle; quiet = λ w from below. quiet_by e n v w s one from (cases_lt w (suc v)) below }
+      record { stands = one.stands; quiet = λ w from below. quiet_by e n v w s one from (cases_lt w (suc v)) below }
 
   skip : (e : Engine) (n k : ℕ) → Stands answer d e n → ((t : ℕ) → t < n + k → noted e.events t ≡ []) → ((t : ℕ) → t < n + k → noted e.points t ≡ []) → Skipped e n (n + k)
   skip e n zero s no_event no_point =
       let z : n + 0 ≡ n = omega arith in
-      record { stands = rw z s; idle = rw z refl; quiet = λ w from low. absurd (omega arith) }
+      record { stands = rw z s; quiet = λ w from low. absurd (omega arith) }
   skip e n (suc k) s no_event no_point =
       let z : n + suc k ≡ suc (n + k) = omega arith in
       let before = skip e n k s (λ t low. no_event t (omega arith)) (λ t low. no_point t (omega arith)) in

@@ -1,5 +1,5 @@
 -- What stays over a moment: nets of which nothing happens, and gates that are not stirred.
-use Rattle.std.proofs.Common.{◌≡◌, ◌<◌, ◌≤◌, ◌∙◌, sym, ap, refl, Bool, true, false, not, cond, ℕ, suc, List, [], ◌∷◌, ◌++◌, append-nil, map, Option, Some, None, All, arith}
+use Rattle.std.proofs.Common.{◌≡◌, ◌<◌, ◌≤◌, ◌∙◌, sym, ap, refl, Bool, true, false, not, cond, ℕ, suc, List, [], ◌∷◌, map, Option, Some, None, All, arith}
 use Rattle.std.specs.Prelude.{nat_le, ◌&&◌, ◌||◌, ◌==◌}
 use Rattle.std.specs.List.{filter, find, list_any, last_or}
 use Rattle.std.specs.Option.{option_map_or, ForSome}
@@ -10,7 +10,6 @@ use Rattle.fourstate.specs.declared.value.Value.TheVariants.{Unknown}
 use Rattle.fourstate.specs.Nets.{net_of}
 use Rattle.fourstate.specs.Values.{same_value}
 use Rattle.gatestep.specs.Step.{State, Evaluation, due, due_of}
-use Rattle.gatestep.specs.Record.{at_moment}
 use Rattle.gatestep.specs.kept.Tasks.{NothingDue, again}
 use Rattle.design.specs.Connections.{Connection, to_net, to_constant}
 use Rattle.design.specs.Names.{same_name}
@@ -23,7 +22,7 @@ use Rattle.waveform.specs.kept.SampleLaws.{same_state_self}
 use Rattle.waveform.specs.Timelines.{changes_below, is_change}
 use Rattle.scratch.specs.kept.Quiet.{IsQuiet}
 use Rattle.scratch.specs.Run.{terminal_at, state_after, state_before, value}
-use Rattle.scratch.specs.Work.{inputs_at, is_due, is_stirred, same_values, stirred_at, task_at, work_below}
+use Rattle.scratch.specs.Work.{inputs_at, is_due, is_stirred, same_values, task_at}
 use Rattle.scratch.proofs.Lists.{map_alike}
 use Rattle.scratch.proofs.Runs.{map_where}
 
@@ -166,14 +165,6 @@ module _ (answer : Evaluation → ℕ → State) (d : Netlist) where
     quiet_gate t quiet g none =
         is_still g t none
         (map_alike (λ terminal. terminal_at d (state_before answer d (suc t)) terminal (suc t)) (λ terminal. terminal_at d (state_before answer d t) terminal t) (quiet_terminal t quiet) g.inputs)
-
-    -- nothing is evaluated
-    pub quiet_idle : (t : ℕ) → IsQuiet answer d (suc t) → work_below answer d (suc (suc t)) ≡ work_below answer d (suc t)
-    quiet_idle t quiet =
-        let none : stirred_at answer d (suc t) ≡ [] =
-        none_kept (λ g. is_stirred answer d g (suc t)) d.gates (λ k x within. quiet_gate t quiet _ (quiet.nothing_due k x within)) in
-        ap (λ (gs : List GateEntry). work_below answer d (suc t) ++ at_moment (suc t) (map (λ g. task_at answer d g (suc t)) gs)) none
-        ∙ append-nil (work_below answer d (suc t))
 
     module _ (stays : (e : Evaluation) (t u : ℕ) → t < u → NothingDue u (answer e t) → answer (again e (answer e t)) u ≡ answer e t) where
       -- a gate that is not stirred keeps its state

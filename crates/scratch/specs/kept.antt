@@ -5,9 +5,11 @@ pub mod Kept
 pub mod Lost
 pub mod Marks
 pub mod Nets
+pub mod Open
 pub mod PackedInputs
 pub mod Places
 pub mod Plain
+pub mod Present
 pub mod Quiet
 pub mod Recorded
 pub mod Recordings

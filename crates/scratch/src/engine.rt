@@ -10,15 +10,18 @@ ghost use Rattle.scratch.specs.Run.{state_before};
 ghost use Rattle.scratch.specs.kept.Run.{IsRun};
 ghost use Rattle.scratch.specs.Asked.{IsAskedInPart, IsAskedInSomeOrder};
 ghost use Rattle.scratch.specs.kept.Stands.{AreFound, IsStirred, Stands};
-ghost use Rattle.scratch.specs.Work.{stirred_at, work_at, work_below};
+ghost use Rattle.scratch.specs.Work.{stirred_at};
+ghost use Rattle.scratch.specs.kept.Open.{open_work_at};
 ghost use Rattle.scratch.specs.kept.Work.{HasGrownOrNot};
 
 use crate::answering::answer_each;
-use crate::asking::ask;
+use crate::asking::{Asking, ask};
+use crate::beside::Beside;
 use crate::completing::complete_waves;
 use crate::driving::drive_each;
 use crate::finishing::run_of_lines;
 use crate::opening::Opening;
+use crate::present::Present;
 use crate::recording::Recording;
 use crate::resolving::resolve_nets;
 use crate::setting::Setting;
@@ -30,7 +33,7 @@ use crate::wiring::Wiring;
 use design::Design;
 use event_queue::EventQueue;
 use fourstate::Value;
-use gatestep::{Driver, StepFault, Stepper, Task};
+use gatestep::{Driver, StepFault, Stepper};
 use std::alloc::{AllocError, Global};
 use waveform::{Lines, Run, laws};
 
@@ -57,40 +60,41 @@ pub struct Engine {
     changed: Vec<usize>,
     /// The tallies of the nets with many drivers.
     pub(crate) tallies: Tallies,
-    /// Room for tasks.
-    pub tasks: Vec<Task>,
-    /// The answers of the stirred gates.
-    pub answers: Vec<Driver>,
+    asking: Asking,
 }
 
 impl Engine {
     /// What stands after moment 0.
-    pub(crate) fn open<S: Stepper>(
+    pub(crate) fn open<S: Stepper, B: Beside>(
         alloc: Global,
         design: &Design,
         wiring: &Wiring,
         stepper: &mut S,
+        beside: &mut B,
     ) -> Result<Engine, StepFault>
         requires wired { IsWiring (netlist design.now) wiring.now }
+        requires fits { B.fits S.answer (netlist design.now) beside.old }
         ensures stands { IfOk result (λ engine. Stands S.answer (netlist design.now) engine 1) }
-        ensures asked { OnOk result (S.asked stepper.new ≡ S.asked stepper.old ++ work_at S.answer (netlist design.now) 0) }
-        ensures part { OnErr result (HasGrownOrNot (S.asked stepper.old) (S.asked stepper.new) (work_at S.answer (netlist design.now) 0)) }
+        ensures asked { OnOk result (S.asked stepper.new ≡ S.asked stepper.old ++ open_work_at (B.is_open S.answer (netlist design.now) beside.old) S.answer (netlist design.now) 0) }
+        ensures part { OnErr result (HasGrownOrNot (S.asked stepper.old) (S.asked stepper.new) (open_work_at (B.is_open S.answer (netlist design.now) beside.old) S.answer (netlist design.now) 0)) }
         ensures lost { CountsLoss (S.losses stepper.old) (S.losses stepper.new) result }
+        ensures fits { OnOk result (B.fits S.answer (netlist design.now) beside.new) }
+        ensures same { OnOk result (B.is_open S.answer (netlist design.now) beside.new ≡ B.is_open S.answer (netlist design.now) beside.old) }
     {
         let mut opening = Opening::before::<S>(alloc, design, wiring)?;
-        let setting = Setting {
+        let present = Present {
             design,
             wiring,
+            values: opening.values.as_slice(),
             t: 0,
         };
         ask(
-            &setting,
-            opening.values.as_slice(),
+            &present,
             opening.states.as_slice(),
             opening.gates.as_slice(),
             stepper,
-            &mut opening.tasks,
-            &mut opening.answers,
+            beside,
+            &mut opening.asking,
         )?;
         Ok(opening.settle::<S>(alloc, design)?)
     }
@@ -126,8 +130,7 @@ impl Engine {
             nets: Vec::new(alloc),
             changed: Vec::new(alloc),
             tallies,
-            tasks: Vec::new(alloc),
-            answers: Vec::new(alloc),
+            asking: Asking::new(alloc),
         }
     }
 
@@ -152,84 +155,107 @@ impl Engine {
     }
 
     /// Goes through the moment `t`, before which all is done. After a fault what stands is not known.
-    pub(crate) fn pass<S: Stepper>(
+    pub(crate) fn pass<S: Stepper, B: Beside>(
         &mut self,
         alloc: Global,
         design: &Design,
         wiring: &Wiring,
         stepper: &mut S,
+        beside: &mut B,
         t: u64,
     ) -> Result<(), StepFault>
         requires wired { IsWiring (netlist design.now) wiring.now }
         requires stands { Stands S.answer (netlist design.now) self.old t }
         requires within { t ≤ MAX_TIME }
+        requires fits { B.fits S.answer (netlist design.now) beside.old }
         ensures stands { OnOk result (Stands S.answer (netlist design.now) self.new (t + 1)) }
-        ensures asked { OnOk result (IsAskedInSomeOrder (S.asked stepper.old) (S.asked stepper.new) (work_at S.answer (netlist design.now) t)) }
-        ensures part { OnErr result (IsAskedInPart (S.asked stepper.old) (S.asked stepper.new) (work_at S.answer (netlist design.now) t)) }
+        ensures asked { OnOk result (IsAskedInSomeOrder (S.asked stepper.old) (S.asked stepper.new) (open_work_at (B.is_open S.answer (netlist design.now) beside.old) S.answer (netlist design.now) t)) }
+        ensures part { OnErr result (IsAskedInPart (S.asked stepper.old) (S.asked stepper.new) (open_work_at (B.is_open S.answer (netlist design.now) beside.old) S.answer (netlist design.now) t)) }
         ensures lost { CountsLoss (S.losses stepper.old) (S.losses stepper.new) result }
+        ensures fits { OnOk result (B.fits S.answer (netlist design.now) beside.new) }
+        ensures same { OnOk result (B.is_open S.answer (netlist design.now) beside.new ≡ B.is_open S.answer (netlist design.now) beside.old) }
     {
         self.stir::<S>(alloc, design, wiring, t)?;
         if stepper.deals(self.gates.len()) {
             self.put_in_order::<S>(design, t);
-            self.ask(design, wiring, stepper, t)?;
+            self.ask(design, wiring, stepper, beside, t)?;
             self.settle::<S>(design, t)?;
         } else {
-            self.answer(design, wiring, stepper, t)?;
+            self.answer(design, wiring, stepper, beside, t)?;
         }
         Ok(())
     }
 
-    /// Asks for the gates that are stirred at the moment `t`, which stand in order.
-    fn ask<S: Stepper>(
+    /// Finds the answers for the gates that are stirred at the moment `t`, which stand in order.
+    fn ask<S: Stepper, B: Beside>(
         &mut self,
         design: &Design,
         wiring: &Wiring,
         stepper: &mut S,
+        beside: &mut B,
         t: u64,
     ) -> Result<(), StepFault>
         requires wired { IsWiring (netlist design.now) wiring.now }
         requires stirred { IsStirred S.answer (netlist design.now) self.old t }
         requires within { t ≤ MAX_TIME }
+        requires fits { B.fits S.answer (netlist design.now) beside.old }
         ensures stirred { IsStirred S.answer (netlist design.now) self.new t }
-        ensures answers { OnOk result (self.new.answers.items ≡ map (state_before S.answer (netlist design.now) (t + 1)) (stirred_at S.answer (netlist design.now) t)) }
-        ensures asked { OnOk result (S.asked stepper.new ≡ S.asked stepper.old ++ work_at S.answer (netlist design.now) t) }
-        ensures part { OnErr result (HasGrownOrNot (S.asked stepper.old) (S.asked stepper.new) (work_at S.answer (netlist design.now) t)) }
+        ensures answers { OnOk result (self.new.asking.answers.items ≡ map (state_before S.answer (netlist design.now) (t + 1)) (stirred_at S.answer (netlist design.now) t)) }
+        ensures asked { OnOk result (S.asked stepper.new ≡ S.asked stepper.old ++ open_work_at (B.is_open S.answer (netlist design.now) beside.old) S.answer (netlist design.now) t) }
+        ensures part { OnErr result (HasGrownOrNot (S.asked stepper.old) (S.asked stepper.new) (open_work_at (B.is_open S.answer (netlist design.now) beside.old) S.answer (netlist design.now) t)) }
         ensures lost { CountsLoss (S.losses stepper.old) (S.losses stepper.new) result }
+        ensures fits { OnOk result (B.fits S.answer (netlist design.now) beside.new) }
+        ensures same { OnOk result (B.is_open S.answer (netlist design.now) beside.new ≡ B.is_open S.answer (netlist design.now) beside.old) }
     {
+        let present = Present {
+            design,
+            wiring,
+            values: self.values.as_slice(),
+            t,
+        };
         ask(
-            &Setting { design, wiring, t },
-            self.values.as_slice(),
+            &present,
             self.states.as_slice(),
             self.gates.as_slice(),
             stepper,
-            &mut self.tasks,
-            &mut self.answers,
+            beside,
+            &mut self.asking,
         )
     }
 
-    /// Asks for the gates that are stirred at the moment `t` one after another, and takes each answer for its gate's state. After
-    /// a fault what stands is not known.
-    fn answer<S: Stepper>(
+    /// Finds the answers for the gates that are stirred at the moment `t` one after another, and takes each for its gate's state.
+    /// After a fault what stands is not known.
+    fn answer<S: Stepper, B: Beside>(
         &mut self,
         design: &Design,
         wiring: &Wiring,
         stepper: &mut S,
+        beside: &mut B,
         t: u64,
     ) -> Result<(), AllocError>
         requires none_lost { S.losses stepper.old ≡ 0 }
         requires wired { IsWiring (netlist design.now) wiring.now }
         requires found { AreFound S.answer (netlist design.now) self.old t }
         requires within { t ≤ MAX_TIME }
+        requires fits { B.fits S.answer (netlist design.now) beside.old }
         ensures stands { OnOk result (Stands S.answer (netlist design.now) self.new (t + 1)) }
-        ensures asked { OnOk result (IsAskedInSomeOrder (S.asked stepper.old) (S.asked stepper.new) (work_at S.answer (netlist design.now) t)) }
-        ensures part { OnErr result (IsAskedInPart (S.asked stepper.old) (S.asked stepper.new) (work_at S.answer (netlist design.now) t)) }
+        ensures asked { OnOk result (IsAskedInSomeOrder (S.asked stepper.old) (S.asked stepper.new) (open_work_at (B.is_open S.answer (netlist design.now) beside.old) S.answer (netlist design.now) t)) }
+        ensures part { OnErr result (IsAskedInPart (S.asked stepper.old) (S.asked stepper.new) (open_work_at (B.is_open S.answer (netlist design.now) beside.old) S.answer (netlist design.now) t)) }
         ensures lost { S.losses stepper.new ≡ S.losses stepper.old }
+        ensures fits { OnOk result (B.fits S.answer (netlist design.now) beside.new) }
+        ensures same { OnOk result (B.is_open S.answer (netlist design.now) beside.new ≡ B.is_open S.answer (netlist design.now) beside.old) }
     {
+        let present = Present {
+            design,
+            wiring,
+            values: self.values.as_slice(),
+            t,
+        };
         answer_each(
-            &Setting { design, wiring, t },
-            self.values.as_slice(),
+            &present,
             self.gates.as_slice(),
             stepper,
+            beside,
             &mut self.states,
             &mut self.traces,
             &mut self.events,
@@ -239,7 +265,7 @@ impl Engine {
 
     /// Goes on to what the nets have at the moment `t`, before which all is done, and finds the stirred gates, in no order. After
     /// a fault what stands is not known.
-    pub fn stir<S: Stepper>(
+    fn stir<S: Stepper>(
         &mut self,
         alloc: Global,
         design: &Design,
@@ -289,7 +315,7 @@ impl Engine {
     }
 
     /// Puts the gates that are stirred at the moment `t` in order.
-    pub fn put_in_order<S: Stepper>(&mut self, design: &Design, t: u64)
+    fn put_in_order<S: Stepper>(&mut self, design: &Design, t: u64)
         requires { AreFound S.answer (netlist design.now) self.old t }
         ensures { IsStirred S.answer (netlist design.now) self.new t }
     {
@@ -300,16 +326,16 @@ impl Engine {
 
     /// Takes the answers of the gates that are stirred at the moment `t` for their states. After a fault what stands is not
     /// known.
-    pub fn settle<S: Stepper>(&mut self, design: &Design, t: u64) -> Result<(), AllocError>
+    fn settle<S: Stepper>(&mut self, design: &Design, t: u64) -> Result<(), AllocError>
         requires stirred { IsStirred S.answer (netlist design.now) self.old t }
         requires within { t ≤ MAX_TIME }
-        requires answers { self.old.answers.items ≡ map (state_before S.answer (netlist design.now) (t + 1)) (stirred_at S.answer (netlist design.now) t) }
+        requires answers { self.old.asking.answers.items ≡ map (state_before S.answer (netlist design.now) (t + 1)) (stirred_at S.answer (netlist design.now) t) }
         ensures { OnOk result (Stands S.answer (netlist design.now) self.new (t + 1)) }
     {
         settle::<S>(
             design,
             self.gates.as_slice(),
-            self.answers.as_slice(),
+            self.asking.answers.as_slice(),
             t,
             &mut self.states,
             &mut self.traces,
@@ -320,14 +346,13 @@ impl Engine {
 
     /// The next moment, up to the horizon, at which something is noted, or else one more than the horizon. The moments below
     /// `done` are done, and until then no gate is stirred.
-    pub fn advance<S: Stepper>(&self, design: &Design, done: u64) -> u64
+    pub(crate) fn advance<S: Stepper>(&self, design: &Design, done: u64) -> u64
         requires stands { Stands S.answer (netlist design.now) self.now done }
         requires within { done ≤ suc (netlist design.now).horizon }
         ensures from { done ≤ result }
         ensures within { result ≤ suc (netlist design.now).horizon }
         ensures stands { Stands S.answer (netlist design.now) self.now result }
         ensures quiet { (t : ℕ) → done ≤ t → t < result → stirred_at S.answer (netlist design.now) t ≡ [] }
-        ensures idle { work_below S.answer (netlist design.now) result ≡ work_below S.answer (netlist design.now) done }
     {
         design.lawful();
         laws::no_change::<Value>();
@@ -350,7 +375,7 @@ impl Engine {
     }
 
     /// The run of the design, where all moments up to its horizon are done.
-    pub fn finish<S: Stepper>(
+    pub(crate) fn finish<S: Stepper>(
         self,
         alloc: Global,
         design: &Design,

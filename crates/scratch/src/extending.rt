@@ -7,8 +7,10 @@ ghost use Rattle.scratch.specs.kept.Lost.{CountsLoss};
 ghost use Rattle.scratch.specs.kept.Run.{IsRun};
 ghost use Rattle.scratch.specs.kept.Stands.{Stands};
 ghost use Rattle.scratch.specs.Asked.{IsAskedInPart, IsAskedInSomeOrder};
+ghost use Rattle.scratch.specs.kept.Open.{all_from, open_work_at};
 ghost use Rattle.scratch.specs.kept.Work.{work_from};
 
+use crate::beside::{Beside, Nothing};
 use crate::continuing::run_on;
 use crate::engine::Engine;
 use crate::resuming::resume;
@@ -41,14 +43,39 @@ pub fn extend<S: Stepper>(
         (work_from S.answer (netlist design.now) (suc (netlist former.now).horizon) (suc (netlist design.now).horizon))) }
     ensures lost { CountsLoss (S.losses stepper.old) (S.losses stepper.new) result }
 {
+    extend_beside(alloc, former, run, design, wiring, stepper, &mut Nothing)
+}
+
+/// The same beside what knows some answers: these are not asked for.
+pub fn extend_beside<S: Stepper, B: Beside>(
+    alloc: Global,
+    former: &Design,
+    run: &Run,
+    design: &Design,
+    wiring: &Wiring,
+    stepper: &mut S,
+    beside: &mut B,
+) -> Result<Run, StepFault>
+    requires wired { IsWiring (netlist design.now) wiring.now }
+    requires same { former.now ≡ record design.now { horizon = former.now.horizon } }
+    requires later { (netlist former.now).horizon ≤ (netlist design.now).horizon }
+    requires run { IsRun S.answer former.now run.now }
+    requires fits { B.fits S.answer (netlist design.now) beside.old }
+    ensures run { IfOk result (IsRun S.answer design.now) }
+    ensures asked { OnOk result (IsAskedInSomeOrder (S.asked stepper.old) (S.asked stepper.new)
+        (all_from (open_work_at (B.is_open S.answer (netlist design.now) beside.old) S.answer (netlist design.now)) (suc (netlist former.now).horizon) (suc (netlist design.now).horizon))) }
+    ensures part { OnErr result (IsAskedInPart (S.asked stepper.old) (S.asked stepper.new)
+        (all_from (open_work_at (B.is_open S.answer (netlist design.now) beside.old) S.answer (netlist design.now)) (suc (netlist former.now).horizon) (suc (netlist design.now).horizon))) }
+    ensures lost { CountsLoss (S.losses stepper.old) (S.losses stepper.new) result }
+{
     let engine = resume_later::<S>(alloc, former, run, design, wiring)?;
     let start = former.horizon() + 1;
-    run_on(alloc, design, wiring, engine, start, stepper)
+    run_on(alloc, design, wiring, engine, start, stepper, beside)
 }
 
 /// What stands after the last moment of the run of a design, for the same design with another horizon. It shares nothing with
 /// the run.
-pub fn resume_later<S: Stepper>(
+fn resume_later<S: Stepper>(
     alloc: Global,
     former: &Design,
     run: &Run,

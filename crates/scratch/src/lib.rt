@@ -3,6 +3,7 @@
 
 mod answering;
 mod asking;
+mod beside;
 mod completing;
 mod continuing;
 mod driving;
@@ -15,6 +16,7 @@ mod noting;
 mod opening;
 mod packed_input;
 pub mod plain;
+mod present;
 mod recording;
 mod resolving;
 mod resuming;
@@ -28,14 +30,14 @@ mod tally;
 mod waves;
 mod wiring;
 
-pub use engine::Engine;
-pub use extending::{extend, resume_later};
+pub use beside::Beside;
+pub use extending::{extend, extend_beside};
 pub use finishing::run_of_lines;
-pub use moment::{read_input, task_at};
-pub use opening::Opening;
+pub use moment::read_input;
 pub use packed_input::PackedInput;
+pub use present::Present;
 pub use resuming::trace_at;
-pub use run::{simulate, simulate_wired};
+pub use run::{simulate, simulate_beside, simulate_wired};
 pub use stirred_gates::StirredGates;
 pub use waves::{wave_at, wave_named};
 pub use wiring::{Cell, Input, Wiring, wire};

@@ -278,27 +278,6 @@ pub fn task(cell: &Cell, state: Driver, values: &[Value]) -> Task
     Task::new(cell.kind(), cell.delays(), state, read_values)
 }
 
-/// The task of the gate at a place at the moment `t`, by the states before it and the values at it.
-pub fn task_at<S: Stepper>(
-    design: &Design,
-    wiring: &Wiring,
-    values: &[Value],
-    states: &[Driver],
-    place: usize,
-    t: u64,
-) -> Task
-    requires wired { IsWiring (netlist design.now) wiring.now }
-    requires values { values.now ≡ map (λ n. value S.answer (netlist design.now) n t) (netlist design.now).nets }
-    requires states { states.now ≡ map (state_before S.answer (netlist design.now) t) (netlist design.now).gates }
-    requires ready { All (PendingFrom t) states.now }
-    requires there { place < length (netlist design.now).gates }
-    ensures task { IfSome (slice_get (netlist design.now).gates place) (λ g. result ≡ task_at S.answer (netlist design.now) g t) }
-    ensures ready { IsReady t result }
-{
-    let _design = design;
-    task(&wiring.cells[place], states[place], values)
-}
-
 /// The task of each cell.
 fn find_tasks(
     wiring: &Wiring,

@@ -8,6 +8,7 @@ ghost use Rattle.scratch.specs.Run.{state_before};
 ghost use Rattle.scratch.specs.kept.Stands.{IsOpening, Stands};
 ghost use Rattle.scratch.specs.Work.{stirred_at};
 
+use crate::asking::Asking;
 use crate::engine::Engine;
 use crate::moment::Moment;
 use crate::noting::{list_events, list_points};
@@ -16,7 +17,7 @@ use crate::tallies::Tallies;
 use crate::wiring::Wiring;
 use design::Design;
 use fourstate::Value;
-use gatestep::{Driver, Stepper, Task};
+use gatestep::{Driver, Stepper};
 use std::alloc::{AllocError, Global};
 
 /// What stands at moment 0 before its gates are evaluated.
@@ -28,10 +29,8 @@ pub struct Opening {
     pub values: Vec<Value>,
     /// All gates, in order.
     pub gates: Vec<usize>,
-    /// Room for tasks.
-    pub tasks: Vec<Task>,
-    /// The answers of the gates.
-    pub answers: Vec<Driver>,
+    /// The answers for the gates.
+    pub asking: Asking,
     /// The tallies of the nets with many drivers.
     pub(crate) tallies: Tallies,
 }
@@ -55,8 +54,7 @@ impl Opening {
             states,
             values,
             gates,
-            tasks: Vec::new(alloc),
-            answers: Vec::new(alloc),
+            asking: Asking::new(alloc),
             tallies,
         })
     }
@@ -64,12 +62,13 @@ impl Opening {
     /// What stands after moment 0, by the answers of the gates.
     pub fn settle<S: Stepper>(self, alloc: Global, design: &Design) -> Result<Engine, AllocError>
         requires opening { IsOpening S.answer (netlist design.now) self }
-        requires answers { self.answers.items ≡ map (state_before S.answer (netlist design.now) 1) (stirred_at S.answer (netlist design.now) 0) }
+        requires answers { self.asking.answers.items ≡ map (state_before S.answer (netlist design.now) 1) (stirred_at S.answer (netlist design.now) 0) }
         ensures { IfOk result (λ engine. Stands S.answer (netlist design.now) engine 1) }
     {
         design.lawful();
-        let states = self.answers;
         let values = self.values;
+        let asking = self.asking;
+        let states = asking.answers;
         let recording = Recording::open(alloc, values.as_slice(), states.as_slice())?;
         let events = list_events(alloc, states.as_slice())?;
         let points = list_points(alloc, design, 0)?;

@@ -7,7 +7,9 @@ ghost use Rattle.scratch.specs.kept.Lost.{CountsLoss};
 ghost use Rattle.scratch.specs.kept.Run.{IsRun};
 ghost use Rattle.scratch.specs.Asked.{IsAskedInPart, IsAskedInSomeOrder};
 ghost use Rattle.scratch.specs.Work.{work_below};
+ghost use Rattle.scratch.specs.kept.Open.{all_below, open_work_at};
 
+use crate::beside::{Beside, Nothing};
 use crate::continuing::run_on;
 use crate::engine::Engine;
 use crate::wiring::{Wiring, wire};
@@ -51,6 +53,26 @@ pub fn simulate_wired<S: Stepper>(
         (work_below S.answer (netlist design.now) (suc (netlist design.now).horizon))) }
     ensures lost { CountsLoss (S.losses stepper.old) (S.losses stepper.new) result }
 {
-    let engine = Engine::open(alloc, design, wiring, stepper)?;
-    run_on(alloc, design, wiring, engine, 1, stepper)
+    simulate_beside(alloc, design, wiring, stepper, &mut Nothing)
+}
+
+/// The same beside what knows some answers: these are not asked for.
+pub fn simulate_beside<S: Stepper, B: Beside>(
+    alloc: Global,
+    design: &Design,
+    wiring: &Wiring,
+    stepper: &mut S,
+    beside: &mut B,
+) -> Result<Run, StepFault>
+    requires wired { IsWiring (netlist design.now) wiring.now }
+    requires fits { B.fits S.answer (netlist design.now) beside.old }
+    ensures run { IfOk result (IsRun S.answer design.now) }
+    ensures asked { OnOk result (IsAskedInSomeOrder (S.asked stepper.old) (S.asked stepper.new)
+        (all_below (open_work_at (B.is_open S.answer (netlist design.now) beside.old) S.answer (netlist design.now)) (suc (netlist design.now).horizon))) }
+    ensures part { OnErr result (IsAskedInPart (S.asked stepper.old) (S.asked stepper.new)
+        (all_below (open_work_at (B.is_open S.answer (netlist design.now) beside.old) S.answer (netlist design.now)) (suc (netlist design.now).horizon))) }
+    ensures lost { CountsLoss (S.losses stepper.old) (S.losses stepper.new) result }
+{
+    let engine = Engine::open(alloc, design, wiring, stepper, beside)?;
+    run_on(alloc, design, wiring, engine, 1, stepper, beside)
 }

@@ -1,11 +1,10 @@
 -- What a front keeps of a new run beside an old one, and what is known of it.
-use Rattle.std.specs.Prelude.{◌≡◌, ◌⊎◌, ◌&&◌, ◌∷◌, ◌<◌, ◌≤◌, Bool, true, false, ℕ, suc, List, [], map, length, Option, Some, None, not}
+use Rattle.std.specs.Prelude.{◌≡◌, ◌⊎◌, ◌&&◌, ◌<◌, ◌≤◌, Bool, true, false, ℕ, suc, List, map, length, Option, Some, None, not}
 use Rattle.std.specs.List.{All, AllPairs, filter}
 use Rattle.std.specs.Option.{option_map_or, ForSome}
 use Rattle.std.specs.Ordering.{nat_cmp}
 use Rattle.std.specs.BTreeSet.{contains}
 use Rattle.fourstate.specs.declared.value.Value.{Value}
-use Rattle.fourstate.specs.declared.value.Value.TheVariants.{Unknown}
 use Rattle.fourstate.specs.Values.{same_value}
 use Rattle.gatestep.specs.Step.{State, Evaluation, due, initial}
 use Rattle.gatestep.specs.Tasks.{IsReady}

@@ -1,9 +1,12 @@
--- How what was asked grows, from one call to the next.
-use Rattle.std.specs.Prelude.{◌≡◌, ℕ, List, [], ◌++◌, IsPermutation}
-use Rattle.std.proofs.Common.{◌∙◌, ap, append_assoc, append-nil, subst, sym}
+-- How what was asked grows, from one call to the next and from moment to moment.
+use Rattle.std.specs.Prelude.{◌≡◌, ◌<◌, ◌≤◌, ◌⊎◌, Bool, true, false, cond, ℕ, zero, suc, nat_le, List, [], ◌++◌, IsPermutation}
+use Rattle.std.proofs.Common.{◌∙◌, ap, append_assoc, append-nil, subst, sym, refl, inl, inr, arith}
+use Rattle.std.proofs.lemmas.Bool.{cases_lt}
+use Rattle.std.proofs.lemmas.Bool.Decides.{nat_tests}
 use Rattle.std.proofs.lemmas.List.Sorted.{IsPermutation-append_left, IsPermutation-append_right, IsPermutation-refl, IsPermutation-trans}
 use Rattle.gatestep.specs.Step.{Evaluation}
 use Rattle.scratch.specs.Asked.{IsAskedInPart, IsAskedInSomeOrder}
+use Rattle.scratch.specs.kept.Open.{all_below, all_from}
 
 abbrev Work : Type 0
 Work = List (Evaluation × ℕ)
@@ -52,3 +55,36 @@ part_then before middle now work more first then =
       (rest, subst (λ l. IsPermutation (work ++ more) l) (sym (append_assoc first.0 then.0 rest)) (beside work first.0 more (then.0 ++ rest) first.1 then.1.1)),
       joined before middle now first.0 then.0 first.2 then.2,
     )
+
+holds : (n t : ℕ) → n ≤ t → nat_le n t ≡ true
+holds n t le = grind (arith, nat_tests)
+
+fails : (n : ℕ) → nat_le (suc n) n ≡ false
+fails n = grind (arith, nat_tests)
+
+module _ {X : Type 0} (work : ℕ → List X) where
+  -- a moment more
+  pub one_moment_more : (n t : ℕ) → n ≤ t → all_from work n (suc t) ≡ all_from work n t ++ work t
+  one_moment_more n t le = ap (λ (b : Bool). cond b (all_from work n t ++ work t) []) (holds n t le)
+
+  -- no moment
+  pub no_moment : (n : ℕ) → all_from work n n ≡ []
+  no_moment zero = refl
+  no_moment (suc n) = ap (λ (b : Bool). cond b (all_from work (suc n) n ++ work n) []) (fails n)
+
+  -- the work of all moments is that of the earlier ones and that of the later ones
+  pub all_parts : (n m : ℕ) → n ≤ m → all_below work m ≡ all_below work n ++ all_from work n m
+  all_parts n zero le =
+      let same : 0 ≡ n = omega arith in
+      ap (all_below work) same ∙ sym (append-nil (all_below work n))
+  all_parts n (suc m) le = by (all_parts n m) (cases_lt m n)
+    where
+      by : (n ≤ m → all_below work m ≡ all_below work n ++ all_from work n m) → (m < n) ⊎ (n ≤ m) → all_below work (suc m) ≡ all_below work n ++ all_from work n (suc m)
+      by before (inl high) =
+          let same : suc m ≡ n = omega arith in
+          ap (all_below work) same ∙ sym (append-nil (all_below work n))
+          ∙ ap (λ l. all_below work n ++ l) (sym (no_moment n) ∙ ap (all_from work n) (sym same))
+      by before (inr low) =
+          ap (λ l. l ++ work m) (before low)
+          ∙ append_assoc (all_below work n) (all_from work n m) (work m)
+          ∙ ap (λ l. all_below work n ++ l) (sym (one_moment_more n m low))

@@ -2,7 +2,7 @@ use Rattle.std.proofs.Common.{◌≡◌, suc, length, map}
 use Rattle.design.specs.Keys.{netlist}
 use Rattle.waveform.specs.kept.Changes.{trace_below}
 use Rattle.rundiff.specs.kept.Fronts.{named_state}
-use Rattle.rundiff.specs.kept.OldLines.{HoldsEach}
+use Rattle.rundiff.specs.kept.OldRuns.{HoldsEach}
 use Rattle.rundiff.specs.kept.Places.{gate_at}
 use Rattle.rundiff.proofs.old_run.old_traces.Given as goal
 

@@ -3,7 +3,7 @@ use Rattle.design.specs.Connections.{to_net}
 use Rattle.design.specs.Keys.{netlist}
 use Rattle.waveform.specs.Changes.{wave_changes_below}
 use Rattle.rundiff.specs.kept.Kept.{read_at}
-use Rattle.rundiff.specs.kept.OldLines.{HoldsEach}
+use Rattle.rundiff.specs.kept.OldRuns.{HoldsEach}
 use Rattle.rundiff.specs.kept.Places.{net_at}
 use Rattle.rundiff.proofs.old_run.old_waves.Given as goal
 

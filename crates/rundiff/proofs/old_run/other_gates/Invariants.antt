@@ -1,7 +1,7 @@
 use Rattle.std.proofs.Common.{◌≡◌, length}
 use Rattle.design.specs.Keys.{netlist}
 use Rattle.rundiff.specs.Dirty.{is_new}
-use Rattle.rundiff.specs.kept.OldLines.{HoldsEach}
+use Rattle.rundiff.specs.kept.OldRuns.{HoldsEach}
 use Rattle.rundiff.specs.kept.Places.{gate_at}
 use Rattle.rundiff.proofs.old_run.other_gates.Given as goal
 

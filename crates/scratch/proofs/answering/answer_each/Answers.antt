@@ -14,11 +14,11 @@ use Rattle.waveform.specs.Entries.{same_state}
 use Rattle.waveform.specs.kept.Entries.{CanStore}
 use Rattle.waveform.specs.kept.Timelines.{pushed}
 use Rattle.design.specs.Keys.{netlist}
-use Rattle.scratch.specs.kept.Kept.{cell_of}
 use Rattle.scratch.specs.kept.Places.{Covers, has, pends_at}
 use Rattle.scratch.specs.Run.{state_after, state_before}
 use Rattle.scratch.proofs.Among.{nat_beyond}
-use Rattle.scratch.proofs.Answered.{answer_here, asked_all, asked_at, asked_here, asked_more, asked_some, is_there}
+use Rattle.scratch.specs.kept.Open.{asked_at}
+use Rattle.scratch.proofs.Answered.{asked_all, asked_more, asked_some, is_there}
 use Rattle.scratch.proofs.Apart.{once_apart}
 use Rattle.scratch.proofs.Between.{Between, finish, is_old, length_set, write}
 use Rattle.scratch.proofs.GateSteps.{known, next_trace, other_states, other_traces}
@@ -35,10 +35,12 @@ held_err (Err e) p = p
 
 pub loop-i-init : goal.loop-i-init
 loop-i-init g c =
-    let answer = g.S.Stepper.answer in let d = netlist c.args.setting.now.design.now in let t = c.args.setting.now.t in
+    let answer = g.S.Stepper.answer in let d = netlist c.args.present.now.design.now in let t = c.args.present.now.t in
     record {
       asked = sym (append-nil (g.S.Stepper.asked c.args.stepper.now));
       losses = refl;
+      fits = c.requires.fits;
+      same = refl;
       states = λ k. refl;
       traces = λ k. refl;
       events = λ k u from h. absurd (cc);
@@ -50,53 +52,54 @@ loop-i-init g c =
 
 pub index-state-requires : goal.index-state-requires
 index-state-requires g c =
-    let answer = g.S.Stepper.answer in let w = c.args.setting.now.wiring.now in let d = netlist c.args.setting.now.design.now in let t = c.args.setting.now.t in let gates = c.args.gates.now in let i = c.loop-i.i in let place = slice_index_or gates i 0 in
+    let answer = g.S.Stepper.answer in let d = netlist c.args.present.now.design.now in let t = c.args.present.now.t in let gates = c.args.gates.now in let i = c.loop-i.i in let place = slice_index_or gates i 0 in
     let at = slice_get-get_or gates i 0 c.loop-i-test.true in
-    let there : place < length d.gates = is_there answer d t gates c.requires.gates i place at in
+    let is_open = g.B.Beside.is_open answer d c.args.beside.now in
+    let there : place < length d.gates = is_there is_open answer d t gates c.requires.gates i place at in
     let in_states : place < length c.loop-i.states.items = rw c.loop-i.invariant.as_many there in
     grind (arith, common_steps)
 
-pub index-requires : goal.index-requires
-index-requires g c =
-    let answer = g.S.Stepper.answer in let w = c.args.setting.now.wiring.now in let d = netlist c.args.setting.now.design.now in let t = c.args.setting.now.t in let gates = c.args.gates.now in let i = c.loop-i.i in let place = slice_index_or gates i 0 in
+pub answer_of-answer-requires-clause-state : goal.answer_of-answer-requires-clause-state
+answer_of-answer-requires-clause-state g c =
+    let answer = g.S.Stepper.answer in let d = netlist c.args.present.now.design.now in let t = c.args.present.now.t in let gates = c.args.gates.now in let i = c.loop-i.i in let place = slice_index_or gates i 0 in
     let at = slice_get-get_or gates i 0 c.loop-i-test.true in
-    let there : place < length d.gates = is_there answer d t gates c.requires.gates i place at in
-    let in_cells : place < length w.cells.items = rw (c.requires.wired.cells, length-map d.gates (cell_of d)) there in
-    grind (arith, common_steps)
-
-pub evaluate-answer-requires-clause-ready : goal.evaluate-answer-requires-clause-ready
-evaluate-answer-requires-clause-ready g c =
-    let answer = g.S.Stepper.answer in let w = c.args.setting.now.wiring.now in let d = netlist c.args.setting.now.design.now in let t = c.args.setting.now.t in let gates = c.args.gates.now in let i = c.loop-i.i in let place = slice_index_or gates i 0 in
-    let at = slice_get-get_or gates i 0 c.loop-i-test.true in
-    let there : place < length d.gates = is_there answer d t gates c.requires.gates i place at in
+    let is_open = g.B.Beside.is_open answer d c.args.beside.now in
+    let there : place < length d.gates = is_there is_open answer d t gates c.requires.gates i place at in
     let in_states : place < length c.loop-i.states.items = rw c.loop-i.invariant.as_many there in
     let apart = once_apart gates i place c.requires.apart at in
-    let before : slice_get c.args.states.now.items place ≡ Some c.index-state.result.now =
-    sym (is_old (take i gates) (slice_get c.args.states.now.items) (slice_get (map (state_before answer d (t + 1)) d.gates)) (slice_get c.loop-i.states.items) c.loop-i.invariant.states place apart)
-    ∙ slice_get_read c.loop-i.states.items (length c.loop-i.states.items) place c.index-state.result.now refl in_states c.index-state.ensures in
-    rw c.task-task.ensures (all_at (PendingFrom t) c.args.states.now.items place c.index-state.result.now c.requires.ready before)
+    ap (λ l. slice_get l place) (sym c.requires.states)
+    ∙ sym (is_old (take i gates) (slice_get c.args.states.now.items) (slice_get (map (state_before answer d (t + 1)) d.gates)) (slice_get c.loop-i.states.items) c.loop-i.invariant.states place apart)
+    ∙ slice_get_read c.loop-i.states.items (length c.loop-i.states.items) place c.index-state.result.now refl in_states c.index-state.ensures
+
+pub answer_of-answer-requires-clause-ready : goal.answer_of-answer-requires-clause-ready
+answer_of-answer-requires-clause-ready g c =
+    all_at (PendingFrom c.args.present.now.t) c.args.states.now.items (slice_index_or c.args.gates.now c.loop-i.i 0) c.index-state.result.now c.requires.ready
+    (ap (λ l. slice_get l (slice_index_or c.args.gates.now c.loop-i.i 0)) c.requires.states ∙ answer_of-answer-requires-clause-state g c)
 
 pub index_mut-requires : goal.index_mut-requires
 index_mut-requires g c =
-    let answer = g.S.Stepper.answer in let w = c.args.setting.now.wiring.now in let d = netlist c.args.setting.now.design.now in let t = c.args.setting.now.t in let gates = c.args.gates.now in let i = c.loop-i.i in let place = slice_index_or gates i 0 in
+    let answer = g.S.Stepper.answer in let d = netlist c.args.present.now.design.now in let t = c.args.present.now.t in let gates = c.args.gates.now in let i = c.loop-i.i in let place = slice_index_or gates i 0 in
     let at = slice_get-get_or gates i 0 c.loop-i-test.true in
-    let there : place < length d.gates = is_there answer d t gates c.requires.gates i place at in
+    let is_open = g.B.Beside.is_open answer d c.args.beside.now in
+    let there : place < length d.gates = is_there is_open answer d t gates c.requires.gates i place at in
     let in_states : place < length c.loop-i.states.items = rw c.loop-i.invariant.as_many there in
     grind (arith, common_steps)
 
 pub push_known-requires-clause-there : goal.push_known-requires-clause-there
 push_known-requires-clause-there g c =
-    let answer = g.S.Stepper.answer in let w = c.args.setting.now.wiring.now in let d = netlist c.args.setting.now.design.now in let t = c.args.setting.now.t in let gates = c.args.gates.now in let i = c.loop-i.i in let place = slice_index_or gates i 0 in
+    let answer = g.S.Stepper.answer in let d = netlist c.args.present.now.design.now in let t = c.args.present.now.t in let gates = c.args.gates.now in let i = c.loop-i.i in let place = slice_index_or gates i 0 in
     let at = slice_get-get_or gates i 0 c.loop-i-test.true in
-    let there : place < length d.gates = is_there answer d t gates c.requires.gates i place at in
+    let is_open = g.B.Beside.is_open answer d c.args.beside.now in
+    let there : place < length d.gates = is_there is_open answer d t gates c.requires.gates i place at in
     let in_traces : place < length c.loop-i.traces = rw c.loop-i.invariant.as_many_traces there in
     in_traces
 
 pub push_known-requires-clause-later : goal.push_known-requires-clause-later
 push_known-requires-clause-later g c =
-    let answer = g.S.Stepper.answer in let w = c.args.setting.now.wiring.now in let d = netlist c.args.setting.now.design.now in let t = c.args.setting.now.t in let gates = c.args.gates.now in let i = c.loop-i.i in let place = slice_index_or gates i 0 in
+    let answer = g.S.Stepper.answer in let d = netlist c.args.present.now.design.now in let t = c.args.present.now.t in let gates = c.args.gates.now in let i = c.loop-i.i in let place = slice_index_or gates i 0 in
     let at = slice_get-get_or gates i 0 c.loop-i-test.true in
-    let there : place < length d.gates = is_there answer d t gates c.requires.gates i place at in
+    let is_open = g.B.Beside.is_open answer d c.args.beside.now in
+    let there : place < length d.gates = is_there is_open answer d t gates c.requires.gates i place at in
     let in_traces : place < length c.loop-i.traces = rw c.loop-i.invariant.as_many_traces there in
     let apart = once_apart gates i place c.requires.apart at in
     let next_traces = map (λ gate. trace_below (state_after answer d gate) (t + 1)) d.gates in
@@ -109,28 +112,27 @@ push_known-requires-clause-later g c =
 pub push_known-requires-clause-can : goal.push_known-requires-clause-can
 push_known-requires-clause-can g c =
     let law = g.met.S.Stepper in
-    let answer = g.S.Stepper.answer in let w = c.args.setting.now.wiring.now in let d = netlist c.args.setting.now.design.now in let t = c.args.setting.now.t in let gates = c.args.gates.now in let i = c.loop-i.i in let place = slice_index_or gates i 0 in
+    let answer = g.S.Stepper.answer in let d = netlist c.args.present.now.design.now in let t = c.args.present.now.t in let gates = c.args.gates.now in let i = c.loop-i.i in let place = slice_index_or gates i 0 in
     let at = slice_get-get_or gates i 0 c.loop-i-test.true in
-    let there : place < length d.gates = is_there answer d t gates c.requires.gates i place at in
+    let is_open = g.B.Beside.is_open answer d c.args.beside.now in
+    let there : place < length d.gates = is_there is_open answer d t gates c.requires.gates i place at in
     let in_states : place < length c.loop-i.states.items = rw c.loop-i.invariant.as_many there in
     let apart = once_apart gates i place c.requires.apart at in
     let before : slice_get c.args.states.now.items place ≡ Some c.index-state.result.now =
     sym (is_old (take i gates) (slice_get c.args.states.now.items) (slice_get (map (state_before answer d (t + 1)) d.gates)) (slice_get c.loop-i.states.items) c.loop-i.invariant.states place apart)
     ∙ slice_get_read c.loop-i.states.items (length c.loop-i.states.items) place c.index-state.result.now refl in_states c.index-state.ensures in
-    let in_cells : place < length w.cells.items = rw (c.requires.wired.cells, length-map d.gates (cell_of d)) there in
-    let cell = slice_get_read w.cells.items (length w.cells.items) place c.index.result.now refl in_cells c.index.ensures in
-    let s = c.evaluate-answer.result in let next = map (state_before answer d (t + 1)) d.gates in
+    let s = c.answer_of-answer.result in let next = map (state_before answer d (t + 1)) d.gates in
     let here : slice_get next place ≡ Some s =
-    answer_here answer d t c.args.values.now w.cells.items c.args.states.now.items c.requires.values c.requires.wired.cells c.requires.states
-    place c.index.result.now c.index-state.result.now cell before c.task-task.result s c.task-task.ensures c.evaluate-answer.ensures.answer in
+    c.answer_of-answer.ensures.answer in
     all_at (CanStore t) next place s (storable answer d law.answer_pending law.answer_near c.lawful.ensures.design.gates t (omega arith) next refl) here
 
 pub push_known-requires-clause-known : goal.push_known-requires-clause-known
 push_known-requires-clause-known g c =
     let law = g.met.S.Stepper in
-    let answer = g.S.Stepper.answer in let w = c.args.setting.now.wiring.now in let d = netlist c.args.setting.now.design.now in let t = c.args.setting.now.t in let gates = c.args.gates.now in let i = c.loop-i.i in let place = slice_index_or gates i 0 in
+    let answer = g.S.Stepper.answer in let d = netlist c.args.present.now.design.now in let t = c.args.present.now.t in let gates = c.args.gates.now in let i = c.loop-i.i in let place = slice_index_or gates i 0 in
     let at = slice_get-get_or gates i 0 c.loop-i-test.true in
-    let there : place < length d.gates = is_there answer d t gates c.requires.gates i place at in
+    let is_open = g.B.Beside.is_open answer d c.args.beside.now in
+    let there : place < length d.gates = is_there is_open answer d t gates c.requires.gates i place at in
     let in_states : place < length c.loop-i.states.items = rw c.loop-i.invariant.as_many there in
     let apart = once_apart gates i place c.requires.apart at in
     let before : slice_get c.args.states.now.items place ≡ Some c.index-state.result.now =
@@ -142,75 +144,62 @@ push_known-requires-clause-known g c =
     ap (λ l. slice_get l place) (sym c.requires.traces)
     ∙ sym (is_old (take i gates) (slice_get c.args.traces.now) (slice_get next_traces) (slice_get c.loop-i.traces) c.loop-i.invariant.traces place apart)
     ∙ slice_get-get_or c.loop-i.traces place [] in_traces in
-    known answer d law.answer_pending c.reached_by_changes.ensures c.lawful.ensures.design.gates t place c.requires.begun (slice_index_or c.loop-i.traces place []) c.index-state.result.now c.evaluate-answer.result was
+    known answer d law.answer_pending c.reached_by_changes.ensures c.lawful.ensures.design.gates t place c.requires.begun (slice_index_or c.loop-i.traces place []) c.index-state.result.now c.answer_of-answer.result was
     (ap (λ l. slice_get l place) (sym c.requires.states) ∙ before)
-    ∙ ap (same_state c.evaluate-answer.result) (sym c.due.ensures)
+    ∙ ap (same_state c.answer_of-answer.result) (sym c.due.ensures)
 
 pub returns-in_err-push_known-clause-part : goal.returns-in_err-push_known-clause-part
 returns-in_err-push_known-clause-part g c =
-    let answer = g.S.Stepper.answer in let w = c.args.setting.now.wiring.now in let d = netlist c.args.setting.now.design.now in let t = c.args.setting.now.t in let gates = c.args.gates.now in let i = c.loop-i.i in let place = slice_index_or gates i 0 in
+    let answer = g.S.Stepper.answer in let d = netlist c.args.present.now.design.now in let t = c.args.present.now.t in let gates = c.args.gates.now in let i = c.loop-i.i in let place = slice_index_or gates i 0 in
     let at = slice_get-get_or gates i 0 c.loop-i-test.true in
-    let there : place < length d.gates = is_there answer d t gates c.requires.gates i place at in
+    let is_open = g.B.Beside.is_open answer d c.args.beside.now in
+    let there : place < length d.gates = is_there is_open answer d t gates c.requires.gates i place at in
     let in_states : place < length c.loop-i.states.items = rw c.loop-i.invariant.as_many there in
     let apart = once_apart gates i place c.requires.apart at in
     let before : slice_get c.args.states.now.items place ≡ Some c.index-state.result.now =
     sym (is_old (take i gates) (slice_get c.args.states.now.items) (slice_get (map (state_before answer d (t + 1)) d.gates)) (slice_get c.loop-i.states.items) c.loop-i.invariant.states place apart)
     ∙ slice_get_read c.loop-i.states.items (length c.loop-i.states.items) place c.index-state.result.now refl in_states c.index-state.ensures in
-    let in_cells : place < length w.cells.items = rw (c.requires.wired.cells, length-map d.gates (cell_of d)) there in
-    let cell = slice_get_read w.cells.items (length w.cells.items) place c.index.result.now refl in_cells c.index.ensures in
-    let one : asked_at answer d t place ≡ (c.task-task.result, t) ∷ [] =
-    asked_here answer d t c.args.values.now w.cells.items c.args.states.now.items c.requires.values c.requires.wired.cells c.requires.states
-    place c.index.result.now c.index-state.result.now cell before c.task-task.result c.task-task.ensures in
-    let asked : g.S.Stepper.asked c.evaluate-answer.new.self ≡ g.S.Stepper.asked c.args.stepper.now ++ flat_map (asked_at answer d t) (take (i + 1) gates) =
-    asked_more answer d t gates i place c.task-task.result (g.S.Stepper.asked c.args.stepper.now) (g.S.Stepper.asked c.loop-i.stepper) (g.S.Stepper.asked c.evaluate-answer.new.self) at one
-    c.loop-i.invariant.asked c.evaluate-answer.ensures.recorded in
+    let asked : g.S.Stepper.asked c.answer_of-answer.new.stepper ≡ g.S.Stepper.asked c.args.stepper.now ++ flat_map (asked_at is_open answer d t) (take (i + 1) gates) =
+    asked_more is_open answer d t gates i place (g.S.Stepper.asked c.args.stepper.now) (g.S.Stepper.asked c.loop-i.stepper) (g.S.Stepper.asked c.answer_of-answer.new.stepper) at
+    c.loop-i.invariant.asked (c.answer_of-answer.ensures.asked ∙ ap (λ o. g.S.Stepper.asked c.loop-i.stepper ++ asked_at o answer d t place) c.loop-i.invariant.same) in
     held_err c.from_residual.result
-    (asked_some answer d t gates c.requires.apart c.requires.gates (g.S.Stepper.asked c.args.stepper.now) (g.S.Stepper.asked c.evaluate-answer.new.self) (i + 1) asked)
+    (asked_some is_open answer d t gates c.requires.apart c.requires.gates (g.S.Stepper.asked c.args.stepper.now) (g.S.Stepper.asked c.answer_of-answer.new.stepper) (i + 1) asked)
 
 pub returns-in_err-add-clause-part : goal.returns-in_err-add-clause-part
 returns-in_err-add-clause-part g c =
-    let answer = g.S.Stepper.answer in let w = c.args.setting.now.wiring.now in let d = netlist c.args.setting.now.design.now in let t = c.args.setting.now.t in let gates = c.args.gates.now in let i = c.loop-i.i in let place = slice_index_or gates i 0 in
+    let answer = g.S.Stepper.answer in let d = netlist c.args.present.now.design.now in let t = c.args.present.now.t in let gates = c.args.gates.now in let i = c.loop-i.i in let place = slice_index_or gates i 0 in
     let at = slice_get-get_or gates i 0 c.loop-i-test.true in
-    let there : place < length d.gates = is_there answer d t gates c.requires.gates i place at in
+    let is_open = g.B.Beside.is_open answer d c.args.beside.now in
+    let there : place < length d.gates = is_there is_open answer d t gates c.requires.gates i place at in
     let in_states : place < length c.loop-i.states.items = rw c.loop-i.invariant.as_many there in
     let apart = once_apart gates i place c.requires.apart at in
     let before : slice_get c.args.states.now.items place ≡ Some c.index-state.result.now =
     sym (is_old (take i gates) (slice_get c.args.states.now.items) (slice_get (map (state_before answer d (t + 1)) d.gates)) (slice_get c.loop-i.states.items) c.loop-i.invariant.states place apart)
     ∙ slice_get_read c.loop-i.states.items (length c.loop-i.states.items) place c.index-state.result.now refl in_states c.index-state.ensures in
-    let in_cells : place < length w.cells.items = rw (c.requires.wired.cells, length-map d.gates (cell_of d)) there in
-    let cell = slice_get_read w.cells.items (length w.cells.items) place c.index.result.now refl in_cells c.index.ensures in
-    let one : asked_at answer d t place ≡ (c.task-task.result, t) ∷ [] =
-    asked_here answer d t c.args.values.now w.cells.items c.args.states.now.items c.requires.values c.requires.wired.cells c.requires.states
-    place c.index.result.now c.index-state.result.now cell before c.task-task.result c.task-task.ensures in
-    let asked : g.S.Stepper.asked c.evaluate-answer.new.self ≡ g.S.Stepper.asked c.args.stepper.now ++ flat_map (asked_at answer d t) (take (i + 1) gates) =
-    asked_more answer d t gates i place c.task-task.result (g.S.Stepper.asked c.args.stepper.now) (g.S.Stepper.asked c.loop-i.stepper) (g.S.Stepper.asked c.evaluate-answer.new.self) at one
-    c.loop-i.invariant.asked c.evaluate-answer.ensures.recorded in
+    let asked : g.S.Stepper.asked c.answer_of-answer.new.stepper ≡ g.S.Stepper.asked c.args.stepper.now ++ flat_map (asked_at is_open answer d t) (take (i + 1) gates) =
+    asked_more is_open answer d t gates i place (g.S.Stepper.asked c.args.stepper.now) (g.S.Stepper.asked c.loop-i.stepper) (g.S.Stepper.asked c.answer_of-answer.new.stepper) at
+    c.loop-i.invariant.asked (c.answer_of-answer.ensures.asked ∙ ap (λ o. g.S.Stepper.asked c.loop-i.stepper ++ asked_at o answer d t place) c.loop-i.invariant.same) in
     held_err c.from_residual-in_err-add.result
-    (asked_some answer d t gates c.requires.apart c.requires.gates (g.S.Stepper.asked c.args.stepper.now) (g.S.Stepper.asked c.evaluate-answer.new.self) (i + 1) asked)
+    (asked_some is_open answer d t gates c.requires.apart c.requires.gates (g.S.Stepper.asked c.args.stepper.now) (g.S.Stepper.asked c.answer_of-answer.new.stepper) (i + 1) asked)
 
 pub loop-i-preserved : goal.loop-i-preserved
 loop-i-preserved g c =
     let law = g.met.S.Stepper in let are = c.lawful.ensures.design.gates in
-    let answer = g.S.Stepper.answer in let w = c.args.setting.now.wiring.now in let d = netlist c.args.setting.now.design.now in let t = c.args.setting.now.t in let gates = c.args.gates.now in let i = c.loop-i.i in let place = slice_index_or gates i 0 in
+    let answer = g.S.Stepper.answer in let d = netlist c.args.present.now.design.now in let t = c.args.present.now.t in let gates = c.args.gates.now in let i = c.loop-i.i in let place = slice_index_or gates i 0 in
     let at = slice_get-get_or gates i 0 c.loop-i-test.true in
-    let there : place < length d.gates = is_there answer d t gates c.requires.gates i place at in
+    let is_open = g.B.Beside.is_open answer d c.args.beside.now in
+    let there : place < length d.gates = is_there is_open answer d t gates c.requires.gates i place at in
     let in_states : place < length c.loop-i.states.items = rw c.loop-i.invariant.as_many there in
     let apart = once_apart gates i place c.requires.apart at in
     let before : slice_get c.args.states.now.items place ≡ Some c.index-state.result.now =
     sym (is_old (take i gates) (slice_get c.args.states.now.items) (slice_get (map (state_before answer d (t + 1)) d.gates)) (slice_get c.loop-i.states.items) c.loop-i.invariant.states place apart)
     ∙ slice_get_read c.loop-i.states.items (length c.loop-i.states.items) place c.index-state.result.now refl in_states c.index-state.ensures in
-    let in_cells : place < length w.cells.items = rw (c.requires.wired.cells, length-map d.gates (cell_of d)) there in
-    let cell = slice_get_read w.cells.items (length w.cells.items) place c.index.result.now refl in_cells c.index.ensures in
-    let s = c.evaluate-answer.result in let next = map (state_before answer d (t + 1)) d.gates in
+    let s = c.answer_of-answer.result in let next = map (state_before answer d (t + 1)) d.gates in
     let here : slice_get next place ≡ Some s =
-    answer_here answer d t c.args.values.now w.cells.items c.args.states.now.items c.requires.values c.requires.wired.cells c.requires.states
-    place c.index.result.now c.index-state.result.now cell before c.task-task.result s c.task-task.ensures c.evaluate-answer.ensures.answer in
-    let one : asked_at answer d t place ≡ (c.task-task.result, t) ∷ [] =
-    asked_here answer d t c.args.values.now w.cells.items c.args.states.now.items c.requires.values c.requires.wired.cells c.requires.states
-    place c.index.result.now c.index-state.result.now cell before c.task-task.result c.task-task.ensures in
-    let asked : g.S.Stepper.asked c.evaluate-answer.new.self ≡ g.S.Stepper.asked c.args.stepper.now ++ flat_map (asked_at answer d t) (take (i + 1) gates) =
-    asked_more answer d t gates i place c.task-task.result (g.S.Stepper.asked c.args.stepper.now) (g.S.Stepper.asked c.loop-i.stepper) (g.S.Stepper.asked c.evaluate-answer.new.self) at one
-    c.loop-i.invariant.asked c.evaluate-answer.ensures.recorded in
+    c.answer_of-answer.ensures.answer in
+    let asked : g.S.Stepper.asked c.answer_of-answer.new.stepper ≡ g.S.Stepper.asked c.args.stepper.now ++ flat_map (asked_at is_open answer d t) (take (i + 1) gates) =
+    asked_more is_open answer d t gates i place (g.S.Stepper.asked c.args.stepper.now) (g.S.Stepper.asked c.loop-i.stepper) (g.S.Stepper.asked c.answer_of-answer.new.stepper) at
+    c.loop-i.invariant.asked (c.answer_of-answer.ensures.asked ∙ ap (λ o. g.S.Stepper.asked c.loop-i.stepper ++ asked_at o answer d t place) c.loop-i.invariant.same) in
     let in_traces : place < length c.loop-i.traces = rw c.loop-i.invariant.as_many_traces there in
     let next_traces = map (λ gate. trace_below (state_after answer d gate) (t + 1)) d.gates in
     let was : slice_get (map (λ gate. trace_below (state_after answer d gate) t) d.gates) place ≡ Some (slice_index_or c.loop-i.traces place []) =
@@ -225,7 +214,9 @@ loop-i-preserved g c =
     let grown : c.push_known.new.self ≡ set c.loop-i.traces place line = c.in_ok-push_known.ensures in
     record {
       asked = asked;
-      losses = c.evaluate-answer.ensures.lost ∙ c.loop-i.invariant.losses;
+      losses = c.answer_of-answer.ensures.lost ∙ c.loop-i.invariant.losses;
+      fits = c.answer_of-answer.ensures.fits;
+      same = c.answer_of-answer.ensures.same ∙ c.loop-i.invariant.same;
       states = subst (λ l. Between l (slice_get c.args.states.now.items) (slice_get next) (slice_get (set c.loop-i.states.items place s))) (sym more)
           (write done c.args.states.now.items next c.loop-i.states.items c.loop-i.invariant.states place s here in_states);
       traces = subst (λ l. Between l (slice_get c.args.traces.now) (slice_get next_traces) (slice_get c.push_known.new.self)) (sym more)
@@ -261,21 +252,21 @@ loop-i-preserved g c =
 
 pub returns-clause-states : goal.returns-clause-states
 returns-clause-states g c =
-    let law = g.met.S.Stepper in let answer = g.S.Stepper.answer in let w = c.args.setting.now.wiring.now in let d = netlist c.args.setting.now.design.now in let t = c.args.setting.now.t in let gates = c.args.gates.now in
+    let law = g.met.S.Stepper in let answer = g.S.Stepper.answer in let d = netlist c.args.present.now.design.now in let t = c.args.present.now.t in let gates = c.args.gates.now in
     let all : take c.loop-i.i gates ≡ gates = take_all c.loop-i.i gates (let past = c.loop-i-test.false in omega arith) in
     finish (take c.loop-i.i gates) c.args.states.now.items (map (state_before answer d (t + 1)) d.gates) c.loop-i.states.items c.loop-i.invariant.states
     (λ k off. ap (λ l. slice_get l k) c.requires.states ∙ other_states answer d law.answer_current law.answer_stays t c.requires.begun k (sym (c.requires.gates k) ∙ ap (has k) (sym all) ∙ off))
 
 pub returns-clause-traces : goal.returns-clause-traces
 returns-clause-traces g c =
-    let law = g.met.S.Stepper in let answer = g.S.Stepper.answer in let w = c.args.setting.now.wiring.now in let d = netlist c.args.setting.now.design.now in let t = c.args.setting.now.t in let gates = c.args.gates.now in
+    let law = g.met.S.Stepper in let answer = g.S.Stepper.answer in let d = netlist c.args.present.now.design.now in let t = c.args.present.now.t in let gates = c.args.gates.now in
     let all : take c.loop-i.i gates ≡ gates = take_all c.loop-i.i gates (let past = c.loop-i-test.false in omega arith) in
     finish (take c.loop-i.i gates) c.args.traces.now (map (λ gate. trace_below (state_after answer d gate) (t + 1)) d.gates) c.loop-i.traces c.loop-i.invariant.traces
     (λ k off. ap (λ l. slice_get l k) c.requires.traces ∙ other_traces answer d law.answer_current law.answer_stays c.no_change.ensures t c.requires.begun k (sym (c.requires.gates k) ∙ ap (has k) (sym all) ∙ off))
 
 pub returns-clause-events : goal.returns-clause-events
 returns-clause-events g c =
-    let law = g.met.S.Stepper in let answer = g.S.Stepper.answer in let w = c.args.setting.now.wiring.now in let d = netlist c.args.setting.now.design.now in let t = c.args.setting.now.t in let gates = c.args.gates.now in
+    let law = g.met.S.Stepper in let answer = g.S.Stepper.answer in let d = netlist c.args.present.now.design.now in let t = c.args.present.now.t in let gates = c.args.gates.now in
     let next = map (state_before answer d (t + 1)) d.gates in
     let all : take c.loop-i.i gates ≡ gates = take_all c.loop-i.i gates (let past = c.loop-i-test.false in omega arith) in
     let same : (k : ℕ) → has k gates ≡ false → slice_get c.args.states.now.items k ≡ slice_get next k =
@@ -286,7 +277,7 @@ returns-clause-events g c =
 
 pub returns-clause-asked : goal.returns-clause-asked
 returns-clause-asked g c =
-    let answer = g.S.Stepper.answer in let w = c.args.setting.now.wiring.now in let d = netlist c.args.setting.now.design.now in let t = c.args.setting.now.t in let gates = c.args.gates.now in
+    let answer = g.S.Stepper.answer in let d = netlist c.args.present.now.design.now in let t = c.args.present.now.t in let gates = c.args.gates.now in
     let all : take c.loop-i.i gates ≡ gates = take_all c.loop-i.i gates (let past = c.loop-i-test.false in omega arith) in
-    asked_all answer d t gates c.requires.apart c.requires.gates (g.S.Stepper.asked c.args.stepper.now) (g.S.Stepper.asked c.loop-i.stepper)
-    (c.loop-i.invariant.asked ∙ ap (λ l. g.S.Stepper.asked c.args.stepper.now ++ flat_map (asked_at answer d t) l) all)
+    asked_all (g.B.Beside.is_open answer d c.args.beside.now) answer d t gates c.requires.apart c.requires.gates (g.S.Stepper.asked c.args.stepper.now) (g.S.Stepper.asked c.loop-i.stepper)
+    (c.loop-i.invariant.asked ∙ ap (λ l. g.S.Stepper.asked c.args.stepper.now ++ flat_map (asked_at (g.B.Beside.is_open answer d c.args.beside.now) answer d t) l) all)

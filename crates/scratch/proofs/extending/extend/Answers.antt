@@ -1,33 +1,18 @@
-use Rattle.std.proofs.Common.{◌≡◌, ◌+◌, subst, suc, arith}
+use Rattle.std.proofs.Common.{suc, subst}
+use Rattle.std.proofs.lemmas.Result.{on_err_weaker, on_ok_weaker}
 use Rattle.design.specs.Keys.{netlist}
-use Rattle.scratch.specs.kept.Stands.{Stands}
-use Rattle.scratch.specs.kept.Work.{work_from}
 use Rattle.scratch.specs.Asked.{IsAskedInPart, IsAskedInSomeOrder}
-use Rattle.scratch.specs.kept.Grown.{grown_none}
-use Rattle.scratch.proofs.Asked.{err_on, held_err, ok_on}
+use Rattle.scratch.proofs.Asked.{from_is}
 use Rattle.scratch.proofs.extending.extend.Goals as goal
-
-pub run_on-requires-clause-stands : goal.run_on-requires-clause-stands
-run_on-requires-clause-stands g c =
-    let answer = g.S.Stepper.answer in let former = c.args.former.now in let design = c.args.design.now in let engine = c.in_ok-engine.engine in
-    let h = (netlist former).horizon in
-    let start : suc h ≡ c.horizon-start.result + 1 = let is = c.horizon-start.ensures.horizon in omega arith in
-    subst (Stands answer (netlist design) engine) start c.in_ok-engine.ensures
 
 pub returns-clause-asked : goal.returns-clause-asked
 returns-clause-asked g c =
     let asked = g.S.Stepper.asked in let d = netlist c.args.design.now in
-    let start : c.horizon-start.result + 1 ≡ suc (netlist c.args.former.now).horizon = let is = c.horizon-start.ensures.horizon in omega arith in
-    ok_on c.run_on.result (subst (λ n. IsAskedInSomeOrder (asked c.args.stepper.now) (asked c.run_on.new.stepper) (work_from g.S.Stepper.answer d n (suc d.horizon))) start) c.run_on.ensures.asked
+    on_ok_weaker c.extend_beside.result
+    (subst (IsAskedInSomeOrder (asked c.args.stepper.now) (asked c.extend_beside.new.stepper)) (from_is g.S.Stepper.answer d (suc (netlist c.args.former.now).horizon) (suc d.horizon))) c.extend_beside.ensures.asked
 
 pub returns-clause-part : goal.returns-clause-part
 returns-clause-part g c =
     let asked = g.S.Stepper.asked in let d = netlist c.args.design.now in
-    let start : c.horizon-start.result + 1 ≡ suc (netlist c.args.former.now).horizon = let is = c.horizon-start.ensures.horizon in omega arith in
-    err_on c.run_on.result (subst (λ n. IsAskedInPart (asked c.args.stepper.now) (asked c.run_on.new.stepper) (work_from g.S.Stepper.answer d n (suc d.horizon))) start) c.run_on.ensures.part
-
-pub returns-in_err-engine-clause-part : goal.returns-in_err-engine-clause-part
-returns-in_err-engine-clause-part g c =
-    let d = netlist c.args.design.now in
-    held_err c.from_residual.result
-    (grown_none (g.S.Stepper.asked c.args.stepper.now) (work_from g.S.Stepper.answer d (suc (netlist c.args.former.now).horizon) (suc d.horizon)))
+    on_err_weaker c.extend_beside.result
+    (subst (IsAskedInPart (asked c.args.stepper.now) (asked c.extend_beside.new.stepper)) (from_is g.S.Stepper.answer d (suc (netlist c.args.former.now).horizon) (suc d.horizon))) c.extend_beside.ensures.part

@@ -1,22 +1,16 @@
-use Rattle.std.proofs.Common.{suc, arith}
+use Rattle.std.proofs.Common.{suc, subst}
+use Rattle.std.proofs.lemmas.Result.{on_err_weaker, on_ok_weaker}
 use Rattle.design.specs.Keys.{netlist}
-use Rattle.scratch.proofs.Asked.{early_at_first, err_on, from_scratch, held_err, ok_on, part_from_scratch}
+use Rattle.scratch.specs.Asked.{IsAskedInPart, IsAskedInSomeOrder}
+use Rattle.scratch.proofs.Asked.{below_is}
 use Rattle.scratch.proofs.run.simulate_wired.Goals as goal
 
 pub returns-clause-asked : goal.returns-clause-asked
 returns-clause-asked g c =
     let asked = g.S.Stepper.asked in let d = netlist c.args.design.now in
-    ok_on c.run_on.result (from_scratch g.S.Stepper.answer d (asked c.args.stepper.now) (asked c.open.new.stepper) (asked c.run_on.new.stepper) (suc d.horizon) (omega arith) c.in_ok-engine.ensures.asked)
-    c.run_on.ensures.asked
+    on_ok_weaker c.simulate_beside.result (subst (IsAskedInSomeOrder (asked c.args.stepper.now) (asked c.simulate_beside.new.stepper)) (below_is g.S.Stepper.answer d (suc d.horizon))) c.simulate_beside.ensures.asked
 
 pub returns-clause-part : goal.returns-clause-part
 returns-clause-part g c =
     let asked = g.S.Stepper.asked in let d = netlist c.args.design.now in
-    err_on c.run_on.result (part_from_scratch g.S.Stepper.answer d (asked c.args.stepper.now) (asked c.open.new.stepper) (asked c.run_on.new.stepper) (suc d.horizon) (omega arith) c.in_ok-engine.ensures.asked)
-    c.run_on.ensures.part
-
-pub returns-in_err-engine-clause-part : goal.returns-in_err-engine-clause-part
-returns-in_err-engine-clause-part g c =
-    let asked = g.S.Stepper.asked in let d = netlist c.args.design.now in
-    held_err c.from_residual.result
-    (early_at_first g.S.Stepper.answer d (asked c.args.stepper.now) (asked c.open.new.stepper) (suc d.horizon) (omega arith) c.in_err-engine.ensures.part)
+    on_err_weaker c.simulate_beside.result (subst (IsAskedInPart (asked c.args.stepper.now) (asked c.simulate_beside.new.stepper)) (below_is g.S.Stepper.answer d (suc d.horizon))) c.simulate_beside.ensures.part

@@ -1,8 +1,8 @@
 use Rattle.std.proofs.Common.{◌≡◌, ◌∙◌, ◌++◌, ap, Result, Ok, Err, OnOk, arith}
+use Rattle.std.proofs.lemmas.Result.{on_ok_weaker}
 use Rattle.event_queue.specs.kept.Noted.{noted}
 use Rattle.design.specs.Keys.{netlist}
 use Rattle.scratch.specs.kept.Places.{has, point_at}
-use Rattle.scratch.proofs.Asked.{ok_on}
 use Rattle.scratch.proofs.Notes.{announced, none_early}
 use Rattle.scratch.proofs.stirring.find_points.Goals as goal
 
@@ -29,4 +29,4 @@ returns-clause-announces c =
 
 pub returns-clause-early : goal.returns-clause-early
 returns-clause-early c =
-    ok_on c.note_next_points.result (λ early u low. early u (omega arith) ∙ none_early c.args.t c.args.points.now c.take.new.self c.in_ok-take.ensures.rest c.requires.early u low) c.note_next_points.ensures.early
+    on_ok_weaker c.note_next_points.result (λ early u low. early u (omega arith) ∙ none_early c.args.t c.args.points.now c.take.new.self c.in_ok-take.ensures.rest c.requires.early u low) c.note_next_points.ensures.early

@@ -25,9 +25,3 @@ returns-clause-quiet g c =
     let law = g.met.S.Stepper in let answer = g.S.Stepper.answer in let d = netlist c.args.design.now in
     (reach answer d law.answer_current law.answer_pending law.answer_stays c.no_change.ensures c.no_change-2.ensures c.lawful.ensures.design.gates
     c.args.self.now c.args.done c.next_below.result (returns-clause-from g c) c.requires.stands c.next_below.ensures.events c.next_below.ensures.points).quiet
-
-pub returns-clause-idle : goal.returns-clause-idle
-returns-clause-idle g c =
-    let law = g.met.S.Stepper in let answer = g.S.Stepper.answer in let d = netlist c.args.design.now in
-    (reach answer d law.answer_current law.answer_pending law.answer_stays c.no_change.ensures c.no_change-2.ensures c.lawful.ensures.design.gates
-    c.args.self.now c.args.done c.next_below.result (returns-clause-from g c) c.requires.stands c.next_below.ensures.events c.next_below.ensures.points).idle

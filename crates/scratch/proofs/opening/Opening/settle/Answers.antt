@@ -24,7 +24,7 @@ open-requires g c =
 pub returns : goal.returns
 returns g c =
     let laws = g.met.S.Stepper in let d = netlist c.args.design.now in let answer = g.S.Stepper.answer in
-    let after : c.args.self.answers.items ≡ map (state_before answer d 1) d.gates = c.requires.answers ∙ first_answers answer d in
+    let after : c.args.self.asking.answers.items ≡ map (state_before answer d 1) d.gates = c.requires.answers ∙ first_answers answer d in
     let states : c.as_slice-3.result.now ≡ c.new.result.states.items = c.as_slice-3.ensures.value ∙ sym (ap (λ v. v.items) c.new.ensures.states) in
     let ready : All (PendingFrom 1) c.as_slice-3.result.now =
     ready_all answer d laws.answer_pending c.lawful.ensures.design.gates 1 c.as_slice-3.result.now (c.as_slice-3.ensures.value ∙ after) in
