@@ -24,8 +24,6 @@ mod partings;
 #[cfg(test)]
 mod patches;
 #[cfg(test)]
-mod replays;
-#[cfg(test)]
 mod steps;
 #[cfg(test)]
 mod tables;

@@ -1,4 +1,3 @@
 pub mod Changes
 pub mod Moments
-pub mod PageRows
 pub mod Rows

@@ -4,9 +4,7 @@
 mod appending;
 mod far;
 mod near;
-mod page;
 mod queue;
 mod row;
 
-pub use page::{PAGE, Page};
 pub use queue::EventQueue;

@@ -9,10 +9,6 @@ pub mod Joins
 pub mod Lists
 pub mod Marking
 pub mod Noting
-pub mod PagedLines
-pub mod PagedMoments
-pub mod PagedRows
-pub mod PagedValues
 pub mod Partings
 pub mod Patching
 pub mod Places

@@ -6,10 +6,8 @@ pub mod Joins
 pub mod Links
 pub mod Marks
 pub mod Notes
-pub mod Paging
 pub mod Partings
 pub mod Patches
-pub mod Replays
 pub mod Runs
 pub mod SampleLaws
 pub mod StoredChanges
