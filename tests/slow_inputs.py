@@ -336,7 +336,7 @@ SLOW: List[Slow] = [
     Slow("ports by name", "ports", ports_by_name, nothing, 65_000, 8_000),
     Slow("points of one input, in batches", "points", a_buffer, lambda size: in_batches(points(size)), 1_048_576, 8_192),
     Slow("points of one input, in batches, far horizon", "points", a_buffer, lambda size: [f"horizon {MAX_TIME}", *in_batches(points(size))],
-         1_048_576, 8_192),
+         1_048_576, 16_384),
     Slow("points of one input, alone", "points", a_buffer, points, 1_048_576, 1_024),
     Slow("points of one input, alone, far horizon", "points", a_buffer, far_points, 65_536, 256),
     Slow("points of one input, alone, the last first", "points", a_buffer, backward_points, 65_536, 256),
