@@ -338,6 +338,7 @@ SLOW: List[Slow] = [
     Slow("points of one input, in batches, far horizon", "points", a_buffer, lambda size: [f"horizon {MAX_TIME}", *in_batches(points(size))],
          1_048_576, 16_384),
     Slow("points of one input, alone", "points", a_buffer, points, 1_048_576, 1_024),
+    Slow("points of one input, alone, behind a horizon", "points", a_buffer, lambda size: ["horizon 1000", *points(size)], 524_288, 16_384),
     Slow("points of one input, alone, far horizon", "points", a_buffer, far_points, 65_536, 256),
     Slow("points of one input, alone, the last first", "points", a_buffer, backward_points, 65_536, 256),
     Slow("points taken away, the first first", "points", a_buffer, points_taken_away, 65_536, 256),

@@ -118,11 +118,12 @@ impl Net {
     }
 
     /// The moment from which on the stimulus of another net may differ from that of this one, where that is `t` or later; none
-    /// where both are the same from `t` on.
-    pub fn parts_from(&self, other: &Net, t: u64) -> Option<u64>
+    /// where both are the same from `t` on. Points from the moment `end` on are not all compared: where the two are the same up to
+    /// it, that may be any moment from it on. All are in time units.
+    pub fn parts_from(&self, other: &Net, t: u64, end: u64) -> Option<u64>
         ensures { (m : ℕ) → t ≤ m → IfSome result (λ u. m < u) → stimulus self.now.points m ≡ stimulus other.now.points m }
     {
-        self.stimulus.parts_from(&other.stimulus, t)
+        self.stimulus.parts_from(&other.stimulus, t, end)
     }
 
     /// The net with a change.

@@ -10,8 +10,9 @@ use crate::pieces::home_of;
 use crate::points::count_until;
 use fourstate::Value;
 
-/// The moment before which two lists have the same points after the moment `t`; none where all of these are the same.
-pub(crate) fn part_after(one: &[Piece], other: &[Piece], t: u64) -> Option<u64>
+/// The moment before which two lists have the same points after the moment `t`; none where all of these are the same. Points from
+/// the moment `end` on are not all compared: where the lists are the same before it, it gives one from `end` on.
+pub(crate) fn part_after(one: &[Piece], other: &[Piece], t: u64, end: u64) -> Option<u64>
     requires rising { AreRising (points_of one.now) }
     requires other_rising { AreRising (points_of other.now) }
     requires filled { AreFilled points_in one.now }
@@ -21,7 +22,7 @@ pub(crate) fn part_after(one: &[Piece], other: &[Piece], t: u64) -> Option<u64>
 {
     let (points, pieces) = later_part(one, t);
     let (other_points, other_pieces) = later_part(other, t);
-    part(points, pieces, other_points, other_pieces)
+    part(points, pieces, other_points, other_pieces, end)
 }
 
 /// The points after the moment `t`: those of the piece where one at it is or belongs, and the pieces behind it.
@@ -59,12 +60,13 @@ fn pieces_behind(pieces: &[Piece], count: usize) -> &[Piece]
 }
 
 /// The moment before which two lists, each some points and the pieces behind them, have the same points; none where they are
-/// the same.
+/// the same. Pieces that begin at the moment `end` or later are not compared.
 fn part(
     points: &[(u64, Value)],
     pieces: &[Piece],
     other_points: &[(u64, Value)],
     other_pieces: &[Piece],
+    end: u64,
 ) -> Option<u64>
     requires rising { AreRising (points.now ++ points_of pieces.now) }
     requires other_rising { AreRising (other_points.now ++ points_of other_pieces.now) }
@@ -76,7 +78,7 @@ fn part(
     let mut other = other_points;
     let mut others = other_pieces;
     loop {
-        let count = count_alike(one, other);
+        let count = count_alike(one, other, end);
         one = points_behind(one, count);
         other = points_behind(other, count);
         if is_to_fill(one, more) {
@@ -100,12 +102,15 @@ fn is_to_fill(points: &[(u64, Value)], pieces: &[Piece]) -> bool
     points.is_empty() && !pieces.is_empty()
 }
 
-/// With how many points two slices begin alike.
-fn count_alike(one: &[(u64, Value)], other: &[(u64, Value)]) -> usize
+/// With how many points two slices begin alike; 0 where both begin at the moment `end` or later.
+fn count_alike(one: &[(u64, Value)], other: &[(u64, Value)], end: u64) -> usize
     ensures within { result ≤ length one.now }
     ensures within_other { result ≤ length other.now }
     ensures alike { take result one.now ≡ take result other.now }
 {
+    if begins_late(one, end) && begins_late(other, end) {
+        return 0;
+    }
     let most = one.len().min(other.len());
     for i in 0..most {
         if !is_same(one[i], other[i]) {
@@ -113,6 +118,14 @@ fn count_alike(one: &[(u64, Value)], other: &[(u64, Value)]) -> usize
         }
     }
     most
+}
+
+/// Whether a slice has points, all of them at the moment `end` or later.
+fn begins_late(points: &[(u64, Value)], end: u64) -> bool {
+    match points.first() {
+        Some(point) => end <= point.0,
+        None => false,
+    }
 }
 
 /// Whether two points are the same.

@@ -85,8 +85,9 @@ impl Stimulus {
         }
     }
 
-    /// The moment from which on two stimuli may differ, where that is `t` or later; none where they are the same from `t` on.
-    pub fn parts_from(&self, other: &Stimulus, t: u64) -> Option<u64>
+    /// The moment from which on two stimuli may differ, where that is `t` or later; none where they are the same from `t` on. What
+    /// is from the moment `end` on is not all looked at.
+    pub fn parts_from(&self, other: &Stimulus, t: u64, end: u64) -> Option<u64>
         requires rising { AreRising self.now }
         requires other_rising { AreRising other.now }
         ensures { (m : ℕ) → t ≤ m → IfSome result (λ u. m < u) → stimulus self.now m ≡ stimulus other.now m }
@@ -96,7 +97,7 @@ impl Stimulus {
         if !is_same(one, second) {
             return Some(t);
         }
-        part_after(self.pieces(), other.pieces(), t)
+        part_after(self.pieces(), other.pieces(), t, end)
     }
 
     /// The points, one after another.

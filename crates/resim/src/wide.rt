@@ -94,7 +94,10 @@ fn differs_until(old: &Design, new: &Design, place: usize, end: u64) -> bool {
     if old.net_place_of(key).is_none() {
         return false;
     }
-    match old.net_of(key).parts_from(new.net_at(place), 0) {
+    match old
+        .net_of(key)
+        .parts_from(new.net_at(place), 0, end.saturating_add(1))
+    {
         Some(moment) => moment <= end,
         None => false,
     }

@@ -96,8 +96,8 @@ fn all_same_until(former: &Former, places: &[usize], t: u64, end: u64) -> u64
     until
 }
 
-/// The moment before which from `t` on a net is an input with the same stimulus in both designs; 0 where it is none. Points from
-/// `end` on are not compared where there are none before it.
+/// The moment before which from `t` on a net is an input with the same stimulus in both designs; 0 where it is none. Few points
+/// from `end` on are compared.
 fn same_until(former: &Former, place: usize, t: u64, end: u64) -> u64
     requires there { place < length (netlist former.now.new.now).nets }
     ensures { t < result → IsSameInput (netlist former.now.old.now) (netlist former.now.new.now) place t result }
@@ -120,14 +120,14 @@ fn same_until(former: &Former, place: usize, t: u64, end: u64) -> u64
     alike_until(was, net, t, end)
 }
 
-/// The moment before which from `t` on two nets have the same stimulus.
+/// The moment before which from `t` on two nets have the same stimulus; where they have it up to `end`, one from there on.
 fn alike_until(one: &Net, other: &Net, t: u64, end: u64) -> u64
     ensures { (m : ℕ) → t ≤ m → m < result → stimulus one.now.points m ≡ stimulus other.now.points m }
 {
     if stand_alike(one, other, t, end) {
         return end;
     }
-    match one.parts_from(other, t) {
+    match one.parts_from(other, t, end) {
         Some(moment) => moment,
         None => u64::MAX,
     }
