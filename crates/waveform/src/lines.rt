@@ -45,13 +45,6 @@ impl<V: Sample> Lines<V> {
         }
     }
 
-    /// How many timelines there are.
-    pub fn len(&self) -> usize
-        ensures { result ≡ length self.now }
-    {
-        self.lines.len()
-    }
-
     /// Gives the function at a place this value from `t` on, in time units, a moment after all its entries, where it has the
     /// value `known` by itself. It fails where memory runs out, and then what the timelines have is not known.
     #[inline(always)]
@@ -88,17 +81,6 @@ impl<V: Sample> Lines<V> {
         let written = write_notes::<V>(&mut self.lines, self.notes.as_slice());
         self.notes.clear();
         written
-    }
-
-    /// Makes room for so many entries more in the timeline at a place, if there is one. It fails where memory runs out, and
-    /// then nothing has changed.
-    pub fn make_room(&mut self, place: usize, count: usize) -> Result<(), AllocError>
-        ensures { self.new ≡ self.old }
-    {
-        match self.lines.get_mut(place) {
-            None => Ok(()),
-            Some(line) => line.make_room(count),
-        }
     }
 
     /// The timelines. It fails where memory runs out.
