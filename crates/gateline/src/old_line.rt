@@ -82,17 +82,18 @@ impl<'b, 'c> OldLine<'b, 'c> {
         ensures { result ≡ old_inputs (line_seen self.entry) cell.now.inputs t }
     {
         let places = cell.inputs();
+        let nears = near.waves.as_mut_slice();
         let mut inputs = Inputs::new();
         let mut place = places.len();
         while place > 0 {
             place -= 1;
-            let mut found = match near.waves.get(place) {
+            let mut found = match nears.get(place) {
                 Some(found) => *found,
                 None => 0,
             };
             inputs.put_first(old_value(places[place].get(), self.waves, &mut found, t));
-            if place < near.waves.len() {
-                near.waves[place] = found;
+            if place < nears.len() {
+                nears[place] = found;
             }
         }
         inputs

@@ -110,7 +110,7 @@ fn read_few(readers: &mut [Reader], t: u64, table: &InputsTable) -> Reading
 }
 
 /// Brings any number of readers to the moment `t`, in time units, before which no change comes: their values are put together.
-#[inline(never)]
+#[inline(always)]
 fn read_many(readers: &mut [Reader], t: u64) -> Reading
     requires { length readers.old ≤ MAX_INPUTS }
     ensures readers { map seen readers.new ≡ map (seen_then t) readers.old }

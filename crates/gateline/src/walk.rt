@@ -11,11 +11,9 @@ ghost use Rattle.gateline.specs.kept.Walks.{IsAt};
 ghost use Rattle.gateline.specs.kept.Waves.{inputs_by};
 ghost use Rattle.scratch.specs.Work.{is_due, same_values};
 ghost use Rattle.gatestep.specs.Step.{Evaluation, State, due};
-ghost use Rattle.waveform.specs.Entries.{same_state};
-ghost use Rattle.waveform.specs.kept.Entries.{CanStore};
 ghost use Rattle.waveform.specs.Timelines.{entries_until};
 ghost use Rattle.waveform.specs.kept.Changes.{state_at, trace_below};
-ghost use Rattle.waveform.specs.kept.Timelines.{IsAlwaysSettled, is_reached, pushed};
+ghost use Rattle.waveform.specs.kept.Timelines.{IsAlwaysSettled};
 
 use crate::inputs_table::InputsTable;
 use crate::old_line::{Near, OldLine, met, next_state};
@@ -116,23 +114,6 @@ fn first_event(state: Driver, next: u64) -> u64
     }
 }
 
-/// Gives a trace this state from the moment `t` on, in time units, a moment after all entries, where the state that it ended
-/// with has not become that by itself. It fails where memory runs out, and then nothing has changed. The state is copied only where
-/// it is pushed.
-#[inline(always)]
-fn push_other(trace: &mut Trace, before: Driver, t: u64, state: &Driver) -> Result<(), AllocError>
-    requires later { All (λ entry. entry.0 < t) trace.old }
-    requires can { CanStore t state.now }
-    requires before { is_reached same_state due trace.old t state.now ≡ same_state state.now (due before t) }
-    ensures ok { OnOk result (trace.new ≡ pushed same_state due trace.old t state.now) }
-    ensures err { OnErr result (trace.new ≡ trace.old) }
-{
-    if state.is_same(before.due(t)) {
-        return Ok(());
-    }
-    trace.push(t, *state)
-}
-
 impl<'a, 'b, 'c> Course<'a, 'b, 'c> {
     /// The first moment behind `done`, up to which all is done, at which something happens to the gate; if it lies behind `last`,
     /// nothing happens up to there. All are in time units.
@@ -212,7 +193,7 @@ impl<'a, 'b, 'c> Course<'a, 'b, 'c> {
             t,
             stepper,
         );
-        push_other(&mut self.trace, former, t, &situation.state)?;
+        self.trace.push_known(t, former.due(t), situation.state)?;
         Ok(())
     }
 

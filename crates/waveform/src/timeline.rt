@@ -67,6 +67,22 @@ impl<V: Sample> Timeline<V> {
         Ok(())
     }
 
+    /// Gives the function this value from `t` on, in time units, a moment after all entries, where it has the value `known` by
+    /// itself. It fails where memory runs out, and then nothing has changed.
+    #[inline(always)]
+    pub fn push_known(&mut self, t: u64, known: V, value: V) -> Result<(), AllocError>
+        requires later { All (λ entry. entry.0 < t) self.old }
+        requires can { V.can_store t value }
+        requires known { is_reached V.same V.drift self.old t value ≡ V.same value known }
+        ensures ok { OnOk result (self.new ≡ pushed V.same V.drift self.old t value) }
+        ensures err { OnErr result (self.new ≡ self.old) }
+    {
+        if value.is_same(known) {
+            return Ok(());
+        }
+        self.append(value.entry(t))
+    }
+
     /// Adds an entry, which lies after all others and whose value the function does not have by itself. It fails where memory
     /// runs out, and then nothing has changed.
     #[inline(always)]

@@ -89,8 +89,8 @@ next_state-situation-requires-clause-followed g c =
     let after : c.args.done + 1 ≡ suc c.args.done = add-one c.args.done in
     subst (λ t. ForSome c.args.self.now.beside (λ old. IsFollowedAt g.S.Stepper.answer c.args.cell.now (line_seen old) t)) (sym after) c.requires.followed
 
-pub push_other-requires-clause-later : goal.push_other-requires-clause-later
-push_other-requires-clause-later g c =
+pub push_known-requires-clause-later : goal.push_known-requires-clause-later
+push_known-requires-clause-later g c =
     let law = g.met.S.Stepper in let answer = g.S.Stepper.answer in let cell = c.args.cell.now in let waves = c.args.waves.now in
     let situation = c.args.situation.now in let course = c.args.self.now in let at = c.requires.at in let m = c.args.done in let after : m + 1 ≡ suc m = add-one m in
     let fit : IsTrue (takes_inputs cell.kind (length cell.inputs)) = subst (λ inputs. IsTrue (takes_inputs cell.kind (length inputs))) c.inputs-inputs.ensures.inputs c.inputs-inputs.ensures.fit in
@@ -99,8 +99,8 @@ push_other-requires-clause-later g c =
     subst (λ l. All (λ e. e.0 < m + 1) l) (sym at.trace)
     (subst (λ t. All (λ e. e.0 < t) (line_trace answer cell.kind cell.delays (inputs_by waves cell.inputs) (suc m))) (sym after) early)
 
-pub push_other-requires-clause-can : goal.push_other-requires-clause-can
-push_other-requires-clause-can g c =
+pub push_known-requires-clause-can : goal.push_known-requires-clause-can
+push_known-requires-clause-can g c =
     let law = g.met.S.Stepper in let answer = g.S.Stepper.answer in let cell = c.args.cell.now in let waves = c.args.waves.now in
     let situation = c.args.situation.now in let course = c.args.self.now in let at = c.requires.at in let m = c.args.done in let after : m + 1 ≡ suc m = add-one m in
     let fit : IsTrue (takes_inputs cell.kind (length cell.inputs)) = subst (λ inputs. IsTrue (takes_inputs cell.kind (length inputs))) c.inputs-inputs.ensures.inputs c.inputs-inputs.ensures.fit in
@@ -113,8 +113,8 @@ push_other-requires-clause-can g c =
     (subst (λ t. CanStore t (state_by answer cell.kind cell.delays (inputs_by waves cell.inputs) (suc (suc m)))) (sym after)
     (storable_line answer cell waves fit are law.answer_pending law.answer_near (suc m) (let low = c.requires.within in omega arith)))
 
-pub push_other-requires-clause-before : goal.push_other-requires-clause-before
-push_other-requires-clause-before g c =
+pub push_known-requires-clause-known : goal.push_known-requires-clause-known
+push_known-requires-clause-known g c =
     let law = g.met.S.Stepper in let answer = g.S.Stepper.answer in let cell = c.args.cell.now in let waves = c.args.waves.now in
     let situation = c.args.situation.now in let course = c.args.self.now in let at = c.requires.at in let m = c.args.done in let after : m + 1 ≡ suc m = add-one m in
     let fit : IsTrue (takes_inputs cell.kind (length cell.inputs)) = subst (λ inputs. IsTrue (takes_inputs cell.kind (length inputs))) c.inputs-inputs.ensures.inputs c.inputs-inputs.ensures.fit in
@@ -123,9 +123,10 @@ push_other-requires-clause-before g c =
     (λ i. is_reached same_state due (at.trace i) (after i) new)
     ∙ reached_line answer cell waves fit are law.answer_pending c.reached_by_changes.ensures m new
     ∙ sym (λ i. same_state new (due (at.state i) (after i)))
+    ∙ ap (same_state new) (sym c.due.ensures)
 
-pub returns-in_err-push_other-clause-asked : goal.returns-in_err-push_other-clause-asked
-returns-in_err-push_other-clause-asked g c =
+pub returns-in_err-push_known-clause-asked : goal.returns-in_err-push_known-clause-asked
+returns-in_err-push_known-clause-asked g c =
     let law = g.met.S.Stepper in let answer = g.S.Stepper.answer in let cell = c.args.cell.now in let waves = c.args.waves.now in
     let situation = c.args.situation.now in let course = c.args.self.now in let at = c.requires.at in let m = c.args.done in let after : m + 1 ≡ suc m = add-one m in
     let fit : IsTrue (takes_inputs cell.kind (length cell.inputs)) = subst (λ inputs. IsTrue (takes_inputs cell.kind (length inputs))) c.inputs-inputs.ensures.inputs c.inputs-inputs.ensures.fit in
@@ -153,7 +154,7 @@ returns-clause-at g c =
     record {
       state = state;
       inputs = c.read_on-reading.ensures.inputs ∙ inputs_after answer cell waves situation course m new at c.requires.next same;
-      trace = c.in_ok-push_other.ensures.ok ∙ (λ i. pushed same_state due (at.trace i) (after i) (state i)) ∙ grown answer cell waves fit are law.answer_pending c.push_to_changes.ensures (suc m);
+      trace = c.in_ok-push_known.ensures.ok ∙ (λ i. pushed same_state due (at.trace i) (after i) (state i)) ∙ grown answer cell waves fit are law.answer_pending c.push_to_changes.ensures (suc m);
       readers = stand_after answer cell waves situation course m new at c.requires.next same;
       next = c.read_on-reading.ensures.next;
     }
