@@ -46,14 +46,22 @@ skipped waves last t (suc n) after le end none =
           skipped waves last t n after least (omega arith) (λ s from to. none s from (omega arith))))
     ] refl
 
+-- the time of a block is no earlier than that of its group
+under_group : (waves : List (List (ℕ × Value))) (u : ℕ) (upcoming : Upcoming) (left : List (Bor (List (ℕ × Value)))) (t : ℕ) → IsAhead waves t 0 upcoming left →
+    ((group : ℕ) → group * 256 < length waves → u ≤ slice_index upcoming.first group) → (block : ℕ) → block * 16 < length waves → u ≤ slice_index upcoming.least block
+under_group waves u upcoming left t ahead each block inside =
+    let group : u ≤ slice_index upcoming.first (block / 16) = each (block / 16) (omega arith) in
+    let under : slice_index upcoming.first (block / 16) ≤ slice_index upcoming.least block = ahead.groups.first block inside in
+    omega arith
+
 none_between : (waves : List (List (ℕ × Value))) (t u s : ℕ) (upcoming : Upcoming) (left : List (Bor (List (ℕ × Value)))) → IsAhead waves t 0 upcoming left →
-    ((block : ℕ) → block * 256 < length waves → u ≤ slice_index upcoming.least block) → t ≤ s → s < u → some_changes_at waves s ≡ false
+    ((group : ℕ) → group * 256 < length waves → u ≤ slice_index upcoming.first group) → t ≤ s → s < u → some_changes_at waves s ≡ false
 none_between waves t u s upcoming left ahead each from to =
     no_change waves s
     (λ k below.
-    let next : IsNext (wave_in waves k) t (slice_index upcoming.times k) (wave_in (lefts left) k) = rw (since_left t 0 (k / 256) (omega arith)) at (ahead.next k below) in
-    let least : slice_index upcoming.least (k / 256) ≤ slice_index upcoming.times k = ahead.least k below in
-    let first : u ≤ slice_index upcoming.least (k / 256) = each (k / 256) (omega arith) in
+    let next : IsNext (wave_in waves k) t (slice_index upcoming.times k) (wave_in (lefts left) k) = rw (since_left t (0 * 16) (k / 16) (omega arith)) at (ahead.blocks.next k below) in
+    let least : slice_index upcoming.least (k / 16) ≤ slice_index upcoming.times k = ahead.blocks.least k below in
+    let first : u ≤ slice_index upcoming.least (k / 16) = under_group waves u upcoming left t ahead each (k / 16) (omega arith) in
     next.none s from (omega arith))
 
 is_written : (waves : List (List (ℕ × Value))) (last u : ℕ) → u ≤ last → (u < last → some_changes_at waves u ≡ true) → (u == last || some_changes_at waves u) ≡ true
@@ -65,7 +73,7 @@ is_written waves last u within change =
 
 -- the next moment that is written
 pub lines_to : (waves : List (List (ℕ × Value))) (last t u : ℕ) (upcoming : Upcoming) (left : List (Bor (List (ℕ × Value)))) → IsAhead waves (t + 1) 0 upcoming left → t < u → u ≤ last →
-    ((block : ℕ) → block * 256 < length waves → u ≤ slice_index upcoming.least block) → (u < last → some_changes_at waves u ≡ true) →
+    ((group : ℕ) → group * 256 < length waves → u ≤ slice_index upcoming.first group) → (u < last → some_changes_at waves u ≡ true) →
     lines_below waves last (suc u) ≡ lines_below waves last (suc t) ++ (time_line u ++ change_lines waves u)
 lines_to waves last t u upcoming left ahead less within each change =
     let empty : lines_below waves last u ≡ lines_below waves last (suc t) =
@@ -74,25 +82,34 @@ lines_to waves last t u upcoming left ahead less within each change =
     below_suc waves last u ∙ (ap (λ lines. lines ++ moment_lines waves last u) empty ∙ ap (λ lines. lines_below waves last (suc t) ++ lines) here)
 
 -- some time is left for the next one
-pub is_later : (waves : List (List (ℕ × Value))) (t : ℕ) (upcoming : Upcoming) (left : List (Bor (List (ℕ × Value)))) → IsAhead waves t 0 upcoming left → (block : ℕ) → block * 256 < length waves →
-    t ≤ slice_index upcoming.least block
-is_later waves t upcoming left ahead block inside = rw (since_left t 0 block (omega arith)) at (ahead.later block inside)
+pub is_later : (waves : List (List (ℕ × Value))) (t : ℕ) (upcoming : Upcoming) (left : List (Bor (List (ℕ × Value)))) → IsAhead waves t 0 upcoming left → (group : ℕ) → group * 256 < length waves →
+    t ≤ slice_index upcoming.first group
+is_later waves t upcoming left ahead group inside = rw (since_left t 0 group (omega arith)) at (ahead.groups.later group inside)
 
 -- the tables at the next moment that is written
 pub ahead_later : (waves : List (List (ℕ × Value))) (t u : ℕ) (upcoming : Upcoming) (left : List (Bor (List (ℕ × Value)))) → IsAhead waves t 0 upcoming left → t ≤ u →
-    ((block : ℕ) → block * 256 < length waves → u ≤ slice_index upcoming.least block) → IsAhead waves u 0 upcoming left
-ahead_later waves t u upcoming left ahead le each = record {
-  room = ahead.room;
-  next = λ k below.
-      let next : IsNext (wave_in waves k) t (slice_index upcoming.times k) (wave_in (lefts left) k) = rw (since_left t 0 (k / 256) (omega arith)) at (ahead.next k below) in
-      let least : slice_index upcoming.least (k / 256) ≤ slice_index upcoming.times k = ahead.least k below in
-      let first : u ≤ slice_index upcoming.least (k / 256) = each (k / 256) (omega arith) in
-      rw (since_left u 0 (k / 256) (omega arith))
-      (next_later (wave_in waves k) t u _ _ next le (omega arith));
-  least = ahead.least;
-  later = λ block inside. rw (since_left u 0 block (omega arith)) (each block inside);
-  change = ahead.change;
-}
+    ((group : ℕ) → group * 256 < length waves → u ≤ slice_index upcoming.first group) → IsAhead waves u 0 upcoming left
+ahead_later waves t u upcoming left ahead le each =
+    let under : (block : ℕ) → block * 16 < length waves → u ≤ slice_index upcoming.least block = under_group waves u upcoming left t ahead each in
+    record {
+      blocks = record {
+        room = ahead.blocks.room;
+        next = λ k below.
+            let next : IsNext (wave_in waves k) t (slice_index upcoming.times k) (wave_in (lefts left) k) = rw (since_left t (0 * 16) (k / 16) (omega arith)) at (ahead.blocks.next k below) in
+            let least : slice_index upcoming.least (k / 16) ≤ slice_index upcoming.times k = ahead.blocks.least k below in
+            let first : u ≤ slice_index upcoming.least (k / 16) = under (k / 16) (omega arith) in
+            rw (since_left u (0 * 16) (k / 16) (omega arith))
+            (next_later (wave_in waves k) t u _ _ next le (omega arith));
+        least = ahead.blocks.least;
+        later = λ block inside. rw (since_left u (0 * 16) block (omega arith)) (under block inside);
+        change = ahead.blocks.change;
+      };
+      groups = record {
+        first = ahead.groups.first;
+        later = λ group inside. rw (since_left u 0 group (omega arith)) (each group inside);
+        change = ahead.groups.change;
+      };
+    }
 
 -- the lines of moment 0
 pub first_lines : (waves : List (List (ℕ × Value))) (last : ℕ) → lines_below waves last 1 ≡ moment_lines waves last 0

@@ -13,7 +13,8 @@ use devices::{Sink, Writer};
 use waveform::Change;
 
 /// Writes the values at 0, then the changes at each later moment that has some, and the last moment. From one moment to the
-/// next it looks only at the first changes to come of each block of nets, and then into those blocks that have a change.
+/// next it looks only at the first change to come of each group of blocks of nets, and then into the groups, and into their
+/// blocks, that have a change.
 // Not inlined: what its tables take of the stack is paid for at each call of the function that has them.
 #[inline(never)]
 pub(crate) fn moments<W: Sink>(writer: &mut Writer<'_, W>, waves: &Waves<'_>)

@@ -1,10 +1,10 @@
-//! The changes to come: what is left of each net's wave, the time of its next change, and of each block of nets the least of
-//! these, in tables of fixed size.
+//! The changes to come: what is left of each net's wave, the time of its next change, of each block of nets the least of
+//! these, and of each group of blocks the least of those, in tables of fixed size.
 
 ghost use Rattle.std.specs.Prelude.{◌≡◌, ◌≤◌, ◌<◌, ◌+◌, ◌-◌, ◌*◌, ℕ, true, length, min, slice_index};
 ghost use Rattle.devices.specs.Outgoing.{Adds};
 ghost use Rattle.vcd.specs.Changes.{change_line, change_lines, some_changes_at};
-ghost use Rattle.vcd.specs.kept.Kept.{IsAhead, IsNext, IsPassing, IsSameBut, lefts, lines_from, time_of};
+ghost use Rattle.vcd.specs.kept.Kept.{AreBlocksAhead, ArePassing, IsAhead, IsNext, IsPassing, IsSameBlockBut, IsSameBut, lefts, lines_from, time_of};
 ghost use Rattle.vcd.specs.kept.Waves.{wave_in};
 
 use crate::lines::value_line;
@@ -17,15 +17,23 @@ use waveform::Change;
 pub(crate) const NEVER: u64 = u64::MAX;
 
 /// How many nets a block has; the last one may have fewer.
-const NETS_IN_BLOCK: usize = 256;
+const NETS_IN_BLOCK: usize = 16;
 
 const BLOCKS: usize = (MAX_NETS + NETS_IN_BLOCK - 1) / NETS_IN_BLOCK;
+
+/// How many blocks a group has; the last one may have fewer.
+const BLOCKS_IN_GROUP: usize = 16;
+
+const NETS_IN_GROUP: usize = NETS_IN_BLOCK * BLOCKS_IN_GROUP;
+
+const GROUPS: usize = (MAX_NETS + NETS_IN_GROUP - 1) / NETS_IN_GROUP;
 
 /// When the next changes are. It takes no memory but its own place.
 #[derive(Drop)]
 pub(crate) struct Upcoming {
     times: [u64; MAX_NETS],
     least: [u64; BLOCKS],
+    first: [u64; GROUPS],
 }
 
 // Writes the line at `t` of a net that changes there, and answers what is left of its wave after that.
@@ -72,6 +80,7 @@ impl Upcoming {
         Upcoming {
             times: [0; MAX_NETS],
             least: [0; BLOCKS],
+            first: [0; GROUPS],
         }
     }
 
@@ -140,8 +149,9 @@ impl Upcoming {
     )
         requires moment { t < NEVER }
         requires block { block * NETS_IN_BLOCK < length waves.now.waves }
-        requires ahead { IsAhead waves.now.waves t block self.old left.old }
-        ensures ahead { IsAhead waves.now.waves t (block + 1) self.new left.new }
+        requires ahead { AreBlocksAhead waves.now.waves t block self.old left.old }
+        ensures ahead { AreBlocksAhead waves.now.waves t (block + 1) self.new left.new }
+        ensures others { IsSameBlockBut block self.old self.new }
         ensures text { Adds writer.old writer.new (lines_from waves.now.waves t (block * NETS_IN_BLOCK)
             (min NETS_IN_BLOCK (length waves.now.waves - block * NETS_IN_BLOCK))) }
     {
@@ -152,6 +162,57 @@ impl Upcoming {
         let first = block * NETS_IN_BLOCK;
         let count = NETS_IN_BLOCK.min(waves.count() - first);
         self.least[block] = self.pass_nets(waves, left, first, count, t, writer);
+    }
+
+    // Writes the lines at `t` of `count` blocks from block `first` on, moves their nets on, and answers the first time at which
+    // one of these changes then.
+    fn pass_blocks<'a, W: Sink>(
+        &mut self,
+        waves: &Waves<'a>,
+        left: &mut [&'a [Change]],
+        first: usize,
+        count: usize,
+        t: u64,
+        writer: &mut Writer<'_, W>,
+    ) -> u64
+        requires moment { t < NEVER }
+        requires within { (i : ℕ) → i < count → (first + i) * NETS_IN_BLOCK < length waves.now.waves }
+        requires ahead { AreBlocksAhead waves.now.waves t first self.old left.old }
+        ensures { ArePassing waves.now.waves first t count self.old self.new left.new result writer.old writer.new }
+    {
+        waves.lawful();
+        let mut least = NEVER;
+        for i in 0..count {
+            self.pass_block(waves, left, first + i, t, writer);
+            least = least.min(self.least[first + i]);
+        }
+        least
+    }
+
+    // Writes the lines at `t` of a group of blocks, and moves their nets on.
+    fn pass_group<'a, W: Sink>(
+        &mut self,
+        waves: &Waves<'a>,
+        left: &mut [&'a [Change]],
+        group: usize,
+        t: u64,
+        writer: &mut Writer<'_, W>,
+    )
+        requires moment { t < NEVER }
+        requires group { group * NETS_IN_GROUP < length waves.now.waves }
+        requires ahead { IsAhead waves.now.waves t group self.old left.old }
+        ensures ahead { IsAhead waves.now.waves t (group + 1) self.new left.new }
+        ensures text { Adds writer.old writer.new (lines_from waves.now.waves t (group * NETS_IN_GROUP)
+            (min NETS_IN_GROUP (length waves.now.waves - group * NETS_IN_GROUP))) }
+    {
+        waves.lawful();
+        if self.first[group] != t {
+            return;
+        }
+        let first = group * BLOCKS_IN_GROUP;
+        let blocks = waves.count().div_ceil(NETS_IN_BLOCK);
+        let count = BLOCKS_IN_GROUP.min(blocks - first);
+        self.first[group] = self.pass_blocks(waves, left, first, count, t, writer);
     }
 
     /// Writes the lines at `t` of all nets, and moves them on.
@@ -167,24 +228,24 @@ impl Upcoming {
         ensures ahead { IsAhead waves.now.waves (t + 1) 0 self.new left.new }
         ensures text { Adds writer.old writer.new (change_lines waves.now.waves t) }
     {
-        for block in 0..waves.count().div_ceil(NETS_IN_BLOCK) {
-            self.pass_block(waves, left, block, t, writer);
+        for group in 0..waves.count().div_ceil(NETS_IN_GROUP) {
+            self.pass_group(waves, left, group, t, writer);
         }
     }
 
     /// The first moment at which a net changes, `last` if there is none before that one.
     pub(crate) fn first_time(&self, waves: &Waves<'_>, last: u64) -> u64
-        requires { (block : ℕ) → block * NETS_IN_BLOCK < length waves.now.waves → slice_index self.now.least block < NEVER →
-            some_changes_at waves.now.waves (slice_index self.now.least block) ≡ true }
+        requires { (group : ℕ) → group * NETS_IN_GROUP < length waves.now.waves → slice_index self.now.first group < NEVER →
+            some_changes_at waves.now.waves (slice_index self.now.first group) ≡ true }
         ensures within { result ≤ last }
-        ensures each { (block : ℕ) → block * NETS_IN_BLOCK < length waves.now.waves → result ≤ slice_index self.now.least block }
-        ensures no_earlier { (t : ℕ) → t ≤ last → ((block : ℕ) → block * NETS_IN_BLOCK < length waves.now.waves → t ≤ slice_index self.now.least block) → t ≤ result }
+        ensures each { (group : ℕ) → group * NETS_IN_GROUP < length waves.now.waves → result ≤ slice_index self.now.first group }
+        ensures no_earlier { (t : ℕ) → t ≤ last → ((group : ℕ) → group * NETS_IN_GROUP < length waves.now.waves → t ≤ slice_index self.now.first group) → t ≤ result }
         ensures change { result < last → some_changes_at waves.now.waves result ≡ true }
     {
         waves.lawful();
         let mut first = last;
-        for block in 0..waves.count().div_ceil(NETS_IN_BLOCK) {
-            first = first.min(self.least[block]);
+        for group in 0..waves.count().div_ceil(NETS_IN_GROUP) {
+            first = first.min(self.first[group]);
         }
         first
     }

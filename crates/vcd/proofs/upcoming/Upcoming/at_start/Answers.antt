@@ -13,5 +13,5 @@ loop-place-preserved c =
 pub returns : goal.returns
 returns c =
     let few : length c.args.waves.now.waves ≤ 65536 = c.lawful.ensures.few in
-    ahead_at_start c.args.waves.now.waves c.loop-place.left 65536 256 few few c.lawful.ensures.timelines
+    ahead_at_start c.args.waves.now.waves c.loop-place.left 65536 4096 256 few few few c.lawful.ensures.timelines
     (λ k below. c.loop-place.invariant.0 k (omega arith)) (omega arith)
