@@ -1,12 +1,13 @@
 -- A gate that had the state and the inputs of an old run does what it did there.
-use Rattle.std.proofs.Common.{◌≡◌, ◌<◌, ◌≤◌, ◌∙◌, ◌⊎◌, ap, sym, subst, refl, Bool, true, false, not, ℕ, zero, suc, List, [], ◌++◌, Option, None, Some, IfNone, inl, inr, arith}
+use Rattle.std.proofs.Common.{◌≡◌, ◌<◌, ◌≤◌, ◌∙◌, ◌⊎◌, ap, sym, subst, refl, false, not, ℕ, zero, suc, List, [], ◌++◌, Option, None, Some, IfNone, inl, inr, arith}
+use Rattle.std.proofs.lemmas.Bool.{and_from, and_parts, not-false, not_from_true, or_from, or_parts}
+use Rattle.gateline.proofs.Lists.{same_values_equal, same_values_itself}
 use Rattle.std.specs.Option.{ForSome}
 use Rattle.std.proofs.lemmas.Bool.{cases_lt}
-use Rattle.std.specs.Prelude.{◌||◌, ◌&&◌}
+use Rattle.std.specs.Prelude.{◌&&◌}
 use Rattle.fourstate.specs.declared.value.Value.{Value}
 use Rattle.gatestep.specs.Step.{State, Evaluation, due}
 use Rattle.gateline.proofs.Alike.{SameChanges}
-use Rattle.gateline.proofs.Lists.{both, neither, not_false, same_values_equal, same_values_itself}
 use Rattle.gateline.proofs.Still.{never_asked, work_splits}
 use Rattle.gateline.specs.declared.walk.Former.{Former}
 use Rattle.gateline.specs.kept.Starts.{begin_of}
@@ -47,17 +48,15 @@ module _ (answer : Evaluation → ℕ → State) (cell : CellRecord) (waves : Li
             followed t (omega arith) there ∙ (λ i. answer (record { kind = cell.kind; delays = cell.delays; state = before i; inputs = here i }) t)
       ]
 
-  both_same : (a b : Bool) → a ≡ true → b ≡ true → not (a && b) ≡ false
-  both_same a b e f = ap (λ c. not (c && b)) e ∙ ap not f
-
   unwanted : (t : ℕ) → first ≤ t → t < bound → wanted_beside old cell.inputs (task_by answer cell.kind cell.delays inputs t) t ≡ false
   unwanted t from low =
-      let state = states t from (omega arith) in
-      let values = same t from low in
-      ap (λ b. b || not (same_state (state_till old.trace t) (state_by answer cell.kind cell.delays inputs t) && same_values (old_inputs old cell.inputs t) (inputs t))) there
-      ∙ both_same (same_state (state_till old.trace t) (state_by answer cell.kind cell.delays inputs t)) (same_values (old_inputs old cell.inputs t) (inputs t))
-      (ap (λ s. same_state s (state_by answer cell.kind cell.delays inputs t)) state ∙ same_state_self (state_by answer cell.kind cell.delays inputs t))
-      (ap (λ l. same_values l (inputs t)) values ∙ same_values_itself (inputs t))
+      let state = state_by answer cell.kind cell.delays inputs t in
+      let alike = same_state (state_till old.trace t) state && same_values (old_inputs old cell.inputs t) (inputs t) in
+      or_from old.is_other (not alike) there
+      (not_from_true alike
+      (and_from (same_state (state_till old.trace t) state) (same_values (old_inputs old cell.inputs t) (inputs t))
+      (ap (λ s. same_state s state) (states t from (omega arith)) ∙ same_state_self state)
+      (ap (λ l. same_values l (inputs t)) (same t from low) ∙ same_values_itself (inputs t))))
 
   -- and nothing is asked of it
   pub unasked : (a n : ℕ) → first ≤ a → n ≤ bound → line_work_from answer cell.kind cell.delays inputs (wanted_beside old cell.inputs) a n ≡ []
@@ -113,8 +112,8 @@ pub known_state : (answer : Evaluation → ℕ → State) (cell : CellRecord) (o
     state_at old.trace t ≡ answer (record { kind = cell.kind; delays = cell.delays; state = state; inputs = values }) t
 known_state answer cell old state values t off followed =
     let same = same_state (state_till old.trace t) state && same_values (old_inputs old cell.inputs t) values in
-    let parts = neither old.is_other (not same) off in
-    let alike = both (same_state (state_till old.trace t) state) (same_values (old_inputs old cell.inputs t) values) (not_false same parts.1) in
+    let parts = or_parts old.is_other (not same) off in
+    let alike = and_parts (same_state (state_till old.trace t) state) (same_values (old_inputs old cell.inputs t) values) (not-false same parts.1) in
     let stood : state_till old.trace t ≡ state = is_same_state (state_till old.trace t) state alike.0 in
     let read : old_inputs old cell.inputs t ≡ values = same_values_equal (old_inputs old cell.inputs t) values alike.1 in
     followed parts.0 ∙ (λ i. answer (record { kind = cell.kind; delays = cell.delays; state = stood i; inputs = read i }) t)

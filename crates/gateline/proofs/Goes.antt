@@ -1,5 +1,8 @@
 -- A function of time that goes on by its changes.
-use Rattle.std.proofs.Common.{◌≡◌, ◌<◌, ◌≤◌, ◌-◌, ◌∙◌, ap, sym, refl, subst, cond, Bool, true, false, ℕ, zero, suc, List, [], ◌∷◌, Some, None, All, take, drop, length, get_or, arith}
+use Rattle.std.proofs.Common.{◌≡◌, ◌<◌, ◌≤◌, ◌+◌, ◌-◌, ◌∙◌, ap, sym, refl, subst, cond, Bool, true, false, ℕ, zero, suc, List, [], ◌∷◌, Some, None, All, take, drop, length, get_or, arith}
+use Rattle.std.proofs.lemmas.List.{get_or-drop, get_or-take, length-drop, length-take}
+use Rattle.std.proofs.lemmas.Bool.{leb-false, leb-true}
+use Rattle.std.specs.List.{AllWithin}
 use Rattle.std.specs.List.{filter, last_or}
 use Rattle.std.specs.List.Sorted.{IsNonDecreasingBy}
 use Rattle.std.specs.Option.{option_map_or}
@@ -124,6 +127,16 @@ goes_from d (y ∷ xs) (suc n) t x turns low within until after =
     goes_same (by d (y ∷ xs)) (by y xs) (get_or (y ∷ xs) n x).1 (drop n xs) t
     (λ u high. ap (λ (b : Bool). option_map_or (λ e. e.1) (last_or (Some d) (cond b (y ∷ filter (λ (e : ℕ × Value). nat_le e.0 u) xs) (filter (λ (e : ℕ × Value). nat_le e.0 u) xs))) Unknown) (le-leb y.0 u (omega arith)))
     (goes_from y xs n t x turns.2 first (omega arith) (All-tail (λ (e : ℕ × Value). e.0 ≤ t) y (take n xs) until) after)
+
+-- the changes before a place, and those from it on
+module _ (t : ℕ) (xs : List (ℕ × Value)) (n : ℕ) where
+  pub all_before : AllWithin (λ e. nat_le e.0 t ≡ true) xs 0 n → All (λ e. e.0 ≤ t) (take n xs)
+  all_before each k d low =
+      let below : k < n = omega (arith, length-take n xs) in
+      rw (get_or-take n xs k d below) (leb-true (get_or xs k d).0 t (each k d (omega arith) below))
+
+  pub all_behind : AllWithin (λ e. nat_le e.0 t ≡ false) xs n (length xs) → All (λ e. t < e.0) (drop n xs)
+  all_behind each k d low = rw (get_or-drop n xs k d) (leb-false (get_or xs (n + k) d).0 t (each (n + k) d (omega arith) (omega (arith, length-drop n xs))))
 
 -- a wave goes on from a moment by the changes after it
 pub wave_goes_on : (xs : List (ℕ × Value)) (n t : ℕ) (x : ℕ × Value) → IsTimeline same_value standing xs → 0 < n → n ≤ length xs → All (λ e. e.0 ≤ t) (take n xs) → All (λ e. t < e.0) (drop n xs) →

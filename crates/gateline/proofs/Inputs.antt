@@ -1,5 +1,7 @@
 -- The inputs of a gate of a design, by the waves that are found.
 use Rattle.std.proofs.Common.{◌≡◌, ◌<◌, ◌∙◌, ap, sym, refl, ℕ, suc, List, [], ◌∷◌, map, Option, Some, slice_get, unwrap_or}
+use Rattle.scratch.proofs.Lists.{map_alike}
+use Rattle.std.proofs.lemmas.Simd.{map-map}
 use Rattle.std.specs.Option.{option_map}
 use Rattle.std.proofs.lemmas.Option.{slice_get-map}
 use Rattle.design.specs.Connections.{Connection}
@@ -7,7 +9,6 @@ use Rattle.design.specs.Netlist.{GateEntry, Netlist}
 use Rattle.fourstate.specs.declared.value.Value.{Value}
 use Rattle.fourstate.specs.declared.value.Value.TheVariants.{Unknown}
 use Rattle.gatestep.specs.Step.{State, Evaluation}
-use Rattle.gateline.proofs.Lists.{map_alike, map_twice}
 use Rattle.gateline.specs.kept.Known.{AreKnown, IsKnown}
 use Rattle.gateline.specs.kept.Waves.{input_at, inputs_by}
 use Rattle.scratch.specs.Run.{net_at, state_before, terminal_at, value, wave_of}
@@ -37,7 +38,7 @@ module _ (answer : Evaluation → ℕ → State) (d : Netlist) (waves : List (Li
         ∙ ap (option_map (λ wave. wave_at wave t)) known
         ∙ sym (slice_get-map (λ wave. wave_at wave t) (map (wave_of answer d) d.nets) m)
         ∙ ap (λ (l : List Value). slice_get l m)
-        (map_twice (wave_of answer d) (λ wave. wave_at wave t) d.nets
+        (map-map (λ wave. wave_at wave t) (wave_of answer d) d.nets
         ∙ map_alike (λ n. wave_at (wave_of answer d n) t) (λ n. value answer d n t) (λ n. gives (value answer d n) (λ u. refl) t (suc d.horizon) within) d.nets))
 
     connections_known : (connections : List Connection) → AreKnown answer d waves (map (input_of d) connections) →

@@ -3,7 +3,6 @@ pub mod ByItself
 pub mod ByPlace
 pub mod Codes
 pub mod Copied
-pub mod Ends
 pub mod Goes
 pub mod InDesign
 pub mod Inputs

@@ -1,5 +1,6 @@
 -- Nets whose waves are found, by their marks.
-use Rattle.std.proofs.Common.{◌≡◌, ◌<◌, ◌≤◌, ◌++◌, ◌∙◌, ap, sym, subst, refl, true, Bool, ℕ, zero, suc, List, [], ◌∷◌, map, Some, slice_get, length, arith, ⊎_elim}
+use Rattle.std.proofs.Common.{◌≡◌, ◌<◌, ◌≤◌, ◌++◌, ◌∙◌, ap, sym, subst, true, Bool, ℕ, zero, suc, List, [], ◌∷◌, map, Some, slice_get, length, arith, ⊎_elim}
+use Rattle.scratch.proofs.Between.{alike}
 use Rattle.std.proofs.lemmas.Bool.{cases_lt}
 use Rattle.std.proofs.lemmas.List.{length-map}
 use Rattle.std.proofs.lemmas.Option.{slice_get_past}
@@ -27,14 +28,6 @@ pub marked_more : (found : List Bool) (inputs : List Input) (input : Input) → 
 marked_more found [] input marked one = (one, tt)
 marked_more found (x ∷ inputs) input marked one = (marked.0, marked_more found inputs input marked.1 one)
 
--- lists that have the same at each place
-pub same_lists : {A : Type 0} (xs ys : List A) → ((k : ℕ) → slice_get xs k ≡ slice_get ys k) → xs ≡ ys
-same_lists [] [] same = refl
-same_lists [] (y ∷ ys) same = let first = same 0 in cc
-same_lists (x ∷ xs) [] same = let first = same 0 in cc
-same_lists {A} (x ∷ xs) (y ∷ ys) same =
-    let first = same 0 in let one : x ≡ y = cc in let rest : xs ≡ ys = same_lists xs ys (λ k. same (suc k)) in λ i. one i ∷ rest i
-
 module _ (answer : Evaluation → ℕ → State) (d : Netlist) where
   module _ (found : List Bool) (waves : List (List (ℕ × Value))) (are : AreFound answer d found waves) (marks : length found ≡ length d.nets) (lines : length waves ≡ length d.nets) where
     known : (input : Input) → IsMarked found input → IsKnown answer d waves input
@@ -54,7 +47,7 @@ module _ (answer : Evaluation → ℕ → State) (d : Netlist) where
 
     -- and those of all nets, where all are marked
     pub all_waves : ((m : ℕ) → m < length d.nets → slice_get found m ≡ Some true) → waves ≡ map (wave_of answer d) d.nets
-    all_waves marked = same_lists waves (map (wave_of answer d) d.nets) (λ m.
+    all_waves marked = alike waves (map (wave_of answer d) d.nets) (λ m.
         ⊎_elim
         (λ low. are m (marked m low))
         (λ past. slice_get_past waves m (omega arith) ∙ sym (slice_get_past (map (wave_of answer d) d.nets) m (rw length-map past)))

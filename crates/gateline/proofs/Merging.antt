@@ -1,10 +1,10 @@
 -- Waves that are read side by side, and what a net has from them.
 use Rattle.std.proofs.Common.{◌≡◌, ◌<◌, ◌≤◌, ◌-◌, ◌∙◌, ap, sym, false, ℕ, suc, min, List, [], ◌∷◌, ◌++◌, map, arith}
+use Rattle.std.proofs.lemmas.Simd.{map-map}
 use Rattle.fourstate.specs.Nets.{net_of}
 use Rattle.fourstate.specs.Values.{same_value}
 use Rattle.fourstate.specs.declared.net.NetKind.{NetKind}
 use Rattle.fourstate.specs.declared.value.Value.{Value}
-use Rattle.gateline.proofs.Lists.{map_twice}
 use Rattle.gateline.proofs.Points.{no_change_between}
 use Rattle.gateline.proofs.Stands.{ahead, stands_later, stands_passed, standing, values_stay}
 use Rattle.gateline.specs.declared.reader.Reader.{Reader}
@@ -27,14 +27,14 @@ module _ (kind : NetKind) (waves : List (List (ℕ × Value))) where
 
   -- as the readers have it
   value_is : (readers : List Reader) (m : ℕ) → StandAt (map wave_at waves) readers m → net_of kind (map (λ reader. reader.value) readers) ≡ merged m
-  value_is readers m stand = ap (net_of kind) (standing (map wave_at waves) readers m stand ∙ map_twice wave_at (λ f. f m) waves)
+  value_is readers m stand = ap (net_of kind) (standing (map wave_at waves) readers m stand ∙ map-map (λ f. f m) wave_at waves)
 
   stays : (readers : List Reader) (m u : ℕ) → StandAt (map wave_at waves) readers m → m ≤ u → u < next_among readers → merged u ≡ merged m
   stays readers m u stand from below =
       ap (net_of kind)
-      (sym (map_twice wave_at (λ f. f u) waves)
+      (sym (map-map (λ f. f u) wave_at waves)
       ∙ values_stay (map wave_at waves) readers m u stand from below
-      ∙ map_twice wave_at (λ f. f m) waves)
+      ∙ map-map (λ f. f m) wave_at waves)
 
   -- the readers at a moment t; r is the next one at which one of them changes, or the end
   pub record Goes (readers : List Reader) (t r end : ℕ) : Type 0 where

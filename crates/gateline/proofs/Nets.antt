@@ -1,8 +1,9 @@
 -- What a net has, by the traces of its drivers.
 use Rattle.std.proofs.Common.{◌≡◌, ◌<◌, ◌∙◌, ap, sym, refl, cond, IsTrue, ℕ, suc, List, [], ◌∷◌, map, Option, Some, slice_get, get_or, unwrap_or, length, All, arith}
+use Rattle.std.proofs.lemmas.Simd.{map-map}
+use Rattle.scratch.proofs.Runs.{map_where}
 use Rattle.std.specs.Option.{option_map}
 use Rattle.std.proofs.lemmas.List.{length-map}
-use Rattle.std.proofs.lemmas.List.Elements.{All-head, All-tail}
 use Rattle.std.proofs.lemmas.Option.{slice_get-map, slice_get_read, slice_get_within}
 use Rattle.design.specs.Netlist.{GateEntry, NetEntry, Netlist, stimulus}
 use Rattle.design.specs.kept.Lawful.{IsGate}
@@ -14,7 +15,6 @@ use Rattle.fourstate.specs.declared.value.Value.TheVariants.{Unknown}
 use Rattle.gatestep.specs.Step.{State, Evaluation, due, initial}
 use Rattle.gatestep.specs.kept.Tasks.{IsTask, NothingDue}
 use Rattle.gateline.proofs.ByItself.{states}
-use Rattle.gateline.proofs.Lists.{map_twice}
 use Rattle.gateline.proofs.Still.{settled as settled_by}
 use Rattle.gateline.specs.kept.Known.{AreTraced, IsTraced, currents_by}
 use Rattle.smallvec.specs.SmallVec.{SmallVec}
@@ -35,11 +35,6 @@ GivesStates = (f : ℕ → State) → IsAlwaysSettled due f → (t n : ℕ) → 
 abbrev pub NetByPlaces : Netlist → Type 0
 NetByPlaces d =
     (before : GateEntry → State) (t : ℕ) (n : NetEntry) → net_from (map (λ g. (due (before g) t).current) d.gates) t n (driver_places d.gates n.name) ≡ net_at d before n t
-
--- two maps agree on a list if they do on the elements of which P holds
-map_where : {A B : Type 0} (P : A → Type 0) (f g : A → B) → ((x : A) → P x → f x ≡ g x) → (xs : List A) → All P xs → map f xs ≡ map g xs
-map_where P f g alike [] all = refl
-map_where P f g alike (x ∷ xs) all = rw (alike x (All-head P x xs all)) (ap (λ l. g x ∷ l) (map_where P f g alike xs (All-tail P x xs all)))
 
 module _ (answer : Evaluation → ℕ → State) (d : Netlist) (pending : (e : Evaluation) (t : ℕ) → IsTask e → NothingDue t (answer e t)) where
   -- after a moment nothing is due at it any more
@@ -63,7 +58,7 @@ module _ (answer : Evaluation → ℕ → State) (d : Netlist) (pending : (e : E
           ∙ ap (option_map (λ trace. currents trace t)) traced
           ∙ sym (slice_get-map (λ trace. currents trace t) (map (trace_of answer d) d.gates) p)
           ∙ ap (λ (l : List Value). slice_get l p)
-          (map_twice (trace_of answer d) (λ trace. currents trace t) d.gates
+          (map-map (λ trace. currents trace t) (trace_of answer d) d.gates
           ∙ map_where IsGate (λ g. currents (trace_of answer d g) t) (λ g. (due (state_before answer d t g) t).current) (λ g is. gives_current g is t within) d.gates are)
 
       all_at : (places : List ℕ) → AreTraced answer d traces places →

@@ -1,5 +1,7 @@
 -- The stimulus of an input between two of its points.
-use Rattle.std.proofs.Common.{◌≡◌, ◌<◌, ◌≤◌, ◌∙◌, ap, sym, subst, refl, Bool, true, false, not, ℕ, zero, suc, List, [], ◌∷◌, ◌++◌, append_assoc, All, Option, None, Some, arith}
+use Rattle.std.proofs.Common.{◌≡◌, ◌<◌, ◌≤◌, ◌∙◌, ap, sym, subst, false, not, ℕ, zero, suc, List, [], ◌∷◌, ◌++◌, append_assoc, All, None, arith}
+use Rattle.design.proofs.PointLemmas.{rising_head, rising_tail}
+use Rattle.design.proofs.PieceLemmas.{kept_all, kept_none, last_of}
 use Rattle.std.specs.List.{filter, last_or}
 use Rattle.std.specs.Option.{option_map_or}
 use Rattle.std.specs.Prelude.{nat_le}
@@ -15,18 +17,6 @@ use Rattle.fourstate.specs.kept.ValueLaws.{same_self}
 use Rattle.waveform.specs.Entries.{standing}
 use Rattle.waveform.specs.Timelines.{is_change}
 
-none_kept : {X : Type 0} (p : X → Bool) (xs : List X) → All (λ x. p x ≡ false) xs → filter p xs ≡ []
-none_kept p [] none = refl
-none_kept p (x ∷ xs) none =
-    let here = All-head (λ x. p x ≡ false) x xs none in
-    rw here (none_kept p xs (All-tail (λ x. p x ≡ false) x xs none))
-
-all_kept : {X : Type 0} (p : X → Bool) (xs : List X) → All (λ x. p x ≡ true) xs → filter p xs ≡ xs
-all_kept p [] all = refl
-all_kept p (x ∷ xs) all =
-    let here = All-head (λ x. p x ≡ true) x xs all in
-    rw here (ap (λ l. x ∷ l) (all_kept p xs (All-tail (λ x. p x ≡ true) x xs all)))
-
 -- the value of the last one of some points
 abbrev value_of : List (ℕ × Value) → Value
 value_of points = option_map_or (λ point. point.1) (last_or None points) Unknown
@@ -36,13 +26,9 @@ stands : (come later : List (ℕ × Value)) (u : ℕ) → All (λ p. p.0 ≤ u) 
 stands come later u early late =
     ap (λ ps. option_map_or (λ point. point.1) (last_or None ps) Unknown)
     (filter-append (λ (p : ℕ × Value). nat_le p.0 u) come later
-    ∙ ap (λ l. l ++ filter (λ p. nat_le p.0 u) later) (all_kept (λ (p : ℕ × Value). nat_le p.0 u) come (All-weaker (λ (p : ℕ × Value). p.0 ≤ u) (λ p. nat_le p.0 u ≡ true) (λ p h. le-leb p.0 u h) come early))
-    ∙ ap (λ l. come ++ l) (none_kept (λ (p : ℕ × Value). nat_le p.0 u) later (All-weaker (λ (p : ℕ × Value). u < p.0) (λ p. nat_le p.0 u ≡ false) (λ p h. lt-leb p.0 u h) later late))
+    ∙ ap (λ l. l ++ filter (λ p. nat_le p.0 u) later) (kept_all (λ p. nat_le p.0 u) (λ p. p.0 ≤ u) come (λ p h. le-leb p.0 u h) early)
+    ∙ ap (λ l. come ++ l) (kept_none (λ p. nat_le p.0 u) (λ p. u < p.0) later (λ p h. lt-leb p.0 u h) late)
     ∙ append-nil come)
-
-last_added : (o : Option (ℕ × Value)) (xs : List (ℕ × Value)) (p : ℕ × Value) → last_or o (xs ++ p ∷ []) ≡ Some p
-last_added o [] p = refl
-last_added o (x ∷ xs) p = last_added (Some x) xs p
 
 -- a function that stays does not change
 pub no_change_between : (f : ℕ → Value) (t r : ℕ) → ((u : ℕ) → t ≤ u → u < r → f u ≡ f t) → (k : ℕ) → suc t ≤ k → k < r → is_change same_value standing f k ≡ false
@@ -94,10 +80,10 @@ module _ (points come left : List (ℕ × Value)) (m : ℕ) (p : ℕ × Value) (
   rising = subst AreRising next before.rising
 
   rising_then : AreRising later
-  rising_then = λ i j d below within. rising (suc i) (suc j) d (omega arith) (omega arith)
+  rising_then = rising_tail p later rising
 
   after : All (λ q. p.0 < q.0) later
-  after = λ k d within. rising 0 (suc k) d (omega arith) (omega arith)
+  after = rising_head p later rising
 
   late : All (λ q. 0 < q.0 → m ≤ q.0) (p ∷ later)
   late = subst (All (λ q. 0 < q.0 → m ≤ q.0)) next before.late
@@ -141,4 +127,4 @@ module _ (points come left : List (ℕ × Value)) (m : ℕ) (p : ℕ × Value) (
       ap (λ ps. stimulus ps p.0) whole_then
       ∙ stands (come ++ p ∷ []) later p.0
       (All-push (λ (q : ℕ × Value). q.0 ≤ p.0) come p (All-weaker (λ (q : ℕ × Value). q.0 < p.0) (λ q. q.0 ≤ p.0) (λ q h. omega arith) come (early_here some)) (omega arith)) after
-      ∙ ap (λ o. option_map_or (λ (q : ℕ × Value). q.1) o Unknown) (last_added None come p)
+      ∙ ap (λ o. option_map_or (λ (q : ℕ × Value). q.1) o Unknown) (last_of None come p [])

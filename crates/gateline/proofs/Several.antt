@@ -1,5 +1,7 @@
 -- A net of several drivers, or of none.
 use Rattle.std.proofs.Common.{◌≡◌, ◌<◌, ◌∙◌, ap, sym, subst, refl, cond, false, ℕ, suc, List, [], ◌∷◌, map, Option, Some, None, IfSome, slice_get, unwrap_or, All}
+use Rattle.scratch.proofs.Lists.{map_alike}
+use Rattle.std.proofs.lemmas.Simd.{map-map}
 use Rattle.std.specs.Option.{option_map}
 use Rattle.std.proofs.lemmas.List.Elements.{All-cons, All-nil}
 use Rattle.std.proofs.lemmas.Option.{slice_get-map}
@@ -12,7 +14,6 @@ use Rattle.fourstate.specs.declared.value.Value.TheVariants.{Unknown}
 use Rattle.gatestep.specs.Step.{State, Evaluation, due}
 use Rattle.gatestep.specs.kept.Tasks.{IsTask, NothingDue}
 use Rattle.gateline.proofs.Inputs.{GivesValues}
-use Rattle.gateline.proofs.Lists.{map_alike, map_twice}
 use Rattle.gateline.proofs.Lone.{SameValues, goes_on, traced_gate}
 use Rattle.gateline.proofs.Merging.{merged}
 use Rattle.gateline.proofs.Nets.{GivesStates, NetByPlaces, value_by_traces}
@@ -68,7 +69,7 @@ module _ (answer : Evaluation → ℕ → State) (d : Netlist) (are : All IsGate
       let places = driver_places d.gates n.name in
       let values : map (λ w. wave_at w t) waves ≡ values_at (currents_by traces t) places =
       ap (map (λ w. wave_at w t)) are_waves
-      ∙ map_twice (λ p. wave_changes_below (current_by traces p) (suc d.horizon)) (λ w. wave_at w t) places
+      ∙ map-map (λ w. wave_at w t) (λ p. wave_changes_below (current_by traces p) (suc d.horizon)) places
       ∙ map_alike (λ p. wave_at (wave_changes_below (current_by traces p) (suc d.horizon)) t) (λ p. current_by traces p t)
       (λ p. gives_values (current_by traces p) (λ u. refl) t (suc d.horizon) within) places in
       let whole : net_from (currents_by traces t) t n places ≡ merged n.kind waves t =

@@ -1,9 +1,13 @@
 -- Readers of functions of time, side by side.
-use Rattle.std.proofs.Common.{◌≡◌, ◌<◌, ◌≤◌, ◌∙◌, sym, subst, refl, ℕ, List, [], ◌∷◌, ◌++◌, map, length, arith}
+use Rattle.std.proofs.Common.{◌≡◌, ◌<◌, ◌≤◌, ◌+◌, ◌∙◌, ap, sym, subst, refl, ℕ, List, [], ◌∷◌, ◌++◌, Some, map, take, drop, length, slice_get, arith}
+use Rattle.std.specs.List.{refill}
+use Rattle.gatestep.proofs.Jobs.{zip_push}
+use Rattle.std.proofs.lemmas.List.{map-append, take_at}
+use Rattle.std.proofs.lemmas.Simd.{map-map}
+use Rattle.scratch.proofs.Lists.{take_next}
 use Rattle.std.proofs.lemmas.List.{length-map}
 use Rattle.fourstate.specs.declared.value.Value.{Value}
 use Rattle.gateline.proofs.Goes.{coming, here, later, passed, until}
-use Rattle.gateline.proofs.Lists.{map_twice}
 use Rattle.gateline.specs.declared.reader.Reader.{Reader}
 use Rattle.gateline.specs.kept.Ahead.{next_of, rest_then, value_then}
 use Rattle.gateline.specs.kept.Readers.{GoesOn, StandAt, next_among, seen, seen_then}
@@ -13,13 +17,11 @@ use Rattle.waveform.specs.declared.times.TheConstants.{TIME_END}
 
 -- they stand so up to the first change among them
 pub stands_later : (fs : List (ℕ → Value)) (readers : List Reader) (m r : ℕ) → StandAt fs readers m → m ≤ r → r < next_among readers → StandAt fs readers r
-stands_later [] [] m r stand from below = stand
-stands_later [] (x ∷ readers) m r stand from below = stand
-stands_later (f ∷ fs) [] m r stand from below = stand
 stands_later (f ∷ fs) (x ∷ readers) m r stand from below = (
   later f x.value x.rest.now m r stand.0 from (omega arith),
   stands_later fs readers m r stand.1 from (omega arith),
 )
+stands_later fs readers m r stand from below = stand
 
 -- the functions stay up to there
 pub values_stay : (fs : List (ℕ → Value)) (readers : List Reader) (m u : ℕ) → StandAt fs readers m → m ≤ u → u < next_among readers → map (λ f. f u) fs ≡ map (λ f. f m) fs
@@ -33,12 +35,11 @@ values_stay (f ∷ fs) (x ∷ readers) m u stand from below =
 -- what the readers have is what the functions have
 pub standing : (fs : List (ℕ → Value)) (readers : List Reader) (m : ℕ) → StandAt fs readers m → map (λ reader. reader.value) readers ≡ map (λ f. f m) fs
 standing [] [] m stand = refl
-standing [] (x ∷ readers) m stand = elim stand [ ]
-standing (f ∷ fs) [] m stand = elim stand [ ]
 standing (f ∷ fs) (x ∷ readers) m stand =
     let one : x.value ≡ f m = sym (here f x.value x.rest.now m stand.0) in
     let rest : map (λ (reader : Reader). reader.value) readers ≡ map (λ f. f m) fs = standing fs readers m stand.1 in
     λ i. one i ∷ rest i
+standing fs readers m stand = elim stand [ ]
 
 -- the first change among them comes later
 pub ahead : (fs : List (ℕ → Value)) (readers : List Reader) (m : ℕ) → StandAt fs readers m → m < TIME_END → m < next_among readers
@@ -50,24 +51,24 @@ ahead (f ∷ fs) (x ∷ readers) m stand low =
 
 -- one more
 pub stand_more : (fs : List (ℕ → Value)) (readers : List Reader) (m : ℕ) (f : ℕ → Value) (x : Reader) → StandAt fs readers m → GoesOn f x.value x.rest.now m → StandAt (fs ++ f ∷ []) (readers ++ x ∷ []) m
-stand_more [] [] m f x stand goes = (goes, tt)
-stand_more [] (y ∷ readers) m f x stand goes = elim stand [ ]
-stand_more (h ∷ fs) [] m f x stand goes = elim stand [ ]
-stand_more (h ∷ fs) (y ∷ readers) m f x stand goes = (stand.0, stand_more fs readers m f x stand.1 goes)
+stand_more fs readers m = zip_push (λ f reader. GoesOn f reader.value reader.rest.now m) fs readers
+
+-- of a list one element more, which is read as a function
+pub stand_next : {A : Type 0} (f : A → ℕ → Value) (xs : List A) (i : ℕ) (a : A) (readers : List Reader) (x : Reader) (m : ℕ) → slice_get xs i ≡ Some a →
+    StandAt (map f (take i xs)) readers m → GoesOn (f a) x.value x.rest.now m → StandAt (map f (take (i + 1) xs)) (readers ++ x ∷ []) m
+stand_next f xs i a readers x m at stand goes =
+    rw (take_next xs i a at, map-append f (take i xs) (a ∷ [])) (stand_more (map f (take i xs)) readers m (f a) x stand goes)
 
 -- there are as many readers as functions
 pub as_many : (fs : List (ℕ → Value)) (readers : List Reader) (m : ℕ) → StandAt fs readers m → length readers ≡ length fs
 as_many [] [] m stand = refl
-as_many [] (x ∷ readers) m stand = elim stand [ ]
-as_many (f ∷ fs) [] m stand = elim stand [ ]
 as_many (f ∷ fs) (x ∷ readers) m stand = let rest = as_many fs readers m stand.1 in omega arith
+as_many fs readers m stand = elim stand [ ]
 
 -- the readers at a moment up to the first change
 pub stands_passed : (fs : List (ℕ → Value)) (old new : List Reader) (m t : ℕ) → StandAt fs old m → m ≤ t → t ≤ next_among old → map seen new ≡ map (seen_then t) old → StandAt fs new t
 stands_passed [] [] [] m t stand from to same = stand
 stands_passed [] [] (x ∷ new) m t stand from to same = absurd (cc)
-stands_passed [] (r ∷ old) new m t stand from to same = elim stand [ ]
-stands_passed (f ∷ fs) [] new m t stand from to same = elim stand [ ]
 stands_passed (f ∷ fs) (r ∷ old) [] m t stand from to same = absurd (cc)
 stands_passed (f ∷ fs) (r ∷ old) (x ∷ new) m t stand from to same =
     let one : seen_then t r ≡ seen x = cc in
@@ -76,6 +77,11 @@ stands_passed (f ∷ fs) (r ∷ old) (x ∷ new) m t stand from to same =
       subst P one (passed f r.value r.rest.now m t stand.0 from (omega arith)),
       stands_passed fs old new m t stand.1 from (omega arith) rest,
     )
+stands_passed fs old new m t stand from to same = elim stand [ ]
+
+-- readers that are all written
+pub refilled : (old new : List Reader) (t : ℕ) → map seen new ≡ map (seen_then t) old → refill (length old) old new ≡ new
+refilled old new t same = take_at new (drop (length new) old) (length old) (sym (length-map new seen) ∙ ap length same ∙ length-map old (seen_then t))
 
 -- no reader has a change before the first one among them
 pub unchanged : (v : Value) (rest : List (ℕ × Value)) (t : ℕ) → t < next_of rest → ◌≡◌ {A = Value × List (ℕ × Value)} (value_then v rest t, rest_then rest t) (v, rest)
@@ -93,13 +99,13 @@ unpassed (r ∷ readers) t below =
 module _ (waves : List (List (ℕ × Value))) (inputs : List Input) (readers : List Reader) (m : ℕ) (stand : StandAt (input_functions waves inputs) readers m) where
   -- what the readers have
   pub inputs_are : map (λ reader. reader.value) readers ≡ inputs_by waves inputs m
-  inputs_are = standing (input_functions waves inputs) readers m stand ∙ map_twice (input_at waves) (λ f. f m) inputs
+  inputs_are = standing (input_functions waves inputs) readers m stand ∙ map-map (λ f. f m) (input_at waves) inputs
 
   pub inputs_stay : (u : ℕ) → m ≤ u → u < next_among readers → inputs_by waves inputs u ≡ inputs_by waves inputs m
   inputs_stay u from below =
-      sym (map_twice (input_at waves) (λ f. f u) inputs)
+      sym (map-map (λ f. f u) (input_at waves) inputs)
       ∙ values_stay (input_functions waves inputs) readers m u stand from below
-      ∙ map_twice (input_at waves) (λ f. f m) inputs
+      ∙ map-map (λ f. f m) (input_at waves) inputs
 
   pub as_many_inputs : length readers ≡ length inputs
   as_many_inputs = as_many (input_functions waves inputs) readers m stand ∙ length-map inputs (input_at waves)

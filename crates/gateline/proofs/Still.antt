@@ -1,20 +1,22 @@
 -- What stays of one gate while nothing happens to it, and what its driver's states keep.
 use Rattle.std.proofs.Common.{◌≡◌, ◌<◌, ◌≤◌, ◌∙◌, sym, ap, refl, Bool, true, false, not, cond, ℕ, zero, suc, ◌+◌, List, [], ◌∷◌, ◌++◌, append-nil, append_assoc, length, Option, Some, None, IsTrue, arith, ⊎_elim}
+use Rattle.std.proofs.lemmas.Bool.{and_left, and_right, cond-false, not-false, or_parts}
+use Rattle.std.proofs.Math.Bool.{and-true}
+use Rattle.scratch.proofs.Still.{none_due, nothing_due}
+use Rattle.gateline.proofs.Lists.{same_values_equal, same_values_itself}
 use Rattle.std.specs.Option.{option_map_or, ForSome}
 use Rattle.std.specs.Prelude.{nat_le, ◌||◌, ◌&&◌}
 use Rattle.std.proofs.lemmas.Bool.{cases_lt, le-leb, leb-true, lt-leb}
-use Rattle.std.proofs.lemmas.Bool.Decides.{nat_tests}
 use Rattle.fourstate.specs.Gates.{takes_inputs}
 use Rattle.fourstate.specs.declared.delay_times.DelayTimes.{DelayTimes}
 use Rattle.fourstate.specs.declared.gate.GateKind.{GateKind}
 use Rattle.fourstate.specs.declared.limits.TheConstants.{MAX_DELAY}
 use Rattle.fourstate.specs.declared.value.Value.{Value}
 use Rattle.fourstate.specs.kept.Delays.{AreDelays}
-use Rattle.gatestep.specs.Step.{State, Evaluation, due, due_of}
+use Rattle.gatestep.specs.Step.{State, Evaluation, due}
 use Rattle.gatestep.specs.Tasks.{PendingFrom}
 use Rattle.gatestep.specs.kept.StepLaws.{not_due}
 use Rattle.gatestep.specs.kept.Tasks.{IsTask, NothingDue, PendingBefore, again}
-use Rattle.gateline.proofs.Lists.{neither, not_false, same_values_equal, same_values_itself}
 use Rattle.gateline.specs.kept.Line.{is_stirred_by, line_trace, line_work_from, state_by, task_by, work_at}
 use Rattle.scratch.specs.Work.{is_due, same_values}
 use Rattle.waveform.specs.Timelines.{changes_below}
@@ -23,17 +25,6 @@ use Rattle.waveform.specs.kept.Entries.{CanStore}
 use Rattle.waveform.specs.kept.Timelines.{IsAlwaysSettled}
 use Rattle.waveform.specs.declared.times.TheConstants.{TIME_END}
 
--- where nothing is due at t, what is pending is for later
-due_at : (p : Option (Value × ℕ)) (t : ℕ) → option_map_or (λ event. nat_le event.1 t) p false ≡ false → ForSome p (λ event. t < event.1)
-due_at None t h = λ event is. absurd (cc)
-due_at (Some event) t h = λ other is.
-    let late : t < event.1 = grind (arith, nat_tests) in
-    let same : event ≡ other = cc in
-    rw (← same) late
-
-pub nothing_due : (s : State) (t : ℕ) → is_due s t ≡ false → NothingDue t s
-nothing_due s t h = due_at s.pending t h
-
 -- before the moment of what is pending nothing is due
 not_due_at : (p : Option (Value × ℕ)) (n u : ℕ) → ForSome p (λ event. n ≤ event.1) → u < n → option_map_or (λ event. nat_le event.1 u) p false ≡ false
 not_due_at None n u early below = refl
@@ -41,14 +32,6 @@ not_due_at (Some event) n u early below = let from : n ≤ event.1 = early event
 
 pub not_due_yet : (s : State) (n u : ℕ) → ForSome s.pending (λ event. n ≤ event.1) → u < n → is_due s u ≡ false
 not_due_yet s n u early below = not_due_at s.pending n u early below
-
-none_due_of : (c : Value) (p : Option (Value × ℕ)) (t : ℕ) → option_map_or (λ event. nat_le event.1 t) p false ≡ false → due_of c p t ≡ record { current = c; pending = p }
-none_due_of c None t h = refl
-none_due_of c (Some event) t h = ap (λ (b : Bool). cond {A = State} b (record { current = event.0; pending = None }) (record { current = c; pending = Some event })) h
-
--- where nothing is due a state stays
-pub none_due : (s : State) (t : ℕ) → is_due s t ≡ false → due s t ≡ s
-none_due s t h = none_due_of s.current s.pending t h
 
 -- a moment at which a state merely drifts adds no entry (`waveform::laws::no_change_by_drift`)
 abbrev pub NoneAdded : Type 0
@@ -98,31 +81,17 @@ module _ (answer : Evaluation → ℕ → State) (kind : GateKind) (delays : Del
         sym (append-nil (from a (suc n))) ∙ ap (λ l. from a (suc n) ++ l) (sym (none_from (suc n))) ∙ ap (λ k. from a k ++ from k (suc n)) (sym here))
         (cases_lt m (suc n))
 
-    unasked : (w : Bool) (rest : List (Evaluation × ℕ)) → cond (w && false) rest [] ≡ []
-    unasked true rest = refl
-    unasked false rest = refl
-
     -- nothing is asked at a moment at which it is not stirred
     pub nothing_at : (t : ℕ) → stirred t ≡ false → work t ≡ []
-    nothing_at t off =
-        ap (λ (b : Bool). cond (wanted (task t) t && b) ((task t, t) ∷ []) []) off ∙ unasked (wanted (task t) t) ((task t, t) ∷ [])
-
-    kept : (b : Bool) → (b && true) ≡ b
-    kept true = refl
-    kept false = refl
+    nothing_at t off = cond-false (wanted (task t) t && stirred t) ((task t, t) ∷ []) [] (and_right (wanted (task t) t) (stirred t) off)
 
     -- where it is stirred it is asked if its task is wanted
     pub stirred_work : (t : ℕ) → stirred t ≡ true → work t ≡ cond (wanted (task t) t) ((task t, t) ∷ []) []
-    stirred_work t on =
-        ap (λ (b : Bool). cond (wanted (task t) t && b) ((task t, t) ∷ []) []) on ∙ ap (λ (b : Bool). cond b ((task t, t) ∷ []) []) (kept (wanted (task t) t))
+    stirred_work t on = ap (λ (b : Bool). cond b ((task t, t) ∷ []) []) (ap (λ (b : Bool). wanted (task t) t && b) on ∙ and-true (wanted (task t) t))
 
     -- nothing is asked where its task is not wanted
     unwanted_at : (t : ℕ) → wanted (task t) t ≡ false → work t ≡ []
-    unwanted_at t off = ap (λ (b : Bool). cond (b && stirred t) ((task t, t) ∷ []) []) off
-
-    empty : (b : Bool) → cond {A = List (Evaluation × ℕ)} b ([] ++ []) [] ≡ []
-    empty true = refl
-    empty false = refl
+    unwanted_at t off = cond-false (wanted (task t) t && stirred t) ((task t, t) ∷ []) [] (and_left (wanted (task t) t) (stirred t) off)
 
     pub never_asked : (a n : ℕ) → ((t : ℕ) → a ≤ t → t < n → wanted (task t) t ≡ false) → from a n ≡ []
     never_asked a zero off = refl
@@ -146,15 +115,15 @@ module _ (answer : Evaluation → ℕ → State) (kind : GateKind) (delays : Del
     -- where it is not stirred it keeps its state
     pub still_state : (t : ℕ) → stirred (suc t) ≡ false → state (suc (suc t)) ≡ state (suc t)
     still_state t off =
-        let parts = neither (not (same_values (inputs (suc t)) (inputs t))) (is_due (state (suc t)) (suc t)) off in
+        let parts = or_parts (not (same_values (inputs (suc t)) (inputs t))) (is_due (state (suc t)) (suc t)) off in
         ap (λ (vs : List Value). answer (record { kind = kind; delays = delays; state = state (suc t); inputs = vs }) (suc t))
-        (same_values_equal (inputs (suc t)) (inputs t) (not_false (same_values (inputs (suc t)) (inputs t)) parts.0))
+        (same_values_equal (inputs (suc t)) (inputs t) (not-false (same_values (inputs (suc t)) (inputs t)) parts.0))
         ∙ stays (task t) t (suc t) (omega arith) (nothing_due (state (suc t)) (suc t) parts.1)
 
     -- and adds no entry to its trace
     pub still_trace : NoneAdded → (t : ℕ) → stirred (suc t) ≡ false → line_trace answer kind delays inputs (suc (suc t)) ≡ line_trace answer kind delays inputs (suc t)
     still_trace none_added t off =
-        let parts = neither (not (same_values (inputs (suc t)) (inputs t))) (is_due (state (suc t)) (suc t)) off in
+        let parts = or_parts (not (same_values (inputs (suc t)) (inputs t))) (is_due (state (suc t)) (suc t)) off in
         none_added (λ u. state (suc u)) t (still_state t off ∙ sym (none_due (state (suc t)) (suc t) parts.1))
 
     -- what it has after r where it is the same as after m

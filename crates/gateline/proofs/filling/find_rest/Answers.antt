@@ -2,7 +2,8 @@ use Rattle.std.proofs.Common.{◌≡◌, ◌<◌, ◌∙◌, ap, sym, length, sl
 use Rattle.std.proofs.lemmas.Bool.{cases_lt}
 use Rattle.design.specs.Keys.{netlist}
 use Rattle.design.specs.kept.Places.{driver_places}
-use Rattle.gateline.proofs.Lists.{if_there, some_at}
+use Rattle.scratch.proofs.Lists.{if_there}
+use Rattle.gateline.proofs.Lists.{some_at}
 use Rattle.gateline.proofs.Marks.{all_waves, traced_all}
 use Rattle.gateline.proofs.filling.find_rest.Goals as goal
 use Rattle.gateline.specs.kept.Known.{AreTraced}

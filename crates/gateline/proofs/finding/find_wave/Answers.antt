@@ -5,7 +5,8 @@ use Rattle.std.proofs.lemmas.Option.{slice_get-map, slice_get_read}
 use Rattle.design.specs.Keys.{netlist}
 use Rattle.design.specs.Netlist.{stimulus}
 use Rattle.design.specs.kept.Places.{driver_places}
-use Rattle.gateline.proofs.Lists.{if_ok_then, of_there}
+use Rattle.scratch.proofs.Lists.{of_there}
+use Rattle.gateline.proofs.Lists.{if_ok_then}
 use Rattle.gateline.proofs.Lone.{input_wave_is, lone_at, lone_wave, traced_gate}
 use Rattle.gateline.proofs.Merging.{merged}
 use Rattle.gateline.proofs.Nets.{drivers_at}

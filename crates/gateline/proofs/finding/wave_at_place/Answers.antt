@@ -2,7 +2,8 @@ use Rattle.std.proofs.Common.{◌≡◌, ◌∙◌, sym, refl, None, Some, lengt
 use Rattle.std.proofs.lemmas.Bool.{ltb-false, ltb-true}
 use Rattle.std.proofs.lemmas.Option.{slice_get_past, slice_get_read}
 use Rattle.fourstate.specs.declared.value.Value.TheVariants.{Unknown}
-use Rattle.gateline.proofs.Lists.{if_ok_then, of_there}
+use Rattle.scratch.proofs.Lists.{of_there}
+use Rattle.gateline.proofs.Lists.{if_ok_then}
 use Rattle.gateline.proofs.Points.{no_change_between}
 use Rattle.gateline.proofs.Several.{current_there}
 use Rattle.gateline.proofs.finding.wave_at_place.Goals as goal

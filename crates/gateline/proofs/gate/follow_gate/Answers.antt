@@ -4,7 +4,9 @@ use Rattle.std.proofs.lemmas.Option.{slice_get_read}
 use Rattle.design.specs.Keys.{netlist}
 use Rattle.gateline.proofs.InDesign.{trace_below_is, trace_is, work_is}
 use Rattle.gateline.proofs.Inputs.{cell_at}
-use Rattle.gateline.proofs.Lists.{if_ok_then, if_there, of_there, on_err_then, on_ok_then, some_at}
+use Rattle.scratch.proofs.Lists.{if_there, of_there}
+use Rattle.std.proofs.lemmas.Result.{on_err_weaker, on_ok_weaker}
+use Rattle.gateline.proofs.Lists.{if_ok_then, some_at}
 use Rattle.gateline.proofs.gate.follow_gate.Goals as goal
 use Rattle.gateline.specs.kept.Gates.{gate_work_from}
 use Rattle.gateline.specs.kept.Known.{AreKnown}
@@ -77,7 +79,7 @@ returns-clause-asked g c =
     let beside = line_if c.args.start.beside in let begin = begin_of c.args.start.former in
     let works = work_is answer d waves c.value_of_changes.ensures (c.input_by_place.ensures d) gate cell is_cell known (wanted_by beside cell.inputs) in
     let old = g.S.Stepper.asked c.args.stepper.now in
-    on_ok_then c.follow_line.result
+    on_ok_weaker c.follow_line.result
     (λ (asked : g.S.Stepper.asked c.follow_line.new.stepper ≡ old ++ line_work_from answer cell.kind cell.delays (inputs_by waves cell.inputs) (wanted_by beside cell.inputs) begin (suc c.horizon.result)).
     if_there (slice_get d.gates place) gate (λ x. g.S.Stepper.asked c.follow_line.new.stepper ≡ old ++ gate_work_from answer d (wanted_by beside (cell_of d x).inputs) x begin (suc d.horizon)) it.1
     (asked ∙ ap (λ n. old ++ line_work_from answer cell.kind cell.delays (inputs_by waves cell.inputs) (wanted_by beside cell.inputs) begin (suc n)) end
@@ -99,7 +101,7 @@ returns-clause-part g c =
     let beside = line_if c.args.start.beside in let begin = begin_of c.args.start.former in
     let works = work_is answer d waves c.value_of_changes.ensures (c.input_by_place.ensures d) gate cell is_cell known (wanted_by beside cell.inputs) in
     let old = g.S.Stepper.asked c.args.stepper.now in
-    on_err_then c.follow_line.result
+    on_err_weaker c.follow_line.result
     (λ (part : (n : ℕ) × (n ≤ suc c.horizon.result)
     × (g.S.Stepper.asked c.follow_line.new.stepper ≡ old ++ line_work_from answer cell.kind cell.delays (inputs_by waves cell.inputs) (wanted_by beside cell.inputs) begin n)).
     let low : part.0 ≤ suc d.horizon = (let before = part.1 in omega arith) in

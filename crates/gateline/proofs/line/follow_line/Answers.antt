@@ -1,6 +1,8 @@
 use Rattle.std.proofs.Common.{◌≡◌, ◌<◌, ◌≤◌, ◌++◌, ◌∙◌, ap, sym, ℕ, suc, append-nil, IfSome, inl, inr, arith}
 use Rattle.gateline.proofs.Copied.{begin_unasked, begun_later, same_begin}
-use Rattle.gateline.proofs.Lists.{if_there, on_err_then, on_ok, on_ok_then}
+use Rattle.scratch.proofs.Lists.{if_there}
+use Rattle.std.proofs.lemmas.Result.{on_err_weaker, on_ok_weaker}
+use Rattle.gateline.proofs.Lists.{on_ok}
 use Rattle.gateline.proofs.line.follow_line.Goals as goal
 use Rattle.gateline.proofs.line.follow_line.Goals.{in_default-parting-via-in-Some-parting+else-moment-last, in_default-parting-via-in_default-parting}
 use Rattle.gateline.specs.kept.Line.{line_work_from, state_by}
@@ -44,7 +46,7 @@ returns-in-Some-parting-clause-asked g c =
     (λ some. c.parting.ensures.there (if_there c.parting.result moment (λ m. 0 < m) c.in-Some-parting.is some))
     (λ t before. c.parting.ensures.inputs t (if_there c.parting.result moment (λ m. t < m) c.in-Some-parting.is before))
     former c.begin_later.result moment _ (omega arith) c.begin_later.ensures.none c.begin_later.ensures.later (suc last) in
-    on_ok_then c.walk_line-in-Some-parting.result
+    on_ok_weaker c.walk_line-in-Some-parting.result
     (λ asked. asked
     ∙ ap (λ o. first ++ line_work_from answer cell.kind cell.delays inputs (wanted_by (line_if o) cell.inputs) (begin_of c.begin_later.result) (suc last)) c.in-Some.is
     ∙ ap (λ l. first ++ l) begun
@@ -61,7 +63,7 @@ returns-in-Some-parting-clause-part g c =
     (λ some. c.parting.ensures.there (if_there c.parting.result moment (λ m. 0 < m) c.in-Some-parting.is some))
     (λ t before. c.parting.ensures.inputs t (if_there c.parting.result moment (λ m. t < m) c.in-Some-parting.is before))
     former c.begin_later.result moment _ (omega arith) c.begin_later.ensures.none c.begin_later.ensures.later in
-    on_err_then c.walk_line-in-Some-parting.result
+    on_err_weaker c.walk_line-in-Some-parting.result
     (λ (part : (n : ℕ) × (n ≤ suc last) × (g.S.Stepper.asked c.walk_line-in-Some-parting.new.stepper
     ≡ first ++ line_work_from answer cell.kind cell.delays inputs (wanted_by (line_if c.args.start.beside) cell.inputs) (begin_of c.begin_later.result) n)). (
       part.0,

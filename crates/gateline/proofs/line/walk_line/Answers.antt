@@ -1,5 +1,5 @@
 use Rattle.std.proofs.Common.{◌≡◌, ◌≤◌, ◌++◌, ◌∙◌, ap, sym, ℕ, suc, append_assoc, arith}
-use Rattle.gateline.proofs.Lists.{on_err_then, on_ok_then}
+use Rattle.std.proofs.lemmas.Result.{on_err_weaker, on_ok_weaker}
 use Rattle.gateline.proofs.Still.{work_splits}
 use Rattle.gateline.proofs.line.walk_line.Goals as goal
 use Rattle.gateline.specs.kept.Line.{line_work_from, work_at}
@@ -12,7 +12,7 @@ returns-in_ok-walk-in-None-clause-asked g c =
     let answer = g.S.Stepper.answer in let cell = c.args.cell.now in let inputs = inputs_by c.args.along.waves.now cell.inputs in
     let old = g.S.Stepper.asked c.args.stepper.now in let last = suc c.args.last in let wanted = wanted_by (line_if c.args.start.beside) cell.inputs in
     let first = work_at answer cell.kind cell.delays inputs wanted 0 in let beside = c.in_ok-walk-in-None.ensures.beside in
-    on_ok_then c.go_on.result
+    on_ok_weaker c.go_on.result
     (λ (later : g.S.Stepper.asked c.go_on.new.stepper ≡ g.S.Stepper.asked c.open.new.stepper ++ line_work_from answer cell.kind cell.delays inputs (wanted_by (line_if c.in_ok-walk-in-None.walk.course.beside) cell.inputs) 1 last).
     later ∙ (λ i. c.in_ok-walk-in-None.ensures.asked i ++ line_work_from answer cell.kind cell.delays inputs (wanted_by (line_if (beside i)) cell.inputs) 1 last)
     ∙ append_assoc old first (line_work_from answer cell.kind cell.delays inputs wanted 1 last)
@@ -25,7 +25,7 @@ returns-in_ok-walk-in-None-clause-part g c =
     let answer = g.S.Stepper.answer in let cell = c.args.cell.now in let inputs = inputs_by c.args.along.waves.now cell.inputs in
     let old = g.S.Stepper.asked c.args.stepper.now in let wanted = wanted_by (line_if c.args.start.beside) cell.inputs in
     let first = work_at answer cell.kind cell.delays inputs wanted 0 in let beside = c.in_ok-walk-in-None.ensures.beside in
-    on_err_then c.go_on.result
+    on_err_weaker c.go_on.result
     (λ (part : (n : ℕ) × (1 ≤ n) × (n ≤ suc c.args.last)
     × (g.S.Stepper.asked c.go_on.new.stepper ≡ g.S.Stepper.asked c.open.new.stepper ++ line_work_from answer cell.kind cell.delays inputs (wanted_by (line_if c.in_ok-walk-in-None.walk.course.beside) cell.inputs) 1 n)). (
       part.0,
@@ -42,7 +42,7 @@ returns-in_ok-walk-in-Some-clause-part g c =
     let answer = g.S.Stepper.answer in let cell = c.args.cell.now in let inputs = inputs_by c.args.along.waves.now cell.inputs in
     let old = g.S.Stepper.asked c.args.stepper.now in let wanted = wanted_by (line_if c.args.start.beside) cell.inputs in
     let beside = c.in_ok-walk-in-Some.ensures.beside in let begin = suc c.in-Some.former.done in
-    on_err_then c.go_on-in-Some.result
+    on_err_weaker c.go_on-in-Some.result
     (λ (part : (n : ℕ) × (begin ≤ n) × (n ≤ suc c.args.last)
     × (g.S.Stepper.asked c.go_on-in-Some.new.stepper ≡ old ++ line_work_from answer cell.kind cell.delays inputs (wanted_by (line_if c.in_ok-walk-in-Some.walk.course.beside) cell.inputs) begin n)). (
       part.0,

@@ -1,8 +1,7 @@
 use Rattle.std.proofs.Common.{◌≡◌, ◌<◌, ◌≤◌, ◌-◌, ◌++◌, ◌∙◌, ap, sym, subst, refl, suc, min, [], ◌∷◌, All, map, take, drop, length, arith}
-use Rattle.std.proofs.lemmas.List.{length-map}
 use Rattle.fourstate.specs.Nets.{net_of}
 use Rattle.fourstate.specs.Values.{same_value}
-use Rattle.gateline.proofs.Lists.{refilled}
+use Rattle.gateline.proofs.Stands.{refilled}
 use Rattle.gateline.proofs.Merging.{Goes, goes, merged}
 use Rattle.gateline.proofs.merge.merge_waves.Goals as goal
 use Rattle.gateline.specs.kept.Readers.{StandAt, next_among, seen, seen_then}
@@ -19,7 +18,7 @@ loop-t-init c =
     let is : r ≡ min (next_among new) c.args.end = c.min-t.ensures ∙ ap (λ n. min n c.args.end) read.next in
     let go : Goes kind waves new 0 r c.args.end = goes kind waves old new 0 0 r c.args.end c.in_ok-readers.ensures (omega arith) (omega arith) same (omega arith) c.requires.begun is in
     let whole : take c.in_ok-readers.readers.len (new ++ drop (length new) old) ≡ new =
-    ap (λ n. take n (new ++ drop (length new) old)) c.in_ok-readers.readers.ok.0 ∙ refilled old new (sym (length-map new seen) ∙ ap length same ∙ length-map old (seen_then 0)) in
+    ap (λ n. take n (new ++ drop (length new) old)) c.in_ok-readers.readers.ok.0 ∙ refilled old new 0 same in
     record {
       begun = go.later;
       within = go.within;
@@ -39,7 +38,7 @@ loop-t-preserved c =
     let stored : t < TIME_END = (let within = c.requires.within in omega arith) in
     let go : Goes kind waves new t r c.args.end = goes kind waves old new (t - 1) t r c.args.end so_far.stand (omega arith) so_far.next same stored low is in
     let whole : take c.loop-t.readers.len (new ++ drop (length new) old) ≡ new =
-    ap (λ n. take n (new ++ drop (length new) old)) c.loop-t.readers.ok.0 ∙ refilled old new (sym (length-map new seen) ∙ ap length same ∙ length-map old (seen_then t)) in
+    ap (λ n. take n (new ++ drop (length new) old)) c.loop-t.readers.ok.0 ∙ refilled old new t same in
     record {
       begun = let later : t < r = go.later in omega arith;
       within = go.within;

@@ -1,8 +1,7 @@
-use Rattle.std.proofs.Common.{◌≡◌, ◌+◌, ◌++◌, sym, subst, refl, [], ◌∷◌, Some, length, map, slice_get, take}
-use Rattle.std.proofs.lemmas.List.{map-append, take_all}
+use Rattle.std.proofs.Common.{◌≡◌, ◌+◌, sym, subst, refl, [], Some, length, map, slice_get, take}
+use Rattle.std.proofs.lemmas.List.{take_all}
 use Rattle.std.proofs.lemmas.Option.{slice_get_read}
-use Rattle.gateline.proofs.Lists.{take_next}
-use Rattle.gateline.proofs.Stands.{stand_more}
+use Rattle.gateline.proofs.Stands.{stand_next}
 use Rattle.gateline.proofs.merge.open_each.Goals as goal
 use Rattle.gateline.specs.kept.Readers.{StandAt}
 use Rattle.waveform.specs.Changes.{wave_at}
@@ -14,11 +13,8 @@ pub loop-wave-preserved : goal.loop-wave-preserved
 loop-wave-preserved c =
     let waves = c.args.waves.now in let i = c.loop-wave.wave-index in let x = c.wave-item.result in
     let at : slice_get waves i ≡ Some x = slice_get_read waves (length waves) i x refl c.loop-wave-test.true c.wave-item.is in
-    let more : take (i + 1) waves ≡ take i waves ++ x ∷ [] = take_next waves i x at in
-    subst (λ l. StandAt (map wave_at l) c.push.new.self.items 0) (sym more)
-    (subst (λ fs. StandAt fs c.push.new.self.items 0) (sym (map-append wave_at (take i waves) (x ∷ [])))
-    (subst (λ readers. StandAt (map wave_at (take i waves) ++ wave_at x ∷ []) readers 0) (sym c.in_ok-push.ensures.items)
-    (stand_more (map wave_at (take i waves)) c.loop-wave.readers.items 0 (wave_at x) c.open.result c.loop-wave.invariant c.open.ensures)))
+    subst (λ readers. StandAt (map wave_at (take (i + 1) waves)) readers 0) (sym c.in_ok-push.ensures.items)
+    (stand_next wave_at waves i x c.loop-wave.readers.items c.open.result 0 at c.loop-wave.invariant c.open.ensures)
 
 pub returns : goal.returns
 returns c =

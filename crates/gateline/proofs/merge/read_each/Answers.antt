@@ -1,7 +1,8 @@
-use Rattle.std.proofs.Common.{◌≡◌, ◌<◌, ◌+◌, ◌++◌, ◌∙◌, ap, sym, refl, suc, min, [], ◌∷◌, Some, map, take, drop, set, length, get_or, slice_get, add-one, arith}
+use Rattle.std.proofs.Common.{◌≡◌, ◌<◌, ◌+◌, ◌++◌, ◌∙◌, ap, sym, refl, min, [], ◌∷◌, Some, map, take, drop, length, get_or, slice_get, arith}
 use Rattle.std.proofs.lemmas.List.{get_or-set_same, map-append, take_all}
+use Rattle.std.proofs.lemmas.List.{drop_more, drop-set-lt, take_more_set}
 use Rattle.std.proofs.lemmas.Option.{slice_get_read}
-use Rattle.gateline.proofs.Lists.{drop_past_set, same_back, same_there, take_next, take_set}
+use Rattle.scratch.proofs.Lists.{take_next}
 use Rattle.gateline.proofs.Merging.{next_more}
 use Rattle.gateline.proofs.merge.read_each.Goals as goal
 use Rattle.gateline.specs.declared.reader.Reader.{Reader}
@@ -14,11 +15,12 @@ pub loop-place-preserved : goal.loop-place-preserved
 loop-place-preserved c =
     let before = c.args.readers.now in let readers = c.loop-place.readers in let p = c.loop-place.place in let t = c.args.t in
     let old = c.index-readers-place.result in let x = c.pass.new.self in let reader = c.index-readers-place-in-loop-place.result in let so_far = c.loop-place.invariant in
-    let place : p + 1 ≡ suc p = add-one p in
     let many : length readers ≡ length before = c.loop-place.auto.readers in
     let inside : p < length readers = (let below = c.loop-place-test.true in omega arith) in
-    let written : take (p + 1) (set readers p x) ≡ take p readers ++ x ∷ [] = ap (λ k. take k (set readers p x)) place ∙ take_set readers p x inside in
-    let was : old ≡ get_or before p old = c.index-readers-place.is ∙ same_there readers before p old so_far.back in
+    let written = take_more_set readers p x inside in
+    let back_there = drop_more readers p old inside in let back_before = drop_more before p old (omega arith) in
+    let was : old ≡ get_or before p old = cc in
+    let back : drop (p + 1) readers ≡ drop (p + 1) before = cc in
     let there : slice_get before p ≡ Some old = slice_get_read before (length before) p old refl (omega arith) was in
     let former : take (p + 1) before ≡ take p before ++ old ∷ [] = take_next before p old there in
     let one : seen x ≡ seen_then t old = (λ i. (c.pass.ensures.value i, c.pass.ensures.rest i)) ∙ ap (seen_then t) (sym c.index-readers-place.is) in
@@ -26,7 +28,7 @@ loop-place-preserved c =
     record {
       front = ap (map seen) written ∙ map-append seen (take p readers) (x ∷ []) ∙ (λ i. so_far.front i ++ one i ∷ [])
           ∙ sym (map-append (seen_then t) (take p before) (old ∷ [])) ∙ sym (ap (map (seen_then t)) former);
-      back = ap (λ k. drop k (set readers p x)) place ∙ drop_past_set readers p x ∙ same_back readers before p so_far.back ∙ sym (ap (λ k. drop k before) place);
+      back = drop-set-lt (p + 1) readers p x (omega arith) ∙ back;
       values = c.in_ok-push.ensures.items ∙ ap (λ vs. vs ++ reader.value ∷ []) so_far.values
           ∙ ap (λ (r : Reader). map (λ (reader : Reader). reader.value) (take p readers) ++ r.value ∷ []) read_back
           ∙ sym (map-append (λ (reader : Reader). reader.value) (take p readers) (x ∷ [])) ∙ sym (ap (map (λ (reader : Reader). reader.value)) written);

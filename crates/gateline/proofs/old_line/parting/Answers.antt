@@ -1,17 +1,13 @@
-use Rattle.std.proofs.Common.{◌≡◌, ◌<◌, ◌∙◌, ap, sym, Some, length, map, refl, slice_get}
-use Rattle.std.proofs.lemmas.Bool.{ltb-true}
-use Rattle.std.proofs.lemmas.Option.{slice_get_read}
-use Rattle.gateline.proofs.OldReads.{at_place, lent_there}
+use Rattle.std.proofs.Common.{◌∙◌, sym, Some, map}
+use Rattle.gateline.proofs.Lists.{found_at}
+use Rattle.gateline.proofs.OldReads.{lent_at, reads}
 use Rattle.gateline.proofs.old_line.parting.Goals as goal
-use Rattle.gateline.specs.kept.Waves.{input_at}
 
 pub returns : goal.returns
 returns c = λ t early.
     let lent = c.args.olds.now in let waves = c.args.waves.now in let place = c.in-At.place in let old = c.in-Some.old.now in let wave = c.in-Some-get.wave.now in
-    let old_within : place < length lent = ltb-true place (length lent) (sym c.in-Some.ensures.lookup.0) in
-    let old_there : slice_get lent place ≡ Some old = slice_get_read lent (length lent) place old refl old_within c.in-Some.ensures.lookup.1 in
-    let within : place < length waves = ltb-true place (length waves) (sym c.in-Some-get.ensures.lookup.0) in
-    let there : slice_get waves place ≡ Some wave = slice_get_read waves (length waves) place wave refl within c.in-Some-get.ensures.lookup.1 in
-    ap (λ input. input_at (map (λ w. w.now) lent) input t) c.in-At.is ∙ at_place (map (λ w. w.now) lent) place old.now t (lent_there lent place old old_there)
+    let old_there = found_at lent place old c.in-Some.ensures.lookup.0 c.in-Some.ensures.lookup.1 in
+    let there = found_at waves place wave c.in-Some-get.ensures.lookup.0 c.in-Some-get.ensures.lookup.1 in
+    reads (map (λ w. w.now) lent) c.args.input place (Some old.now) t c.in-At.is (lent_at lent place (Some old) old_there)
     ∙ c.parting.ensures.before t early
-    ∙ sym (ap (λ input. input_at waves input t) c.in-At.is ∙ at_place waves place wave t there)
+    ∙ sym (reads waves c.args.input place (Some wave) t c.in-At.is there)

@@ -1,7 +1,7 @@
-use Rattle.std.proofs.Common.{◌≡◌, ◌<◌, ◌+◌, ◌∙◌, ◌-◌, ap, sym, subst, refl, suc, min, List, [], ◌∷◌, map, take, drop, set, length, get_or, arith}
+use Rattle.std.proofs.Common.{◌≡◌, ◌<◌, ◌+◌, ◌∙◌, ◌-◌, ap, sym, subst, refl, min, List, [], ◌∷◌, map, take, drop, set, length, get_or, arith}
 use Rattle.std.proofs.lemmas.List.{drop_more, get_or-set_same, length-set, take-set-le, take-take}
+use Rattle.std.proofs.lemmas.List.{drop_all, drop-set, get_or-take}
 use Rattle.fourstate.specs.declared.value.Value.{Value}
-use Rattle.gateline.proofs.Lists.{drop_set, drop_whole, same_front}
 use Rattle.gateline.proofs.readers.read_many.Goals as goal
 use Rattle.gateline.specs.declared.reader.Reader.{Reader}
 use Rattle.gateline.specs.kept.Readers.{next_among, next_of, seen, seen_then}
@@ -9,7 +9,7 @@ use Rattle.gateline.specs.kept.Readers.{next_among, next_of, seen, seen_then}
 pub loop-place-init : goal.loop-place-init
 loop-place-init c =
     let readers = c.args.readers.now in
-    let none : drop (length readers) readers ≡ [] = drop_whole readers in
+    let none : drop (length readers) readers ≡ [] = drop_all (length readers) readers (omega arith) in
     record {
       front = refl;
       back = ap (map seen) none ∙ sym (ap (map (seen_then c.args.t)) none);
@@ -24,15 +24,16 @@ loop-place-preserved c =
     let old = c.index-readers-place.result in let x = c.pass.new.self in let reader = c.index-readers-place-in-loop-place.result in
     let begun : 0 < p = c.loop-place-test.true in
     let inside : p - 1 < length readers = (let within = c.loop-place.invariant.within in omega arith) in
-    let next_place : suc (p - 1) ≡ p = omega arith in
+    let next_place : p - 1 + 1 ≡ p = omega arith in
     let many : length readers ≡ length before = c.loop-place.auto.readers in
     let behind : drop (p - 1) (set readers (p - 1) x) ≡ x ∷ drop p readers =
-    drop_set readers (p - 1) x inside ∙ ap (λ k. x ∷ drop k readers) next_place in
+    drop-set readers (p - 1) x inside ∙ ap (λ k. x ∷ drop k readers) next_place in
     let was : get_or before (p - 1) old ≡ old =
-    sym (same_front readers before (p - 1) p old (omega arith) c.loop-place.invariant.front) ∙ sym c.index-readers-place.is in
+    sym (get_or-take p before (p - 1) old (omega arith)) ∙ ap (λ l. get_or l (p - 1) old) (sym c.loop-place.invariant.front)
+    ∙ get_or-take p readers (p - 1) old (omega arith) ∙ sym c.index-readers-place.is in
     let former : drop (p - 1) before ≡ old ∷ drop p before =
     drop_more before (p - 1) old (omega arith) ∙ (λ i. was i ∷ drop (p - 1 + 1) before)
-    ∙ ap (λ k. old ∷ drop k before) (let same : p - 1 + 1 ≡ p = omega arith in same) in
+    ∙ ap (λ k. old ∷ drop k before) next_place in
     let one : seen x ≡ seen_then t old = (λ i. (c.pass.ensures.value i, c.pass.ensures.rest i)) ∙ ap (seen_then t) (sym c.index-readers-place.is) in
     let read_back : reader ≡ x = c.index-readers-place-in-loop-place.is ∙ get_or-set_same readers (p - 1) x reader inside in
     let sorted : min (next_among (drop p readers)) (next_of x.rest.now) ≡ min (next_of x.rest.now) (next_among (drop p readers)) = omega arith in

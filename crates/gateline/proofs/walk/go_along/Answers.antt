@@ -1,18 +1,20 @@
-use Rattle.std.proofs.Common.{◌≡◌, ◌<◌, ◌+◌, ◌∙◌, ap, sym, ℕ, suc, cond, inl, inr, arith}
+use Rattle.std.proofs.Common.{◌≡◌, ◌<◌, ◌≤◌, ◌+◌, ◌∙◌, ap, sym, ℕ, suc, cond, inl, inr, arith}
 use Rattle.std.proofs.lemmas.Bool.{cases_lt, le-ltb, lt-ltb}
+use Rattle.gatestep.specs.Step.{State}
+use Rattle.std.proofs.lemmas.List.Elements.{All-weaker}
 use Rattle.gatestep.specs.Step.{due, initial}
-use Rattle.gateline.proofs.Ends.{below_end, ends_by}
+use Rattle.waveform.proofs.Ends.{below_end, end_within}
 use Rattle.gateline.proofs.walk.go_along.Goals as goal
 use Rattle.waveform.specs.Timelines.{entries_until, value_by}
 use Rattle.waveform.specs.kept.Changes.{state_at}
 
 pub follow-requires-clause-later : goal.follow-requires-clause-later
-follow-requires-clause-later c = ends_by c.args.trace (c.args.t + 1) c.requires.early
+follow-requires-clause-later c = end_within c.args.trace (c.args.t + 1) c.requires.early
 
 pub returns : goal.returns
 returns c = λ f settled is whole agree.
     let t = c.args.t in let last = c.args.last in let new = c.in_ok-trace.trace in let old = c.args.old.now in
-    let all = below_end new last c.in_ok-trace.ensures.end in
+    let all = All-weaker (λ (e : ℕ × State). e.0 < suc last) (λ e. e.0 ≤ last) (λ e h. omega arith) new (below_end new (suc last) c.in_ok-trace.ensures.end) in
     let uncut : entries_until old last ≡ old =
     ap (λ l. entries_until l last) whole ∙ c.cut_of_changes.ensures (state_at old) last (suc last) (omega arith) ∙ sym whole in
     let values : (u : ℕ) → u < suc last → value_by due initial new u ≡ f u

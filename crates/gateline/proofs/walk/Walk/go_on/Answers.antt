@@ -2,7 +2,8 @@ use Rattle.std.proofs.Common.{◌≡◌, ◌<◌, ◌≤◌, ◌+◌, ◌-◌, �
 use Rattle.fourstate.specs.Gates.{takes_inputs}
 use Rattle.fourstate.specs.kept.Delays.{AreDelays}
 use Rattle.gateline.proofs.Copied.{states, unasked}
-use Rattle.gateline.proofs.Lists.{if_ok_then, on_err, on_ok}
+use Rattle.gatestep.proofs.Jobs.{on_err}
+use Rattle.gateline.proofs.Lists.{if_ok_then, on_ok}
 use Rattle.gateline.proofs.Still.{one_more_from, work_splits}
 use Rattle.gateline.proofs.Walking.{settled_line, still_at}
 use Rattle.gateline.specs.declared.walk.Course.{Course}
@@ -26,7 +27,7 @@ returns-in_err-pass-clause-part g c =
     ∙ ap (λ l. l ++ here) (c.loop-t.invariant.asked ∙ ap (λ m. first ++ line_work_from answer cell.kind cell.delays inputs wanted (suc begin) (suc m)) stood)
     ∙ append_assoc first (line_work_from answer cell.kind cell.delays inputs wanted (suc begin) (suc done)) here
     ∙ ap (λ l. first ++ l) (sym (one_more_from answer cell.kind cell.delays inputs wanted (suc begin) (suc done) (omega arith))) in
-    on_err c.from_residual.result _ (suc (suc done), omega arith, omega arith, more)
+    on_err c.from_residual.result (suc (suc done), omega arith, omega arith, more)
 
 pub pass-requires-clause-at : goal.pass-requires-clause-at
 pass-requires-clause-at g c =
@@ -150,4 +151,4 @@ returns-in-Some-clause-part g c =
     ∙ ap (λ l. l ++ here) (c.loop-t.invariant.asked ∙ ap (λ m. first ++ line_work_from answer cell.kind cell.delays inputs wanted (suc begin) (suc m)) stood)
     ∙ append_assoc first (line_work_from answer cell.kind cell.delays inputs wanted (suc begin) (suc done)) here
     ∙ ap (λ l. first ++ l) (sym (one_more_from answer cell.kind cell.delays inputs wanted (suc begin) (suc done) (omega arith))) in
-    on_err c.go_along.result _ (suc (suc done), omega arith, omega arith, more)
+    on_err c.go_along.result (suc (suc done), omega arith, omega arith, more)

@@ -1,11 +1,12 @@
 use Rattle.std.proofs.Common.{◌≡◌, ◌++◌, ◌∙◌, ap, sym, subst, refl, cond, List, [], ◌∷◌, IsTrue, map, length, arith}
 use Rattle.std.specs.List.{refill}
-use Rattle.std.proofs.lemmas.List.{length-map}
 use Rattle.fourstate.specs.Gates.{takes_inputs}
 use Rattle.fourstate.specs.declared.value.Value.{Value}
 use Rattle.fourstate.specs.kept.Delays.{AreDelays}
 use Rattle.waveform.specs.kept.Entries.{CanStore}
-use Rattle.gateline.proofs.Lists.{few_inputs, on_err, refilled}
+use Rattle.gateline.proofs.Stands.{refilled}
+use Rattle.gatestep.proofs.Jobs.{on_err}
+use Rattle.gateline.proofs.Lists.{few_inputs}
 use Rattle.gateline.proofs.Still.{stirred_work}
 use Rattle.gateline.proofs.Stands.{as_many_inputs, inputs_are, stands_passed}
 use Rattle.gateline.proofs.Walking.{fits, storable_line}
@@ -63,7 +64,7 @@ returns-in_err-trace-clause-part g c =
     let task : ◌≡◌ {A = Evaluation} (record { kind = cell.kind; delays = cell.delays; state = c.start.result; inputs = c.read-reading.result.inputs }) (task_by answer cell.kind cell.delays (inputs_by waves cell.inputs) 0) =
     λ i. record { kind = cell.kind; delays = cell.delays; state = c.start.ensures i; inputs = inputs i } in
     let wanted = wanted_by (line_if c.args.beside) cell.inputs in
-    on_err c.from_residual-in_err-trace.result _ (
+    on_err c.from_residual-in_err-trace.result (
       1,
       omega arith,
       c.next_state-state.ensures.asked
@@ -82,7 +83,7 @@ returns-clause-at g c =
     let task : ◌≡◌ {A = Evaluation} (record { kind = cell.kind; delays = cell.delays; state = c.start.result; inputs = c.read-reading.result.inputs }) (task_by answer cell.kind cell.delays (inputs_by waves cell.inputs) 0) =
     λ i. record { kind = cell.kind; delays = cell.delays; state = c.start.ensures i; inputs = inputs i } in
     let state : c.next_state-state.result ≡ state_by answer cell.kind cell.delays (inputs_by waves cell.inputs) 1 = c.next_state-state.ensures.state ∙ ap (λ e. answer e 0) task in
-    let whole : refill (length old) old new ≡ new = refilled old new (sym (length-map new seen) ∙ ap length same ∙ length-map old (seen_then 0)) in
+    let whole : refill (length old) old new ≡ new = refilled old new 0 same in
     record {
       state = state;
       inputs = inputs;

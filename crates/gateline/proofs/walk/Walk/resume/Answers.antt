@@ -1,10 +1,10 @@
 use Rattle.std.proofs.Common.{◌≡◌, ◌<◌, ◌∙◌, ap, sym, subst, suc, IsTrue, map, length, arith}
 use Rattle.std.specs.List.{refill}
-use Rattle.std.proofs.lemmas.List.{length-map}
 use Rattle.fourstate.specs.Gates.{takes_inputs}
 use Rattle.fourstate.specs.kept.Delays.{AreDelays}
 use Rattle.gatestep.specs.Step.{due, initial}
-use Rattle.gateline.proofs.Lists.{few_inputs, refilled}
+use Rattle.gateline.proofs.Stands.{refilled}
+use Rattle.gateline.proofs.Lists.{few_inputs}
 use Rattle.gateline.proofs.Stands.{ahead, as_many_inputs, inputs_are, stands_passed}
 use Rattle.gateline.proofs.Walking.{settled_line}
 use Rattle.gateline.proofs.walk.Walk.resume.Goals as goal
@@ -34,7 +34,7 @@ returns-clause-at g c =
     let same : map seen new ≡ map (seen_then done) old = c.read-reading.ensures.readers ∙ ap (map (seen_then done)) c.as_mut_slice.ensures.value in
     let next : done < next_among old = ahead (input_functions waves cell.inputs) old done c.in_ok-readers.ensures (let low = c.requires.within in omega arith) in
     let stand = stands_passed (input_functions waves cell.inputs) old new done done c.in_ok-readers.ensures (omega arith) (omega arith) same in
-    let whole : refill (length old) old new ≡ new = refilled old new (sym (length-map new seen) ∙ ap length same ∙ length-map old (seen_then done)) in
+    let whole : refill (length old) old new ≡ new = refilled old new done same in
     let settled = settled_line answer cell waves fit are law.answer_pending in
     record {
       state = c.at-state.ensures.value ∙ ap (λ line. value_by due initial line done) (c.in_ok-trace.ensures.entries ∙ c.requires.trace)
