@@ -1,5 +1,9 @@
 -- Readers of functions of time, side by side.
-use Rattle.std.proofs.Common.{◌≡◌, ◌<◌, ◌≤◌, ◌+◌, ◌∙◌, ap, sym, subst, refl, ℕ, List, [], ◌∷◌, ◌++◌, Some, map, take, drop, length, slice_get, arith}
+use Rattle.std.proofs.Common.{◌≡◌, ◌<◌, ◌≤◌, ◌+◌, ◌∙◌, ap, sym, subst, refl, ℕ, List, [], ◌∷◌, ◌++◌, Some, map, take, drop, length, slice_get, IsTrue, arith}
+use Rattle.gateline.proofs.Lists.{few_inputs}
+use Rattle.fourstate.specs.declared.limits.TheConstants.{MAX_INPUTS}
+use Rattle.fourstate.specs.declared.gate.GateKind.{GateKind}
+use Rattle.fourstate.specs.Gates.{takes_inputs}
 use Rattle.std.specs.List.{refill}
 use Rattle.gatestep.proofs.Jobs.{zip_push}
 use Rattle.std.proofs.lemmas.List.{map-append, take_at}
@@ -107,5 +111,9 @@ module _ (waves : List (List (ℕ × Value))) (inputs : List Input) (readers : L
       ∙ values_stay (input_functions waves inputs) readers m u stand from below
       ∙ map-map (λ f. f m) (input_at waves) inputs
 
-  pub as_many_inputs : length readers ≡ length inputs
-  as_many_inputs = as_many (input_functions waves inputs) readers m stand ∙ length-map inputs (input_at waves)
+  -- and there are few
+  pub few_readers : (kind : GateKind) → IsTrue (takes_inputs kind (length inputs)) → length readers ≤ MAX_INPUTS
+  few_readers kind fit =
+      let few = few_inputs kind (length inputs) fit in
+      let many = as_many (input_functions waves inputs) readers m stand ∙ length-map inputs (input_at waves) in
+      omega arith

@@ -59,7 +59,12 @@ module _ (answer : Evaluation → ℕ → State) (kind : GateKind) (delays : Del
     pub one_more_from : (n t : ℕ) → n ≤ t → from n (suc t) ≡ from n t ++ work t
     one_more_from n t low = ap (λ (b : Bool). cond b (from n t ++ work t) []) (le-leb n t low)
 
-    pub none_from : (n : ℕ) → from n n ≡ []
+    -- where that was asked before, and what is asked at t was added
+    pub asked_more : (first before after : List (Evaluation × ℕ)) (n t : ℕ) → n ≤ t → before ≡ first ++ from n t → after ≡ before ++ work t → after ≡ first ++ from n (suc t)
+    asked_more first before after n t low is more =
+        more ∙ ap (λ l. l ++ work t) is ∙ append_assoc first (from n t) (work t) ∙ ap (λ l. first ++ l) (sym (one_more_from n t low))
+
+    none_from : (n : ℕ) → from n n ≡ []
     none_from zero = refl
     none_from (suc n) = ap (λ (b : Bool). cond b (from (suc n) n ++ work n) []) (lt-leb (suc n) n (omega arith))
 

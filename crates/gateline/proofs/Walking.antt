@@ -1,5 +1,5 @@
 -- A gate that is followed: what stands where nothing happens, and what a moment makes of it.
-use Rattle.std.proofs.Common.{◌≡◌, ◌<◌, ◌≤◌, ◌-◌, ◌∙◌, ap, sym, subst, IsTrue, Bool, false, not, ℕ, suc, ◌+◌, List, map, length, arith}
+use Rattle.std.proofs.Common.{◌≡◌, ◌<◌, ◌≤◌, ◌-◌, ◌∙◌, ap, sym, subst, cond, IsTrue, Bool, true, false, not, ℕ, suc, ◌+◌, List, [], ◌∷◌, map, length, add-one, arith}
 use Rattle.std.specs.Prelude.{◌||◌}
 use Rattle.std.proofs.lemmas.List.{length-map}
 use Rattle.fourstate.specs.Gates.{takes_inputs}
@@ -10,12 +10,12 @@ use Rattle.gatestep.specs.Step.{State, Evaluation, due}
 use Rattle.gatestep.specs.Tasks.{PendingFrom}
 use Rattle.gatestep.specs.kept.Tasks.{IsTask, NothingDue, PendingBefore, again}
 use Rattle.gateline.proofs.Stands.{inputs_are, inputs_stay, stands_later, stands_passed}
-use Rattle.gateline.proofs.Still.{NoneAdded, StaysTo, ready, settled, stays_to, still_state, still_trace, storable}
+use Rattle.gateline.proofs.Still.{NoneAdded, StaysTo, ready, settled, stays_to, stirred_work, storable}
 use Rattle.gateline.specs.declared.old_line.Near.{Near}
 use Rattle.gateline.specs.declared.reader.Reader.{Reader}
 use Rattle.gateline.specs.declared.walk.Course.{Course}
 use Rattle.gateline.specs.declared.walk.Situation.{Situation}
-use Rattle.gateline.specs.kept.Line.{is_stirred_by, line_trace, line_work_from, state_by, task_by}
+use Rattle.gateline.specs.kept.Line.{is_stirred_by, line_trace, line_work_from, state_by, work_at}
 use Rattle.gateline.specs.kept.Readers.{StandAt, next_among, seen, seen_then}
 use Rattle.gateline.specs.kept.Walks.{IsAt}
 use Rattle.gateline.specs.kept.Waves.{input_functions, inputs_by}
@@ -74,39 +74,39 @@ module _ (answer : Evaluation → ℕ → State) (cell : CellRecord) (waves : Li
           line_work_from answer cell.kind cell.delays inputs wanted n (suc r) ≡ line_work_from answer cell.kind cell.delays inputs wanted n (suc m)
       idle = all_stays.works
 
-    -- a moment at which the gate is not stirred
-    module _ (m : ℕ) (off : is_stirred_by answer cell.kind cell.delays inputs (suc m) ≡ false) where
-      pub same_state_after : state_by answer cell.kind cell.delays inputs (suc (suc m)) ≡ state_by answer cell.kind cell.delays inputs (suc m)
-      same_state_after = still_state answer cell.kind cell.delays inputs stays m off
+  -- a gate whose state is this one is evaluated with these values
+  abbrev task : State → List Value → Evaluation
+  task state values = record { kind = cell.kind; delays = cell.delays; state = state; inputs = values }
 
-      pub same_trace_after : line_trace answer cell.kind cell.delays inputs (suc (suc m)) ≡ line_trace answer cell.kind cell.delays inputs (suc m)
-      same_trace_after = still_trace answer cell.kind cell.delays inputs stays none_added m off
+  -- what is read at the moment n, where t is n
+  pub record Read (state : State) (new : List Reader) (values : List Value) (t n : ℕ) : Type 0 where
+    pub stand : StandAt (input_functions waves cell.inputs) new n
+    pub are : values ≡ inputs n
+    pub next : answer (task state values) t ≡ state_by answer cell.kind cell.delays inputs (suc n)
+    pub asked : (wanted : Evaluation → ℕ → Bool) → is_stirred_by answer cell.kind cell.delays inputs n ≡ true →
+        cond (wanted (task state values) t) ((task state values, t) ∷ []) [] ≡ work_at answer cell.kind cell.delays inputs wanted n
 
-  -- the readers at the moment after m
-  module _ (situation : Situation) (course : Course) (m : ℕ) (new : List Reader) (at : IsAt answer cell waves situation course m) (below : m < next_among course.readers.items)
-      (same : map seen new ≡ map (seen_then (suc m)) course.readers.items) where
-    pub stand_after : StandAt (input_functions waves cell.inputs) new (suc m)
-    stand_after = stands_passed (input_functions waves cell.inputs) course.readers.items new m (suc m) at.readers (omega arith) (omega arith) same
+  pub read : (state : State) (old new : List Reader) (values : List Value) (t m n : ℕ) → state ≡ state_by answer cell.kind cell.delays inputs n →
+      StandAt (input_functions waves cell.inputs) old m → m ≤ n → n ≤ next_among old → map seen new ≡ map (seen_then t) old → values ≡ map (λ reader. reader.value) new → t ≡ n →
+      Read state new values t n
+  read state old new values t m n stood stand from to same are here =
+      let now = stands_passed (input_functions waves cell.inputs) old new m n stand from to (same ∙ ap (λ k. map (seen_then k) old) here) in
+      let is : values ≡ inputs n = are ∙ inputs_are waves cell.inputs new n now in
+      record {
+        stand = now;
+        are = is;
+        next = λ i. answer (task (stood i) (is i)) (here i);
+        asked = λ wanted on. (λ i. cond (wanted (task (stood i) (is i)) (here i)) ((task (stood i) (is i), here i) ∷ []) [])
+            ∙ sym (stirred_work answer cell.kind cell.delays inputs wanted n on);
+      }
 
-    pub inputs_after : map (λ reader. reader.value) new ≡ inputs (suc m)
-    inputs_after = inputs_are waves cell.inputs new (suc m) stand_after
-
-    -- whether the gate is stirred there
-    pub stirred_is : (now : List Value) (b : Bool) → now ≡ map (λ reader. reader.value) new → b ≡ (not (same_values now situation.inputs) || is_due situation.state (suc m)) →
-        is_stirred_by answer cell.kind cell.delays inputs (suc m) ≡ b
-    stirred_is now b are is =
-        let value : now ≡ inputs (suc m) = are ∙ inputs_after in
-        let before : situation.inputs ≡ inputs m = at.inputs in
-        let state : situation.state ≡ state_by answer cell.kind cell.delays inputs (suc m) = at.state in
-        sym (is ∙ (λ i. not (same_values (value i) (before i)) || is_due (state i) (suc m)))
-
-    -- what is evaluated there
-    pub task_is : (now : List Value) → now ≡ map (λ reader. reader.value) new →
-        ◌≡◌ {A = Evaluation} (record { kind = cell.kind; delays = cell.delays; state = situation.state; inputs = now }) (task_by answer cell.kind cell.delays inputs (suc m))
-    task_is now are =
-        let value : now ≡ inputs (suc m) = are ∙ inputs_after in
-        let state : situation.state ≡ state_by answer cell.kind cell.delays inputs (suc m) = at.state in
-        λ i. record { kind = cell.kind; delays = cell.delays; state = state i; inputs = value i }
+  -- whether it is stirred at the moment after m
+  pub stirred_is : (situation : Situation) (course : Course) (m : ℕ) (values : List Value) (b : Bool) → IsAt answer cell waves situation course m → values ≡ inputs (suc m) →
+      b ≡ (not (same_values values situation.inputs) || is_due situation.state (m + 1)) → is_stirred_by answer cell.kind cell.delays inputs (suc m) ≡ b
+  stirred_is situation course m values b at are is =
+      let before : situation.inputs ≡ inputs m = at.inputs in
+      let state : situation.state ≡ state_by answer cell.kind cell.delays inputs (suc m) = at.state in
+      sym (is ∙ (λ i. not (same_values (are i) (before i)) || is_due (state i) (add-one m i)))
 
   module _ (fit : IsTrue (takes_inputs cell.kind (length cell.inputs))) (are : AreDelays cell.delays)
       (pending : (e : Evaluation) (t : ℕ) → IsTask e → NothingDue t (answer e t)) where

@@ -4,8 +4,7 @@ use Rattle.fourstate.specs.Gates.{takes_inputs}
 use Rattle.fourstate.specs.kept.Delays.{AreDelays}
 use Rattle.gatestep.specs.Step.{due, initial}
 use Rattle.gateline.proofs.Stands.{refilled}
-use Rattle.gateline.proofs.Lists.{few_inputs}
-use Rattle.gateline.proofs.Stands.{ahead, as_many_inputs, inputs_are, stands_passed}
+use Rattle.gateline.proofs.Stands.{ahead, few_readers, inputs_are, stands_passed}
 use Rattle.gateline.proofs.Walking.{settled_line}
 use Rattle.gateline.proofs.walk.Walk.resume.Goals as goal
 use Rattle.gateline.specs.kept.Line.{state_by}
@@ -15,11 +14,9 @@ use Rattle.waveform.specs.Timelines.{value_by}
 
 pub read-reading-requires : goal.read-reading-requires
 read-reading-requires g c =
-    let law = g.met.S.Stepper in let answer = g.S.Stepper.answer in let cell = c.args.cell.now in let waves = c.args.along.waves.now in
-    let done = c.args.former.done in let old = c.in_ok-readers.readers.items in
+    let cell = c.args.cell.now in
     let fit : IsTrue (takes_inputs cell.kind (length cell.inputs)) = subst (λ inputs. IsTrue (takes_inputs cell.kind (length inputs))) c.inputs-places.ensures.inputs c.inputs-places.ensures.fit in
-    let few = few_inputs cell.kind (length cell.inputs) fit in
-    let many = as_many_inputs waves cell.inputs old done c.in_ok-readers.ensures in
+    let few = few_readers c.args.along.waves.now cell.inputs c.in_ok-readers.readers.items c.args.former.done c.in_ok-readers.ensures cell.kind fit in
     let same = ap length c.as_mut_slice.ensures.value in
     omega arith
 
