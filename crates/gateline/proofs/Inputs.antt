@@ -1,14 +1,16 @@
 -- The inputs of a gate of a design, by the waves that are found.
-use Rattle.std.proofs.Common.{◌≡◌, ◌<◌, ◌∙◌, ap, sym, refl, ℕ, suc, List, [], ◌∷◌, map, Option, Some, slice_get, unwrap_or}
+use Rattle.std.proofs.Common.{◌≡◌, ◌<◌, ◌∙◌, ap, sym, refl, ℕ, suc, List, [], ◌∷◌, map, Option, Some, slice_get, get_or, length, unwrap_or, arith}
 use Rattle.scratch.proofs.Lists.{map_alike}
 use Rattle.std.proofs.lemmas.Simd.{map-map}
 use Rattle.std.specs.Option.{option_map}
-use Rattle.std.proofs.lemmas.Option.{slice_get-map}
+use Rattle.std.proofs.lemmas.List.{length-map}
+use Rattle.std.proofs.lemmas.Option.{slice_get-map, slice_get_read}
 use Rattle.design.specs.Connections.{Connection}
 use Rattle.design.specs.Netlist.{GateEntry, Netlist}
 use Rattle.fourstate.specs.declared.value.Value.{Value}
 use Rattle.fourstate.specs.declared.value.Value.TheVariants.{Unknown}
 use Rattle.gatestep.specs.Step.{State, Evaluation}
+use Rattle.gateline.proofs.Lists.{some_at}
 use Rattle.gateline.specs.kept.Known.{AreKnown, IsKnown}
 use Rattle.gateline.specs.kept.Waves.{input_at, inputs_by}
 use Rattle.scratch.specs.Run.{net_at, state_before, terminal_at, value, wave_of}
@@ -56,10 +58,18 @@ module _ (answer : Evaluation → ℕ → State) (d : Netlist) (waves : List (Li
   inputs_known g inputs are known t within =
       rw are (connections_known t within g.inputs (rw are at known))
 
--- the cell at a place is that of the gate there
-pub cell_at : (d : Netlist) (cells : List CellRecord) (place : ℕ) (g : GateEntry) (cell : CellRecord) → cells ≡ map (cell_of d) d.gates → slice_get d.gates place ≡ Some g →
-    slice_get cells place ≡ Some cell → cell ≡ cell_of d g
-cell_at d cells place g cell are here there =
-    let both : Some cell ≡ Some (cell_of d g) =
-    sym there ∙ ap (λ l. slice_get l place) are ∙ slice_get-map (cell_of d) d.gates place ∙ ap (option_map (cell_of d)) here in
-    cc
+-- a gate at a place, with its cell
+pub record IsCellAt (d : Netlist) (cells : List CellRecord) (place : ℕ) (cell : CellRecord) : Type 0 where
+  pub gate : GateEntry
+  pub gate_there : slice_get d.gates place ≡ Some gate
+  pub cell_there : slice_get cells place ≡ Some cell
+  pub is : cell ≡ cell_of d gate
+
+pub cell_at : (d : Netlist) (cells : List CellRecord) (place : ℕ) (cell : CellRecord) → cells ≡ map (cell_of d) d.gates → place < length d.gates → cell ≡ get_or cells place cell → IsCellAt d cells place cell
+cell_at d cells place cell are low read =
+    let gate = some_at d.gates place low in
+    let count : length cells ≡ length d.gates = ap length are ∙ length-map d.gates (cell_of d) in
+    let there : slice_get cells place ≡ Some cell = slice_get_read cells (length cells) place cell refl (omega arith) read in
+    let both : Some cell ≡ Some (cell_of d gate.0) =
+    sym there ∙ ap (λ l. slice_get l place) are ∙ slice_get-map (cell_of d) d.gates place ∙ ap (option_map (cell_of d)) gate.1 in
+    record { gate = gate.0; gate_there = gate.1; cell_there = there; is = (cc) }

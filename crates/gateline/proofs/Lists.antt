@@ -1,9 +1,10 @@
 -- Lists of values, elements that are looked up, and what holds of a value that is answered.
 use Rattle.std.proofs.Common.{◌≡◌, ◌<◌, ◌≤◌, ◌∙◌, ap, sym, refl, Bool, true, false, ltb, ℕ, zero, suc, List, [], ◌∷◌, length, get_or, Some, None, slice_get, arith}
-use Rattle.std.specs.Prelude.{◌&&◌, Result, Ok, Err, IfOk, OnOk}
+use Rattle.std.specs.Prelude.{◌&&◌, Result, Ok, Err, IfOk, OnErr, OnOk}
 use Rattle.std.proofs.lemmas.Bool.{and_parts, ltb-false, ltb-true}
 use Rattle.std.proofs.lemmas.Bool.Decides.{nat_tests}
 use Rattle.std.proofs.lemmas.Option.{slice_get_past, slice_get_read}
+use Rattle.std.proofs.lemmas.Result.{on_err_weaker, on_ok_weaker}
 use Rattle.fourstate.specs.Gates.{takes_inputs}
 use Rattle.fourstate.specs.Values.{same_value}
 use Rattle.fourstate.specs.declared.gate.GateKind.{GateKind}
@@ -51,3 +52,10 @@ on_ok (Err e) p = tt
 pub if_ok_then : {T E : Type 0} (r : Result T E) {P Q : T → Type 0} → ((x : T) → P x → Q x) → IfOk r P → IfOk r Q
 if_ok_then (Ok x) then p = then x p
 if_ok_then (Err e) then p = tt
+
+-- what follows from what holds of an error, and of a value
+pub on_err_so : {T E P Q : Type 0} (r : Result T E) → OnErr r P → (P → Q) → OnErr r Q
+on_err_so r p follows = on_err_weaker r follows p
+
+pub on_ok_so : {T E P Q : Type 0} (r : Result T E) → OnOk r P → (P → Q) → OnOk r Q
+on_ok_so r p follows = on_ok_weaker r follows p

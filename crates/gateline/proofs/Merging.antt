@@ -1,12 +1,12 @@
 -- Waves that are read side by side, and what a net has from them.
-use Rattle.std.proofs.Common.{◌≡◌, ◌<◌, ◌≤◌, ◌-◌, ◌∙◌, ap, sym, false, ℕ, suc, min, List, [], ◌∷◌, ◌++◌, map, arith}
+use Rattle.std.proofs.Common.{◌≡◌, ◌<◌, ◌≤◌, ◌-◌, ◌∙◌, ap, sym, subst, false, ℕ, suc, min, List, [], ◌∷◌, ◌++◌, map, take, drop, length, arith}
 use Rattle.std.proofs.lemmas.Simd.{map-map}
 use Rattle.fourstate.specs.Nets.{net_of}
 use Rattle.fourstate.specs.Values.{same_value}
 use Rattle.fourstate.specs.declared.net.NetKind.{NetKind}
 use Rattle.fourstate.specs.declared.value.Value.{Value}
 use Rattle.gateline.proofs.Points.{no_change_between}
-use Rattle.gateline.proofs.Stands.{ahead, stands_later, stands_passed, standing, values_stay}
+use Rattle.gateline.proofs.Stands.{ahead, refilled, stands_later, stands_passed, standing, values_stay}
 use Rattle.gateline.specs.declared.reader.Reader.{Reader}
 use Rattle.gateline.specs.kept.Readers.{StandAt, next_among, next_of, seen, seen_then}
 use Rattle.waveform.specs.Changes.{wave_at}
@@ -36,25 +36,27 @@ module _ (kind : NetKind) (waves : List (List (ℕ × Value))) where
       ∙ values_stay (map wave_at waves) readers m u stand from below
       ∙ map-map (λ f. f m) wave_at waves)
 
-  -- the readers at a moment t; r is the next one at which one of them changes, or the end
-  pub record Goes (readers : List Reader) (t r end : ℕ) : Type 0 where
-    pub stand : StandAt (map wave_at waves) readers (r - 1)
+  -- the readers at a moment t, which were written over these items; r is the next one at which one of them changes, or the end
+  pub record Goes (items readers : List Reader) (t r end : ℕ) : Type 0 where
+    pub stand : StandAt (map wave_at waves) items (r - 1)
     pub value : net_of kind (map (λ reader. reader.value) readers) ≡ merged t
     pub later : t < r
     pub within : r ≤ end
-    pub next : r ≤ next_among readers
+    pub next : r ≤ next_among items
     pub still : (k : ℕ) → suc t ≤ k → k < r → is_change same_value stands merged k ≡ false
 
-  pub goes : (old new : List Reader) (m t r end : ℕ) → StandAt (map wave_at waves) old m → m ≤ t → t ≤ next_among old → map seen new ≡ map (seen_then t) old → t < TIME_END → t < end →
-      r ≡ min (next_among new) end → Goes new t r end
-  goes old new m t r end stand from to same low begun is =
+  pub goes : (old given new : List Reader) (len m t next r end : ℕ) → StandAt (map wave_at waves) old m → m ≤ t → t ≤ next_among old → given ≡ old → map seen new ≡ map (seen_then t) given →
+      len ≡ length old → t < TIME_END → t < end → next ≡ next_among new → r ≡ min next end → Goes (take len (new ++ drop (length new) old)) new t r end
+  goes old given new len m t next r end stand from to is read many low begun first until =
+      let same : map seen new ≡ map (seen_then t) old = read ∙ ap (map (seen_then t)) is in
       let here : StandAt (map wave_at waves) new t = stands_passed (map wave_at waves) old new m t stand from to same in
       let coming : t < next_among new = ahead (map wave_at waves) new t here low in
+      let whole = ap (λ n. take n (new ++ drop (length new) old)) many ∙ refilled old new t same in
       record {
-        stand = stands_later (map wave_at waves) new t (r - 1) here (omega arith) (omega arith);
+        stand = subst (λ readers. StandAt (map wave_at waves) readers (r - 1)) (sym whole) (stands_later (map wave_at waves) new t (r - 1) here (omega arith) (omega arith));
         value = value_is new t here;
         later = omega arith;
         within = omega arith;
-        next = omega arith;
+        next = subst (λ readers. r ≤ next_among readers) (sym whole) (omega arith);
         still = no_change_between merged t r (λ u high below. stays new t u here high (omega arith));
       }

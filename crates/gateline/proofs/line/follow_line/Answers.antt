@@ -1,8 +1,7 @@
 use Rattle.std.proofs.Common.{◌≡◌, ◌<◌, ◌≤◌, ◌++◌, ◌∙◌, ap, sym, ℕ, suc, append-nil, IfSome, inl, inr, arith}
 use Rattle.gateline.proofs.Copied.{begin_unasked, begun_later, same_begin}
 use Rattle.scratch.proofs.Lists.{if_there}
-use Rattle.std.proofs.lemmas.Result.{on_err_weaker, on_ok_weaker}
-use Rattle.gateline.proofs.Lists.{on_ok}
+use Rattle.gateline.proofs.Lists.{on_err_so, on_ok, on_ok_so}
 use Rattle.gateline.proofs.line.follow_line.Goals as goal
 use Rattle.gateline.proofs.line.follow_line.Goals.{in_default-parting-via-in-Some-parting+else-moment-last, in_default-parting-via-in_default-parting}
 use Rattle.gateline.specs.kept.Line.{line_work_from, state_by}
@@ -36,44 +35,27 @@ walk_line-requires-in-Some-parting-clause-trace g c = λ former is.
           c.same_changes.ensures c.cut_of_changes.ensures former.done last line.whole (omega arith) (omega arith)
     ]
 
-pub returns-in-Some-parting-clause-asked : goal.returns-in-Some-parting-clause-asked
-returns-in-Some-parting-clause-asked g c =
+pub returns-in-Some-parting : goal.returns-in-Some-parting
+returns-in-Some-parting g c =
     let answer = g.S.Stepper.answer in let cell = c.args.cell.now in let waves = c.args.along.waves.now in let inputs = inputs_by waves cell.inputs in
-    let old = c.in-Some.old in let moment = c.in-Some-parting.moment in let last = c.args.last in
-    let line = c.requires.beside old c.in-Some.is in let low : moment ≤ last = c.if-moment-last.true in
-    let former = c.args.start.former in let first = g.S.Stepper.asked c.args.stepper.now in
-    let begun = begun_later answer cell waves (line_seen old) moment (λ t before. line.followed t (omega arith))
-    (λ some. c.parting.ensures.there (if_there c.parting.result moment (λ m. 0 < m) c.in-Some-parting.is some))
-    (λ t before. c.parting.ensures.inputs t (if_there c.parting.result moment (λ m. t < m) c.in-Some-parting.is before))
-    former c.begin_later.result moment _ (omega arith) c.begin_later.ensures.none c.begin_later.ensures.later (suc last) in
-    on_ok_weaker c.walk_line-in-Some-parting.result
-    (λ asked. asked
-    ∙ ap (λ o. first ++ line_work_from answer cell.kind cell.delays inputs (wanted_by (line_if o) cell.inputs) (begin_of c.begin_later.result) (suc last)) c.in-Some.is
-    ∙ ap (λ l. first ++ l) begun
-    ∙ ap (λ o. first ++ line_work_from answer cell.kind cell.delays inputs (wanted_by (line_if o) cell.inputs) (begin_of former) (suc last)) (sym c.in-Some.is))
-    c.walk_line-in-Some-parting.ensures.asked
-
-pub returns-in-Some-parting-clause-part : goal.returns-in-Some-parting-clause-part
-returns-in-Some-parting-clause-part g c =
-    let answer = g.S.Stepper.answer in let cell = c.args.cell.now in let waves = c.args.along.waves.now in let inputs = inputs_by waves cell.inputs in
-    let old = c.in-Some.old in let moment = c.in-Some-parting.moment in let last = c.args.last in
+    let old = c.in-Some.old in let moment = c.in-Some-parting.moment in let last = c.args.last in let done = c.walk_line-in-Some-parting in
     let line = c.requires.beside old c.in-Some.is in let low : moment ≤ last = c.if-moment-last.true in
     let former = c.args.start.former in let first = g.S.Stepper.asked c.args.stepper.now in
     let begun = begun_later answer cell waves (line_seen old) moment (λ t before. line.followed t (omega arith))
     (λ some. c.parting.ensures.there (if_there c.parting.result moment (λ m. 0 < m) c.in-Some-parting.is some))
     (λ t before. c.parting.ensures.inputs t (if_there c.parting.result moment (λ m. t < m) c.in-Some-parting.is before))
     former c.begin_later.result moment _ (omega arith) c.begin_later.ensures.none c.begin_later.ensures.later in
-    on_err_weaker c.walk_line-in-Some-parting.result
-    (λ (part : (n : ℕ) × (n ≤ suc last) × (g.S.Stepper.asked c.walk_line-in-Some-parting.new.stepper
-    ≡ first ++ line_work_from answer cell.kind cell.delays inputs (wanted_by (line_if c.args.start.beside) cell.inputs) (begin_of c.begin_later.result) n)). (
-      part.0,
-      part.1,
-      part.2
-          ∙ ap (λ o. first ++ line_work_from answer cell.kind cell.delays inputs (wanted_by (line_if o) cell.inputs) (begin_of c.begin_later.result) part.0) c.in-Some.is
-          ∙ ap (λ l. first ++ l) (begun part.0)
-          ∙ ap (λ o. first ++ line_work_from answer cell.kind cell.delays inputs (wanted_by (line_if o) cell.inputs) (begin_of former) part.0) (sym c.in-Some.is),
-    ))
-    c.walk_line-in-Some-parting.ensures.part
+    let same : (n : ℕ) → first ++ line_work_from answer cell.kind cell.delays inputs (wanted_by (line_if c.args.start.beside) cell.inputs) (begin_of c.begin_later.result) n
+    ≡ first ++ line_work_from answer cell.kind cell.delays inputs (wanted_by (line_if c.args.start.beside) cell.inputs) (begin_of former) n
+    = λ n. ap (λ o. first ++ line_work_from answer cell.kind cell.delays inputs (wanted_by (line_if o) cell.inputs) (begin_of c.begin_later.result) n) c.in-Some.is
+    ∙ ap (λ l. first ++ l) (begun n)
+    ∙ ap (λ o. first ++ line_work_from answer cell.kind cell.delays inputs (wanted_by (line_if o) cell.inputs) (begin_of former) n) (sym c.in-Some.is) in
+    record {
+      trace = done.ensures.trace;
+      asked = on_ok_so done.result done.ensures.asked (λ asked. asked ∙ same (suc last));
+      part = on_err_so done.result done.ensures.part (λ part. (part.0, part.1, part.2 ∙ same part.0));
+      lost = done.ensures.lost;
+    }
 
 pub returns-in_default-parting-clause-asked : goal.returns-in_default-parting-clause-asked
 returns-in_default-parting-clause-asked g c =

@@ -1,49 +1,38 @@
-use Rattle.std.proofs.Common.{◌≡◌, ◌<◌, ◌≤◌, ◌-◌, ◌++◌, ◌∙◌, ap, sym, subst, refl, suc, min, [], ◌∷◌, All, map, take, drop, length, arith}
+use Rattle.std.proofs.Common.{◌≡◌, ◌<◌, ◌-◌, ◌∙◌, ap, sym, subst, refl, suc, [], ◌∷◌, All, arith}
 use Rattle.fourstate.specs.Nets.{net_of}
 use Rattle.fourstate.specs.Values.{same_value}
-use Rattle.gateline.proofs.Stands.{refilled}
-use Rattle.gateline.proofs.Merging.{Goes, goes, merged}
+use Rattle.gateline.proofs.Merging.{goes, merged}
 use Rattle.gateline.proofs.merge.merge_waves.Goals as goal
-use Rattle.gateline.specs.kept.Readers.{StandAt, next_among, seen, seen_then}
-use Rattle.waveform.specs.Changes.{wave_at, wave_changes_below}
+use Rattle.waveform.specs.Changes.{wave_changes_below}
 use Rattle.waveform.specs.Entries.{standing}
 use Rattle.waveform.specs.declared.times.TheConstants.{TIME_END}
 use Rattle.waveform.specs.kept.Timelines.{pushed}
 
 pub loop-t-init : goal.loop-t-init
 loop-t-init c =
-    let kind = c.args.kind in let waves = c.args.waves.now in let old = c.in_ok-readers.readers.items in let new = c.read_each.new.readers in let r = c.min-t.result in
-    let read = c.in_ok-read_each.ensures in
-    let same : map seen new ≡ map (seen_then 0) old = read.readers ∙ ap (map (seen_then 0)) c.as_mut_slice.ensures.value in
-    let is : r ≡ min (next_among new) c.args.end = c.min-t.ensures ∙ ap (λ n. min n c.args.end) read.next in
-    let go : Goes kind waves new 0 r c.args.end = goes kind waves old new 0 0 r c.args.end c.in_ok-readers.ensures (omega arith) (omega arith) same (omega arith) c.requires.begun is in
-    let whole : take c.in_ok-readers.readers.len (new ++ drop (length new) old) ≡ new =
-    ap (λ n. take n (new ++ drop (length new) old)) c.in_ok-readers.readers.ok.0 ∙ refilled old new 0 same in
+    let kind = c.args.kind in let waves = c.args.waves.now in let r = c.min-t.result in let read = c.in_ok-read_each.ensures in
+    let go = goes kind waves c.in_ok-readers.readers.items _ c.read_each.new.readers c.in_ok-readers.readers.len 0 0 _ r c.args.end c.in_ok-readers.ensures (omega arith) (omega arith)
+    c.as_mut_slice.ensures.value read.readers c.in_ok-readers.readers.ok.0 (omega arith) c.requires.begun read.next c.min-t.ensures in
     record {
       begun = go.later;
       within = go.within;
-      stand = subst (λ readers. StandAt (map wave_at waves) readers (r - 1)) (sym whole) go.stand;
-      next = subst (λ readers. r ≤ next_among readers) (sym whole) go.next;
+      stand = go.stand;
+      next = go.next;
       wave = c.in_ok-wave.ensures ∙ ap (λ v. (0, v) ∷ []) (c.resolve.ensures ∙ ap (net_of kind) (c.as_slice.ensures.value ∙ read.values) ∙ go.value)
           ∙ sym (c.no_change.ensures (merged kind waves) 1 r go.later go.still);
     }
 
 pub loop-t-preserved : goal.loop-t-preserved
 loop-t-preserved c =
-    let kind = c.args.kind in let waves = c.args.waves.now in let old = c.loop-t.readers.items in let new = c.read_each-in-loop-t.new.readers in let t = c.loop-t.t in let r = c.min-t-in-loop-t.result in
-    let read = c.in_ok-next.ensures in let so_far = c.loop-t.invariant in
-    let same : map seen new ≡ map (seen_then t) old = read.readers ∙ ap (map (seen_then t)) c.as_mut_slice-in-loop-t.ensures.value in
-    let is : r ≡ min (next_among new) c.args.end = c.min-t-in-loop-t.ensures ∙ ap (λ n. min n c.args.end) read.next in
-    let low : t < c.args.end = c.loop-t-test.true in
-    let stored : t < TIME_END = (let within = c.requires.within in omega arith) in
-    let go : Goes kind waves new t r c.args.end = goes kind waves old new (t - 1) t r c.args.end so_far.stand (omega arith) so_far.next same stored low is in
-    let whole : take c.loop-t.readers.len (new ++ drop (length new) old) ≡ new =
-    ap (λ n. take n (new ++ drop (length new) old)) c.loop-t.readers.ok.0 ∙ refilled old new t same in
+    let kind = c.args.kind in let waves = c.args.waves.now in let t = c.loop-t.t in let r = c.min-t-in-loop-t.result in let read = c.in_ok-next.ensures in let so_far = c.loop-t.invariant in
+    let low : t < c.args.end = c.loop-t-test.true in let stored : t < TIME_END = (let within = c.requires.within in omega arith) in
+    let go = goes kind waves c.loop-t.readers.items _ c.read_each-in-loop-t.new.readers c.loop-t.readers.len (t - 1) t _ r c.args.end so_far.stand (omega arith) so_far.next
+    c.as_mut_slice-in-loop-t.ensures.value read.readers c.loop-t.readers.ok.0 stored low read.next c.min-t-in-loop-t.ensures in
     record {
       begun = let later : t < r = go.later in omega arith;
       within = go.within;
-      stand = subst (λ readers. StandAt (map wave_at waves) readers (r - 1)) (sym whole) go.stand;
-      next = subst (λ readers. r ≤ next_among readers) (sym whole) go.next;
+      stand = go.stand;
+      next = go.next;
       wave = c.in_ok-push.ensures.ok
           ∙ (λ i. pushed same_value standing (so_far.wave i) t ((c.resolve-in-loop-t.ensures ∙ ap (net_of kind) (c.as_slice-in-loop-t.ensures.value ∙ read.values) ∙ go.value) i))
           ∙ c.push_to_changes.ensures (merged kind waves) (λ u. refl) t
@@ -52,13 +41,10 @@ loop-t-preserved c =
 
 pub loop-t-smaller : goal.loop-t-smaller
 loop-t-smaller c =
-    let kind = c.args.kind in let waves = c.args.waves.now in let old = c.loop-t.readers.items in let new = c.read_each-in-loop-t.new.readers in let t = c.loop-t.t in let r = c.min-t-in-loop-t.result in
-    let read = c.in_ok-next.ensures in let so_far = c.loop-t.invariant in
-    let same : map seen new ≡ map (seen_then t) old = read.readers ∙ ap (map (seen_then t)) c.as_mut_slice-in-loop-t.ensures.value in
-    let is : r ≡ min (next_among new) c.args.end = c.min-t-in-loop-t.ensures ∙ ap (λ n. min n c.args.end) read.next in
-    let low : t < c.args.end = c.loop-t-test.true in
-    let stored : t < TIME_END = (let within = c.requires.within in omega arith) in
-    let go : Goes kind waves new t r c.args.end = goes kind waves old new (t - 1) t r c.args.end so_far.stand (omega arith) so_far.next same stored low is in
+    let t = c.loop-t.t in let r = c.min-t-in-loop-t.result in let read = c.in_ok-next.ensures in let so_far = c.loop-t.invariant in
+    let low : t < c.args.end = c.loop-t-test.true in let stored : t < TIME_END = (let within = c.requires.within in omega arith) in
+    let go = goes c.args.kind c.args.waves.now c.loop-t.readers.items _ c.read_each-in-loop-t.new.readers c.loop-t.readers.len (t - 1) t _ r c.args.end so_far.stand (omega arith) so_far.next
+    c.as_mut_slice-in-loop-t.ensures.value read.readers c.loop-t.readers.ok.0 stored low read.next c.min-t-in-loop-t.ensures in
     let later = go.later in let within = go.within in
     omega arith
 
