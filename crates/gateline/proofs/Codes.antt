@@ -1,5 +1,6 @@
 -- The numbers of the values of inputs.
 use Rattle.std.proofs.Common.{◌≡◌, ◌<◌, ◌≤◌, ◌+◌, ◌/◌, ◌%◌, ◌++◌, ◌∙◌, ◌⊎◌, inl, inr, ap, sym, refl, ℕ, zero, suc, List, [], ◌∷◌, Some, length, slice_get, arith}
+use Rattle.std.proofs.lemmas.Bool.{cases_lt}
 use Rattle.std.proofs.lemmas.List.{length_push}
 use Rattle.std.proofs.lemmas.Option.{slice_get_within}
 use Rattle.fourstate.specs.declared.value.Value.{Value}
@@ -35,19 +36,14 @@ pub code_first : (v : Value) (values : List Value) (n : ℕ) → code_of (v ∷ 
 code_first v values n is = let low = digit_low v in let same : n % 4 ≡ digit_of v = omega arith in ap value_of_digit same ∙ value_kept v
 
 -- an element of a list that one is added to
-pub with_last : {A : Type 0} (xs : List A) (x : A) (i : ℕ) (y : A) → slice_get xs i ≡ Some y → slice_get (xs ++ x ∷ []) i ≡ Some y
-with_last [] x i y is = absurd (cc)
-with_last (z ∷ xs) x zero y is = is
-with_last (z ∷ xs) x (suc i) y is = with_last xs x i y is
+kept_before : {A : Type 0} (xs : List A) (x : A) (i : ℕ) → i < length xs → slice_get (xs ++ x ∷ []) i ≡ slice_get xs i
+kept_before [] x i low = absurd (omega arith)
+kept_before (z ∷ xs) x zero low = refl
+kept_before (z ∷ xs) x (suc i) low = kept_before xs x i (omega arith)
 
-pub the_last : {A : Type 0} (xs : List A) (x : A) → slice_get (xs ++ x ∷ []) (length xs) ≡ Some x
+the_last : {A : Type 0} (xs : List A) (x : A) → slice_get (xs ++ x ∷ []) (length xs) ≡ Some x
 the_last [] x = refl
 the_last (z ∷ xs) x = the_last xs x
-
-pub last_or_before : {A : Type 0} (xs : List A) (x : A) (i : ℕ) (y : A) → i < length xs → slice_get (xs ++ x ∷ []) i ≡ Some y → slice_get xs i ≡ Some y
-last_or_before [] x i y below is = absurd (omega arith)
-last_or_before (z ∷ xs) x zero y below is = is
-last_or_before (z ∷ xs) x (suc i) y below is = last_or_before xs x i y (omega arith) is
 
 -- entries that stand for all values whose numbers are below their count
 pub record AreEntries (entries : List (List Value)) : Type 0 where
@@ -72,47 +68,38 @@ two_entries =
     none (suc zero) (v ∷ values) is = absurd (cc)
     none (suc (suc i)) (v ∷ values) is = absurd (cc)
 
-below_or_at : (i n : ℕ) → i < suc n → (i < n) ⊎ (i ≡ n)
-below_or_at zero zero low = inr refl
-below_or_at zero (suc n) low = inl (omega arith)
-below_or_at (suc i) zero low = absurd (omega arith)
-below_or_at (suc i) (suc n) low = one_more (below_or_at i n (omega arith))
-  where
-    one_more : (i < n) ⊎ (i ≡ n) → (suc i < suc n) ⊎ (suc i ≡ suc n)
-    one_more (inl below) = inl (omega arith)
-    one_more (inr at) = inr (ap suc at)
-
 -- one entry more: a value before those of an earlier entry
 module _ (entries : List (List Value)) (behind : List Value) (are : AreEntries entries) (begun : 2 ≤ length entries) (there : slice_get entries (length entries / 4) ≡ Some behind) where
   abbrev pub added : List Value
   added = value_of_digit (length entries % 4) ∷ behind
 
-  all_of : (values : List Value) → (code_of values < length entries) ⊎ (code_of values ≡ length entries) → slice_get (entries ++ added ∷ []) (code_of values) ≡ Some values
-  all_of values (inl low) = with_last entries added (code_of values) values (are.all values low)
-  all_of [] (inr at) = absurd (omega arith)
-  all_of (v ∷ values) (inr at) =
+  all_of : (values : List Value) → code_of values < suc (length entries) → (code_of values < length entries) ⊎ (length entries ≤ code_of values) →
+      slice_get (entries ++ added ∷ []) (code_of values) ≡ Some values
+  all_of values within (inl low) = kept_before entries added (code_of values) low ∙ are.all values low
+  all_of [] within (inr past) = absurd (omega arith)
+  all_of (v ∷ values) within (inr past) =
+      let at : code_of (v ∷ values) ≡ length entries = omega arith in
       let first = code_first v values (length entries) at in let place = code_behind v values (length entries) at in
       let least = code_begun values in let low : code_of values < length entries = omega arith in
       let same : Some behind ≡ Some values = sym there ∙ ap (slice_get entries) place ∙ are.all values low in
       let rest : behind ≡ values = cc in
       ap (slice_get (entries ++ added ∷ [])) at ∙ the_last entries added ∙ (λ i. Some (first i ∷ rest i))
 
-  short_of : (i : ℕ) (values : List Value) → (i < length entries) ⊎ (i ≡ length entries) → slice_get (entries ++ added ∷ []) i ≡ Some values → length values + length values ≤ i
-  short_of i values (inl low) is = are.short i values (last_or_before entries added i values low is)
-  short_of i values (inr at) is =
+  short_of : (i : ℕ) (values : List Value) → i < suc (length entries) → (i < length entries) ⊎ (length entries ≤ i) → slice_get (entries ++ added ∷ []) i ≡ Some values → length values + length values ≤ i
+  short_of i values within (inl low) is = are.short i values (sym (kept_before entries added i low) ∙ is)
+  short_of i values within (inr past) is =
+      let at : i ≡ length entries = omega arith in
       let same : Some added ≡ Some values = sym (the_last entries added) ∙ sym (ap (slice_get (entries ++ added ∷ [])) at) ∙ is in
       let whole : added ≡ values = cc in
       let long : suc (length behind) ≡ length values = ap length whole in
       let short = are.short (length entries / 4) behind there in omega arith
 
-  within : (i : ℕ) → i < length (entries ++ added ∷ []) → i < suc (length entries)
-  within i low = let more = length_push entries added in omega arith
-
   pub one_entry_more : AreEntries (entries ++ added ∷ [])
   one_entry_more =
+      let more = length_push entries added in
       record {
-        all = λ values low. all_of values (below_or_at (code_of values) (length entries) (within (code_of values) low));
-        short = λ i values is. short_of i values (below_or_at i (length entries) (within i (slice_get_within (entries ++ added ∷ []) i values is))) is;
+        all = λ values low. all_of values (omega arith) (cases_lt (code_of values) (length entries));
+        short = λ i values is. let low = slice_get_within (entries ++ added ∷ []) i values is in short_of i values (omega arith) (cases_lt i (length entries)) is;
       }
 
 -- an earlier entry has room for one value more

@@ -1,5 +1,8 @@
 -- A function of time that goes on by its changes.
-use Rattle.std.proofs.Common.{◌≡◌, ◌<◌, ◌≤◌, ◌+◌, ◌-◌, ◌∙◌, ap, sym, refl, subst, cond, Bool, true, false, ℕ, zero, suc, List, [], ◌∷◌, Some, None, All, take, drop, length, get_or, arith}
+use Rattle.std.proofs.Common.{◌≡◌, ◌<◌, ◌≤◌, ◌+◌, ◌-◌, ◌∙◌, ap, sym, refl, subst, cond, Bool, true, false, ℕ, zero, suc, List, [], ◌∷◌, Option, Some, None, All, take, drop, length, get_or, arith}
+use Rattle.std.proofs.lemmas.List.{map-id}
+use Rattle.waveform.proofs.Turns.{none_until, turns_later}
+use Rattle.waveform.proofs.Places.{times_rise as stored_times_rise}
 use Rattle.std.proofs.lemmas.List.{get_or-drop, get_or-take, length-drop, length-take}
 use Rattle.std.proofs.lemmas.Bool.{leb-false, leb-true}
 use Rattle.std.specs.List.{AllWithin}
@@ -7,9 +10,9 @@ use Rattle.std.specs.List.{filter, last_or}
 use Rattle.std.specs.List.Sorted.{IsNonDecreasingBy}
 use Rattle.std.specs.Option.{option_map_or}
 use Rattle.std.specs.Prelude.{nat_le, ◌==◌}
-use Rattle.std.proofs.lemmas.Bool.{eqb-true, le-leb, lt-leb}
+use Rattle.std.proofs.lemmas.Bool.{eqb-true, le-leb}
 use Rattle.std.proofs.lemmas.Bool.Decides.{nat_tests}
-use Rattle.std.proofs.lemmas.List.Elements.{All-cons, All-get_or, All-head, All-nil, All-tail, All-weaker}
+use Rattle.std.proofs.lemmas.List.Elements.{All-cons, All-head, All-nil, All-tail, All-weaker}
 use Rattle.fourstate.specs.Values.{same_value}
 use Rattle.fourstate.specs.declared.value.Value.{Value}
 use Rattle.fourstate.specs.declared.value.Value.TheVariants.{Unknown}
@@ -62,43 +65,27 @@ goes_same f g v (e ∷ rest) m same goes = (
 abbrev by : ℕ × Value → List (ℕ × Value) → ℕ → Value
 by d xs u = option_map_or (λ e. e.1) (last_or (Some d) (filter (λ e. nat_le e.0 u) xs)) Unknown
 
-none_kept : (u : ℕ) (d : ℕ × Value) (xs : List (ℕ × Value)) → u ≤ d.0 → AreInTurn same_value standing (Some d) xs → filter (λ (e : ℕ × Value). nat_le e.0 u) xs ≡ []
-none_kept u d [] below turns = refl
-none_kept u d (x ∷ xs) below turns =
-    let later : d.0 < x.0 = turns.1.0 in
-    rw (lt-leb x.0 u (omega arith)) (none_kept u x xs (omega arith) turns.2)
+-- the change behind which they are, where it lies at u or before
+by_next : (o : Option (ℕ × Value)) (d : ℕ × Value) (xs : List (ℕ × Value)) (u : ℕ) → d.0 ≤ u →
+    option_map_or (λ e. e.1) (last_or o (filter (λ e. nat_le e.0 u) (d ∷ xs))) Unknown ≡ by d xs u
+by_next o d xs u low = rw (le-leb d.0 u low) refl
 
 goes_by : (d : ℕ × Value) (xs : List (ℕ × Value)) → AreInTurn same_value standing (Some d) xs → GoesOn (by d xs) d.1 xs d.0
 goes_by d [] turns = λ u high. refl
 goes_by d (x ∷ xs) turns = (
   λ u high low.
-      let none : filter (λ (e : ℕ × Value). nat_le e.0 u) (x ∷ xs) ≡ [] = rw (lt-leb x.0 u low) (none_kept u x xs (omega arith) turns.2) in
+      let later = All-weaker (λ (e : ℕ × Value). x.0 < e.0) (λ e. u < e.0) (λ e h. omega arith) xs (turns_later same_value standing x xs turns.2) in
+      let none = none_until same_value standing u (x ∷ xs) (All-cons (λ (e : ℕ × Value). u < e.0) x xs low later) in
       ap (λ (es : List (ℕ × Value)). option_map_or (λ e. e.1) (last_or (Some d) es) Unknown) none,
   turns.1.0,
   goes_same (by d (x ∷ xs)) (by x xs) x.1 xs x.0
-      (λ u high. ap (λ (b : Bool). option_map_or (λ e. e.1) (last_or (Some d) (cond b (x ∷ filter (λ (e : ℕ × Value). nat_le e.0 u) xs) (filter (λ (e : ℕ × Value). nat_le e.0 u) xs))) Unknown) (le-leb x.0 u high))
+      (λ u high. by_next (Some d) x xs u high)
       (goes_by x xs turns.2),
 )
 
--- the changes behind the change d lie after it
-later_all : (d : ℕ × Value) (xs : List (ℕ × Value)) → AreInTurn same_value standing (Some d) xs → All (λ e. d.0 < e.0) xs
-later_all d [] turns = All-nil (λ (e : ℕ × Value). d.0 < e.0)
-later_all d (x ∷ xs) turns =
-    let first : d.0 < x.0 = turns.1.0 in
-    All-cons (λ (e : ℕ × Value). d.0 < e.0) x xs first (All-weaker (λ (e : ℕ × Value). x.0 < e.0) (λ (e : ℕ × Value). d.0 < e.0) (λ e h. omega arith) xs (later_all x xs turns.2))
-
-rise : (d : ℕ × Value) (xs : List (ℕ × Value)) → AreInTurn same_value standing (Some d) xs → IsNonDecreasingBy (λ e. e.0) (d ∷ xs)
-rise d xs turns zero zero e le low = omega arith
-rise d xs turns zero (suc j) e le low =
-    let later : d.0 < (get_or xs j e).0 = All-get_or (λ (x : ℕ × Value). d.0 < x.0) xs j e (omega arith) (later_all d xs turns) in omega arith
-rise d xs turns (suc i) zero e le low = absurd (omega arith)
-rise d [] turns (suc i) (suc j) e le low = absurd (omega arith)
-rise d (x ∷ xs) turns (suc i) (suc j) e le low = rise x xs turns.2 i j e (omega arith) (omega arith)
-
 -- the times of a wave's changes rise
 pub times_rise : (xs : List (ℕ × Value)) → IsTimeline same_value standing xs → IsNonDecreasingBy (λ e. e.0) xs
-times_rise [] timeline = let some = timeline.begins in absurd (omega arith)
-times_rise (e ∷ xs) timeline = rise e xs timeline.in_turn.2
+times_rise xs timeline = stored_times_rise (λ e. e) same_value standing None xs (subst (AreInTurn same_value standing None) (sym (map-id xs)) timeline.in_turn)
 
 -- so one at least lies at t or before
 pub some_until : (t : ℕ) (xs : List (ℕ × Value)) (n : ℕ) → IsTimeline same_value standing xs → All (λ e. t < e.0) (drop n xs) → 0 < n
@@ -112,7 +99,7 @@ some_until t (e ∷ xs) zero timeline after =
 -- those behind the first one lie after 0
 pub others_after : (xs : List (ℕ × Value)) → IsTimeline same_value standing xs → All (λ e. 0 < e.0) (drop 1 xs)
 others_after [] timeline = All-nil (λ (e : ℕ × Value). 0 < e.0)
-others_after (e ∷ xs) timeline = All-weaker (λ (x : ℕ × Value). e.0 < x.0) (λ (x : ℕ × Value). 0 < x.0) (λ x h. omega arith) xs (later_all e xs timeline.in_turn.2)
+others_after (e ∷ xs) timeline = All-weaker (λ (x : ℕ × Value). e.0 < x.0) (λ (x : ℕ × Value). 0 < x.0) (λ x h. omega arith) xs (turns_later same_value standing e xs timeline.in_turn.2)
 
 -- at t it goes on by the changes after t
 goes_from : (d : ℕ × Value) (xs : List (ℕ × Value)) (n t : ℕ) (x : ℕ × Value) → AreInTurn same_value standing (Some d) xs → d.0 ≤ t → n ≤ length xs →
@@ -125,7 +112,7 @@ goes_from d [] (suc n) t x turns low within until after = absurd (omega arith)
 goes_from d (y ∷ xs) (suc n) t x turns low within until after =
     let first : y.0 ≤ t = All-head (λ (e : ℕ × Value). e.0 ≤ t) y (take n xs) until in
     goes_same (by d (y ∷ xs)) (by y xs) (get_or (y ∷ xs) n x).1 (drop n xs) t
-    (λ u high. ap (λ (b : Bool). option_map_or (λ e. e.1) (last_or (Some d) (cond b (y ∷ filter (λ (e : ℕ × Value). nat_le e.0 u) xs) (filter (λ (e : ℕ × Value). nat_le e.0 u) xs))) Unknown) (le-leb y.0 u (omega arith)))
+    (λ u high. by_next (Some d) y xs u (omega arith))
     (goes_from y xs n t x turns.2 first (omega arith) (All-tail (λ (e : ℕ × Value). e.0 ≤ t) y (take n xs) until) after)
 
 -- the changes before a place, and those from it on
@@ -150,5 +137,5 @@ wave_goes_on (e ∷ rest) (suc n) t x timeline some within until after read =
     let goes : GoesOn (by e rest) (get_or (e ∷ rest) n x).1 (drop n rest) t =
     goes_from e rest n t x timeline.in_turn.2 (omega arith) (omega arith) (All-tail (λ (e : ℕ × Value). e.0 ≤ t) e (take n rest) until) after in
     goes_same (wave_at (e ∷ rest)) (by e rest) x.1 (drop n rest) t
-    (λ u high. ap (λ (b : Bool). option_map_or (λ e. e.1) (last_or None (cond b (e ∷ filter (λ (e : ℕ × Value). nat_le e.0 u) rest) (filter (λ (e : ℕ × Value). nat_le e.0 u) rest))) Unknown) (le-leb e.0 u (omega arith)))
+    (λ u high. by_next None e rest u (omega arith))
     (subst (λ (d : ℕ × Value). GoesOn (by e rest) d.1 (drop n rest) t) same goes)

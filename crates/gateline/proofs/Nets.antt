@@ -1,25 +1,22 @@
 -- What a net has, by the traces of its drivers.
-use Rattle.std.proofs.Common.{◌≡◌, ◌<◌, ◌∙◌, ap, sym, refl, cond, IsTrue, ℕ, suc, List, [], ◌∷◌, map, Option, Some, slice_get, get_or, unwrap_or, length, All, arith}
+use Rattle.std.proofs.Common.{◌≡◌, ◌<◌, ◌∙◌, ap, sym, refl, cond, ℕ, suc, List, [], ◌∷◌, map, Option, Some, slice_get, get_or, unwrap_or, length, All, arith}
+use Rattle.scratch.proofs.NetSteps.{drivers_at as drivers_there}
 use Rattle.std.proofs.lemmas.Simd.{map-map}
-use Rattle.scratch.proofs.Runs.{map_where}
+use Rattle.scratch.proofs.Runs.{map_where, settled}
 use Rattle.std.specs.Option.{option_map}
 use Rattle.std.proofs.lemmas.List.{length-map}
 use Rattle.std.proofs.lemmas.Option.{slice_get-map, slice_get_read, slice_get_within}
 use Rattle.design.specs.Netlist.{GateEntry, NetEntry, Netlist, stimulus}
 use Rattle.design.specs.kept.Lawful.{IsGate}
 use Rattle.design.specs.kept.Places.{driver_places}
-use Rattle.fourstate.specs.Gates.{takes_inputs}
 use Rattle.fourstate.specs.Nets.{net_of}
 use Rattle.fourstate.specs.declared.value.Value.{Value}
 use Rattle.fourstate.specs.declared.value.Value.TheVariants.{Unknown}
 use Rattle.gatestep.specs.Step.{State, Evaluation, due, initial}
 use Rattle.gatestep.specs.kept.Tasks.{IsTask, NothingDue}
-use Rattle.gateline.proofs.ByItself.{states}
-use Rattle.gateline.proofs.Still.{settled as settled_by}
-use Rattle.gateline.specs.kept.Known.{AreTraced, IsTraced, currents_by}
+use Rattle.gateline.specs.kept.Known.{AreTraced, IsTraced, current_by, currents_by}
 use Rattle.smallvec.specs.SmallVec.{SmallVec}
 use Rattle.scratch.specs.Run.{evaluation_at, net_at, state_after, state_before, value}
-use Rattle.scratch.specs.Work.{inputs_at}
 use Rattle.scratch.specs.kept.Kept.{net_from, values_at}
 use Rattle.scratch.specs.kept.Run.{trace_of}
 use Rattle.waveform.specs.Entries.{same_state}
@@ -36,19 +33,18 @@ abbrev pub NetByPlaces : Netlist → Type 0
 NetByPlaces d =
     (before : GateEntry → State) (t : ℕ) (n : NetEntry) → net_from (map (λ g. (due (before g) t).current) d.gates) t n (driver_places d.gates n.name) ≡ net_at d before n t
 
-module _ (answer : Evaluation → ℕ → State) (d : Netlist) (pending : (e : Evaluation) (t : ℕ) → IsTask e → NothingDue t (answer e t)) where
-  -- after a moment nothing is due at it any more
-  pub settled : (g : GateEntry) → IsGate g → IsAlwaysSettled due (state_after answer d g)
-  settled g is t =
-      let fit : (u : ℕ) → IsTrue (takes_inputs g.kind (length (inputs_at answer d g u))) = λ u. rw length-map is.inputs_fit in
-      let by_itself = settled_by answer g.kind g.delays (inputs_at answer d g) fit is.delays_in_range pending t in
-      rw (states answer d g (suc t)) at by_itself
+-- what is given at a place by the trace there
+pub current_there : (traces : List (List (ℕ × State))) (place : ℕ) (o : Option (List (ℕ × State))) (t : ℕ) → slice_get traces place ≡ o →
+    current_by traces place t ≡ unwrap_or (option_map (λ trace. currents trace t) o) Unknown
+current_there traces place o t there =
+    ap (λ (o : Option Value). unwrap_or o Unknown) (slice_get-map (λ trace. currents trace t) traces place ∙ ap (option_map (λ trace. currents trace t)) there)
 
+module _ (answer : Evaluation → ℕ → State) (d : Netlist) (pending : (e : Evaluation) (t : ℕ) → IsTask e → NothingDue t (answer e t)) where
   module _ (current : (e : Evaluation) (t : ℕ) → (answer e t).current ≡ (due e.state t).current) (gives : GivesStates) where
     -- what a driver gives up to the horizon, by its trace
     pub gives_current : (g : GateEntry) → IsGate g → (t : ℕ) → t < suc d.horizon → currents (trace_of answer d g) t ≡ (due (state_before answer d t g) t).current
     gives_current g is t within =
-        ap (λ s. s.current) (gives (state_after answer d g) (settled g is) t (suc d.horizon) within)
+        ap (λ s. s.current) (gives (state_after answer d g) (settled answer d pending g is) t (suc d.horizon) within)
         ∙ current (evaluation_at d (state_before answer d t) g t) t
 
     module _ (are : All IsGate d.gates) (traces : List (List (ℕ × State))) (t : ℕ) (within : t < suc d.horizon) where
@@ -80,11 +76,5 @@ module _ (answer : Evaluation → ℕ → State) (d : Netlist) (pending : (e : E
 pub drivers_at : (d : Netlist) (lists : List (SmallVec ℕ)) (place : ℕ) (n : NetEntry) (drivers : SmallVec ℕ) → map (λ places. places.items) lists ≡ map (λ n. driver_places d.gates n.name) d.nets →
     slice_get d.nets place ≡ Some n → drivers ≡ get_or lists place drivers → drivers.items ≡ driver_places d.gates n.name
 drivers_at d lists place n drivers are there read =
-    let count : length lists ≡ length d.nets = sym (length-map lists (λ (places : SmallVec ℕ). places.items)) ∙ ap length are ∙ length-map d.nets (λ (n : NetEntry). driver_places d.gates n.name) in
-    let within : place < length d.nets = slice_get_within d.nets place n there in
-    let here : slice_get lists place ≡ Some drivers = slice_get_read lists (length lists) place drivers refl (omega arith) read in
-    let both : Some drivers.items ≡ Some (driver_places d.gates n.name) =
-    sym (slice_get-map (λ (places : SmallVec ℕ). places.items) lists place ∙ ap (option_map (λ (places : SmallVec ℕ). places.items)) here)
-    ∙ ap (λ l. slice_get l place) are
-    ∙ slice_get-map (λ (n : NetEntry). driver_places d.gates n.name) d.nets place ∙ ap (option_map (λ (n : NetEntry). driver_places d.gates n.name)) there in
-    cc
+    let many = simp length-map at (ap length are) in let within = slice_get_within d.nets place n there in
+    drivers_there d lists place n drivers are there (slice_get_read lists (length lists) place drivers refl (omega arith) read)

@@ -1,16 +1,13 @@
 -- A net of several drivers, or of none.
-use Rattle.std.proofs.Common.{◌≡◌, ◌<◌, ◌∙◌, ap, sym, subst, refl, cond, false, ℕ, suc, List, [], ◌∷◌, map, Option, Some, None, IfSome, slice_get, unwrap_or, All}
+use Rattle.std.proofs.Common.{◌≡◌, ◌<◌, ◌∙◌, ap, sym, subst, refl, cond, false, ℕ, suc, List, [], ◌∷◌, map, Option, Some, None, IfSome, slice_get, All}
 use Rattle.scratch.proofs.Lists.{map_alike}
 use Rattle.std.proofs.lemmas.Simd.{map-map}
-use Rattle.std.specs.Option.{option_map}
 use Rattle.std.proofs.lemmas.List.Elements.{All-cons, All-nil}
-use Rattle.std.proofs.lemmas.Option.{slice_get-map}
 use Rattle.design.specs.Netlist.{NetEntry, Netlist, stimulus}
 use Rattle.design.specs.kept.Lawful.{IsGate}
 use Rattle.design.specs.kept.Places.{driver_places}
 use Rattle.fourstate.specs.Nets.{net_of}
 use Rattle.fourstate.specs.declared.value.Value.{Value}
-use Rattle.fourstate.specs.declared.value.Value.TheVariants.{Unknown}
 use Rattle.gatestep.specs.Step.{State, Evaluation, due}
 use Rattle.gatestep.specs.kept.Tasks.{IsTask, NothingDue}
 use Rattle.gateline.proofs.Inputs.{GivesValues}
@@ -23,13 +20,6 @@ use Rattle.scratch.specs.kept.Kept.{net_from, values_at}
 use Rattle.waveform.specs.Changes.{wave_at, wave_changes_below}
 use Rattle.waveform.specs.Entries.{same_state}
 use Rattle.waveform.specs.Timelines.{changes_below}
-use Rattle.waveform.specs.kept.Currents.{currents}
-
--- what is given at a place by the trace there
-pub current_there : (traces : List (List (ℕ × State))) (place : ℕ) (o : Option (List (ℕ × State))) (t : ℕ) → slice_get traces place ≡ o →
-    current_by traces place t ≡ unwrap_or (option_map (λ trace. currents trace t) o) Unknown
-current_there traces place o t there =
-    ap (λ (o : Option Value). unwrap_or o Unknown) (slice_get-map (λ trace. currents trace t) traces place ∙ ap (option_map (λ trace. currents trace t)) there)
 
 -- the changes of a driver below a moment lie before it (`waveform::laws::changes_lie_before`)
 abbrev pub LieBefore : Type 0

@@ -1,5 +1,5 @@
 -- What stays of one gate while nothing happens to it, and what its driver's states keep.
-use Rattle.std.proofs.Common.{◌≡◌, ◌<◌, ◌≤◌, ◌∙◌, sym, ap, refl, Bool, true, false, not, cond, ℕ, zero, suc, ◌+◌, List, [], ◌∷◌, ◌++◌, append-nil, append_assoc, length, Option, Some, None, IsTrue, arith, ⊎_elim}
+use Rattle.std.proofs.Common.{◌≡◌, ◌<◌, ◌≤◌, ◌∙◌, sym, ap, subst, refl, Bool, true, false, not, cond, ℕ, zero, suc, ◌+◌, List, [], ◌∷◌, ◌++◌, append-nil, append_assoc, length, Option, Some, None, IsTrue, arith, ⊎_elim}
 use Rattle.std.proofs.lemmas.Bool.{and_left, and_right, cond-false, not-false, or_parts}
 use Rattle.std.proofs.Math.Bool.{and-true}
 use Rattle.scratch.proofs.Still.{none_due, nothing_due}
@@ -138,15 +138,12 @@ module _ (answer : Evaluation → ℕ → State) (kind : GateKind) (delays : Del
       pub works : (wanted : Evaluation → ℕ → Bool) (n : ℕ) → n ≤ suc m →
           line_work_from answer kind delays inputs wanted n (suc r) ≡ line_work_from answer kind delays inputs wanted n (suc m)
 
+    stays_here : (m r : ℕ) → m ≡ r → StaysTo m r
+    stays_here m r here = subst (StaysTo m) here (record { states = refl; traces = refl; works = λ wanted n low. refl })
+
     -- where its inputs stay from m to r, and nothing of it is due, all stays
     pub stays_to : NoneAdded → (m r : ℕ) → m ≤ r → ((u : ℕ) → m ≤ u → u ≤ r → inputs u ≡ inputs m) → ((u : ℕ) → u ≤ r → is_due (state (suc m)) u ≡ false) → StaysTo m r
-    stays_to none_added m zero from same none =
-        let here : 0 ≡ m = omega arith in
-        record {
-          states = ap (λ k. state (suc k)) here;
-          traces = ap (λ k. line_trace answer kind delays inputs (suc k)) here;
-          works = λ wanted n low. ap (λ k. line_work_from answer kind delays inputs wanted n (suc k)) here;
-        }
+    stays_to none_added m zero from same none = stays_here m 0 (omega arith)
     stays_to none_added m (suc r) from same none =
         ⊎_elim
         (λ before.
@@ -161,13 +158,7 @@ module _ (answer : Evaluation → ℕ → State) (kind : GateKind) (delays : Del
               ∙ ap (λ l. line_work_from answer kind delays inputs wanted n (suc r) ++ l) (nothing_at wanted (suc r) off)
               ∙ append-nil (line_work_from answer kind delays inputs wanted n (suc r)) ∙ so_far.works wanted n low;
         })
-        (λ after.
-        let here : suc r ≡ m = omega arith in
-        record {
-          states = ap (λ k. state (suc k)) here;
-          traces = ap (λ k. line_trace answer kind delays inputs (suc k)) here;
-          works = λ wanted n low. ap (λ k. line_work_from answer kind delays inputs wanted n (suc k)) here;
-        })
+        (λ after. stays_here m (suc r) (omega arith))
         (cases_lt m (suc r))
 
   -- What its states keep.

@@ -6,9 +6,10 @@ use Rattle.design.specs.kept.Places.{driver_places}
 use Rattle.scratch.proofs.Lists.{of_there}
 use Rattle.gateline.proofs.Lists.{if_ok_then, some_at}
 use Rattle.gateline.proofs.Lone.{lone_at, lone_wave}
+use Rattle.gateline.proofs.Marks.{traced_all}
 use Rattle.gateline.proofs.Several.{found_below}
 use Rattle.gateline.proofs.finding.find_lone_wave.Goals as goal
-use Rattle.gateline.specs.kept.Known.{AreTraced, IsTraceBelow}
+use Rattle.gateline.specs.kept.Known.{IsTraceBelow}
 use Rattle.gatestep.specs.Step.{State}
 use Rattle.scratch.specs.Run.{wave_of}
 use Rattle.scratch.specs.kept.Run.{trace_of}
@@ -39,7 +40,7 @@ returns g c =
     let are = c.lawful.ensures.design.gates in
     let lone_drivers = c.args.wiring.now.lone_drivers.items in
     let lone = lone_at d lone_drivers c.args.place n k (Some k) c.requires.wired.lone_drivers there (sym (get_or_from_slice_get lone_drivers c.args.place (Some k) (Some k) c.requires.lone)) refl in
-    let traced : AreTraced answer d traces (driver_places d.gates n.name) = subst (AreTraced answer d traces) (sym lone.alone) (refl, tt) in
+    let traced = traced_all answer d traces refl (driver_places d.gates n.name) in
     let end : suc d.horizon ≡ c.horizon.result + 1 = (let is = c.horizon.ensures.horizon in omega arith) in
     if_ok_then c.driver_wave.result
     (λ wave is. ap (λ w. Some w) (is ∙ ap (wave_changes_below (currents line)) (sym end)

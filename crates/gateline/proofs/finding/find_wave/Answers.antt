@@ -1,13 +1,12 @@
-use Rattle.std.proofs.Common.{◌≡◌, ◌+◌, ◌∙◌, ap, sym, subst, refl, suc, map, All, IfSome, Some, length, slice_get, arith}
+use Rattle.std.proofs.Common.{◌≡◌, ◌+◌, ◌∙◌, ap, sym, subst, suc, map, All, IfSome, Some, slice_get, arith}
 use Rattle.std.specs.Option.{option_map}
-use Rattle.std.proofs.lemmas.Bool.{ltb-true}
-use Rattle.std.proofs.lemmas.Option.{slice_get-map, slice_get_read}
+use Rattle.std.proofs.lemmas.Option.{slice_get-map}
 use Rattle.design.specs.Keys.{netlist}
 use Rattle.design.specs.Netlist.{stimulus}
 use Rattle.design.specs.kept.Places.{driver_places}
 use Rattle.scratch.proofs.Lists.{of_there}
-use Rattle.gateline.proofs.Lists.{if_ok_then}
-use Rattle.gateline.proofs.Lone.{input_wave_is, lone_at, lone_wave, traced_gate}
+use Rattle.gateline.proofs.Lists.{found_at, if_ok_then}
+use Rattle.gateline.proofs.Lone.{input_wave_is, lone_at, lone_traced, lone_wave}
 use Rattle.gateline.proofs.Merging.{merged}
 use Rattle.gateline.proofs.Nets.{drivers_at}
 use Rattle.gateline.proofs.Several.{all_below, found_below, merged_wave}
@@ -25,10 +24,10 @@ driver_wave-requires-clause-trace g c =
     of_there (slice_get d.nets c.args.place) n (λ n. AreTraced answer d traces (driver_places d.gates n.name)) there c.requires.traced in
     let are = c.lawful.ensures.design.gates in let k = c.in-Some.driver in let line = c.in-Some-get.trace.now in
     let lone = lone_at d c.args.wiring.now.lone_drivers.items c.args.place n k c.index.result.now c.requires.wired.lone_drivers there c.index.ensures c.in-Some.is in
-    let here : slice_get traces k ≡ Some line = slice_get_read traces (length traces) k line refl (ltb-true k (length traces) (sym c.in-Some-get.ensures.lookup.0)) c.in-Some-get.ensures.lookup.1 in
+    let here : slice_get traces k ≡ Some line = found_at traces k line c.in-Some-get.ensures.lookup.0 c.in-Some-get.ensures.lookup.1 in
     let end : suc d.horizon ≡ c.horizon-in-Some-get.result + 1 = (let is = c.horizon-in-Some-get.ensures.horizon in omega arith) in
     subst (λ m. IsTraceBelow m line) end
-    (found_below answer d are law.answer_pending law.answer_current c.value_of_changes.ensures c.changes_lie_before.ensures traces k line (subst (AreTraced answer d traces) lone.alone traced).0 here)
+    (found_below answer d are law.answer_pending law.answer_current c.value_of_changes.ensures c.changes_lie_before.ensures traces k line (lone_traced answer d are traces n k lone traced) here)
 
 pub returns-in-Some-get : goal.returns-in-Some-get
 returns-in-Some-get g c =
@@ -38,8 +37,7 @@ returns-in-Some-get g c =
     of_there (slice_get d.nets c.args.place) n (λ n. AreTraced answer d traces (driver_places d.gates n.name)) there c.requires.traced in
     let are = c.lawful.ensures.design.gates in let k = c.in-Some.driver in let line = c.in-Some-get.trace.now in
     let lone = lone_at d c.args.wiring.now.lone_drivers.items c.args.place n k c.index.result.now c.requires.wired.lone_drivers there c.index.ensures c.in-Some.is in
-    let here : slice_get traces k ≡ Some line = slice_get_read traces (length traces) k line refl (ltb-true k (length traces) (sym c.in-Some-get.ensures.lookup.0)) c.in-Some-get.ensures.lookup.1 in
-    let it = traced_gate answer d are traces k line (subst (AreTraced answer d traces) lone.alone traced).0 here in
+    let here : slice_get traces k ≡ Some line = found_at traces k line c.in-Some-get.ensures.lookup.0 c.in-Some-get.ensures.lookup.1 in
     let end : suc d.horizon ≡ c.horizon-in-Some-get.result + 1 = (let is = c.horizon-in-Some-get.ensures.horizon in omega arith) in
     if_ok_then c.driver_wave.result
     (λ wave is. ap (λ w. Some w) (is ∙ ap (wave_changes_below (currents line)) (sym end)
