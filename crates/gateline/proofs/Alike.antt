@@ -18,39 +18,23 @@ module _ (answer : Evaluation → ℕ → State) (kind : GateKind) (delays : Del
     (same : (t : ℕ) → t < n → f t ≡ g t) where
   pub states : (t : ℕ) → t ≤ n → state_by answer kind delays f t ≡ state_by answer kind delays g t
   states zero low = refl
-  states (suc t) low =
-      let before : state_by answer kind delays f t ≡ state_by answer kind delays g t = states t (omega arith) in
-      let here : f t ≡ g t = same t (omega arith) in
-      λ i. answer (record { kind = kind; delays = delays; state = before i; inputs = here i }) t
+  states (suc t) low = λ i. answer (record { kind = kind; delays = delays; state = states t (omega arith) i; inputs = same t (omega arith) i }) t
 
   tasks : (t : ℕ) → t < n → task_by answer kind delays f t ≡ task_by answer kind delays g t
-  tasks t low =
-      let before : state_by answer kind delays f t ≡ state_by answer kind delays g t = states t (omega arith) in
-      let here : f t ≡ g t = same t low in
-      λ i. record { kind = kind; delays = delays; state = before i; inputs = here i }
+  tasks t low = λ i. record { kind = kind; delays = delays; state = states t (omega arith) i; inputs = same t low i }
 
   stirred : (t : ℕ) → t < n → is_stirred_by answer kind delays f t ≡ is_stirred_by answer kind delays g t
   stirred zero low = refl
-  stirred (suc t) low =
-      let state : state_by answer kind delays f (suc t) ≡ state_by answer kind delays g (suc t) = states (suc t) (omega arith) in
-      let now : f (suc t) ≡ g (suc t) = same (suc t) low in
-      let before : f t ≡ g t = same t (omega arith) in
-      λ i. not (same_values (now i) (before i)) || is_due (state i) (suc t)
+  stirred (suc t) low = λ i. not (same_values (same (suc t) low i) (same t (omega arith) i)) || is_due (states (suc t) (omega arith) i) (suc t)
 
   -- and what is asked from a moment on
   module _ (wanted : Evaluation → ℕ → Bool) where
     here_too : (t : ℕ) → t < n → work_at answer kind delays f wanted t ≡ work_at answer kind delays g wanted t
-    here_too t low =
-        let on = stirred t low in
-        let task = tasks t low in
-        λ i. cond (wanted (task i) t && on i) ((task i, t) ∷ []) []
+    here_too t low = λ i. cond (wanted (tasks t low i) t && stirred t low i) ((tasks t low i, t) ∷ []) []
 
     pub works : (a m : ℕ) → m ≤ n → line_work_from answer kind delays f wanted a m ≡ line_work_from answer kind delays g wanted a m
     works a zero low = refl
-    works a (suc m) low =
-        let before = works a m (omega arith) in
-        let here = here_too m (omega arith) in
-        λ i. cond (nat_le a m) (before i ++ here i) []
+    works a (suc m) low = λ i. cond (nat_le a m) (works a m (omega arith) i ++ here_too m (omega arith) i) []
 
   pub traces : SameChanges → line_trace answer kind delays f n ≡ line_trace answer kind delays g n
   traces law = law (λ t. state_by answer kind delays f (suc t)) (λ t. state_by answer kind delays g (suc t)) n (λ t low. states (suc t) (omega arith))

@@ -1,24 +1,23 @@
 -- A gate that had the state and the inputs of an old run does what it did there.
 use Rattle.std.proofs.Common.{◌≡◌, ◌<◌, ◌≤◌, ◌∙◌, ◌⊎◌, ap, sym, subst, refl, false, not, ℕ, zero, suc, List, [], ◌++◌, Option, None, Some, IfNone, inl, inr, arith}
-use Rattle.std.proofs.lemmas.Bool.{and_from, and_parts, not-false, not_from_true, or_from, or_parts}
-use Rattle.gateline.proofs.Lists.{same_values_equal, same_values_itself}
 use Rattle.std.specs.Option.{ForSome}
-use Rattle.std.proofs.lemmas.Bool.{cases_lt}
 use Rattle.std.specs.Prelude.{◌&&◌}
+use Rattle.std.proofs.lemmas.Bool.{and_from, and_parts, not-false, not_from_true, or_from, or_parts, cases_lt}
 use Rattle.fourstate.specs.declared.value.Value.{Value}
 use Rattle.gatestep.specs.Step.{State, Evaluation, due}
 use Rattle.gateline.proofs.Alike.{SameChanges}
+use Rattle.gateline.proofs.Lists.{same_values_equal, same_values_itself}
 use Rattle.gateline.proofs.Still.{never_asked, work_splits}
 use Rattle.gateline.specs.declared.walk.Former.{Former}
-use Rattle.gateline.specs.kept.Starts.{begin_of}
 use Rattle.gateline.specs.kept.Line.{line_trace, line_work_from, state_by, task_by}
 use Rattle.gateline.specs.kept.OldLines.{IsFollowedAt, OldRecord, old_inputs, state_till, wanted_beside}
+use Rattle.gateline.specs.kept.Starts.{begin_of}
 use Rattle.gateline.specs.kept.Waves.{inputs_by}
 use Rattle.scratch.specs.Work.{same_values}
 use Rattle.scratch.specs.kept.Cells.{CellRecord}
 use Rattle.waveform.specs.Entries.{same_state}
-use Rattle.waveform.specs.kept.Changes.{state_at, trace_below}
 use Rattle.waveform.specs.Timelines.{changes_below, entries_until}
+use Rattle.waveform.specs.kept.Changes.{state_at, trace_below}
 use Rattle.waveform.specs.kept.SampleLaws.{is_same_state, same_state_self}
 
 -- an entry of a list that is cut (`waveform::laws::cut_of_changes`)

@@ -1,22 +1,19 @@
 -- A function of time that goes on by its changes.
 use Rattle.std.proofs.Common.{◌≡◌, ◌<◌, ◌≤◌, ◌+◌, ◌-◌, ◌∙◌, ap, sym, refl, subst, cond, Bool, true, false, ℕ, zero, suc, List, [], ◌∷◌, Option, Some, None, All, take, drop, length, get_or, arith}
-use Rattle.std.proofs.lemmas.List.{map-id}
-use Rattle.waveform.proofs.Turns.{none_until, turns_later}
-use Rattle.waveform.proofs.Places.{times_rise as stored_times_rise}
-use Rattle.std.proofs.lemmas.List.{get_or-drop, get_or-take, length-drop, length-take}
-use Rattle.std.proofs.lemmas.Bool.{leb-false, leb-true}
-use Rattle.std.specs.List.{AllWithin}
-use Rattle.std.specs.List.{filter, last_or}
+use Rattle.std.specs.List.{AllWithin, filter, last_or}
 use Rattle.std.specs.List.Sorted.{IsNonDecreasingBy}
 use Rattle.std.specs.Option.{option_map_or}
 use Rattle.std.specs.Prelude.{nat_le, ◌==◌}
-use Rattle.std.proofs.lemmas.Bool.{eqb-true, le-leb}
+use Rattle.std.proofs.lemmas.Bool.{leb-false, leb-true, eqb-true, le-leb}
 use Rattle.std.proofs.lemmas.Bool.Decides.{nat_tests}
+use Rattle.std.proofs.lemmas.List.{map-id, get_or-drop, get_or-take, length-drop, length-take}
 use Rattle.std.proofs.lemmas.List.Elements.{All-cons, All-head, All-nil, All-tail, All-weaker}
 use Rattle.fourstate.specs.Values.{same_value}
 use Rattle.fourstate.specs.declared.value.Value.{Value}
 use Rattle.fourstate.specs.declared.value.Value.TheVariants.{Unknown}
 use Rattle.gateline.specs.kept.Readers.{GoesOn, next_of, rest_then, value_then}
+use Rattle.waveform.proofs.Places.{times_rise as stored_times_rise}
+use Rattle.waveform.proofs.Turns.{none_until, turns_later}
 use Rattle.waveform.specs.Changes.{wave_at}
 use Rattle.waveform.specs.Entries.{standing}
 use Rattle.waveform.specs.declared.times.TheConstants.{TIME_END}

@@ -1,10 +1,9 @@
 -- The inputs of a gate of a design, by the waves that are found.
 use Rattle.std.proofs.Common.{◌≡◌, ◌<◌, ◌∙◌, ap, sym, refl, ℕ, suc, List, [], ◌∷◌, map, Option, Some, slice_get, get_or, length, unwrap_or, arith}
-use Rattle.scratch.proofs.Lists.{map_alike}
-use Rattle.std.proofs.lemmas.Simd.{map-map}
 use Rattle.std.specs.Option.{option_map}
 use Rattle.std.proofs.lemmas.List.{length-map}
 use Rattle.std.proofs.lemmas.Option.{slice_get-map, slice_get_read}
+use Rattle.std.proofs.lemmas.Simd.{map-map}
 use Rattle.design.specs.Connections.{Connection}
 use Rattle.design.specs.Netlist.{GateEntry, Netlist}
 use Rattle.fourstate.specs.declared.value.Value.{Value}
@@ -13,6 +12,7 @@ use Rattle.gatestep.specs.Step.{State, Evaluation}
 use Rattle.gateline.proofs.Lists.{some_at}
 use Rattle.gateline.specs.kept.Known.{AreKnown, IsKnown}
 use Rattle.gateline.specs.kept.Waves.{input_at, inputs_by}
+use Rattle.scratch.proofs.Lists.{map_alike}
 use Rattle.scratch.specs.Run.{net_at, state_before, terminal_at, value, wave_of}
 use Rattle.scratch.specs.Work.{inputs_at}
 use Rattle.scratch.specs.declared.wiring.Input.{Input}
@@ -49,8 +49,7 @@ module _ (answer : Evaluation → ℕ → State) (d : Netlist) (waves : List (Li
     connections_known (connection ∷ connections) known =
         let one : input_at waves (input_of d connection) t ≡ terminal_at d (state_before answer d t) connection t =
         input_known (input_of d connection) known.0 ∙ reads (state_before answer d t) t connection in
-        let rest = connections_known connections known.1 in
-        λ i. one i ∷ rest i
+        λ i. one i ∷ connections_known connections known.1 i
 
   -- what the waves say up to the horizon is what the gate reads
   pub inputs_known : (g : GateEntry) (inputs : List Input) → inputs ≡ map (input_of d) g.inputs → AreKnown answer d waves inputs → (t : ℕ) → t < suc d.horizon →

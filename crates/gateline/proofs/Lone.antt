@@ -10,9 +10,9 @@ use Rattle.fourstate.specs.declared.value.Value.{Value}
 use Rattle.gatestep.specs.Step.{State, Evaluation, due}
 use Rattle.gatestep.specs.kept.Tasks.{IsTask, NothingDue}
 use Rattle.gateline.proofs.Nets.{GivesStates, NetByPlaces, current_there, gives_current, value_by_traces}
+use Rattle.gateline.specs.kept.Known.{AreTraced, IsTraced, currents_by}
 use Rattle.scratch.proofs.NetSteps.{listed_at, lone_gives, lone_is}
 use Rattle.scratch.proofs.Runs.{settled}
-use Rattle.gateline.specs.kept.Known.{AreTraced, IsTraced, currents_by}
 use Rattle.scratch.specs.Run.{state_after, state_before, value, wave_of}
 use Rattle.scratch.specs.kept.Kept.{lone_driver}
 use Rattle.scratch.specs.kept.Run.{trace_of}

@@ -1,6 +1,5 @@
 -- Nets whose waves are found, by their marks.
 use Rattle.std.proofs.Common.{◌≡◌, ◌<◌, ◌≤◌, ◌++◌, ◌∙◌, ap, sym, subst, true, Bool, ℕ, zero, suc, List, [], ◌∷◌, map, Some, slice_get, length, arith, ⊎_elim}
-use Rattle.scratch.proofs.Between.{alike}
 use Rattle.std.proofs.lemmas.Bool.{cases_lt}
 use Rattle.std.proofs.lemmas.List.{length-map}
 use Rattle.std.proofs.lemmas.Option.{slice_get_past}
@@ -8,6 +7,7 @@ use Rattle.design.specs.Netlist.{Netlist}
 use Rattle.fourstate.specs.declared.value.Value.{Value}
 use Rattle.gatestep.specs.Step.{State, Evaluation}
 use Rattle.gateline.specs.kept.Known.{AreFound, AreKnown, AreMarked, AreSupplied, AreTraced, IsKnown, IsMarked, KeepsMarks}
+use Rattle.scratch.proofs.Between.{alike}
 use Rattle.scratch.specs.Run.{wave_of}
 use Rattle.scratch.specs.declared.wiring.Input.{Input}
 use Rattle.scratch.specs.declared.wiring.Input.TheVariants.{At, Fixed}

@@ -1,11 +1,9 @@
 -- What a net has, by the traces of its drivers.
 use Rattle.std.proofs.Common.{◌≡◌, ◌<◌, ◌∙◌, ap, sym, refl, cond, ℕ, suc, List, [], ◌∷◌, map, Option, Some, slice_get, get_or, unwrap_or, length, All, arith}
-use Rattle.scratch.proofs.NetSteps.{drivers_at as drivers_there}
-use Rattle.std.proofs.lemmas.Simd.{map-map}
-use Rattle.scratch.proofs.Runs.{map_where, settled}
 use Rattle.std.specs.Option.{option_map}
 use Rattle.std.proofs.lemmas.List.{length-map}
 use Rattle.std.proofs.lemmas.Option.{slice_get-map, slice_get_read, slice_get_within}
+use Rattle.std.proofs.lemmas.Simd.{map-map}
 use Rattle.design.specs.Netlist.{GateEntry, NetEntry, Netlist, stimulus}
 use Rattle.design.specs.kept.Lawful.{IsGate}
 use Rattle.design.specs.kept.Places.{driver_places}
@@ -15,10 +13,12 @@ use Rattle.fourstate.specs.declared.value.Value.TheVariants.{Unknown}
 use Rattle.gatestep.specs.Step.{State, Evaluation, due, initial}
 use Rattle.gatestep.specs.kept.Tasks.{IsTask, NothingDue}
 use Rattle.gateline.specs.kept.Known.{AreTraced, IsTraced, current_by, currents_by}
-use Rattle.smallvec.specs.SmallVec.{SmallVec}
+use Rattle.scratch.proofs.NetSteps.{drivers_at as drivers_there}
+use Rattle.scratch.proofs.Runs.{map_where, settled}
 use Rattle.scratch.specs.Run.{evaluation_at, net_at, state_after, state_before, value}
 use Rattle.scratch.specs.kept.Kept.{net_from, values_at}
 use Rattle.scratch.specs.kept.Run.{trace_of}
+use Rattle.smallvec.specs.SmallVec.{SmallVec}
 use Rattle.waveform.specs.Entries.{same_state}
 use Rattle.waveform.specs.Timelines.{changes_below, value_by}
 use Rattle.waveform.specs.kept.Currents.{currents}
@@ -62,8 +62,7 @@ module _ (answer : Evaluation → ℕ → State) (d : Netlist) (pending : (e : E
       all_at [] traced = refl
       all_at (p ∷ places) traced =
           let one = ap (λ (o : Option Value). unwrap_or o Unknown) (one_at p traced.0) in
-          let rest = all_at places traced.1 in
-          λ i. one i ∷ rest i
+          λ i. one i ∷ all_at places traced.1 i
 
       -- the value of a net, by the traces of its drivers
       pub value_by_traces : NetByPlaces d → (n : NetEntry) → AreTraced answer d traces (driver_places d.gates n.name) →

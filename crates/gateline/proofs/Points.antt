@@ -1,19 +1,21 @@
 -- The stimulus of an input between two of its points.
 use Rattle.std.proofs.Common.{◌≡◌, ◌<◌, ◌≤◌, ◌∙◌, ap, sym, subst, false, not, ℕ, zero, suc, List, [], ◌∷◌, ◌++◌, append_assoc, All, None, arith}
-use Rattle.design.proofs.PointLemmas.{rising_head, rising_tail}
-use Rattle.design.proofs.PieceLemmas.{kept_all, kept_none, last_of}
 use Rattle.std.specs.List.{filter, last_or}
 use Rattle.std.specs.Option.{option_map_or}
 use Rattle.std.specs.Prelude.{nat_le}
 use Rattle.std.proofs.lemmas.Bool.{le-leb, lt-leb}
 use Rattle.std.proofs.lemmas.List.{append-nil}
 use Rattle.std.proofs.lemmas.List.Elements.{All-cons, All-head, All-nil, All-push, All-tail, All-weaker, filter-append}
+use Rattle.design.proofs.PieceLemmas.{kept_all, kept_none, last_of}
+use Rattle.design.proofs.PointLemmas.{rising_head, rising_tail}
 use Rattle.design.specs.Netlist.{stimulus}
 use Rattle.design.specs.kept.Lawful.{AreRising}
 use Rattle.fourstate.specs.Values.{same_value}
 use Rattle.fourstate.specs.declared.value.Value.{Value}
 use Rattle.fourstate.specs.declared.value.Value.TheVariants.{Unknown}
 use Rattle.fourstate.specs.kept.ValueLaws.{same_self}
+use Rattle.scratch.proofs.Still.{Stays}
+use Rattle.waveform.specs.Changes.{wave_changes_below}
 use Rattle.waveform.specs.Entries.{standing}
 use Rattle.waveform.specs.Timelines.{is_change}
 
@@ -79,9 +81,6 @@ module _ (points come left : List (ℕ × Value)) (m : ℕ) (p : ℕ × Value) (
   rising : AreRising (p ∷ later)
   rising = subst AreRising next before.rising
 
-  rising_then : AreRising later
-  rising_then = rising_tail p later rising
-
   after : All (λ q. p.0 < q.0) later
   after = rising_head p later rising
 
@@ -89,7 +88,7 @@ module _ (points come left : List (ℕ × Value)) (m : ℕ) (p : ℕ × Value) (
   late = subst (All (λ q. 0 < q.0 → m ≤ q.0)) next before.late
 
   -- it lies at m or later, unless it is at 0
-  pub late_here : 0 < p.0 → m ≤ p.0
+  late_here : 0 < p.0 → m ≤ p.0
   late_here = All-head (λ (q : ℕ × Value). 0 < q.0 → m ≤ q.0) p later late
 
   -- once one at 0 has come, m stays
@@ -97,7 +96,7 @@ module _ (points come left : List (ℕ × Value)) (m : ℕ) (p : ℕ × Value) (
   after_first begun first =
       record {
         whole = whole_then;
-        rising = rising_then;
+        rising = rising_tail p later rising;
         early = All-push (λ (q : ℕ × Value). q.0 < m) come p before.early (omega arith);
         late = All-tail (λ (q : ℕ × Value). 0 < q.0 → m ≤ q.0) p later late;
       }
@@ -110,7 +109,7 @@ module _ (points come left : List (ℕ × Value)) (m : ℕ) (p : ℕ × Value) (
   after_next some =
       record {
         whole = whole_then;
-        rising = rising_then;
+        rising = rising_tail p later rising;
         early = All-push (λ (q : ℕ × Value). q.0 < suc p.0) come p (All-weaker (λ (q : ℕ × Value). q.0 < p.0) (λ q. q.0 < suc p.0) (λ q h. omega arith) come (early_here some)) (omega arith);
         late = All-weaker (λ (q : ℕ × Value). p.0 < q.0) (λ q. 0 < q.0 → suc p.0 ≤ q.0) (λ q h _. omega arith) later after;
       }
@@ -120,6 +119,9 @@ module _ (points come left : List (ℕ × Value)) (m : ℕ) (p : ℕ × Value) (
   none_before r begun low =
       no_point_between points come (p ∷ later) m r whole begun before.early
       (All-cons (λ (q : ℕ × Value). r ≤ q.0) p later low (All-weaker (λ (q : ℕ × Value). p.0 < q.0) (λ q. r ≤ q.0) (λ q h. omega arith) later after))
+
+  pub changes_before : Stays same_value standing → 0 < m → 0 < p.0 → wave_changes_below (stimulus points) p.0 ≡ wave_changes_below (stimulus points) m
+  changes_before stays begun some = stays (stimulus points) m p.0 (late_here some) (none_before p.0 begun (omega arith))
 
   -- it gives the value at its moment
   pub value_there : 0 < p.0 → stimulus points p.0 ≡ p.1

@@ -1,8 +1,7 @@
 -- A net of several drivers, or of none.
 use Rattle.std.proofs.Common.{◌≡◌, ◌<◌, ◌∙◌, ap, sym, subst, refl, cond, false, ℕ, suc, List, [], ◌∷◌, map, Option, Some, None, IfSome, slice_get, All}
-use Rattle.scratch.proofs.Lists.{map_alike}
-use Rattle.std.proofs.lemmas.Simd.{map-map}
 use Rattle.std.proofs.lemmas.List.Elements.{All-cons, All-nil}
+use Rattle.std.proofs.lemmas.Simd.{map-map}
 use Rattle.design.specs.Netlist.{NetEntry, Netlist, stimulus}
 use Rattle.design.specs.kept.Lawful.{IsGate}
 use Rattle.design.specs.kept.Places.{driver_places}
@@ -15,6 +14,7 @@ use Rattle.gateline.proofs.Lone.{SameValues, goes_on, traced_gate}
 use Rattle.gateline.proofs.Merging.{merged}
 use Rattle.gateline.proofs.Nets.{GivesStates, NetByPlaces, value_by_traces}
 use Rattle.gateline.specs.kept.Known.{AreTraced, IsTraceBelow, IsTraced, current_by, currents_by}
+use Rattle.scratch.proofs.Lists.{map_alike}
 use Rattle.scratch.specs.Run.{state_after, value, wave_of}
 use Rattle.scratch.specs.kept.Kept.{net_from, values_at}
 use Rattle.waveform.specs.Changes.{wave_at, wave_changes_below}

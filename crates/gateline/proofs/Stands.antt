@@ -1,21 +1,20 @@
 -- Readers of functions of time, side by side.
 use Rattle.std.proofs.Common.{◌≡◌, ◌<◌, ◌≤◌, ◌+◌, ◌∙◌, ap, sym, subst, refl, ℕ, List, [], ◌∷◌, ◌++◌, Some, map, take, drop, length, slice_get, IsTrue, arith}
-use Rattle.gateline.proofs.Lists.{few_inputs}
-use Rattle.fourstate.specs.declared.limits.TheConstants.{MAX_INPUTS}
-use Rattle.fourstate.specs.declared.gate.GateKind.{GateKind}
-use Rattle.fourstate.specs.Gates.{takes_inputs}
 use Rattle.std.specs.List.{refill}
-use Rattle.gatestep.proofs.Jobs.{zip_push}
-use Rattle.std.proofs.lemmas.List.{map-append, take_at}
+use Rattle.std.proofs.lemmas.List.{map-append, take_at, length-map}
 use Rattle.std.proofs.lemmas.Simd.{map-map}
-use Rattle.scratch.proofs.Lists.{take_next}
-use Rattle.std.proofs.lemmas.List.{length-map}
+use Rattle.fourstate.specs.Gates.{takes_inputs}
+use Rattle.fourstate.specs.declared.gate.GateKind.{GateKind}
+use Rattle.fourstate.specs.declared.limits.TheConstants.{MAX_INPUTS}
 use Rattle.fourstate.specs.declared.value.Value.{Value}
+use Rattle.gatestep.proofs.Jobs.{zip_push}
 use Rattle.gateline.proofs.Goes.{coming, here, later, passed, until}
+use Rattle.gateline.proofs.Lists.{few_inputs}
 use Rattle.gateline.specs.declared.reader.Reader.{Reader}
 use Rattle.gateline.specs.kept.Ahead.{next_of, rest_then, value_then}
 use Rattle.gateline.specs.kept.Readers.{GoesOn, StandAt, next_among, seen, seen_then}
 use Rattle.gateline.specs.kept.Waves.{input_at, input_functions, inputs_by}
+use Rattle.scratch.proofs.Lists.{take_next}
 use Rattle.scratch.specs.declared.wiring.Input.{Input}
 use Rattle.waveform.specs.declared.times.TheConstants.{TIME_END}
 
@@ -32,17 +31,13 @@ pub values_stay : (fs : List (ℕ → Value)) (readers : List Reader) (m u : ℕ
 values_stay [] readers m u stand from below = refl
 values_stay (f ∷ fs) [] m u stand from below = elim stand [ ]
 values_stay (f ∷ fs) (x ∷ readers) m u stand from below =
-    let one : f u ≡ f m = until f x.value x.rest.now m u stand.0 from (omega arith) ∙ sym (here f x.value x.rest.now m stand.0) in
-    let rest : map (λ f. f u) fs ≡ map (λ f. f m) fs = values_stay fs readers m u stand.1 from (omega arith) in
-    λ i. one i ∷ rest i
+    let one = until f x.value x.rest.now m u stand.0 from (omega arith) ∙ sym (here f x.value x.rest.now m stand.0) in
+    λ i. one i ∷ values_stay fs readers m u stand.1 from (omega arith) i
 
 -- what the readers have is what the functions have
 pub standing : (fs : List (ℕ → Value)) (readers : List Reader) (m : ℕ) → StandAt fs readers m → map (λ reader. reader.value) readers ≡ map (λ f. f m) fs
 standing [] [] m stand = refl
-standing (f ∷ fs) (x ∷ readers) m stand =
-    let one : x.value ≡ f m = sym (here f x.value x.rest.now m stand.0) in
-    let rest : map (λ (reader : Reader). reader.value) readers ≡ map (λ f. f m) fs = standing fs readers m stand.1 in
-    λ i. one i ∷ rest i
+standing (f ∷ fs) (x ∷ readers) m stand = let one = sym (here f x.value x.rest.now m stand.0) in λ i. one i ∷ standing fs readers m stand.1 i
 standing fs readers m stand = elim stand [ ]
 
 -- the first change among them comes later
@@ -94,10 +89,7 @@ unchanged v (e ∷ rest) t below = grind arith
 
 pub unpassed : (readers : List Reader) (t : ℕ) → t < next_among readers → map (seen_then t) readers ≡ map seen readers
 unpassed [] t below = refl
-unpassed (r ∷ readers) t below =
-    let one : seen_then t r ≡ seen r = unchanged r.value r.rest.now t (omega arith) in
-    let rest : map (seen_then t) readers ≡ map seen readers = unpassed readers t (omega arith) in
-    λ i. one i ∷ rest i
+unpassed (r ∷ readers) t below = λ i. unchanged r.value r.rest.now t (omega arith) i ∷ unpassed readers t (omega arith) i
 
 -- Of the inputs of a gate.
 module _ (waves : List (List (ℕ × Value))) (inputs : List Input) (readers : List Reader) (m : ℕ) (stand : StandAt (input_functions waves inputs) readers m) where

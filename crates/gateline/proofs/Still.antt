@@ -1,12 +1,9 @@
 -- What stays of one gate while nothing happens to it, and what its driver's states keep.
 use Rattle.std.proofs.Common.{◌≡◌, ◌<◌, ◌≤◌, ◌∙◌, sym, ap, subst, refl, Bool, true, false, not, cond, ℕ, zero, suc, ◌+◌, List, [], ◌∷◌, ◌++◌, append-nil, append_assoc, length, Option, Some, None, IsTrue, arith, ⊎_elim}
-use Rattle.std.proofs.lemmas.Bool.{and_left, and_right, cond-false, not-false, or_parts}
-use Rattle.std.proofs.Math.Bool.{and-true}
-use Rattle.scratch.proofs.Still.{none_due, nothing_due}
-use Rattle.gateline.proofs.Lists.{same_values_equal, same_values_itself}
 use Rattle.std.specs.Option.{option_map_or, ForSome}
 use Rattle.std.specs.Prelude.{nat_le, ◌||◌, ◌&&◌}
-use Rattle.std.proofs.lemmas.Bool.{cases_lt, le-leb, leb-true, lt-leb}
+use Rattle.std.proofs.Math.Bool.{and-true}
+use Rattle.std.proofs.lemmas.Bool.{and_left, and_right, cond-false, not-false, or_parts, cases_lt, le-leb, leb-true, lt-leb}
 use Rattle.fourstate.specs.Gates.{takes_inputs}
 use Rattle.fourstate.specs.declared.delay_times.DelayTimes.{DelayTimes}
 use Rattle.fourstate.specs.declared.gate.GateKind.{GateKind}
@@ -17,13 +14,15 @@ use Rattle.gatestep.specs.Step.{State, Evaluation, due}
 use Rattle.gatestep.specs.Tasks.{PendingFrom}
 use Rattle.gatestep.specs.kept.StepLaws.{not_due}
 use Rattle.gatestep.specs.kept.Tasks.{IsTask, NothingDue, PendingBefore, again}
+use Rattle.gateline.proofs.Lists.{same_values_equal, same_values_itself}
 use Rattle.gateline.specs.kept.Line.{is_stirred_by, line_trace, line_work_from, state_by, task_by, work_at}
+use Rattle.scratch.proofs.Still.{none_due, nothing_due}
 use Rattle.scratch.specs.Work.{is_due, same_values}
-use Rattle.waveform.specs.Timelines.{changes_below}
 use Rattle.waveform.specs.Entries.{same_state}
+use Rattle.waveform.specs.Timelines.{changes_below}
+use Rattle.waveform.specs.declared.times.TheConstants.{TIME_END}
 use Rattle.waveform.specs.kept.Entries.{CanStore}
 use Rattle.waveform.specs.kept.Timelines.{IsAlwaysSettled}
-use Rattle.waveform.specs.declared.times.TheConstants.{TIME_END}
 
 -- before the moment of what is pending nothing is due
 not_due_at : (p : Option (Value × ℕ)) (n u : ℕ) → ForSome p (λ event. n ≤ event.1) → u < n → option_map_or (λ event. nat_le event.1 u) p false ≡ false
@@ -104,9 +103,7 @@ module _ (answer : Evaluation → ℕ → State) (kind : GateKind) (delays : Del
         elim (nat_le a t) as (λ b. nat_le a t ≡ b → cond b (from a t ++ work t) [] ≡ []) [
           | true ↦ λ h.
               let low : a ≤ t = leb-true a t h in
-              let before = never_asked a t (λ u from low. off u from (omega arith)) in
-              let here = unwanted_at t (off t low (omega arith)) in
-              λ i. before i ++ here i
+              λ i. never_asked a t (λ u from low. off u from (omega arith)) i ++ unwanted_at t (off t low (omega arith)) i
           | false ↦ λ h. refl
         ] refl
 

@@ -100,7 +100,13 @@ module _ (answer : Evaluation → ℕ → State) (cell : CellRecord) (waves : Li
             ∙ sym (stirred_work answer cell.kind cell.delays inputs wanted n on);
       }
 
-  -- whether it is stirred at the moment after m
+  -- at the moment after m
+  pub read_next : (situation : Situation) (course : Course) (m : ℕ) (new : List Reader) (values : List Value) → IsAt answer cell waves situation course m → m < next_among course.readers.items →
+      map seen new ≡ map (seen_then (m + 1)) course.readers.items → values ≡ map (λ reader. reader.value) new → Read situation.state new values (m + 1) (suc m)
+  read_next situation course m new values at below same are =
+      read situation.state course.readers.items new values (m + 1) m (suc m) at.state at.readers (omega arith) (omega arith) same are (add-one m)
+
+  -- whether it is stirred there
   pub stirred_is : (situation : Situation) (course : Course) (m : ℕ) (values : List Value) (b : Bool) → IsAt answer cell waves situation course m → values ≡ inputs (suc m) →
       b ≡ (not (same_values values situation.inputs) || is_due situation.state (m + 1)) → is_stirred_by answer cell.kind cell.delays inputs (suc m) ≡ b
   stirred_is situation course m values b at are is =

@@ -2,10 +2,10 @@ use Rattle.std.proofs.Common.{◌≡◌, ◌+◌, ◌++◌, ◌∙◌, ap, sym, 
 use Rattle.std.proofs.lemmas.List.{take_all}
 use Rattle.std.proofs.lemmas.Option.{slice_get_read}
 use Rattle.design.specs.Keys.{netlist}
-use Rattle.scratch.proofs.Lists.{take_next}
 use Rattle.gateline.proofs.Marks.{all_known, keep_all, marked_more, supplied_at}
 use Rattle.gateline.proofs.filling.find_inputs.Goals as goal
 use Rattle.gateline.specs.kept.Known.{AreMarked, AreSupplied, IsMarked}
+use Rattle.scratch.proofs.Lists.{take_next}
 
 pub loop-input-preserved : goal.loop-input-preserved
 loop-input-preserved g c =

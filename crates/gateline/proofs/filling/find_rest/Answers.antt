@@ -2,11 +2,11 @@ use Rattle.std.proofs.Common.{◌≡◌, ◌<◌, ◌∙◌, ap, sym, length, sl
 use Rattle.std.proofs.lemmas.Bool.{cases_lt}
 use Rattle.design.specs.Keys.{netlist}
 use Rattle.design.specs.kept.Places.{driver_places}
-use Rattle.scratch.proofs.Lists.{if_there}
 use Rattle.gateline.proofs.Lists.{some_at}
 use Rattle.gateline.proofs.Marks.{all_waves, traced_all}
 use Rattle.gateline.proofs.filling.find_rest.Goals as goal
 use Rattle.gateline.specs.kept.Known.{AreTraced}
+use Rattle.scratch.proofs.Lists.{if_there}
 
 pub loop-place-preserved : goal.loop-place-preserved
 loop-place-preserved g c =

@@ -2,9 +2,9 @@ use Rattle.std.proofs.Common.{◌≡◌, ◌+◌, ◌++◌, ◌∙◌, ap, sym, 
 use Rattle.std.proofs.lemmas.List.{map-append, take_all}
 use Rattle.std.proofs.lemmas.Option.{slice_get-get_or}
 use Rattle.fourstate.specs.declared.value.Value.{Value}
-use Rattle.scratch.proofs.Lists.{take_next}
 use Rattle.gateline.proofs.finding.driver_waves.Goals as goal
 use Rattle.gateline.specs.kept.Known.{current_by}
+use Rattle.scratch.proofs.Lists.{take_next}
 use Rattle.waveform.specs.Changes.{wave_changes_below}
 
 pub wave_at_place-requires-clause-trace : goal.wave_at_place-requires-clause-trace

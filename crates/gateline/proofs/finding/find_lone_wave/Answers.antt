@@ -3,14 +3,14 @@ use Rattle.std.specs.Option.{option_map}
 use Rattle.std.proofs.lemmas.Option.{get_or_from_slice_get, slice_get-map}
 use Rattle.design.specs.Keys.{netlist}
 use Rattle.design.specs.kept.Places.{driver_places}
-use Rattle.scratch.proofs.Lists.{of_there}
+use Rattle.gatestep.specs.Step.{State}
 use Rattle.gateline.proofs.Lists.{if_ok_then, some_at}
 use Rattle.gateline.proofs.Lone.{lone_at, lone_wave}
 use Rattle.gateline.proofs.Marks.{traced_all}
 use Rattle.gateline.proofs.Several.{found_below}
 use Rattle.gateline.proofs.finding.find_lone_wave.Goals as goal
 use Rattle.gateline.specs.kept.Known.{IsTraceBelow}
-use Rattle.gatestep.specs.Step.{State}
+use Rattle.scratch.proofs.Lists.{of_there}
 use Rattle.scratch.specs.Run.{wave_of}
 use Rattle.scratch.specs.kept.Run.{trace_of}
 use Rattle.waveform.specs.Changes.{wave_changes_below}

@@ -4,7 +4,6 @@ use Rattle.std.proofs.lemmas.Option.{slice_get-map}
 use Rattle.design.specs.Keys.{netlist}
 use Rattle.design.specs.Netlist.{stimulus}
 use Rattle.design.specs.kept.Places.{driver_places}
-use Rattle.scratch.proofs.Lists.{of_there}
 use Rattle.gateline.proofs.Lists.{found_at, if_ok_then}
 use Rattle.gateline.proofs.Lone.{input_wave_is, lone_at, lone_traced, lone_wave}
 use Rattle.gateline.proofs.Merging.{merged}
@@ -12,6 +11,7 @@ use Rattle.gateline.proofs.Nets.{drivers_at}
 use Rattle.gateline.proofs.Several.{all_below, found_below, merged_wave}
 use Rattle.gateline.proofs.finding.find_wave.Goals as goal
 use Rattle.gateline.specs.kept.Known.{AreTraced, IsTraceBelow, current_by}
+use Rattle.scratch.proofs.Lists.{of_there}
 use Rattle.scratch.specs.Run.{wave_of}
 use Rattle.waveform.specs.Changes.{wave_changes_below}
 use Rattle.waveform.specs.kept.Currents.{currents}

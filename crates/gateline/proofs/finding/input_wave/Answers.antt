@@ -1,8 +1,8 @@
-use Rattle.std.proofs.Common.{◌≡◌, ◌<◌, ◌≤◌, ◌∙◌, ap, sym, subst, refl, suc, ℕ, [], ◌∷◌, All, arith}
+use Rattle.std.proofs.Common.{◌≡◌, ◌<◌, ◌∙◌, ap, sym, subst, refl, suc, ℕ, [], ◌∷◌, All, arith}
 use Rattle.design.specs.Netlist.{stimulus}
 use Rattle.fourstate.specs.Values.{same_value}
 use Rattle.fourstate.specs.declared.value.Value.{Value}
-use Rattle.gateline.proofs.Points.{after_first, after_next, all_later, late_here, none_before, none_left, value_there}
+use Rattle.gateline.proofs.Points.{after_first, after_next, all_later, changes_before, none_before, none_left, value_there}
 use Rattle.gateline.proofs.finding.input_wave.Goals as goal
 use Rattle.gateline.proofs.finding.input_wave.Goals.{in-None, in-Some+else-t-eq0+then-t-end}
 use Rattle.waveform.specs.Changes.{wave_changes_below}
@@ -35,9 +35,7 @@ push-requires-clause-later c =
     let before = c.loop-t.invariant in
     let s : ℕ → Value = stimulus c.args.net.now.points in
     let t = c.in-Some.t in
-    let low : before.upto ≤ t = late_here _ _ _ _ (t, c.in-Some.value) _ before.apart c.in-Some.ensures.steps (omega arith) in
-    let none = none_before _ _ _ _ (t, c.in-Some.value) _ before.apart c.in-Some.ensures.steps t before.begun (omega arith) in
-    let wave : c.loop-t.wave ≡ wave_changes_below s t = before.wave ∙ sym (c.no_change.ensures s before.upto t low none) in
+    let wave : c.loop-t.wave ≡ wave_changes_below s t = before.wave ∙ sym (changes_before _ _ _ _ (t, c.in-Some.value) _ before.apart c.in-Some.ensures.steps c.no_change.ensures before.begun (omega arith)) in
     subst (All (λ e. e.0 < t)) (sym wave) (c.changes_lie_before.ensures s t)
 
 pub loop-t-preserved : goal.loop-t-preserved
@@ -46,9 +44,7 @@ loop-t-preserved c =
     let s : ℕ → Value = stimulus c.args.net.now.points in
     let t = c.in-Some.t in
     let some : 0 < t = omega arith in
-    let low : before.upto ≤ t = late_here _ _ _ _ (t, c.in-Some.value) _ before.apart c.in-Some.ensures.steps some in
-    let none = none_before _ _ _ _ (t, c.in-Some.value) _ before.apart c.in-Some.ensures.steps t before.begun (omega arith) in
-    let wave : c.loop-t.wave ≡ wave_changes_below s t = before.wave ∙ sym (c.no_change.ensures s before.upto t low none) in
+    let wave : c.loop-t.wave ≡ wave_changes_below s t = before.wave ∙ sym (changes_before _ _ _ _ (t, c.in-Some.value) _ before.apart c.in-Some.ensures.steps c.no_change.ensures before.begun some) in
     let value : s t ≡ c.in-Some.value = value_there _ _ _ _ (t, c.in-Some.value) _ before.apart c.in-Some.ensures.steps some in
     record {
       upto = suc t;

@@ -1,11 +1,11 @@
 use Rattle.std.proofs.Common.{◌≡◌, ◌∙◌, sym, refl, None, Some, slice_get}
 use Rattle.fourstate.specs.declared.value.Value.TheVariants.{Unknown}
-use Rattle.scratch.proofs.Lists.{of_there}
 use Rattle.gateline.proofs.Lists.{found_at, if_ok_then, none_at}
-use Rattle.gateline.proofs.Points.{no_change_between}
 use Rattle.gateline.proofs.Nets.{current_there}
+use Rattle.gateline.proofs.Points.{no_change_between}
 use Rattle.gateline.proofs.finding.wave_at_place.Goals as goal
 use Rattle.gateline.specs.kept.Known.{IsTraceBelow, current_by}
+use Rattle.scratch.proofs.Lists.{of_there}
 use Rattle.waveform.specs.kept.Currents.{currents}
 
 pub driver_wave-requires-clause-trace : goal.driver_wave-requires-clause-trace

@@ -1,6 +1,5 @@
 use Rattle.std.proofs.Common.{◌≡◌, ◌<◌, ◌≤◌, ◌++◌, ◌∙◌, ap, sym, ℕ, suc, append-nil, IfSome, inl, inr, arith}
 use Rattle.gateline.proofs.Copied.{begin_unasked, begun_later, same_begin}
-use Rattle.scratch.proofs.Lists.{if_there}
 use Rattle.gateline.proofs.Lists.{on_err_so, on_ok, on_ok_so}
 use Rattle.gateline.proofs.line.follow_line.Goals as goal
 use Rattle.gateline.proofs.line.follow_line.Goals.{in_default-parting-via-in-Some-parting+else-moment-last, in_default-parting-via-in_default-parting}
@@ -8,6 +7,7 @@ use Rattle.gateline.specs.kept.Line.{line_work_from, state_by}
 use Rattle.gateline.specs.kept.OldLines.{line_if, line_seen, wanted_by}
 use Rattle.gateline.specs.kept.Starts.{begin_of}
 use Rattle.gateline.specs.kept.Waves.{inputs_by}
+use Rattle.scratch.proofs.Lists.{if_there}
 use Rattle.waveform.specs.Timelines.{entries_until}
 
 pub walk_line-requires-clause-trace : goal.walk_line-requires-clause-trace

@@ -1,12 +1,11 @@
 use Rattle.std.proofs.Common.{◌≡◌, ◌<◌, ◌+◌, ◌++◌, ◌∙◌, ap, sym, refl, min, [], ◌∷◌, Some, map, take, drop, length, get_or, slice_get, arith}
-use Rattle.std.proofs.lemmas.List.{get_or-set_same, map-append, take_all}
-use Rattle.std.proofs.lemmas.List.{drop_more, drop-set-lt, take_more_set}
+use Rattle.std.proofs.lemmas.List.{get_or-set_same, map-append, take_all, drop_more, drop-set-lt, take_more_set}
 use Rattle.std.proofs.lemmas.Option.{slice_get_read}
-use Rattle.scratch.proofs.Lists.{take_next}
 use Rattle.gateline.proofs.Merging.{next_more}
 use Rattle.gateline.proofs.merge.read_each.Goals as goal
 use Rattle.gateline.specs.declared.reader.Reader.{Reader}
 use Rattle.gateline.specs.kept.Readers.{next_among, next_of, seen, seen_then}
+use Rattle.scratch.proofs.Lists.{take_next}
 
 pub loop-place-init : goal.loop-place-init
 loop-place-init c = record { front = refl; back = refl; values = c.clear.ensures.items; next = refl }

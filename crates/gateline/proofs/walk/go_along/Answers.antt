@@ -1,10 +1,9 @@
 use Rattle.std.proofs.Common.{◌≡◌, ◌<◌, ◌≤◌, ◌+◌, ◌∙◌, ap, sym, ℕ, suc, cond, inl, inr, arith}
 use Rattle.std.proofs.lemmas.Bool.{cases_lt, le-ltb, lt-ltb}
-use Rattle.gatestep.specs.Step.{State}
 use Rattle.std.proofs.lemmas.List.Elements.{All-weaker}
-use Rattle.gatestep.specs.Step.{due, initial}
-use Rattle.waveform.proofs.Ends.{below_end, end_within}
+use Rattle.gatestep.specs.Step.{State, due, initial}
 use Rattle.gateline.proofs.walk.go_along.Goals as goal
+use Rattle.waveform.proofs.Ends.{below_end, end_within}
 use Rattle.waveform.specs.Timelines.{entries_until, value_by}
 use Rattle.waveform.specs.kept.Changes.{state_at}
 

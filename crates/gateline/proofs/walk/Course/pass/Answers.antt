@@ -7,7 +7,7 @@ use Rattle.gatestep.specs.Step.{due}
 use Rattle.gatestep.specs.Tasks.{PendingFrom}
 use Rattle.gateline.proofs.Stands.{few_readers, inputs_are}
 use Rattle.gateline.proofs.Still.{nothing_at, still_state, still_trace}
-use Rattle.gateline.proofs.Walking.{fits, grown, reached_line, read, ready_line, stirred_is, storable_line}
+use Rattle.gateline.proofs.Walking.{fits, grown, reached_line, read_next, ready_line, stirred_is, storable_line}
 use Rattle.gateline.proofs.walk.Course.pass.Goals as goal
 use Rattle.gateline.specs.kept.Line.{line_trace, state_by}
 use Rattle.gateline.specs.kept.OldLines.{IsFollowedAt, line_if, line_seen, wanted_by}
@@ -32,8 +32,7 @@ pub returns-then-not-is_stirred : goal.returns-then-not-is_stirred
 returns-then-not-is_stirred g c =
     let law = g.met.S.Stepper in let answer = g.S.Stepper.answer in let cell = c.args.cell.now in let waves = c.args.waves.now in let inputs = inputs_by waves cell.inputs in
     let situation = c.args.situation.now in let course = c.args.self.now in let at = c.requires.at in let m = c.args.done in let asked = g.S.Stepper.asked c.args.stepper.now in
-    let reading = read answer cell waves situation.state course.readers.items c.read_on-reading.new.readers.items c.read_on-reading.result.inputs (m + 1) m (suc m)
-    at.state at.readers (omega arith) (let below = c.requires.next in omega arith) c.read_on-reading.ensures.readers c.read_on-reading.ensures.inputs (add-one m) in
+    let reading = read_next answer cell waves situation course m c.read_on-reading.new.readers.items c.read_on-reading.result.inputs at c.requires.next c.read_on-reading.ensures.readers c.read_on-reading.ensures.inputs in
     let off = stirred_is answer cell waves situation course m c.read_on-reading.result.inputs c.is_stirred.result at reading.are c.is_stirred.ensures ∙ c.if-not-is_stirred.true in
     record {
       at = record {
@@ -54,8 +53,7 @@ next_state-situation-requires g c =
     let situation = c.args.situation.now in let course = c.args.self.now in let at = c.requires.at in let m = c.args.done in
     let fit : IsTrue (takes_inputs cell.kind (length cell.inputs)) = subst (λ inputs. IsTrue (takes_inputs cell.kind (length inputs))) c.inputs-inputs.ensures.inputs c.inputs-inputs.ensures.fit in
     let are : AreDelays cell.delays = subst (λ delays. AreDelays delays) c.delays.ensures c.delays_in_range.ensures.each in
-    let reading = read answer cell waves situation.state course.readers.items c.read_on-reading.new.readers.items c.read_on-reading.result.inputs (m + 1) m (suc m)
-    at.state at.readers (omega arith) (let below = c.requires.next in omega arith) c.read_on-reading.ensures.readers c.read_on-reading.ensures.inputs (add-one m) in
+    let reading = read_next answer cell waves situation course m c.read_on-reading.new.readers.items c.read_on-reading.result.inputs at c.requires.next c.read_on-reading.ensures.readers c.read_on-reading.ensures.inputs in
     let pend : PendingFrom (suc m) situation.state = subst (PendingFrom (suc m)) (sym at.state) (ready_line answer cell waves fit are law.answer_pending (suc m)) in
     record {
       none_lost = c.requires.none_lost;
@@ -71,8 +69,7 @@ push_known-requires g c =
     let situation = c.args.situation.now in let course = c.args.self.now in let at = c.requires.at in let m = c.args.done in let after = add-one m in
     let fit : IsTrue (takes_inputs cell.kind (length cell.inputs)) = subst (λ inputs. IsTrue (takes_inputs cell.kind (length inputs))) c.inputs-inputs.ensures.inputs c.inputs-inputs.ensures.fit in
     let are : AreDelays cell.delays = subst (λ delays. AreDelays delays) c.delays.ensures c.delays_in_range.ensures.each in
-    let reading = read answer cell waves situation.state course.readers.items c.read_on-reading.new.readers.items c.read_on-reading.result.inputs (m + 1) m (suc m)
-    at.state at.readers (omega arith) (let below = c.requires.next in omega arith) c.read_on-reading.ensures.readers c.read_on-reading.ensures.inputs after in
+    let reading = read_next answer cell waves situation course m c.read_on-reading.new.readers.items c.read_on-reading.result.inputs at c.requires.next c.read_on-reading.ensures.readers c.read_on-reading.ensures.inputs in
     let new = c.next_state-situation.result in
     record {
       later = subst (λ l. All (λ e. e.0 < m + 1) l) (sym at.trace)
@@ -91,8 +88,7 @@ pub returns-in_err-push_known-clause-asked : goal.returns-in_err-push_known-clau
 returns-in_err-push_known-clause-asked g c =
     let answer = g.S.Stepper.answer in let cell = c.args.cell.now in let waves = c.args.waves.now in
     let situation = c.args.situation.now in let course = c.args.self.now in let at = c.requires.at in let m = c.args.done in
-    let reading = read answer cell waves situation.state course.readers.items c.read_on-reading.new.readers.items c.read_on-reading.result.inputs (m + 1) m (suc m)
-    at.state at.readers (omega arith) (let below = c.requires.next in omega arith) c.read_on-reading.ensures.readers c.read_on-reading.ensures.inputs (add-one m) in
+    let reading = read_next answer cell waves situation course m c.read_on-reading.new.readers.items c.read_on-reading.result.inputs at c.requires.next c.read_on-reading.ensures.readers c.read_on-reading.ensures.inputs in
     let on = stirred_is answer cell waves situation course m c.read_on-reading.result.inputs c.is_stirred.result at reading.are c.is_stirred.ensures ∙ c.if-not-is_stirred.false in
     c.next_state-situation.ensures.asked ∙ ap (λ l. g.S.Stepper.asked c.args.stepper.now ++ l) (reading.asked (wanted_by (line_if course.beside) cell.inputs) on)
 
@@ -102,8 +98,7 @@ returns g c =
     let situation = c.args.situation.now in let course = c.args.self.now in let at = c.requires.at in let m = c.args.done in let after = add-one m in
     let fit : IsTrue (takes_inputs cell.kind (length cell.inputs)) = subst (λ inputs. IsTrue (takes_inputs cell.kind (length inputs))) c.inputs-inputs.ensures.inputs c.inputs-inputs.ensures.fit in
     let are : AreDelays cell.delays = subst (λ delays. AreDelays delays) c.delays.ensures c.delays_in_range.ensures.each in
-    let reading = read answer cell waves situation.state course.readers.items c.read_on-reading.new.readers.items c.read_on-reading.result.inputs (m + 1) m (suc m)
-    at.state at.readers (omega arith) (let below = c.requires.next in omega arith) c.read_on-reading.ensures.readers c.read_on-reading.ensures.inputs after in
+    let reading = read_next answer cell waves situation course m c.read_on-reading.new.readers.items c.read_on-reading.result.inputs at c.requires.next c.read_on-reading.ensures.readers c.read_on-reading.ensures.inputs in
     let on = stirred_is answer cell waves situation course m c.read_on-reading.result.inputs c.is_stirred.result at reading.are c.is_stirred.ensures ∙ c.if-not-is_stirred.false in
     let state : c.next_state-situation.result ≡ state_by answer cell.kind cell.delays (inputs_by waves cell.inputs) (suc (suc m)) = c.next_state-situation.ensures.state ∙ reading.next in
     record {

@@ -1,18 +1,18 @@
 use Rattle.std.proofs.Common.{◌≡◌, ◌<◌, ◌≤◌, ◌+◌, ◌-◌, ◌++◌, ◌∙◌, ap, sym, subst, min, suc, Some, [], All, IsTrue, length, append-nil, arith}
 use Rattle.fourstate.specs.Gates.{takes_inputs}
 use Rattle.fourstate.specs.kept.Delays.{AreDelays}
-use Rattle.gateline.proofs.Copied.{states, unasked}
 use Rattle.gatestep.proofs.Jobs.{on_err}
+use Rattle.gateline.proofs.Copied.{states, unasked}
 use Rattle.gateline.proofs.Lists.{if_ok_then, on_ok}
 use Rattle.gateline.proofs.Still.{asked_more, work_splits}
 use Rattle.gateline.proofs.Walking.{settled_line, still_at}
-use Rattle.gateline.specs.declared.walk.Course.{Course}
 use Rattle.gateline.proofs.walk.Walk.go_on.Goals as goal
+use Rattle.gateline.specs.declared.walk.Course.{Course}
 use Rattle.gateline.specs.kept.Line.{line_trace, line_work_from, state_by, work_at}
 use Rattle.gateline.specs.kept.OldLines.{line_if, line_seen, wanted_by}
-use Rattle.waveform.specs.kept.Changes.{state_at, trace_below}
 use Rattle.gateline.specs.kept.Walks.{IsAt}
 use Rattle.gateline.specs.kept.Waves.{inputs_by}
+use Rattle.waveform.specs.kept.Changes.{state_at, trace_below}
 
 pub returns-in_err-pass-clause-part : goal.returns-in_err-pass-clause-part
 returns-in_err-pass-clause-part g c =

@@ -3,8 +3,7 @@ use Rattle.std.specs.List.{refill}
 use Rattle.fourstate.specs.Gates.{takes_inputs}
 use Rattle.fourstate.specs.kept.Delays.{AreDelays}
 use Rattle.gatestep.specs.Step.{due, initial}
-use Rattle.gateline.proofs.Stands.{refilled}
-use Rattle.gateline.proofs.Stands.{ahead, few_readers, inputs_are, stands_passed}
+use Rattle.gateline.proofs.Stands.{refilled, ahead, few_readers, inputs_are, stands_passed}
 use Rattle.gateline.proofs.Walking.{settled_line}
 use Rattle.gateline.proofs.walk.Walk.resume.Goals as goal
 use Rattle.gateline.specs.kept.Line.{state_by}
