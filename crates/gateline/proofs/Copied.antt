@@ -41,10 +41,8 @@ module _ (answer : Evaluation → ℕ → State) (cell : CellRecord) (waves : Li
   states (suc t) from low =
       elim (cases_lt t first) [
         | inl before ↦ subst AgreeAt (let here : first ≡ suc t = omega arith in here) agree
-        | inr after ↦
-            let before = states t (omega arith) (omega arith) in
-            let here = same t (omega arith) (omega arith) in
-            followed t (omega arith) there ∙ (λ i. answer (record { kind = cell.kind; delays = cell.delays; state = before i; inputs = here i }) t)
+        | inr after ↦ followed t (omega arith) there
+            ∙ (λ i. answer (record { kind = cell.kind; delays = cell.delays; state = states t (omega arith) (omega arith) i; inputs = same t (omega arith) (omega arith) i }) t)
       ]
 
   unwanted : (t : ℕ) → first ≤ t → t < bound → wanted_beside old cell.inputs (task_by answer cell.kind cell.delays inputs t) t ≡ false

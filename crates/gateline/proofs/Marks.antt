@@ -47,11 +47,7 @@ module _ (answer : Evaluation → ℕ → State) (d : Netlist) where
 
     -- and those of all nets, where all are marked
     pub all_waves : ((m : ℕ) → m < length d.nets → slice_get found m ≡ Some true) → waves ≡ map (wave_of answer d) d.nets
-    all_waves marked = alike waves (map (wave_of answer d) d.nets) (λ m.
-        ⊎_elim
-        (λ low. are m (marked m low))
-        (λ past. slice_get_past waves m (omega arith) ∙ sym (slice_get_past (map (wave_of answer d) d.nets) m (rw length-map past)))
-        (cases_lt m (length d.nets)))
+    all_waves marked = alike waves (map (wave_of answer d) d.nets) (λ m. known (At m) (λ low. marked m (omega arith)))
 
   module _ (traces : List (List (ℕ × State))) where
     -- one of the inputs that are supplied

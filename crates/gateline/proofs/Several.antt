@@ -14,21 +14,17 @@ use Rattle.gateline.proofs.Lone.{SameValues, goes_on, traced_gate}
 use Rattle.gateline.proofs.Merging.{merged}
 use Rattle.gateline.proofs.Nets.{GivesStates, NetByPlaces, value_by_traces}
 use Rattle.gateline.specs.kept.Known.{AreTraced, IsTraceBelow, IsTraced, current_by, currents_by}
+use Rattle.scratch.proofs.Runs.{LieBefore}
 use Rattle.scratch.proofs.Lists.{map_alike}
 use Rattle.scratch.specs.Run.{state_after, value, wave_of}
 use Rattle.scratch.specs.kept.Kept.{net_from, values_at}
 use Rattle.waveform.specs.Changes.{wave_at, wave_changes_below}
 use Rattle.waveform.specs.Entries.{same_state}
-use Rattle.waveform.specs.Timelines.{changes_below}
-
--- the changes of a driver below a moment lie before it (`waveform::laws::changes_lie_before`)
-abbrev pub LieBefore : Type 0
-LieBefore = (f : ℕ → State) (n : ℕ) → All (λ e. e.0 < n) (changes_below same_state due f n)
 
 module _ (answer : Evaluation → ℕ → State) (d : Netlist) (are : All IsGate d.gates)
     (pending : (e : Evaluation) (t : ℕ) → IsTask e → NothingDue t (answer e t)) (current : (e : Evaluation) (t : ℕ) → (answer e t).current ≡ (due e.state t).current)
     (gives : GivesStates) where
-  module _ (lie : LieBefore) (traces : List (List (ℕ × State))) where
+  module _ (lie : LieBefore same_state due) (traces : List (List (ℕ × State))) where
     -- a trace that is found is one up to the horizon
     pub found_below : (p : ℕ) (line : List (ℕ × State)) → IsTraced answer d traces p → slice_get traces p ≡ Some line → IsTraceBelow (suc d.horizon) line
     found_below p line traced there =

@@ -1,7 +1,7 @@
 -- Readers of functions of time, side by side.
-use Rattle.std.proofs.Common.{◌≡◌, ◌<◌, ◌≤◌, ◌+◌, ◌∙◌, ap, sym, subst, refl, ℕ, List, [], ◌∷◌, ◌++◌, Some, map, take, drop, length, slice_get, IsTrue, arith}
+use Rattle.std.proofs.Common.{◌≡◌, ◌<◌, ◌≤◌, ◌+◌, ◌∙◌, ap, sym, subst, refl, ℕ, List, [], ◌∷◌, ◌++◌, map, take, drop, get_or, length, IsTrue, arith}
 use Rattle.std.specs.List.{refill}
-use Rattle.std.proofs.lemmas.List.{map-append, take_at, length-map}
+use Rattle.std.proofs.lemmas.List.{length-map, map_more, take_at}
 use Rattle.std.proofs.lemmas.Simd.{map-map}
 use Rattle.fourstate.specs.Gates.{takes_inputs}
 use Rattle.fourstate.specs.declared.gate.GateKind.{GateKind}
@@ -14,7 +14,6 @@ use Rattle.gateline.specs.declared.reader.Reader.{Reader}
 use Rattle.gateline.specs.kept.Ahead.{next_of, rest_then, value_then}
 use Rattle.gateline.specs.kept.Readers.{GoesOn, StandAt, next_among, seen, seen_then}
 use Rattle.gateline.specs.kept.Waves.{input_at, input_functions, inputs_by}
-use Rattle.scratch.proofs.Lists.{take_next}
 use Rattle.scratch.specs.declared.wiring.Input.{Input}
 use Rattle.waveform.specs.declared.times.TheConstants.{TIME_END}
 
@@ -53,10 +52,11 @@ pub stand_more : (fs : List (ℕ → Value)) (readers : List Reader) (m : ℕ) (
 stand_more fs readers m = zip_push (λ f reader. GoesOn f reader.value reader.rest.now m) fs readers
 
 -- of a list one element more, which is read as a function
-pub stand_next : {A : Type 0} (f : A → ℕ → Value) (xs : List A) (i : ℕ) (a : A) (readers : List Reader) (x : Reader) (m : ℕ) → slice_get xs i ≡ Some a →
+pub stand_next : {A : Type 0} (f : A → ℕ → Value) (xs : List A) (i : ℕ) (a : A) (readers : List Reader) (x : Reader) (m : ℕ) → i < length xs → a ≡ get_or xs i a →
     StandAt (map f (take i xs)) readers m → GoesOn (f a) x.value x.rest.now m → StandAt (map f (take (i + 1) xs)) (readers ++ x ∷ []) m
-stand_next f xs i a readers x m at stand goes =
-    rw (take_next xs i a at, map-append f (take i xs) (a ∷ [])) (stand_more (map f (take i xs)) readers m (f a) x stand goes)
+stand_next f xs i a readers x m within read stand goes =
+    subst (λ fs. StandAt fs (readers ++ x ∷ []) m) (ap (λ y. map f (take i xs) ++ f y ∷ []) read ∙ sym (map_more f xs i a within))
+    (stand_more (map f (take i xs)) readers m (f a) x stand goes)
 
 -- there are as many readers as functions
 pub as_many : (fs : List (ℕ → Value)) (readers : List Reader) (m : ℕ) → StandAt fs readers m → length readers ≡ length fs

@@ -19,23 +19,13 @@ use Rattle.gateline.specs.kept.Line.{is_stirred_by, line_trace, line_work_from, 
 use Rattle.gateline.specs.kept.Readers.{StandAt, next_among, seen, seen_then}
 use Rattle.gateline.specs.kept.Walks.{IsAt}
 use Rattle.gateline.specs.kept.Waves.{input_functions, inputs_by}
+use Rattle.scratch.proofs.Runs.{Grows, Reached}
 use Rattle.scratch.specs.Work.{is_due, same_values}
 use Rattle.scratch.specs.kept.Cells.{CellRecord}
 use Rattle.waveform.specs.Entries.{same_state}
-use Rattle.waveform.specs.Timelines.{changes_below}
 use Rattle.waveform.specs.declared.times.TheConstants.{TIME_END}
 use Rattle.waveform.specs.kept.Entries.{CanStore}
 use Rattle.waveform.specs.kept.Timelines.{IsAlwaysSettled, is_reached, pushed}
-
--- the changes of a function grow by its next value, which is pushed (`waveform::laws::push_to_changes`)
-abbrev pub Grows : Type 0
-Grows = (f : ℕ → State) → IsAlwaysSettled due f → (t : ℕ) → pushed same_state due (changes_below same_state due f t) t (f t) ≡ changes_below same_state due f (suc t)
-
--- what they have become at a later moment is its value at the one before, drifted to there (`waveform::laws::reached_by_changes`)
-abbrev pub Reaches : Type 0
-Reaches =
-    (f : ℕ → State) → IsAlwaysSettled due f → (t : ℕ) → 0 < t → (v : State) →
-    is_reached same_state due (changes_below same_state due f t) t v ≡ same_state v (due (f (t - 1)) t)
 
 -- what stands does not ask where lines of an old run were looked up
 pub still_at : (answer : Evaluation → ℕ → State) (cell : CellRecord) (waves : List (List (ℕ × Value))) (m : ℕ) {situation : Situation} {w v : Course} {near : Near} →
@@ -123,11 +113,11 @@ module _ (answer : Evaluation → ℕ → State) (cell : CellRecord) (waves : Li
     ready_line = ready answer cell.kind cell.delays inputs (fits cell waves fit) are pending
 
     -- the trace with the state after t
-    pub grown : Grows → (t : ℕ) → pushed same_state due (line_trace answer cell.kind cell.delays inputs t) t (state_by answer cell.kind cell.delays inputs (suc t)) ≡ line_trace answer cell.kind cell.delays inputs (suc t)
+    pub grown : Grows same_state due → (t : ℕ) → pushed same_state due (line_trace answer cell.kind cell.delays inputs t) t (state_by answer cell.kind cell.delays inputs (suc t)) ≡ line_trace answer cell.kind cell.delays inputs (suc t)
     grown grows t = grows (λ u. state_by answer cell.kind cell.delays inputs (suc u)) settled_line t
 
     -- the trace of the moments up to m has reached a state at the next one where the state at m has become that
-    pub reached_line : Reaches → (m : ℕ) (v : State) →
+    pub reached_line : Reached same_state due → (m : ℕ) (v : State) →
         is_reached same_state due (line_trace answer cell.kind cell.delays inputs (suc m)) (suc m) v ≡ same_state v (due (state_by answer cell.kind cell.delays inputs (suc m)) (suc m))
     reached_line reaches m v =
         let f : ℕ → State = λ u. state_by answer cell.kind cell.delays inputs (suc u) in

@@ -1,10 +1,8 @@
-use Rattle.std.proofs.Common.{◌≡◌, ◌+◌, ◌++◌, ◌∙◌, ap, sym, [], ◌∷◌, map, take, get_or, ℕ, List}
-use Rattle.std.proofs.lemmas.List.{map-append, take_all}
-use Rattle.std.proofs.lemmas.Option.{slice_get-get_or}
+use Rattle.std.proofs.Common.{◌++◌, ◌∙◌, ap, sym, [], ◌∷◌, map, ℕ, List}
+use Rattle.std.proofs.lemmas.List.{map_more, take_all}
 use Rattle.fourstate.specs.declared.value.Value.{Value}
 use Rattle.gateline.proofs.finding.driver_waves.Goals as goal
 use Rattle.gateline.specs.kept.Known.{current_by}
-use Rattle.scratch.proofs.Lists.{take_next}
 use Rattle.waveform.specs.Changes.{wave_changes_below}
 
 pub wave_at_place-requires-clause-trace : goal.wave_at_place-requires-clause-trace
@@ -14,11 +12,9 @@ pub loop-place-preserved : goal.loop-place-preserved
 loop-place-preserved c =
     let places = c.args.places.now in let i = c.loop-place.place-index in
     let wave_of_place : ℕ → List (ℕ × Value) = λ place. wave_changes_below (current_by c.args.traces.now place) c.args.end in
-    let more : take (i + 1) places ≡ take i places ++ get_or places i 0 ∷ [] = take_next places i (get_or places i 0) (slice_get-get_or places i 0 c.loop-place-test.true) in
     c.in_ok-push.ensures.items
     ∙ (λ k. c.loop-place.invariant k ++ c.in_ok-wave_at_place.ensures k ∷ [])
-    ∙ sym (map-append wave_of_place (take i places) (get_or places i 0 ∷ []))
-    ∙ sym (ap (map wave_of_place) more)
+    ∙ sym (map_more wave_of_place places i 0 c.loop-place-test.true)
 
 pub returns : goal.returns
 returns c =

@@ -20,8 +20,7 @@ pub driver_wave-requires-clause-trace : goal.driver_wave-requires-clause-trace
 driver_wave-requires-clause-trace g c =
     let answer = g.S.Stepper.answer in let law = g.met.S.Stepper in let d = netlist c.args.design.now in let n = c.net_at-net.result.now in let traces = c.args.traces.now in
     let there : slice_get d.nets c.args.place ≡ Some n = c.net_at-net.ensures in
-    let traced : AreTraced answer d traces (driver_places d.gates n.name) =
-    of_there (slice_get d.nets c.args.place) n (λ n. AreTraced answer d traces (driver_places d.gates n.name)) there c.requires.traced in
+    let traced = of_there (slice_get d.nets c.args.place) n (λ n. AreTraced answer d traces (driver_places d.gates n.name)) there c.requires.traced in
     let are = c.lawful.ensures.design.gates in let k = c.in-Some.driver in let line = c.in-Some-get.trace.now in
     let lone = lone_at d c.args.wiring.now.lone_drivers.items c.args.place n k c.index.result.now c.requires.wired.lone_drivers there c.index.ensures c.in-Some.is in
     let here : slice_get traces k ≡ Some line = found_at traces k line c.in-Some-get.ensures.lookup.0 c.in-Some-get.ensures.lookup.1 in
@@ -33,8 +32,7 @@ pub returns-in-Some-get : goal.returns-in-Some-get
 returns-in-Some-get g c =
     let answer = g.S.Stepper.answer in let law = g.met.S.Stepper in let d = netlist c.args.design.now in let n = c.net_at-net.result.now in let traces = c.args.traces.now in
     let there : slice_get d.nets c.args.place ≡ Some n = c.net_at-net.ensures in
-    let traced : AreTraced answer d traces (driver_places d.gates n.name) =
-    of_there (slice_get d.nets c.args.place) n (λ n. AreTraced answer d traces (driver_places d.gates n.name)) there c.requires.traced in
+    let traced = of_there (slice_get d.nets c.args.place) n (λ n. AreTraced answer d traces (driver_places d.gates n.name)) there c.requires.traced in
     let are = c.lawful.ensures.design.gates in let k = c.in-Some.driver in let line = c.in-Some-get.trace.now in
     let lone = lone_at d c.args.wiring.now.lone_drivers.items c.args.place n k c.index.result.now c.requires.wired.lone_drivers there c.index.ensures c.in-Some.is in
     let here : slice_get traces k ≡ Some line = found_at traces k line c.in-Some-get.ensures.lookup.0 c.in-Some-get.ensures.lookup.1 in
@@ -59,8 +57,7 @@ pub driver_waves-requires-clause-traces : goal.driver_waves-requires-clause-trac
 driver_waves-requires-clause-traces g c =
     let answer = g.S.Stepper.answer in let law = g.met.S.Stepper in let d = netlist c.args.design.now in let n = c.net_at-net.result.now in let traces = c.args.traces.now in
     let there : slice_get d.nets c.args.place ≡ Some n = c.net_at-net.ensures in
-    let traced : AreTraced answer d traces (driver_places d.gates n.name) =
-    of_there (slice_get d.nets c.args.place) n (λ n. AreTraced answer d traces (driver_places d.gates n.name)) there c.requires.traced in
+    let traced = of_there (slice_get d.nets c.args.place) n (λ n. AreTraced answer d traces (driver_places d.gates n.name)) there c.requires.traced in
     let are = c.lawful.ensures.design.gates in
     let places : c.as_slice.result.now ≡ driver_places d.gates n.name =
     c.as_slice.ensures ∙ drivers_at d c.args.wiring.now.drivers.items c.args.place n c.index-2.result.now c.requires.wired.drivers there c.index-2.ensures in
@@ -73,8 +70,7 @@ pub returns : goal.returns
 returns g c =
     let answer = g.S.Stepper.answer in let law = g.met.S.Stepper in let d = netlist c.args.design.now in let n = c.net_at-net.result.now in let traces = c.args.traces.now in
     let there : slice_get d.nets c.args.place ≡ Some n = c.net_at-net.ensures in
-    let traced : AreTraced answer d traces (driver_places d.gates n.name) =
-    of_there (slice_get d.nets c.args.place) n (λ n. AreTraced answer d traces (driver_places d.gates n.name)) there c.requires.traced in
+    let traced = of_there (slice_get d.nets c.args.place) n (λ n. AreTraced answer d traces (driver_places d.gates n.name)) there c.requires.traced in
     let are = c.lawful.ensures.design.gates in
     let places : c.as_slice.result.now ≡ driver_places d.gates n.name =
     c.as_slice.ensures ∙ drivers_at d c.args.wiring.now.drivers.items c.args.place n c.index-2.result.now c.requires.wired.drivers there c.index-2.ensures in

@@ -1,6 +1,5 @@
-use Rattle.std.proofs.Common.{◌≡◌, ◌+◌, sym, subst, refl, [], Some, length, map, slice_get, take}
+use Rattle.std.proofs.Common.{◌+◌, sym, subst, [], map, take}
 use Rattle.std.proofs.lemmas.List.{take_all}
-use Rattle.std.proofs.lemmas.Option.{slice_get_read}
 use Rattle.gateline.proofs.Stands.{stand_next}
 use Rattle.gateline.proofs.merge.open_each.Goals as goal
 use Rattle.gateline.specs.kept.Readers.{StandAt}
@@ -12,9 +11,8 @@ loop-wave-init c = subst (λ readers. StandAt [] readers 0) (sym c.in_ok-readers
 pub loop-wave-preserved : goal.loop-wave-preserved
 loop-wave-preserved c =
     let waves = c.args.waves.now in let i = c.loop-wave.wave-index in let x = c.wave-item.result in
-    let at : slice_get waves i ≡ Some x = slice_get_read waves (length waves) i x refl c.loop-wave-test.true c.wave-item.is in
     subst (λ readers. StandAt (map wave_at (take (i + 1) waves)) readers 0) (sym c.in_ok-push.ensures.items)
-    (stand_next wave_at waves i x c.loop-wave.readers.items c.open.result 0 at c.loop-wave.invariant c.open.ensures)
+    (stand_next wave_at waves i x c.loop-wave.readers.items c.open.result 0 c.loop-wave-test.true c.wave-item.is c.loop-wave.invariant c.open.ensures)
 
 pub returns : goal.returns
 returns c =
