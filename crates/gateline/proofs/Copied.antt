@@ -63,6 +63,9 @@ module _ (answer : Evaluation → ℕ → State) (cell : CellRecord) (waves : Li
 module _ (answer : Evaluation → ℕ → State) (cell : CellRecord) (waves : List (List (ℕ × Value))) (old : OldRecord) (bound : ℕ)
     (followed : (t : ℕ) → t < bound → IsFollowedAt answer cell old t) (there : 0 < bound → old.is_other ≡ false)
     (same : (t : ℕ) → t < bound → old_inputs old cell.inputs t ≡ inputs_by waves cell.inputs t) where
+  abbrev asked_from : ℕ → ℕ → List (Evaluation × ℕ)
+  asked_from = line_work_from answer cell.kind cell.delays (inputs_by waves cell.inputs) (wanted_beside old cell.inputs)
+
   pub same_begin : SameChanges → Cuts → (done last : ℕ) → old.trace ≡ trace_below (state_at old.trace) (suc last) → done < bound → done ≤ last →
       entries_until old.trace done ≡ line_trace answer cell.kind cell.delays (inputs_by waves cell.inputs) (suc done)
   same_begin law cuts done last whole low within =
@@ -70,17 +73,12 @@ module _ (answer : Evaluation → ℕ → State) (cell : CellRecord) (waves : Li
       ∙ law (state_at old.trace) (λ t. state_by answer cell.kind cell.delays (inputs_by waves cell.inputs) (suc t)) (suc done)
       (λ t before. states answer cell waves old 0 bound followed (there (omega arith)) (λ u from under. same u under) refl (suc t) (omega arith) (omega arith))
 
-  pub begin_unasked : (a n : ℕ) → n ≤ bound → line_work_from answer cell.kind cell.delays (inputs_by waves cell.inputs) (wanted_beside old cell.inputs) a n ≡ []
+  pub begin_unasked : (a n : ℕ) → n ≤ bound → asked_from a n ≡ []
   begin_unasked a n low =
       elim (cases_lt 0 bound) [
         | inl some ↦ unasked answer cell waves old 0 bound followed (there some) (λ u from under. same u under) refl a n (omega arith) low
-        | inr none ↦
-            let here : n ≡ 0 = omega arith in
-            ap (λ m. line_work_from answer cell.kind cell.delays (inputs_by waves cell.inputs) (wanted_beside old cell.inputs) a m) here
+        | inr none ↦ ap (asked_from a) (let here : n ≡ 0 = omega arith in here)
       ]
-
-  abbrev asked_from : ℕ → ℕ → List (Evaluation × ℕ)
-  asked_from = line_work_from answer cell.kind cell.delays (inputs_by waves cell.inputs) (wanted_beside old cell.inputs)
 
   -- so it is the same from where on it is followed
   later_begin : (a b n : ℕ) → a ≤ b → b ≤ bound → asked_from b n ≡ asked_from a n

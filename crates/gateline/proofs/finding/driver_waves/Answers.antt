@@ -5,9 +5,6 @@ use Rattle.gateline.proofs.finding.driver_waves.Goals as goal
 use Rattle.gateline.specs.kept.Known.{current_by}
 use Rattle.waveform.specs.Changes.{wave_changes_below}
 
-pub wave_at_place-requires-clause-trace : goal.wave_at_place-requires-clause-trace
-wave_at_place-requires-clause-trace c = c.requires.traces c.loop-place.place-index 0 c.loop-place-test.true
-
 pub loop-place-preserved : goal.loop-place-preserved
 loop-place-preserved c =
     let places = c.args.places.now in let i = c.loop-place.place-index in

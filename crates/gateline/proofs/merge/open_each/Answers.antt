@@ -1,12 +1,9 @@
-use Rattle.std.proofs.Common.{◌+◌, sym, subst, [], map, take}
+use Rattle.std.proofs.Common.{◌+◌, sym, subst, map, take}
 use Rattle.std.proofs.lemmas.List.{take_all}
 use Rattle.gateline.proofs.Stands.{stand_next}
 use Rattle.gateline.proofs.merge.open_each.Goals as goal
 use Rattle.gateline.specs.kept.Readers.{StandAt}
 use Rattle.waveform.specs.Changes.{wave_at}
-
-pub loop-wave-init : goal.loop-wave-init
-loop-wave-init c = subst (λ readers. StandAt [] readers 0) (sym c.in_ok-readers.ensures.items) tt
 
 pub loop-wave-preserved : goal.loop-wave-preserved
 loop-wave-preserved c =

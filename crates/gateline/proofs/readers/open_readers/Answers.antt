@@ -1,12 +1,9 @@
-use Rattle.std.proofs.Common.{◌+◌, ◌∙◌, sym, subst, [], map, take}
+use Rattle.std.proofs.Common.{◌+◌, ◌∙◌, sym, subst, map, take}
 use Rattle.std.proofs.lemmas.List.{take_all}
 use Rattle.gateline.proofs.Stands.{stand_next}
 use Rattle.gateline.proofs.readers.open_readers.Goals as goal
 use Rattle.gateline.specs.kept.Readers.{GoesOn, StandAt}
 use Rattle.gateline.specs.kept.Waves.{input_at, input_functions}
-
-pub loop-input-init : goal.loop-input-init
-loop-input-init c = subst (λ readers. StandAt [] readers c.args.t) (sym c.in_ok-readers.ensures.items) tt
 
 pub loop-input-preserved : goal.loop-input-preserved
 loop-input-preserved c =
