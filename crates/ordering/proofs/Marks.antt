@@ -9,6 +9,8 @@ use Rattle.std.proofs.lemmas.List.{take_more}
 use Rattle.std.proofs.lemmas.Bool.Decides.{nat_tests}
 use Rattle.std.proofs.lemmas.List.Folds.{list_all-append, list_all-map}
 use Rattle.std.proofs.lemmas.Option.{slice_get-map}
+use Rattle.std.proofs.lemmas.Bool.{eqb-true}
+use Rattle.std.proofs.Math.Bool.{or-true, or-false}
 use Rattle.smallvec.specs.SmallVec.{SmallVec}
 use Rattle.design.specs.Netlist.{GateEntry, NetEntry, Netlist}
 use Rattle.design.specs.kept.Places.{driver_places}
@@ -21,7 +23,7 @@ use Rattle.scratch.specs.kept.Kept.{IsWiring, cell_of, input_of}
 use Rattle.scratch.specs.kept.Places.{has}
 use Rattle.ordering.specs.kept.Order.{follow, is_marked, is_order, is_ready, is_ready_by, may_come, may_come_by, may_follow}
 use Rattle.ordering.proofs.Orders.{first_of_both, second_of_both}
-use Rattle.scratch.proofs.Among.{has_more, nat_itself, nat_same, or_false, or_true}
+use Rattle.scratch.proofs.Among.{has_more, nat_itself}
 use Rattle.ordering.proofs.Places.{take_next, take_whole, there}
 
 -- Places one after another.
@@ -70,14 +72,14 @@ eq_suc : (p k : ℕ) → nat_eq p k ≡ nat_eq (suc p) (suc k)
 eq_suc p k = by (nat_eq p k) refl
   where
     by : (b : Bool) → nat_eq p k ≡ b → nat_eq p k ≡ nat_eq (suc p) (suc k)
-    by true is = is ∙ sym (ap (λ z. nat_eq (suc z) (suc k)) (nat_same p k is) ∙ nat_itself (suc k))
+    by true is = is ∙ sym (ap (λ z. nat_eq (suc z) (suc k)) (eqb-true p k is) ∙ nat_itself (suc k))
     by false is = let e : nat_eq (suc p) (suc k) ≡ false = grind (arith, nat_tests) in is ∙ sym e
 
 pub mark : (marks : List Bool) (k p : ℕ) → k < length marks → is_marked (set marks k true) p ≡ (is_marked marks p || nat_eq p k)
 mark [] k p low = absurd (omega arith)
-mark (m ∷ marks) zero zero low = sym (ap (λ (b : Bool). m || b) (nat_itself 0) ∙ or_true m)
-mark (m ∷ marks) zero (suc p) low = let e : nat_eq (suc p) 0 ≡ false = grind (arith, nat_tests) in sym (ap (λ (b : Bool). is_marked marks p || b) e ∙ or_false (is_marked marks p))
-mark (m ∷ marks) (suc k) zero low = let e : nat_eq 0 (suc k) ≡ false = grind (arith, nat_tests) in sym (ap (λ (b : Bool). m || b) e ∙ or_false m)
+mark (m ∷ marks) zero zero low = sym (ap (λ (b : Bool). m || b) (nat_itself 0) ∙ or-true m)
+mark (m ∷ marks) zero (suc p) low = let e : nat_eq (suc p) 0 ≡ false = grind (arith, nat_tests) in sym (ap (λ (b : Bool). is_marked marks p || b) e ∙ or-false (is_marked marks p))
+mark (m ∷ marks) (suc k) zero low = let e : nat_eq 0 (suc k) ≡ false = grind (arith, nat_tests) in sym (ap (λ (b : Bool). m || b) e ∙ or-false m)
 mark (m ∷ marks) (suc k) (suc p) low = mark marks k p (omega arith) ∙ ap (λ (b : Bool). is_marked marks p || b) (eq_suc p k)
 
 -- the places that have come are marked: one more

@@ -8,6 +8,8 @@ use Rattle.std.proofs.lemmas.Bool.Decides.{nat_tests}
 use Rattle.std.proofs.lemmas.List.Folds.{list_all-append}
 use Rattle.std.proofs.lemmas.List.Sorted.{IsPermutation-trans}
 use Rattle.std.proofs.lemmas.Option.{slice_get_within}
+use Rattle.std.proofs.lemmas.Bool.{eqb-true}
+use Rattle.std.proofs.Math.Bool.{or-true}
 use Rattle.gatestep.specs.Step.{State, Evaluation}
 use Rattle.design.specs.Netlist.{GateEntry, Netlist}
 use Rattle.waveform.specs.Timelines.{moments}
@@ -20,7 +22,7 @@ use Rattle.gateline.specs.kept.Line.{always_wanted}
 use Rattle.ordering.specs.kept.Gates.{IsBeginning, column_of, gate_work_from, gates_work_from, rows_of}
 use Rattle.ordering.specs.kept.Order.{each_in_order, is_order, is_ready, may_come, may_follow, order_work_from}
 use Rattle.ordering.proofs.Columns.{from_by_gates, rows_are_columns}
-use Rattle.scratch.proofs.Among.{has_more, nat_itself, nat_same, or_true}
+use Rattle.scratch.proofs.Among.{has_more, nat_itself}
 use Rattle.scratch.proofs.Apart.{left_off, same_work}
 use Rattle.scratch.specs.kept.Places.{AreApart}
 use Rattle.ordering.proofs.Places.{below, below_apart, by_places}
@@ -61,7 +63,7 @@ module _ (d : Netlist) where
       come = first_of_both (may_come d (λ p. has p done) j) (may_follow d (done ++ j ∷ []) ks) h
 
       by : (b : Bool) → nat_eq k j ≡ b → (may_follow d (done ++ j ∷ []) ks ≡ true → has k ks ≡ true → has k (done ++ j ∷ []) ≡ false) → has k done ≡ false
-      by true is rest = ap (λ z. has z done) (nat_same k j is) ∙ comes_anew (λ p. has p done) j come
+      by true is rest = ap (λ z. has z done) (eqb-true k j is) ∙ comes_anew (λ p. has p done) j come
       by false is rest =
           let later = second_of_both (may_come d (λ p. has p done) j) (may_follow d (done ++ j ∷ []) ks) h in
           left_off (has k done) (nat_eq k j) (sym (has_more k j done) ∙ rest later (sym (ap (λ (b : Bool). b || has k ks) is) ∙ on))
@@ -76,7 +78,7 @@ module _ (d : Netlist) where
       by : (b : Bool) → has j ks ≡ b → has j ks ≡ false
       by true is =
           let off = follow_anew (done ++ j ∷ []) ks later j is in
-          let on : has j (done ++ j ∷ []) ≡ true = has_more j j done ∙ ap (λ (b : Bool). has j done || b) (nat_itself j) ∙ or_true (has j done) in
+          let on : has j (done ++ j ∷ []) ≡ true = has_more j j done ∙ ap (λ (b : Bool). has j done || b) (nat_itself j) ∙ or-true (has j done) in
           absurd (cc)
       by false is = is
 
@@ -87,7 +89,7 @@ module _ (d : Netlist) where
       by : (b : Bool) → nat_eq k j ≡ b → (may_follow d (done ++ j ∷ []) ks ≡ true → has k ks ≡ true → k < length d.gates) → k < length d.gates
       by true is rest =
           let low = comes_within (λ p. has p done) j (first_of_both (may_come d (λ p. has p done) j) (may_follow d (done ++ j ∷ []) ks) h) in
-          subst (λ z. z < length d.gates) (sym (nat_same k j is)) low
+          subst (λ z. z < length d.gates) (sym (eqb-true k j is)) low
       by false is rest =
           let later = second_of_both (may_come d (λ p. has p done) j) (may_follow d (done ++ j ∷ []) ks) h in
           rest later (sym (ap (λ (b : Bool). b || has k ks) is) ∙ on)
@@ -100,7 +102,7 @@ all_below p (suc n) h k low = by (nat_eq k n) refl (all_below p n)
     parts = sym (list_all-append p (moments n) (n ∷ [])) ∙ h
 
     by : (b : Bool) → nat_eq k n ≡ b → (list_all p (moments n) ≡ true → (k : ℕ) → k < n → p k ≡ true) → p k ≡ true
-    by true is rest = ap p (nat_same k n is) ∙ first_of_both (p n) true (second_of_both (list_all p (moments n)) (p n && true) parts)
+    by true is rest = ap p (eqb-true k n is) ∙ first_of_both (p n) true (second_of_both (list_all p (moments n)) (p n && true) parts)
     by false is rest =
         let less : k < n = grind (arith, nat_tests) in
         rest (first_of_both (list_all p (moments n)) (p n && true) parts) k less

@@ -5,7 +5,7 @@ use Rattle.std.specs.List.{list_all}
 use Rattle.std.specs.Option.{option_map, option_map_or}
 use Rattle.std.proofs.Math.ListN.{set}
 use Rattle.std.proofs.lemmas.Bool.Decides.{nat_tests}
-use Rattle.std.proofs.lemmas.Bool.{cases_lt}
+use Rattle.std.proofs.lemmas.Bool.{cases_lt, eqb-true}
 use Rattle.std.proofs.lemmas.List.{length-map}
 use Rattle.std.proofs.lemmas.Option.{slice_get-map, slice_get_past}
 use Rattle.gatestep.specs.Step.{State, Evaluation}
@@ -24,7 +24,7 @@ use Rattle.ordering.specs.kept.Batches.{StayTraced}
 use Rattle.ordering.specs.kept.Gates.{IsBeginning}
 use Rattle.ordering.specs.kept.Order.{is_order, is_ready, may_come, may_follow}
 use Rattle.ordering.proofs.Orders.{all_below, first_of_both, second_of_both}
-use Rattle.scratch.proofs.Among.{has_more, nat_itself, nat_same}
+use Rattle.scratch.proofs.Among.{has_more, nat_itself}
 use Rattle.ordering.proofs.Places.{there}
 
 module _ (answer : Evaluation → ℕ → State) (d : Netlist) (traces : List (List (ℕ × State))) (f : ℕ → Bool) (come : (p : ℕ) → f p ≡ true → IsTraced answer d traces p) where
@@ -92,7 +92,7 @@ module _ (answer : Evaluation → ℕ → State) (d : Netlist) (traces new : Lis
     stay_traced p before = by (nat_eq p k) refl
       where
         by : (b : Bool) → nat_eq p k ≡ b → IsTraced answer d new p
-        by true e = let at = nat_same p k e in rw at new_traced
+        by true e = let at = eqb-true p k e in rw at new_traced
         by false e = ap (λ l. slice_get l p) written.2 ∙ set_apart traces k p (trace_of answer d written.0) e ∙ before
 
     -- with its trace one gate more is traced
@@ -100,7 +100,7 @@ module _ (answer : Evaluation → ℕ → State) (d : Netlist) (traces new : Lis
     one_traced done before p on = by (nat_eq p k) refl
       where
         by : (b : Bool) → nat_eq p k ≡ b → IsTraced answer d new p
-        by true e = let at = nat_same p k e in rw at new_traced
+        by true e = let at = eqb-true p k e in rw at new_traced
         by false e = stay_traced p (before p (sym (or_off (has p done) (nat_eq p k) e) ∙ sym (has_more p k done) ∙ on))
           where
             or_off : (a b : Bool) → b ≡ false → (a || b) ≡ a

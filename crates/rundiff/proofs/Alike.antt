@@ -3,12 +3,12 @@ use Rattle.std.proofs.Common.{◌≡◌, ℕ, ◌∙◌, sym, Bool, true, false,
 use Rattle.std.specs.Prelude.{◌||◌}
 use Rattle.std.specs.List.{position_from}
 use Rattle.std.specs.Option.{option_map_or}
+use Rattle.std.proofs.lemmas.Bool.{or_left}
 use Rattle.gatestep.specs.Step.{State, Evaluation}
 use Rattle.design.specs.Names.{same_name}
 use Rattle.design.specs.Netlist.{Netlist}
 use Rattle.rundiff.specs.kept.Fronts.{IsAlike}
 use Rattle.rundiff.specs.kept.Places.{gate_at, is_live}
-use Rattle.rundiff.proofs.Sets.{or_first}
 
 live_by : (f g : ℕ → Bool) → ((p : ℕ) → f p ≡ true → g p ≡ true) → (o : Option ℕ) → option_map_or f o false ≡ true → option_map_or g o false ≡ true
 live_by f g more None on = on
@@ -30,6 +30,6 @@ alike_grows answer old new f g t p more (inr readers) = inr (λ q low reading. l
 
 -- one of two tests passes still where the first one passes more
 pub either_more : (a b c : Bool) → (a ≡ true → b ≡ true) → (a || c) ≡ true → (b || c) ≡ true
-either_more true b c more on = or_first b c (more refl)
+either_more true b c more on = or_left b c (more refl)
 either_more false true c more on = refl
 either_more false false c more on = on

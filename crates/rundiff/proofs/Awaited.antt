@@ -1,36 +1,26 @@
 -- What is noted once the gates of a moment are looked at, and once their answers are taken.
-use Rattle.std.proofs.Common.{◌≡◌, ℕ, suc, ◌<◌, ◌≤◌, ◌∙◌, ap, sym, refl, List, Bool, true, false, not, arith}
+use Rattle.std.proofs.Common.{◌≡◌, ℕ, suc, ◌<◌, ◌≤◌, ◌∙◌, ap, refl, List, Bool, true, false, not, arith}
 use Rattle.std.specs.Prelude.{◌&&◌, ◌||◌, ◌==◌}
-use Rattle.std.proofs.lemmas.Bool.Decides.{nat_tests}
+use Rattle.std.proofs.lemmas.Bool.{and_from, and_parts}
 use Rattle.gatestep.specs.Step.{State, Evaluation}
 use Rattle.design.specs.Netlist.{Netlist}
 use Rattle.scratch.specs.kept.Places.{Announces, Covers, IsNotedWithin, Keeps, has}
 use Rattle.scratch.specs.Run.{state_after, state_before}
+use Rattle.scratch.proofs.Notes.{within_on}
 use Rattle.rundiff.specs.kept.Fronts.{is_working}
 use Rattle.rundiff.specs.kept.Noting.{IsNoted, input_moves, net_moves, pends, wants_event, wants_gate}
 use Rattle.rundiff.specs.kept.Places.{gate_at, is_among}
-use Rattle.rundiff.proofs.NotedMore.{within_on}
 use Rattle.rundiff.proofs.Resting.{rests_on}
-use Rattle.rundiff.proofs.Still.{both}
-
-not_true : (b : Bool) → not b ≡ true → b ≡ false
-not_true true h = cc
-not_true false h = refl
-
-both_on : (a b : Bool) → a ≡ true → b ≡ true → (a && b) ≡ true
-both_on a b on also = rw (on, also) refl
-
-not_first : (t u : ℕ) (b : Bool) → suc t ≤ u → (u == 0 || b) ≡ true → b ≡ true
-not_first t u b late h = let off : (u == 0) ≡ false = grind (arith, nat_tests) in sym (ap (λ (a : Bool). a || b) off) ∙ h
+use Rattle.rundiff.proofs.Noted.{not_first}
 
 -- before moment 0, where each live net and each held gate is noted for it
 pub opened_noted : (answer : Evaluation → ℕ → State) (old new : Netlist) (live held : ℕ → Bool) (events inputs nets : ℕ → List ℕ) →
     ((p : ℕ) → held p ≡ true → has p (inputs 0) ≡ true) → ((p : ℕ) → live p ≡ true → has p (nets 0) ≡ true) → IsNoted answer old new live held held 0 events inputs nets 0
 opened_noted answer old new live held events inputs nets of_gates of_nets =
     record {
-      events = λ p u late h. let none = (both (held p) false h).1 in absurd (cc);
-      inputs = λ p u late h. (0, omega arith, omega arith, of_gates p (both (held p) (u == 0 || input_moves answer old new live p u) h).0);
-      nets = λ p u late h. (0, omega arith, omega arith, of_nets p (both (live p) (u == 0 || net_moves answer old new p u) h).0);
+      events = λ p u late h. let none = (and_parts (held p) false h).1 in absurd (cc);
+      inputs = λ p u late h. (0, omega arith, omega arith, of_gates p (and_parts (held p) (u == 0 || input_moves answer old new live p u) h).0);
+      nets = λ p u late h. (0, omega arith, omega arith, of_nets p (and_parts (live p) (u == 0 || net_moves answer old new p u) h).0);
       no_early_event = λ u low. absurd (omega arith);
       no_early_input = λ u low. absurd (omega arith);
       no_early_net = λ u low. absurd (omega arith);
@@ -48,24 +38,24 @@ module _ (answer : Evaluation → ℕ → State) (old new : Netlist) (t : ℕ) (
     looked_events : Covers (wants_event answer old new (λ p. held p && not (is_working answer old new t p)) (suc t)) after (suc t)
     looked_events p u late h =
         let working = is_working answer old new t p in
-        let parts = both (held p && not working) (pends (state_after answer new (gate_at new p) t) u) h in
-        let rest = both (held p) (not working) parts.0 in
+        let parts = and_parts (held p && not working) (pends (state_after answer new (gate_at new p) t) u) h in
+        let rest = and_parts (held p) (not working) parts.0 in
         elim (is_among chosen p) as (λ b. is_among chosen p ≡ b → has p (after u) ≡ true) [
-          | true ↦ λ among. those p u (are p ∙ both_on (is_among chosen p) (not working) among rest.1) parts.1
+          | true ↦ λ among. those p u (are p ∙ and_from (is_among chosen p) (not working) among rest.1) parts.1
           | false ↦ λ off.
               let was : pends (state_before answer new t (gate_at new p)) u ≡ true = ap (λ (s : State). pends s u) (stays p rest.0 off) ∙ parts.1 in
-              keeps p u (before.events p u late (both_on (held p && not (is_among chosen p)) (pends (state_before answer new t (gate_at new p)) u) (rests_on (held p) (is_among chosen p) rest.0 off) was))
+              keeps p u (before.events p u late (and_from (held p && not (is_among chosen p)) (pends (state_before answer new t (gate_at new p)) u) (rests_on (held p) (is_among chosen p) rest.0 off) was))
         ] refl
 
     looked_inputs : Announces (wants_gate answer old new live held) later (suc t)
     looked_inputs p u late h =
         let moves = input_moves answer old new live p u in
-        let parts = both (held p) (u == 0 || moves) h in
+        let parts = and_parts (held p) (u == 0 || moves) h in
         elim (is_among chosen p) as (λ b. is_among chosen p ≡ b → IsNotedWithin later p (suc t) u) [
           | true ↦ λ among. next p u among late (not_first t u moves late parts.1)
           | false ↦ λ off.
               within_on inputs later p (suc t) u kept
-              (before.inputs p u late (both_on (held p && not (is_among chosen p)) (u == 0 || moves) (rests_on (held p) (is_among chosen p) parts.0 off) parts.1))
+              (before.inputs p u late (and_from (held p && not (is_among chosen p)) (u == 0 || moves) (rests_on (held p) (is_among chosen p) parts.0 off) parts.1))
         ] refl
 
     -- once the gates are looked at that are chosen
@@ -87,10 +77,10 @@ module _ (answer : Evaluation → ℕ → State) (old new : Netlist) (t : ℕ) (
     settled_events p u late h =
         let test = is_working answer old new t p in
         let pending = pends (state_after answer new (gate_at new p) t) u in
-        let parts = both (held p) pending h in
+        let parts = and_parts (held p) pending h in
         elim test as (λ b. test ≡ b → has p (after u) ≡ true) [
-          | true ↦ λ on. those p u (are p ∙ both_on (held p) test parts.0 on) parts.1
-          | false ↦ λ off. keeps p u (before.events p u late (both_on (held p && not test) pending (rests_on (held p) test parts.0 off) parts.1))
+          | true ↦ λ on. those p u (are p ∙ and_from (held p) test parts.0 on) parts.1
+          | false ↦ λ off. keeps p u (before.events p u late (and_from (held p && not test) pending (rests_on (held p) test parts.0 off) parts.1))
         ] refl
 
     -- once the answers are taken

@@ -3,56 +3,37 @@ use Rattle.std.proofs.Common.{◌≡◌, ℕ, suc, ◌<◌, ◌≤◌, ◌∙◌
 use Rattle.std.specs.Prelude.{nat_eq, ◌&&◌, ◌||◌, ◌==◌}
 use Rattle.std.specs.List.{list_any}
 use Rattle.std.proofs.lemmas.Bool.Decides.{nat_tests}
+use Rattle.std.proofs.lemmas.Bool.{or_right, and_from, eqb-true, and_parts, or_left}
 use Rattle.gatestep.specs.Step.{State, Evaluation}
 use Rattle.event_queue.specs.kept.Noted.{IsTaken, noted}
 use Rattle.design.specs.Connections.{Connection, to_net, to_constant}
 use Rattle.design.specs.Netlist.{Netlist}
 use Rattle.scratch.specs.kept.Places.{IsNotedWithin, Keeps, has}
 use Rattle.scratch.specs.Run.{state_before}
+use Rattle.scratch.proofs.Among.{nat_apart}
+use Rattle.scratch.proofs.Notes.{none_early}
 use Rattle.rundiff.specs.kept.Noting.{IsNoted, input_moves, is_at_live, net_moves, old_moves, pends}
 use Rattle.rundiff.specs.kept.Places.{gate_at}
 use Rattle.rundiff.proofs.Alike.{live_grows}
-use Rattle.rundiff.proofs.Quiet.{both_on}
-use Rattle.rundiff.proofs.Sets.{or_second}
-use Rattle.rundiff.proofs.Still.{both}
+use Rattle.rundiff.proofs.Noted.{not_first}
 
 abbrev Queue : Type 0
 Queue = List (ℕ × List ℕ)
 
-other_moment : (t u : ℕ) → t < u → nat_eq t u ≡ false
-other_moment t u low = grind (arith, nat_tests)
-
-this_moment : (t u : ℕ) → nat_eq t u ≡ true → t ≡ u
-this_moment t u same = grind (arith, nat_tests)
-
-before_this : (t u : ℕ) → nat_eq t u ≡ false → u < suc t → u < t
-before_this t u apart low = grind (arith, nat_tests)
-
 after_this : (t u : ℕ) → nat_eq t u ≡ false → t ≤ u → suc t ≤ u
 after_this t u apart low = grind (arith, nat_tests)
-
-not_first : (u : ℕ) (b : Bool) → 0 < u → (u == 0 || b) ≡ true → b ≡ true
-not_first u b some on = let off : (u == 0) ≡ false = grind (arith, nat_tests) in ap (λ (c : Bool). c || b) (sym off) ∙ on
 
 module _ (t : ℕ) (old new : Queue) (taken : IsTaken t old new) where
   -- what is noted for later moments stays
   later_same : (u : ℕ) → t < u → noted new u ≡ noted old u
-  later_same u low = taken u ∙ ap (λ (b : Bool). cond b [] (noted old u)) (other_moment t u low)
-
-  early_by : (u : ℕ) (b : Bool) → nat_eq t u ≡ b → u < suc t → ((v : ℕ) → v < t → noted old v ≡ []) → cond b [] (noted old u) ≡ []
-  early_by u true same low early = refl
-  early_by u false apart low early = early u (before_this t u apart low)
-
-  -- nothing is noted for this moment and those before any more
-  none_early : ((v : ℕ) → v < t → noted old v ≡ []) → (u : ℕ) → u < suc t → noted new u ≡ []
-  none_early early u low = taken u ∙ early_by u (nat_eq t u) refl low early
+  later_same u low = taken u ∙ ap (λ (b : Bool). cond b [] (noted old u)) (nat_apart t u low)
 
   -- what is noted for a moment from t on is noted still, or it was noted for t
   later_within : (after : ℕ → List ℕ) → Keeps (noted new) after → (k u : ℕ) → (has k (noted old t) ≡ true → IsNotedWithin after k (suc t) u) → IsNotedWithin (noted old) k t u → IsNotedWithin after k (suc t) u
   later_within after stay k u here at = by (nat_eq t at.0) refl
     where
       by : (b : Bool) → nat_eq t at.0 ≡ b → IsNotedWithin after k (suc t) u
-      by true same = here (ap (λ (v : ℕ). has k (noted old v)) (this_moment t at.0 same) ∙ at.3)
+      by true same = here (ap (λ (v : ℕ). has k (noted old v)) (eqb-true t at.0 same) ∙ at.3)
       by false apart =
           let from : t ≤ at.0 = at.1 in
           let later : suc t ≤ at.0 = after_this t at.0 apart from in
@@ -63,12 +44,9 @@ any_moves : (test more : Connection → Bool) → ((c : Connection) → test c �
 any_moves test more says [] on = on
 any_moves test more says (c ∷ cs) on = by (test c) refl on (any_moves test more says cs)
   where
-    or_left : (a b : Bool) → a ≡ true → (a || b) ≡ true
-    or_left a b on = rw on refl
-
     by : (b : Bool) → test c ≡ b → (b || list_any test cs) ≡ true → (list_any test cs ≡ true → list_any more cs ≡ true) → (more c || list_any more cs) ≡ true
     by true here any rest = or_left (more c) (list_any more cs) (says c here)
-    by false off any rest = or_second (more c) (list_any more cs) (rest any)
+    by false off any rest = or_right (more c) (list_any more cs) (rest any)
 
 module _ (answer : Evaluation → ℕ → State) (old new : Netlist) (live later held passed : ℕ → Bool) (t : ℕ) (grows : (p : ℕ) → live p ≡ true → later p ≡ true)
     (held_before : (q : ℕ) → passed q ≡ true → held q ≡ true)
@@ -82,8 +60,8 @@ module _ (answer : Evaluation → ℕ → State) (old new : Netlist) (live later
   fewer_moves : (c : Connection) (u : ℕ) → (not (is_at_live new later c) && old_moves answer old new c u) ≡ true → (not (is_at_live new live c) && old_moves answer old new c u) ≡ true
   fewer_moves (to_constant v) u moves = moves
   fewer_moves (to_net name) u moves =
-      let parts = both (not (is_at_live new later (to_net name))) (old_moves answer old new (to_net name) u) moves in
-      both_on (not (is_at_live new live (to_net name))) (old_moves answer old new (to_net name) u) (off_before parts.0) parts.1
+      let parts = and_parts (not (is_at_live new later (to_net name))) (old_moves answer old new (to_net name) u) moves in
+      and_from (not (is_at_live new live (to_net name))) (old_moves answer old new (to_net name) u) (off_before parts.0) parts.1
     where
       flip : (a b : Bool) → (a ≡ true → b ≡ true) → not b ≡ true → not a ≡ true
       flip true true says off = off
@@ -98,7 +76,7 @@ module _ (answer : Evaluation → ℕ → State) (old new : Netlist) (live later
       elim (live p) as (λ b. live p ≡ b → IsNotedWithin (noted nets_now) p (suc t) u) [
         | true ↦ λ lives.
             later_within t nets nets_left nets_taken (noted nets_now) kept p u (λ here. next p u on (λ again. here) (omega arith) moves)
-            (awaits.nets p u (omega arith) (both_on (live p) (u == 0 || net_moves answer old new p u) lives (or_second (u == 0) (net_moves answer old new p u) moves)))
+            (awaits.nets p u (omega arith) (and_from (live p) (u == 0 || net_moves answer old new p u) lives (or_right (u == 0) (net_moves answer old new p u) moves)))
         | false ↦ λ free. next p u on (λ lives. let no : false ≡ true = sym free ∙ lives in absurd (cc)) (omega arith) moves
       ] refl
 
@@ -106,7 +84,7 @@ module _ (answer : Evaluation → ℕ → State) (old new : Netlist) (live later
   inputs_noted q u from on moves =
       let before = any_moves (λ c. not (is_at_live new later c) && old_moves answer old new c u) (λ c. not (is_at_live new live c) && old_moves answer old new c u) (λ c. fewer_moves c u) (gate_at new q).inputs moves in
       later_within t inputs inputs_now inputs_taken (noted inputs_now) (λ k v at. at) q u (λ here. let no : false ≡ true = not_noted q on here in absurd (cc))
-      (awaits.inputs q u (omega arith) (both_on (held q) (u == 0 || input_moves answer old new live q u) (held_before q on) (or_second (u == 0) (input_moves answer old new live q u) before)))
+      (awaits.inputs q u (omega arith) (and_from (held q) (u == 0 || input_moves answer old new live q u) (held_before q on) (or_right (u == 0) (input_moves answer old new live q u) before)))
 
   -- what is noted then
   pub noted_now : IsNoted answer old new later passed passed t (noted events_now) (noted inputs_now) (noted nets_now) (suc t)
@@ -114,15 +92,15 @@ module _ (answer : Evaluation → ℕ → State) (old new : Netlist) (live later
       record {
         events = λ k u from wants.
             let s = state_before answer new t (gate_at new k) in
-            let parts = both (passed k) (pends s u) wants in
-            ap (has k) (later_same t events events_now events_taken u (omega arith)) ∙ awaits.events k u (omega arith) (both_on (held k) (pends s u) (held_before k parts.0) parts.1);
+            let parts = and_parts (passed k) (pends s u) wants in
+            ap (has k) (later_same t events events_now events_taken u (omega arith)) ∙ awaits.events k u (omega arith) (and_from (held k) (pends s u) (held_before k parts.0) parts.1);
         inputs = λ k u from wants.
-            let parts = both (passed k) (u == 0 || input_moves answer old new later k u) wants in
-            inputs_noted k u from parts.0 (not_first u (input_moves answer old new later k u) (omega arith) parts.1);
+            let parts = and_parts (passed k) (u == 0 || input_moves answer old new later k u) wants in
+            inputs_noted k u from parts.0 (not_first t u (input_moves answer old new later k u) from parts.1);
         nets = λ k u from wants.
-            let parts = both (later k) (u == 0 || net_moves answer old new k u) wants in
-            nets_noted k u from parts.0 (not_first u (net_moves answer old new k u) (omega arith) parts.1);
-        no_early_event = none_early t events events_now events_taken awaits.no_early_event;
-        no_early_input = none_early t inputs inputs_now inputs_taken awaits.no_early_input;
-        no_early_net = λ u low. early u (omega arith) ∙ none_early t nets nets_left nets_taken awaits.no_early_net u low;
+            let parts = and_parts (later k) (u == 0 || net_moves answer old new k u) wants in
+            nets_noted k u from parts.0 (not_first t u (net_moves answer old new k u) from parts.1);
+        no_early_event = λ u low. none_early t events events_now events_taken awaits.no_early_event u (omega arith);
+        no_early_input = λ u low. none_early t inputs inputs_now inputs_taken awaits.no_early_input u (omega arith);
+        no_early_net = λ u low. early u (omega arith) ∙ none_early t nets nets_left nets_taken awaits.no_early_net u (omega arith);
       }

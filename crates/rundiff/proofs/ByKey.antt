@@ -3,15 +3,15 @@ use Rattle.std.proofs.Common.{◌≡◌, ℕ, suc, ◌+◌, ◌<◌, ◌∙◌, 
 use Rattle.std.specs.Prelude.{◌==◌, IsSome, slice_get}
 use Rattle.std.specs.List.{find, position_from}
 use Rattle.std.specs.Option.{option_map}
-use Rattle.std.proofs.lemmas.Option.{slice_get-map, slice_get_within}
+use Rattle.std.proofs.lemmas.Option.{slice_get-map, slice_get_within, get_or_from_slice_get}
+use Rattle.std.proofs.lemmas.Bool.{eqb-true}
 use Rattle.catalog.specs.Catalog.{records_of}
 use Rattle.catalog.specs.kept.Catalog.{keys_of, place_of}
 use Rattle.design.specs.Keys.{Keyed, KeyedGate, entry_in, netlist}
 use Rattle.design.specs.kept.Keys.{AreKeys, IsConnected, gate_by_key, net_by_key}
 use Rattle.design.specs.Netlist.{GateEntry, NetEntry}
+use Rattle.edits.proofs.TouchLemmas.{there_of}
 use Rattle.rundiff.specs.kept.Places.{blank_gate, blank_net, gate_at, net_at}
-use Rattle.rundiff.proofs.ByPlace.{at_place}
-use Rattle.rundiff.proofs.ReaderKeys.{same_number, some_of}
 
 -- a record under a key stands at a place
 entry_placed : {X : Type 0} (es : List (ℕ × X)) (key start : ℕ) (x : X) → option_map (λ e. e.1) (find (λ e. e.0 == key) es) ≡ Some x →
@@ -22,7 +22,7 @@ entry_placed {X} (e ∷ es) key start x found =
     (p : ℕ) × (cond {A = Option ℕ} b (Some start) (position_from (λ q. q.0 == key) (start + 1) es) ≡ Some (start + p)) × (slice_get (e ∷ es) p ≡ Some (key, x))) [
       | true ↦ λ on here.
           let first : start ≡ start + 0 = omega arith in
-          let k : e.0 ≡ key = same_number e.0 key on in
+          let k : e.0 ≡ key = eqb-true e.0 key on in
           let r : e.1 ≡ x = cc in
           (0, ap (λ (i : ℕ). Some i) first, λ i. Some (k i, r i))
       | false ↦ λ off later.
@@ -51,7 +51,7 @@ net_placed d key n found =
         place = one.1 ∙ ap (λ (i : ℕ). Some i) from;
         under = slice_get-map (λ (e : ℕ × NetEntry). e.0) d.nets p ∙ ap (option_map (λ (e : ℕ × NetEntry). e.0)) one.2;
         low = slice_get_within (records_of d.nets) p n record_there;
-        net = at_place (records_of d.nets) p blank_net n record_there;
+        net = get_or_from_slice_get (records_of d.nets) p n blank_net record_there;
       },
     )
 
@@ -73,12 +73,12 @@ gate_placed d keys key g found =
     slice_get-map (λ (e : ℕ × GateEntry). e.1) (map named d.gates) p
     ∙ ap (option_map (λ (e : ℕ × GateEntry). e.1)) (slice_get-map named d.gates p ∙ ap (option_map named) one.2) in
     let connected : IsConnected d.nets g =
-    subst (IsConnected d.nets) (at_place (records_of d.gates) p g g record_there) (keys.connected p g (slice_get_within (records_of d.gates) p g record_there)) in (
+    subst (IsConnected d.nets) (get_or_from_slice_get (records_of d.gates) p g g record_there) (keys.connected p g (slice_get_within (records_of d.gates) p g record_there)) in (
       p,
       record {
         under = slice_get-map (λ (e : ℕ × KeyedGate). e.0) d.gates p ∙ ap (option_map (λ (e : ℕ × KeyedGate). e.0)) one.2;
         low = slice_get_within (records_of (map named d.gates)) p (entry_in d.nets g) entry_there;
-        gate = at_place (records_of (map named d.gates)) p blank_gate (entry_in d.nets g) entry_there;
-        output = some_of (net_by_key d g.output) (λ n. n.is_input ≡ false) connected.output;
+        gate = get_or_from_slice_get (records_of (map named d.gates)) p (entry_in d.nets g) blank_gate entry_there;
+        output = there_of (net_by_key d g.output) (λ n. n.is_input ≡ false) connected.output;
       },
     )

@@ -2,6 +2,9 @@
 use Rattle.std.proofs.Common.{◌≡◌, ℕ, suc, ◌-◌, ◌<◌, ◌≤◌, ◌∙◌, ap, sym, refl, subst, Bool, true, false, not, List, length, Some, inl, inr, arith, All}
 use Rattle.std.specs.Prelude.{slice_index_or, ◌&&◌, ◌||◌, ◌==◌}
 use Rattle.std.specs.List.{list_any}
+use Rattle.std.proofs.lemmas.List.Folds.{list_any_at}
+use Rattle.std.proofs.lemmas.Bool.{or_right, and_from}
+use Rattle.std.proofs.lemmas.List.{get_or_default}
 use Rattle.gatestep.specs.Step.{State, Evaluation, due}
 use Rattle.gatestep.specs.kept.Tasks.{IsTask, NothingDue}
 use Rattle.design.specs.Connections.{Connection, to_net, to_constant}
@@ -10,24 +13,24 @@ use Rattle.design.specs.Netlist.{NetEntry, Netlist, is_at_net, net_named, reads}
 use Rattle.scratch.specs.kept.Places.{has}
 use Rattle.scratch.specs.Run.{value}
 use Rattle.scratch.specs.Work.{is_stirred}
+use Rattle.scratch.proofs.Stirred.{same_self_name}
+use Rattle.scratch.proofs.Runs.{map_where}
+use Rattle.scratch.proofs.Still.{is_still}
 use Rattle.rundiff.specs.kept.Kept.{read_at}
 use Rattle.rundiff.specs.kept.Noting.{input_moves, is_at_live, old_moves}
 use Rattle.rundiff.specs.kept.Places.{blank_gate, blank_net, gate_at, is_live, net_at}
 use Rattle.rundiff.specs.kept.Steady.{IsSteady}
 use Rattle.rundiff.proofs.ByPlace.{live_at}
-use Rattle.rundiff.proofs.Lists.{any_at, name_itself}
-use Rattle.rundiff.proofs.NetsDone.{same_default}
-use Rattle.rundiff.proofs.Quiet.{AreLookedAt, at_now, both_on, none_due, not_so, off_by, quiet_value, stays_in_old}
+use Rattle.rundiff.proofs.Quiet.{AreLookedAt, at_now, none_due, quiet_value, stays_in_old}
 use Rattle.rundiff.proofs.Settling.{untouched_same}
-use Rattle.rundiff.proofs.Sets.{or_second}
-use Rattle.rundiff.proofs.Still.{is_still, map_all}
 use Rattle.rundiff.proofs.Wired.{IsThere, inputs_there, named_in, reads_net}
+use Rattle.rundiff.proofs.Lists.{not_so, off_by}
 
 -- at moment 0 all held gates are noted
 pub all_noted : (answer : Evaluation → ℕ → State) (old new : Netlist) (live held : ℕ → Bool) (events_at inputs_at nets_at : ℕ → List ℕ) (looked : ℕ → Bool) →
     AreLookedAt answer old new live held events_at inputs_at nets_at 0 looked → (q : ℕ) → held q ≡ true → has q (inputs_at 0) ≡ true
 all_noted answer old new live held events_at inputs_at nets_at looked are q on =
-    let at = are.awaits.inputs q 0 (omega arith) (both_on (held q) (0 == 0 || input_moves answer old new live q 0) on refl) in
+    let at = are.awaits.inputs q 0 (omega arith) (and_from (held q) (0 == 0 || input_moves answer old new live q 0) on refl) in
     let low : at.0 ≤ 0 = at.2 in
     let first : at.0 ≡ 0 = omega arith in
     ap (λ (u : ℕ). has q (inputs_at u)) (sym first) ∙ at.3
@@ -48,7 +51,7 @@ module _ (answer : Evaluation → ℕ → State) (old new : Netlist)
   unmoved =
       not_so (input_moves answer old new live q now) (has q (inputs_at now))
       (λ moves. at_now answer old new current pending is live held events_at inputs_at nets_at r looked are q inputs_at
-      (are.awaits.inputs q now (omega arith) (both_on (held q) (now == 0 || input_moves answer old new live q now) on (or_second (now == 0) (input_moves answer old new live q now) moves)))) no_input
+      (are.awaits.inputs q now (omega arith) (and_from (held q) (now == 0 || input_moves answer old new live q now) on (or_right (now == 0) (input_moves answer old new live q now) moves)))) no_input
 
   -- what an input at a net that is there reads
   abbrev Fact : NetEntry → Type 0
@@ -75,7 +78,7 @@ module _ (answer : Evaluation → ℕ → State) (old new : Netlist)
       ] refl
 
   facts : All Fact new.nets
-  facts = λ k d there. subst Fact (same_default new.nets k blank_net d there) (fact_at k there)
+  facts = λ k d there. subst Fact (get_or_default new.nets k blank_net d there) (fact_at k there)
 
   -- the gate reads it
   abbrev IsRead : Connection → Type 0
@@ -103,13 +106,13 @@ module _ (answer : Evaluation → ℕ → State) (old new : Netlist)
       let moves : Connection → Bool = λ c. not (is_at_live new live c) && old_moves answer old new c now in
       is_still answer new g r
       (none_due answer old new current pending is live held events_at inputs_at nets_at r looked are q on no_event)
-      (map_all (λ c. IsThere new c × IsRead c × (moves c ≡ false)) (λ c. read_at answer new c now) (λ c. read_at answer new c r) (λ c all. stays c all.0 all.1 all.2) g.inputs
+      (map_where (λ c. IsThere new c × IsRead c × (moves c ≡ false)) (λ c. read_at answer new c now) (λ c. read_at answer new c r) (λ c all. stays c all.0 all.1 all.2) g.inputs
       (λ i e within. (
         inputs_there new is q blank_gate low i e within,
         is_read i e within (slice_index_or g.inputs i e) refl,
-        not_so (moves (slice_index_or g.inputs i e)) (list_any moves g.inputs) (any_at moves g.inputs i e within) unmoved,
+        not_so (moves (slice_index_or g.inputs i e)) (list_any moves g.inputs) (list_any_at moves g.inputs i e within) unmoved,
       )))
     where
       is_read : (i : ℕ) (e : Connection) → i < length (gate_at new q).inputs → (c : Connection) → slice_index_or (gate_at new q).inputs i e ≡ c → IsRead c
       is_read i e within (to_constant v) at = tt
-      is_read i e within (to_net name) at = any_at (is_at_net name) (gate_at new q).inputs i e within (ap (is_at_net name) at ∙ name_itself name)
+      is_read i e within (to_net name) at = list_any_at (is_at_net name) (gate_at new q).inputs i e within (ap (is_at_net name) at ∙ same_self_name name)

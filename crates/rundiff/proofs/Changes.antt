@@ -2,7 +2,7 @@
 use Rattle.std.proofs.Common.{◌≡◌, ◌<◌, ◌≤◌, ◌∙◌, sym, ap, subst, refl, Bool, true, false, cond, not, ℕ, suc, ◌-◌, nat_lt, List, [], ◌∷◌, Option, Some, None, arith, ⊎_elim}
 use Rattle.std.specs.Prelude.{IfSome, nat_le, ◌&&◌}
 use Rattle.std.specs.List.{find}
-use Rattle.std.proofs.lemmas.Bool.{cases_lt}
+use Rattle.std.proofs.lemmas.Bool.{cases_lt, and_parts}
 use Rattle.std.proofs.lemmas.Bool.Decides.{nat_tests}
 use Rattle.fourstate.specs.declared.value.Value.{Value}
 use Rattle.fourstate.specs.kept.ValueLaws.{same_self}
@@ -11,7 +11,6 @@ use Rattle.waveform.specs.Changes.{wave_changes_below}
 use Rattle.waveform.specs.Entries.{standing}
 use Rattle.waveform.specs.Timelines.{first_after}
 use Rattle.waveform.specs.kept.Timelines.{IsAlwaysSettled}
-use Rattle.rundiff.proofs.Still.{both}
 
 -- `waveform::laws::drift_between`
 abbrev pub StandsBetween : Type 0
@@ -41,7 +40,7 @@ module _ (law : StandsBetween) (f : ℕ → Value) (n t : ℕ) where
 
   not_missed : (u : ℕ) → t < u → IfSome (first_after (wave_changes_below f (suc n)) t) (λ e. suc u ≤ e.0) → moves u ≡ true → ⊥
   not_missed u later none moved =
-      let parts = both (nat_le u n) (not (same_value (f u) (f (u - 1)))) moved in
+      let parts = and_parts (nat_le u n) (not (same_value (f u) (f (u - 1)))) moved in
       let low : nat_le u n ≡ true = parts.0 in
       let within : u ≤ n = grind (arith, nat_tests) in
       let never : true ≡ false = sym parts.1 ∙ ap not (stays u later within none) in cc

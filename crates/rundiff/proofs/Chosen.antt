@@ -1,34 +1,23 @@
 -- The held gates that are not chosen to be looked at: they are not stirred, so they keep their states.
-use Rattle.std.proofs.Common.{◌≡◌, ℕ, zero, suc, ◌<◌, ◌∙◌, ap, sym, refl, subst, List, Bool, true, false, not, map, length, Option, Some, None}
+use Rattle.std.proofs.Common.{◌≡◌, ℕ, zero, suc, ◌<◌, ◌∙◌, ap, sym, refl, List, Bool, true, false, not, map, length, Option}
 use Rattle.std.specs.Prelude.{◌&&◌, AllPairs}
 use Rattle.std.specs.List.{filter}
+use Rattle.std.proofs.Math.Bool.{and-false}
 use Rattle.gatestep.specs.Step.{State, Evaluation, due}
 use Rattle.gatestep.specs.kept.Tasks.{NothingDue, again}
 use Rattle.design.specs.Netlist.{GateEntry, Netlist}
 use Rattle.waveform.specs.Entries.{same_state}
-use Rattle.waveform.specs.kept.Patches.{IsMended, Keeps, PatchRecord}
+use Rattle.waveform.specs.kept.Patches.{Keeps, PatchRecord}
 use Rattle.waveform.specs.Timelines.{changes_below}
 use Rattle.scratch.specs.Run.{state_after, state_before}
 use Rattle.scratch.specs.Work.{is_stirred}
+use Rattle.scratch.proofs.Still.{none_due, still_due, still_after}
 use Rattle.rundiff.specs.Dirty.{is_dirty, working_at}
 use Rattle.rundiff.specs.kept.Fronts.{IsOwn, is_working, named_state}
 use Rattle.rundiff.specs.kept.Places.{blank_gate, gate_at, is_among}
 use Rattle.rundiff.proofs.Filtering.{passing}
-use Rattle.rundiff.proofs.OneGate.{and_false, rests}
-use Rattle.rundiff.proofs.Resting.{rests_on}
-use Rattle.rundiff.proofs.Still.{none_due, still_after, still_due}
-
--- a function with a patch of its own, a moment more at which it does not change
-pub own_more : {A : Type 0} (same : A → A → Bool) (drift : A → ℕ → A) (f g : ℕ → A) (n m : ℕ) (o : Option (PatchRecord A)) → IsOwn o → Keeps same drift g f o n →
-    changes_below same drift f m ≡ changes_below same drift f n → Keeps same drift g f o m
-own_more {A} same drift f g n m o own kept none =
-    let patch : PatchRecord A = own.0 in
-    let is : o ≡ Some patch = own.1 in
-    let whole : patch.since ≡ None = own.2 in
-    let at : Keeps same drift g f (Some patch) n = subst (λ (o : Option (PatchRecord A)). Keeps same drift g f o n) is kept in
-    let now : IsMended same drift g f patch.line None n = subst (λ (s : Option ℕ). IsMended same drift g f patch.line s n) whole at in
-    let then : IsMended same drift g f patch.line None m = now ∙ sym none in
-    subst (λ (o : Option (PatchRecord A)). Keeps same drift g f o m) (sym is) (subst (λ (s : Option ℕ). IsMended same drift g f patch.line s m) (sym whole) then)
+use Rattle.rundiff.proofs.OneGate.{rests}
+use Rattle.rundiff.proofs.Resting.{rests_on, own_more}
 
 -- `waveform::laws::no_change_by_drift`
 abbrev pub NoChangeByDrift : {A : Type 0} → (A → A → Bool) → (A → ℕ → A) → Type 0
@@ -72,7 +61,7 @@ module _ (answer : Evaluation → ℕ → State) (old new : Netlist) (t : ℕ) (
   unchosen p low off =
       let dirty = is_dirty answer old new (gate_at new p) t in let stirred = is_stirred answer new (gate_at new p) t in
       elim (held p) as (λ b. held p ≡ b → (dirty && stirred) ≡ false) [
-        | true ↦ λ on. ap (λ (b : Bool). dirty && b) (calm p on off) ∙ and_false dirty
+        | true ↦ λ on. ap (λ (b : Bool). dirty && b) (calm p on off) ∙ and-false dirty
         | false ↦ λ free. ap (λ (b : Bool). b && stirred) (clean p low free)
       ] refl
 

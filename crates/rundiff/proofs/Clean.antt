@@ -1,7 +1,7 @@
 -- Off the dirty pairs the new run is the old one.
-use Rattle.std.proofs.Common.{◌≡◌, ℕ, suc, ◌≤◌, List, Bool, true, false, not, cond, map, ap, ◌∙◌, arith, All}
+use Rattle.std.proofs.Common.{◌≡◌, ℕ, suc, ◌≤◌, List, Bool, false, not, cond, map, ap, ◌∙◌, All}
 use Rattle.std.specs.Prelude.{nat_le, ◌&&◌, ◌||◌}
-use Rattle.std.proofs.lemmas.Bool.Decides.{nat_tests}
+use Rattle.std.proofs.lemmas.Bool.{le-leb, or_parts, and_parts, not-false}
 use Rattle.fourstate.specs.Nets.{net_of}
 use Rattle.fourstate.specs.declared.value.Value.{Value}
 use Rattle.gatestep.specs.Step.{State, Evaluation, due}
@@ -11,22 +11,17 @@ use Rattle.waveform.specs.kept.SampleLaws.{is_same_state, same_state_self}
 use Rattle.scratch.specs.Run.{state_before, value}
 use Rattle.rundiff.specs.Dirty.{same_task, is_new, is_dirty}
 use Rattle.scratch.specs.Work.{same_values, task_at}
-use Rattle.rundiff.proofs.Still.{both, map_all, neither, not_false, same_values_equal, same_values_itself}
-
-abbrev evaluation : GateEntry → State → List Value → Evaluation
-evaluation g s inputs = record { kind = g.kind; delays = g.delays; state = s; inputs = inputs }
-
-early : (t h : ℕ) → t ≤ h → nat_le t h ≡ true
-early t h le = grind (arith, nat_tests)
+use Rattle.scratch.proofs.Still.{evaluation, same_values_equal, same_values_itself}
+use Rattle.scratch.proofs.Runs.{map_where}
 
 module _ (answer : Evaluation → ℕ → State) (old new : Netlist) where
   -- a pair that is not dirty: its task is the same in both runs
   pub clean_task : (g : GateEntry) (t : ℕ) → is_dirty answer old new g t ≡ false → task_at answer old g t ≡ task_at answer new g t
   clean_task g t h =
       let o = task_at answer old g t in let n = task_at answer new g t in
-      let later = neither (not (nat_le t old.horizon)) (is_new old g || not (same_task o n)) h in
-      let same = neither (is_new old g) (not (same_task o n)) later.1 in
-      let parts = both (same_state o.state n.state) (same_values o.inputs n.inputs) (not_false (same_task o n) same.1) in
+      let later = or_parts (not (nat_le t old.horizon)) (is_new old g || not (same_task o n)) h in
+      let same = or_parts (is_new old g) (not (same_task o n)) later.1 in
+      let parts = and_parts (same_state o.state n.state) (same_values o.inputs n.inputs) (not-false (same_task o n) same.1) in
       ap (λ (s : State). evaluation g s o.inputs) (is_same_state o.state n.state parts.0)
       ∙ ap (λ (vs : List Value). evaluation g n.state vs) (same_values_equal o.inputs n.inputs parts.1)
 
@@ -39,7 +34,7 @@ module _ (answer : Evaluation → ℕ → State) (old new : Netlist) where
       (task_at answer old g t).inputs ≡ (task_at answer new g t).inputs → is_dirty answer old new g t ≡ false
   is_clean g t within known state inputs =
       let o = task_at answer old g t in let n = task_at answer new g t in
-      ap (λ (b : Bool). not b || (is_new old g || not (same_task o n))) (early t old.horizon within)
+      ap (λ (b : Bool). not b || (is_new old g || not (same_task o n))) (le-leb t old.horizon within)
       ∙ ap (λ (b : Bool). b || not (same_task o n)) known
       ∙ ap (λ (s : State). not (same_state s n.state && same_values o.inputs n.inputs)) state
       ∙ ap (λ (vs : List Value). not (same_state n.state n.state && same_values vs n.inputs)) inputs
@@ -53,5 +48,5 @@ module _ (answer : Evaluation → ℕ → State) (old new : Netlist) where
       let P : GateEntry → Type 0 = λ g. state_before answer old t g ≡ state_before answer new t g in
       ap (λ (gs : List GateEntry). cond n.is_input (stimulus n.points t) (net_of n.kind (map (λ g. (due (state_before answer old t g) t).current) gs))) drivers
       ∙ ap (λ (vs : List Value). cond n.is_input (stimulus n.points t) (net_of n.kind vs))
-      (map_all P (λ g. (due (state_before answer old t g) t).current) (λ g. (due (state_before answer new t g) t).current)
+      (map_where P (λ g. (due (state_before answer old t g) t).current) (λ g. (due (state_before answer new t g) t).current)
       (λ g is. ap (λ (s : State). (due s t).current) is) (drivers_of new n.name) same)

@@ -3,8 +3,9 @@ use Rattle.std.proofs.Common.{◌≡◌, ◌<◌, ◌≤◌, ◌∙◌, sym, ap,
 use Rattle.std.specs.Prelude.{nat_eq, nat_le, slice_index_or, ◌&&◌, ◌||◌, ◌==◌}
 use Rattle.std.specs.List.{list_any}
 use Rattle.std.specs.Option.{ForSome, option_map_or}
-use Rattle.std.proofs.lemmas.Bool.{cases_lt}
+use Rattle.std.proofs.lemmas.Bool.{cases_lt, or_parts, not-false}
 use Rattle.std.proofs.lemmas.Bool.Decides.{nat_tests}
+use Rattle.std.proofs.lemmas.List.Elements.{All-from_get_or}
 use Rattle.event_queue.specs.kept.Noted.{noted}
 use Rattle.fourstate.specs.declared.value.Value.{Value}
 use Rattle.fourstate.specs.kept.ValueLaws.{is_same}
@@ -17,30 +18,22 @@ use Rattle.design.specs.kept.Lawful.{IsDesign}
 use Rattle.design.specs.Netlist.{NetEntry, Netlist, has_point}
 use Rattle.scratch.specs.Run.{evaluation_at, state_before}
 use Rattle.scratch.specs.Work.{is_due}
+use Rattle.scratch.proofs.Skips.{unwanted}
+use Rattle.scratch.proofs.Runs.{is_task}
 use Rattle.rundiff.specs.declared.front.Front.{Front}
 use Rattle.rundiff.specs.kept.Fronts.{IsFront, held_in, live_in}
 use Rattle.rundiff.specs.kept.Kept.{Between, IsClear, read_at}
 use Rattle.rundiff.specs.kept.Noting.{input_moves, is_at_live, net_moves, old_moves, pends, wants_event, wants_gate, wants_net}
 use Rattle.rundiff.specs.kept.Places.{blank_gate, blank_net, gate_at, is_live, net_at}
-use Rattle.rundiff.proofs.ByPlace.{at_place, get_at, live_at}
-use Rattle.rundiff.proofs.Noted.{NoneBefore, unannounced, unwanted}
-use Rattle.rundiff.proofs.Still.{neither, not_false}
-use Rattle.rundiff.proofs.Tasks.{is_task}
+use Rattle.rundiff.proofs.ByPlace.{live_at}
+use Rattle.rundiff.proofs.Noted.{NoneBefore, unannounced}
 use Rattle.rundiff.proofs.Wired.{IsThere, inputs_there, named_in}
-
--- what holds at each place holds of each element
-all_by : {X : Type 0} (P : X → Type 0) (xs : List X) (d : X) → ((k : ℕ) → k < length xs → P (slice_index_or xs k d)) → All P xs
-all_by P xs d at = λ k e low. subst P (at_place xs k d (slice_index_or xs k e) (get_at xs k e low)) (at k low)
+use Rattle.rundiff.proofs.Lists.{off_by}
 
 none_of : {X : Type 0} (test : X → Bool) (xs : List X) (k : ℕ) (d : X) → list_any test xs ≡ false → k < length xs → test (slice_index_or xs k d) ≡ false
 none_of test [] k d none low = absurd (omega arith)
-none_of test (x ∷ xs) zero d none low = (neither (test x) (list_any test xs) none).0
-none_of test (x ∷ xs) (suc k) d none low = none_of test xs k d (neither (test x) (list_any test xs) none).1 (omega arith)
-
--- where the first of two tests passes and not both do, the other fails
-other_off : (a b : Bool) → a ≡ true → (a && b) ≡ false → b ≡ false
-other_off true b on off = off
-other_off false b on off = absurd (cc)
+none_of test (x ∷ xs) zero d none low = (or_parts (test x) (list_any test xs) none).0
+none_of test (x ∷ xs) (suc k) d none low = none_of test xs k d (or_parts (test x) (list_any test xs) none).1 (omega arith)
 
 due_by : (event : Value × ℕ) (n m : ℕ) → n ≤ event.1 → ((v : ℕ) → n ≤ v → v ≤ m → nat_eq event.1 v ≡ false) → (b : Bool) → nat_le event.1 m ≡ b → b ≡ false
 due_by event n m from off true is =
@@ -68,7 +61,7 @@ step_same f h v within off =
     let low : nat_le (suc v) h ≡ true = grind (arith, nat_tests) in
     is_same (f (suc v)) (f v)
     (ap (λ (w : ℕ). same_value (f (suc v)) (f w)) (sym back)
-    ∙ not_false (same_value (f (suc v)) (f (suc v - 1))) (other_off (nat_le (suc v) h) (not (same_value (f (suc v)) (f (suc v - 1)))) low off))
+    ∙ not-false (same_value (f (suc v)) (f (suc v - 1))) (off_by (nat_le (suc v) h) (not (same_value (f (suc v)) (f (suc v - 1)))) low off))
 
 same_as : (f : ℕ → Value) (h r u : ℕ) → StandsStill f h r u → (m : ℕ) → r < m → m < u → m ≤ h → f m ≡ f r
 same_as f h r u still zero from low within = absurd (omega arith)
@@ -95,18 +88,18 @@ module _ (answer : Evaluation → ℕ → State) (old new : Netlist) (pending : 
       let state = state_before answer new (suc r) (gate_at new p) in
       none_due_by state (suc r) m (ready p there)
       (λ v after before.
-      other_off (held_in front p) (pends state v) (gate_on p there on)
+      off_by (held_in front p) (pends state v) (gate_on p there on)
       (unwanted (wants_event answer old new (held_in front) (suc r)) (noted front.events) (suc r) p v right.awaits.events after (none.events v (omega arith))))
 
   net_still : (p : ℕ) → p < length new.nets → live (net_at new p).name ≡ true → Between r u (λ m. net_moves answer old new p m ≡ false)
   net_still p there on = λ m from low.
       let on_place : live_in front p ≡ true = sym (live_at new (live_in front) p is.distinct_nets there) ∙ on in
-      (neither (m == 0) (net_moves answer old new p m)
-      (other_off (live_in front p) (m == 0 || net_moves answer old new p m) on_place
+      (or_parts (m == 0) (net_moves answer old new p m)
+      (off_by (live_in front p) (m == 0 || net_moves answer old new p m) on_place
       (unannounced (wants_net answer old new (live_in front)) (noted front.nets) (suc r) p m u right.awaits.nets (omega arith) low none.nets))).1
 
   points_at : (p : ℕ) → p < length new.nets → live (net_at new p).name ≡ true → Between r u (λ m. has_point (net_at new p).points m ≡ false)
-  points_at p there on = λ m from low. (neither (has_point (net_at new p).points m) (old_moves answer old new (to_net (net_at new p).name) m) (net_still p there on m from low)).0
+  points_at p there on = λ m from low. (or_parts (has_point (net_at new p).points m) (old_moves answer old new (to_net (net_at new p).name) m) (net_still p there on m from low)).0
 
   -- a connection stands in the old run
   abbrev Stands : Connection → Type 0
@@ -117,10 +110,10 @@ module _ (answer : Evaluation → ℕ → State) (old new : Netlist) (pending : 
 
   waves : All (λ x. live x.name ≡ true → Stands (to_net x.name)) new.nets
   waves =
-      all_by (λ x. live x.name ≡ true → Stands (to_net x.name)) new.nets blank_net
+      All-from_get_or (λ x. live x.name ≡ true → Stands (to_net x.name)) new.nets blank_net
       (λ p there on.
       stands (to_net (net_at new p).name)
-      (λ m from low. (neither (has_point (net_at new p).points m) (old_moves answer old new (to_net (net_at new p).name) m) (net_still p there on m from low)).1))
+      (λ m from low. (or_parts (has_point (net_at new p).points m) (old_moves answer old new (to_net (net_at new p).name) m) (net_still p there on m from low)).1))
 
   -- a connection to a live net stands as the net does
   at_live : (connection : Connection) → IsThere new connection → is_at_live new (live_in front) connection ≡ true → Stands connection
@@ -139,10 +132,10 @@ module _ (answer : Evaluation → ℕ → State) (old new : Netlist) (pending : 
       stands connection
       (λ m from low.
       let still : input_moves answer old new (live_in front) p m ≡ false =
-      (neither (m == 0) (input_moves answer old new (live_in front) p m)
-      (other_off (held_in front p) (m == 0 || input_moves answer old new (live_in front) p m) (gate_on p there on)
+      (or_parts (m == 0) (input_moves answer old new (live_in front) p m)
+      (off_by (held_in front p) (m == 0 || input_moves answer old new (live_in front) p m) (gate_on p there on)
       (unannounced (wants_gate answer old new (live_in front) (held_in front)) (noted front.inputs) (suc r) p m u right.awaits.inputs (omega arith) low none.inputs))).1 in
-      other_off (not (is_at_live new (live_in front) connection)) (old_moves answer old new connection m) (ap not off)
+      off_by (not (is_at_live new (live_in front) connection)) (old_moves answer old new connection m) (ap not off)
       (none_of (λ c. not (is_at_live new (live_in front) c) && old_moves answer old new c m) (gate_at new p).inputs i d still within))
 
   reads_at : (p : ℕ) → p < length new.gates → live (gate_at new p).output ≡ true → All Stands (gate_at new p).inputs
@@ -158,8 +151,8 @@ module _ (answer : Evaluation → ℕ → State) (old new : Netlist) (pending : 
   is_clear within =
       record {
         within = λ name off. within;
-        due = all_by (λ g. live g.output ≡ true → Between r u (λ m. is_due (state_before answer new (suc r) g) m ≡ false)) new.gates blank_gate due_at;
-        points = all_by (λ x. live x.name ≡ true → Between r u (λ m. has_point x.points m ≡ false)) new.nets blank_net points_at;
+        due = All-from_get_or (λ g. live g.output ≡ true → Between r u (λ m. is_due (state_before answer new (suc r) g) m ≡ false)) new.gates blank_gate due_at;
+        points = All-from_get_or (λ x. live x.name ≡ true → Between r u (λ m. has_point x.points m ≡ false)) new.nets blank_net points_at;
         waves = waves;
-        reads = all_by (λ g. live g.output ≡ true → All Stands g.inputs) new.gates blank_gate reads_at;
+        reads = All-from_get_or (λ g. live g.output ≡ true → All Stands g.inputs) new.gates blank_gate reads_at;
       }

@@ -1,8 +1,9 @@
 -- The value of a net from the states of its drivers, which are found by their keys.
-use Rattle.std.proofs.Common.{◌≡◌, ℕ, zero, suc, ◌+◌, ◌-◌, ◌<◌, ◌≤◌, ◌∙◌, ap, sym, refl, subst, List, [], ◌∷◌, Bool, false, cond, map, drop, take, length, get_or, Option, Some, arith}
+use Rattle.std.proofs.Common.{◌≡◌, ℕ, ◌+◌, ◌-◌, ◌<◌, ◌≤◌, ◌∙◌, ap, sym, refl, subst, List, [], ◌∷◌, Bool, false, cond, map, drop, length, get_or, Option, Some, arith}
 use Rattle.std.proofs.lemmas.List.{drop_more}
 use Rattle.std.specs.Prelude.{slice_get, IsSome}
 use Rattle.std.specs.Option.{option_map, option_map_or}
+use Rattle.std.proofs.lemmas.Option.{slice_get-get_or, get_or_from_slice_get}
 use Rattle.fourstate.specs.declared.value.Value.{Value}
 use Rattle.fourstate.specs.Nets.{net_of}
 use Rattle.gatestep.specs.Step.{State, Evaluation, due}
@@ -12,20 +13,14 @@ use Rattle.design.specs.kept.Keys.{driver_keys, net_by_key}
 use Rattle.design.specs.Netlist.{GateEntry, NetEntry, drivers_of, stimulus}
 use Rattle.design.specs.kept.Places.{driver_places}
 use Rattle.scratch.specs.Run.{state_before, value}
+use Rattle.scratch.proofs.Lists.{same_put}
+use Rattle.scratch.proofs.Moments.{map_twice}
 use Rattle.rundiff.specs.kept.Places.{blank_net, gate_at, net_at}
-use Rattle.rundiff.proofs.ByPlace.{at_place, drivers_at, map_twice, same_put}
+use Rattle.rundiff.proofs.ByPlace.{drivers_at}
 
 -- an element that was read
 pub read_get : {X : Type 0} (xs : List X) (i : ℕ) (x : X) → i < length xs → x ≡ get_or xs i x → slice_get xs i ≡ Some x
-read_get [] i x low at = absurd (omega arith)
-read_get (y ∷ ys) zero x low at = ap (λ (z : _). Some z) (sym at)
-read_get (y ∷ ys) (suc i) x low at = read_get ys i x (omega arith) at
-
-pub take_whole : {X : Type 0} (xs : List X) (i : ℕ) → length xs ≤ i → take i xs ≡ xs
-take_whole [] zero past = refl
-take_whole [] (suc i) past = refl
-take_whole (x ∷ xs) zero past = absurd (omega arith)
-take_whole (x ∷ xs) (suc i) past = ap (λ l. x ∷ l) (take_whole xs i (omega arith))
+read_get {X} xs i x low at = slice_get-get_or xs i x low ∙ ap (λ (y : X). Some y) (sym at)
 
 -- one element more, before the others
 pub map_before : {X Y : Type 0} (f : X → Y) (xs : List X) (i : ℕ) (x : X) (y : Y) (ys : List Y) → 0 < i → i ≤ length xs → x ≡ get_or xs (i - 1) x → y ≡ f x → ys ≡ map f (drop i xs) → y ∷ ys ≡ map f (drop (i - 1) xs)
@@ -60,4 +55,4 @@ driven_is answer keyed key place t n values v at found driven law so_far is =
     let all : values ≡ map f (drivers_of d n.name) = same_put values (map look places) those ∙ drivers_at d f n.name in
     is ∙ ap (net_of n.kind) all
     ∙ sym (ap (λ (b : Bool). cond b (stimulus n.points t) (net_of n.kind (map f (drivers_of d n.name)))) driven)
-    ∙ sym (ap (λ (x : NetEntry). value answer d x t) (at_place d.nets place blank_net n at))
+    ∙ sym (ap (λ (x : NetEntry). value answer d x t) (get_or_from_slice_get d.nets place n blank_net at))

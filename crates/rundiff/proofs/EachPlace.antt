@@ -1,6 +1,6 @@
 -- Lines of the old run by the places of the new design.
-use Rattle.std.proofs.Common.{◌≡◌, ◌<◌, ◌∙◌, ap, sym, subst, refl, ℕ, zero, suc, ◌+◌, List, [], ◌∷◌, ◌++◌, Some, get_or, length, map, take, arith}
-use Rattle.std.proofs.lemmas.List.{map-append, take_more}
+use Rattle.std.proofs.Common.{◌≡◌, ◌<◌, ◌∙◌, ap, sym, subst, ℕ, zero, suc, ◌+◌, List, [], ◌∷◌, ◌++◌, Some, length, map, arith}
+use Rattle.std.proofs.lemmas.List.{map-append, length_push}
 use Rattle.std.specs.Prelude.{IfSome, slice_get, slice_index_or}
 use Rattle.rundiff.specs.kept.OldRuns.{HoldsEach}
 
@@ -25,18 +25,8 @@ holds_index P (x ∷ xs) zero d each low = each zero
 holds_index P (x ∷ xs) (suc k) d each low = holds_index (λ q. P (suc q)) xs k d (λ q. each (suc q)) (omega arith)
 
 pub one_longer : {X : Type 0} (xs ys : List X) (x : X) (k : ℕ) → ys ≡ xs ++ x ∷ [] → length xs ≡ k → length ys ≡ k + 1
-one_longer xs ys x k more count = ap length more ∙ longer xs x ∙ ap (λ n. n + 1) count
-  where
-    longer : {X : Type 0} (xs : List X) (x : X) → length (xs ++ x ∷ []) ≡ length xs + 1
-    longer [] x = refl
-    longer (y ∷ ys) x = let rest = longer ys x in omega (arith, rest)
+one_longer xs ys x k more count = ap length more ∙ length_push xs x ∙ ap (λ n. n + 1) count
 
 -- the images of a list with an element more
 pub mapped_longer : {X Y : Type 0} (f : X → Y) (xs ys : List X) (x : X) → ys ≡ xs ++ x ∷ [] → map f ys ≡ map f xs ++ f x ∷ []
 mapped_longer f xs ys x more = ap (map f) more ∙ map-append f xs (x ∷ [])
-
--- the images of the elements so far, and of one more
-pub mapped_more : {X Y : Type 0} (f : X → Y) (xs : List X) (ys zs : List Y) (i : ℕ) (x : X) → i < length xs → x ≡ get_or xs i x → ys ≡ map f (take i xs) → zs ≡ ys ++ f x ∷ [] → zs ≡ map f (take (i + 1) xs)
-mapped_more {X} {Y} f xs ys zs i x low at so_far more =
-    more ∙ ap (λ (l : List Y). l ++ f x ∷ []) so_far ∙ ap (λ (y : X). map f (take i xs) ++ f y ∷ []) at
-    ∙ sym (map-append f (take i xs) (get_or xs i x ∷ [])) ∙ ap (map f) (sym (take_more xs i x low))

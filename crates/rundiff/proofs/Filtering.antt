@@ -2,39 +2,20 @@
 use Rattle.std.proofs.Common.{◌≡◌, ℕ, zero, suc, ◌+◌, ◌<◌, ◌≤◌, ◌∙◌, ap, sym, refl, List, [], ◌∷◌, Bool, true, false, cond, map, length, arith, All, ⊎_elim}
 use Rattle.std.specs.Prelude.{slice_index_or, ◌||◌, ◌&&◌, ◌==◌, AllPairs}
 use Rattle.std.specs.List.{filter}
-use Rattle.std.proofs.lemmas.Bool.{cases_lt}
-use Rattle.std.proofs.lemmas.Bool.Decides.{nat_tests}
+use Rattle.std.proofs.lemmas.Bool.{cases_lt, eqb-true}
+use Rattle.std.proofs.lemmas.List.Kept.{AllPairs-filter}
 use Rattle.std.proofs.lemmas.List.Elements.{All-filter, All-head, All-tail}
+use Rattle.std.proofs.lemmas.Option.{slice_get-get_or}
+use Rattle.std.proofs.Math.Bool.{and-false}
+use Rattle.std.proofs.lemmas.List.Folds.{list_any_none}
+use Rattle.catalog.proofs.ListLemmas.{AllPairs-tail}
+use Rattle.waveform.proofs.Lists.{filter-map}
+use Rattle.scratch.proofs.Among.{nat_apart, nat_beyond}
 use Rattle.rundiff.specs.kept.Fronts.{ArePlaces}
 use Rattle.rundiff.specs.kept.Places.{is_among}
-use Rattle.rundiff.proofs.ByPlace.{get_at}
-use Rattle.rundiff.proofs.OneGate.{and_false}
-use Rattle.rundiff.proofs.Steps.{is_one, rising_head, rising_tail}
-
-both_fail : (a b : Bool) → (a ≡ true → b ≡ true) → b ≡ false → a ≡ false
-both_fail true b says off = let no : true ≡ false = sym (says refl) ∙ off in absurd (cc)
-both_fail false b says off = refl
-
-pub map_filter : {X Y : Type 0} (f : X → Y) (test : Y → Bool) (xs : List X) → filter test (map f xs) ≡ map f (filter (λ x. test (f x)) xs)
-map_filter f test [] = refl
-map_filter {X} {Y} f test (x ∷ xs) =
-    let rest = map_filter f test xs in
-    elim (test (f x)) as (λ b. cond b (f x ∷ filter test (map f xs)) (filter test (map f xs)) ≡ map f (cond b (x ∷ filter (λ x. test (f x)) xs) (filter (λ x. test (f x)) xs))) [
-      | true ↦ ap (λ (l : List Y). f x ∷ l) rest
-      | false ↦ rest
-    ]
-
-apart : (p q : ℕ) → p < q → (p == q) ≡ false
-apart p q low = grind (arith, nat_tests)
-
-above : (p q : ℕ) → q < p → (p == q) ≡ false
-above p q low = grind (arith, nat_tests)
-
-none_at : (ps : List ℕ) (k : ℕ) → All (λ p. k < p) ps → is_among ps k ≡ false
-none_at [] k all = refl
-none_at (p ∷ ps) k all =
-    let here = above p k (All-head (λ p. k < p) p ps all) in
-    rw here (none_at ps k (All-tail (λ p. k < p) p ps all))
+use Rattle.rundiff.proofs.Steps.{is_one}
+use Rattle.rundiff.proofs.Lists.{not_so, pairs_head}
+use Rattle.rundiff.proofs.Among.{among_filter}
 
 later : (k : ℕ) (ps : List ℕ) (p : ℕ) → k < p → All (λ q. p < q) ps → All (λ q. k < q) (p ∷ ps)
 later k ps p low all = λ i d within. step i d within
@@ -56,9 +37,9 @@ module _ {X : Type 0} (look : ℕ → X) (test : X → Bool) where
 
   skip : (y : X) (ys : List X) (k : ℕ) → look k ≡ y → Rest y ys k → (ps : List ℕ) → All (λ p. k < p) ps → AreLooked (y ∷ ys) k ps → filter test (y ∷ ys) ≡ filter test (map look ps)
   skip y ys k here rest ps past are =
-      let none : is_among ps k ≡ false = none_at ps k past in
+      let none : is_among ps k ≡ false = list_any_none (λ p. p == k) ps (λ i d within. nat_beyond (slice_index_or ps i d) k (past i d within)) in
       let zero_is : k ≡ k + 0 = omega arith in
-      let off : test y ≡ false = both_fail (test y) (is_among ps k)
+      let off : test y ≡ false = not_so (test y) (is_among ps k)
       (λ on. ap (λ (q : ℕ). is_among ps q) zero_is ∙ are.covers 0 (omega arith) (ap (λ (q : ℕ). test (look q)) (sym zero_is) ∙ ap test here ∙ on)) none in
       ap (λ (b : Bool). cond b (y ∷ filter test ys) (filter test ys)) off
       ∙ rest ps (record {
@@ -70,17 +51,17 @@ module _ {X : Type 0} (look : ℕ → X) (test : X → Bool) where
 
   take_one : (y : X) (ys : List X) (k : ℕ) → look k ≡ y → Rest y ys k → (p : ℕ) (ps : List ℕ) → p ≡ k → AreLooked (y ∷ ys) k (p ∷ ps) → filter test (y ∷ ys) ≡ filter test (map look (p ∷ ps))
   take_one y ys k here rest p ps same are =
-      let beyond : All (λ q. p < q) ps = rising_head p ps are.rising in
+      let beyond : All (λ q. p < q) ps = pairs_head (λ p q. p < q) p ps are.rising in
       let later_high : All (λ q. q < k + length (y ∷ ys)) ps = All-tail (λ q. q < k + length (y ∷ ys)) p ps are.high in
       let all : filter test ys ≡ filter test (map look ps) =
       rest ps (record {
-        rising = rising_tail p ps are.rising;
+        rising = AllPairs-tail (λ p q. p < q) p ps are.rising;
         low = λ i e within. let h = beyond i e within in omega arith;
         high = λ i e within. let h = later_high i e within in omega arith;
         covers = λ i within on.
             let e : k + 1 + i ≡ k + suc i = omega arith in
             let among : is_among (p ∷ ps) (k + suc i) ≡ true = are.covers (suc i) (omega arith) (ap (λ (q : ℕ). test (look q)) (sym e) ∙ on) in
-            let off : (p == k + suc i) ≡ false = apart p (k + suc i) (omega arith) in
+            let off : (p == k + suc i) ≡ false = nat_apart p (k + suc i) (omega arith) in
             ap (λ (q : ℕ). is_among ps q) e ∙ sym (ap (λ (b : Bool). b || is_among ps (k + suc i)) off) ∙ among;
       }) in
       let first : look p ≡ y = ap look same ∙ here in
@@ -92,7 +73,7 @@ module _ {X : Type 0} (look : ℕ → X) (test : X → Bool) where
   by_first y ys k here rest (p ∷ ps) are =
       let least : k ≤ p = All-head (λ p. k ≤ p) p ps are.low in
       ⊎_elim
-      (λ past. skip y ys k here rest (p ∷ ps) (later k ps p past (rising_head p ps are.rising)) are)
+      (λ past. skip y ys k here rest (p ∷ ps) (later k ps p past (pairs_head (λ p q. p < q) p ps are.rising)) are)
       (λ until. let same : p ≡ k = omega arith in take_one y ys k here rest p ps same are)
       (cases_lt k p)
 
@@ -116,56 +97,15 @@ passing {X} xs d test ps rising high covers =
     (record {
       rising = rising;
       low = λ i e within. omega arith;
-      high = λ i e within. let h = high (slice_index_or ps i e) (is_one ps i (slice_index_or ps i e) (get_at ps i e within)) in omega arith;
+      high = λ i e within. let h = high (slice_index_or ps i e) (is_one ps i (slice_index_or ps i e) (slice_get-get_or ps i e within)) in omega arith;
       covers = λ i within on. let e : 0 + i ≡ i = omega arith in ap (λ (p : ℕ). is_among ps p) e ∙ covers i within (ap (λ (p : ℕ). test (look p)) (sym e) ∙ on);
     })
-    ∙ map_filter look test ps
-
-is_same_place : (q p : ℕ) → (q == p) ≡ true → q ≡ p
-is_same_place q p h = grind (arith, nat_tests)
-
-among_filter : (ps : List ℕ) (test : ℕ → Bool) (p : ℕ) → is_among (filter test ps) p ≡ (is_among ps p && test p)
-among_filter [] test p = refl
-among_filter (q ∷ ps) test p =
-    let rest = among_filter ps test p in
-    elim (test q) as (λ t. test q ≡ t → is_among (cond t (q ∷ filter test ps) (filter test ps)) p ≡ (((q == p) || is_among ps p) && test p)) [
-      | true ↦ λ on.
-          elim (q == p) as (λ e. (q == p) ≡ e → (e || is_among (filter test ps) p) ≡ ((e || is_among ps p) && test p)) [
-            | true ↦ λ same. sym (ap test (sym (is_same_place q p same)) ∙ on)
-            | false ↦ λ apart. rest
-          ] refl
-      | false ↦ λ off.
-          elim (q == p) as (λ e. (q == p) ≡ e → is_among (filter test ps) p ≡ ((e || is_among ps p) && test p)) [
-            | true ↦ λ same. rest ∙ ap (λ (b : Bool). is_among ps p && b) (off_here q p test same off) ∙ and_false (is_among ps p) ∙ sym (off_here q p test same off)
-            | false ↦ λ apart. rest
-          ] refl
-    ] refl
-  where
-    off_here : (q p : ℕ) (test : ℕ → Bool) → (q == p) ≡ true → test q ≡ false → test p ≡ false
-    off_here q p test same off = ap test (sym (is_same_place q p same)) ∙ off
-
-all_filter : (P : ℕ → Type 0) (test : ℕ → Bool) (ps : List ℕ) → All P ps → All P (filter test ps)
-all_filter P test ps all = All-filter test P ps all
-
-rising_filter : (ps : List ℕ) (test : ℕ → Bool) → AllPairs (λ p q. p < q) ps → AllPairs (λ p q. p < q) (filter test ps)
-rising_filter [] test rising = λ i j d order within. absurd (omega arith)
-rising_filter (q ∷ ps) test rising =
-    let rest = rising_filter ps test (rising_tail q ps rising) in
-    elim (test q) as (λ t. AllPairs (λ p q. p < q) (cond t (q ∷ filter test ps) (filter test ps))) [
-      | true ↦ rising_cons q (filter test ps) (all_filter (λ p. q < p) test ps (rising_head q ps rising)) rest
-      | false ↦ rest
-    ]
-  where
-    rising_cons : (q : ℕ) (ps : List ℕ) → All (λ p. q < p) ps → AllPairs (λ p q. p < q) ps → AllPairs (λ p q. p < q) (q ∷ ps)
-    rising_cons q ps all rising zero zero d order within = absurd (omega arith)
-    rising_cons q ps all rising zero (suc j) d order within = all j d (omega arith)
-    rising_cons q ps all rising (suc i) zero d order within = absurd (omega arith)
-    rising_cons q ps all rising (suc i) (suc j) d order within = rising i j d (omega arith) (omega arith)
+    ∙ filter-map look test ps
 
 -- places that pass, in order
 pub filter_places : (ps : List ℕ) (held test : ℕ → Bool) → ArePlaces ps held → ArePlaces (filter test ps) (λ p. held p && test p)
 filter_places ps held test are =
     record {
-      rising = rising_filter ps test are.rising;
-      all = λ p. among_filter ps test p ∙ ap (λ (b : Bool). b && test p) (are.all p);
+      rising = AllPairs-filter (λ p q. p < q) test ps are.rising;
+      all = λ p. among_filter test ps p ∙ ap (λ (b : Bool). b && test p) (are.all p);
     }

@@ -5,6 +5,8 @@ use Rattle.std.specs.Cmp.Lexicographic.{pointwise}
 use Rattle.std.specs.List.{filter, find, list_any, position_from}
 use Rattle.std.specs.Option.{option_map, option_map_or}
 use Rattle.std.proofs.lemmas.List.Elements.{All-filter}
+use Rattle.std.proofs.lemmas.Bool.{eqb-true, or_right, or_left, false_from_ne_true}
+use Rattle.std.proofs.lemmas.List.{get_or_default}
 use Rattle.fourstate.specs.kept.DelayLaws.{delays_itself}
 use Rattle.fourstate.specs.kept.GateLaws.{kind_itself}
 use Rattle.fourstate.specs.kept.ValueLaws.{same_self}
@@ -16,19 +18,21 @@ use Rattle.design.specs.kept.Keys.{AreKeys, driver_keys, drives_key, gate_by_key
 use Rattle.design.specs.Names.{same_name}
 use Rattle.design.specs.Netlist.{GateEntry, NetEntry, drivers_of, net_named}
 use Rattle.edits.specs.kept.Touched.{IsTouched, is_touched}
+use Rattle.waveform.proofs.Lists.{filter-map}
+use Rattle.scratch.proofs.Stirred.{same_self_name}
+use Rattle.scratch.proofs.Lists.{same_put}
+use Rattle.scratch.proofs.Moments.{map_twice}
+use Rattle.scratch.proofs.Runs.{map_where}
 use Rattle.rundiff.specs.Dirty.{is_new, same_connection, same_gate}
 use Rattle.rundiff.specs.kept.Fronts.{AreTouched}
 use Rattle.rundiff.specs.kept.Places.{blank_gate, blank_net, is_among, is_live, net_at}
 use Rattle.rundiff.specs.kept.Kept.{IsClosed, IsSameNet}
-use Rattle.rundiff.proofs.ByPlace.{live_at, map_twice, position_at, same_put}
-use Rattle.rundiff.proofs.Filtering.{map_filter}
-use Rattle.rundiff.proofs.Lists.{filter_where, name_itself}
-use Rattle.rundiff.proofs.NetsDone.{same_default}
-use Rattle.rundiff.proofs.ReaderKeys.{entry_at, found_at, keyed_at, net_entry_at, placed, same_number}
-use Rattle.rundiff.proofs.Still.{map_all}
+use Rattle.rundiff.proofs.ByPlace.{live_at, position_at}
+use Rattle.rundiff.proofs.Lists.{filter_where}
+use Rattle.rundiff.proofs.ReaderKeys.{entry_at, found_at, keyed_at, net_entry_at, placed}
 
 connection_itself : (c : Connection) → same_connection c c ≡ true
-connection_itself (to_net name) = name_itself name
+connection_itself (to_net name) = same_self_name name
 connection_itself (to_constant v) = same_self v
 
 inputs_itself : (cs : List Connection) → pointwise same_connection cs cs ≡ true
@@ -36,14 +40,7 @@ inputs_itself [] = refl
 inputs_itself (c ∷ cs) = let one = connection_itself c in rw one (inputs_itself cs)
 
 gate_itself : (g : GateEntry) → same_gate g g ≡ true
-gate_itself g = rw (name_itself g.name, kind_itself g.kind, delays_itself g.delays, name_itself g.output, inputs_itself g.inputs) refl
-
-or_true : (a b : Bool) → b ≡ true → (a || b) ≡ true
-or_true true b h = refl
-or_true false b h = h
-
-or_left : (a b : Bool) → a ≡ true → (a || b) ≡ true
-or_left a b on = rw on refl
+gate_itself g = rw (same_self_name g.name, kind_itself g.kind, delays_itself g.delays, same_self_name g.output, inputs_itself g.inputs) refl
 
 some_mapped : {X Y : Type 0} (f : X → Y) (o : Option X) (y : Y) → Some y ≡ option_map f o → (x : X) × (o ≡ Some x) × (y ≡ f x)
 some_mapped f None y is = absurd (let no : ◌≡◌ {A = Option _} (Some y) None = is in cc)
@@ -58,7 +55,7 @@ any_record f test [] key x is on = absurd (cc)
 any_record {X} {Y} f test (e ∷ es) key x is on =
     elim (e.0 == key) as (λ b. option_map (λ (p : ℕ × X). p.1) (cond {A = Option (ℕ × X)} b (Some e) (find (λ p. p.0 == key) es)) ≡ Some x → (test (f e.1) || list_any test (map (λ (p : ℕ × Y). p.1) (map (λ e. (e.0, f e.1)) es))) ≡ true) [
       | true ↦ λ here. let same : e.1 ≡ x = cc in or_left (test (f e.1)) _ (ap (λ (z : X). test (f z)) same ∙ on)
-      | false ↦ λ later. or_true (test (f e.1)) _ (any_record f test es key x later on)
+      | false ↦ λ later. or_right (test (f e.1)) _ (any_record f test es key x later on)
     ] is
 
 pub known_by_key : (d : Keyed) (key : ℕ) (g : KeyedGate) → gate_by_key d key ≡ Some g → is_new (netlist d) (entry_in d.nets g) ≡ false
@@ -82,9 +79,9 @@ by_keys d keys key =
     let here : All (λ e. record_at d.gates e.0 ≡ Some e.1) (drivers_in d key) =
     All-filter (λ e. drives_key e.1 key) (λ e. record_at d.gates e.0 ≡ Some e.1) d.gates (entries_found d.gates keys.distinct_gates) in
     map_twice (λ (e : ℕ × KeyedGate). e.0) (named_at d) (drivers_in d key)
-    ∙ map_all (λ (e : ℕ × KeyedGate). record_at d.gates e.0 ≡ Some e.1) (λ e. named_at d e.0) (λ e. Some (entry_in d.nets e.1)) (λ e found. ap (option_map (entry_in d.nets)) found) (drivers_in d key) here
+    ∙ map_where (λ (e : ℕ × KeyedGate). record_at d.gates e.0 ≡ Some e.1) (λ e. named_at d e.0) (λ e. Some (entry_in d.nets e.1)) (λ e found. ap (option_map (entry_in d.nets)) found) (drivers_in d key) here
     ∙ sym (map_twice (λ (e : ℕ × KeyedGate). e.1) (λ g. Some (entry_in d.nets g)) (drivers_in d key))
-    ∙ ap (map (λ (g : KeyedGate). Some (entry_in d.nets g))) (sym (map_filter (λ (e : ℕ × KeyedGate). e.1) (λ g. drives_key g key) d.gates))
+    ∙ ap (map (λ (g : KeyedGate). Some (entry_in d.nets g))) (sym (filter-map (λ (e : ℕ × KeyedGate). e.1) (λ g. drives_key g key) d.gates))
     ∙ sym (map_twice (entry_in d.nets) (λ g. Some g) (filter (λ g. drives_key g key) (records_of d.gates)))
 
 module _ (old new : Keyed) (old_keys : AreKeys old) (keys : AreKeys new) (distinct : AllPairs (λ n m. n.name ≢ m.name) (netlist new).nets)
@@ -96,10 +93,6 @@ module _ (old new : Keyed) (old_keys : AreKeys old) (keys : AreKeys new) (distin
   never : {Z : Type 0} (b : Bool) → b ≡ true → b ≡ false → Z
   never b on off = let no : true ≡ false = sym on ∙ off in absurd (cc)
 
-  untouched_by : (b : Bool) → (b ≡ true → ⊥) → b ≡ false
-  untouched_by true off = absurd (off refl)
-  untouched_by false off = refl
-
   -- a gate with an output that is not live was not touched
   gate_untouched : (k : ℕ) (g : KeyedGate) → gate_by_key new k ≡ Some g → IsSome (net_by_key new g.output) → is_live (netlist new) live (name_of new.nets g.output) ≡ false → is_touched gates k ≡ false
   gate_untouched k g found there off =
@@ -107,7 +100,7 @@ module _ (old new : Keyed) (old_keys : AreKeys old) (keys : AreKeys new) (distin
       let p : ℕ = place.0 in
       let at : place_of new.nets g.output ≡ Some p = place.1 in
       let lives : live p ≡ false = sym (ap (λ (o : Option ℕ). option_map_or live o false) (places_law g.output there ∙ at)) ∙ off in
-      untouched_by (is_touched gates k) (λ on. never (live p) (covers p (are.of_gates k on g found p at)) lives)
+      false_from_ne_true (is_touched gates k) (λ on. never (live p) (covers p (are.of_gates k on g found p at)) lives)
 
   -- a net that is not live
   module _ (k : ℕ) (low : k < length (netlist new).nets) (off : is_live (netlist new) live (net_at (netlist new) k).name ≡ false) where
@@ -131,7 +124,7 @@ module _ (old new : Keyed) (old_keys : AreKeys old) (keys : AreKeys new) (distin
           ∙ position_at (netlist new).nets 0 k blank_net distinct low ∙ ap (λ (i : ℕ). Some i) e
 
       free : is_touched nets key ≡ false
-      free = untouched_by (is_touched nets key) (λ on. never (live k) (covers k (are.of_nets key on k at)) dead)
+      free = false_from_ne_true (is_touched nets key) (λ on. never (live k) (covers k (are.of_nets key on k at)) dead)
 
       same : net_by_key old key ≡ Some x
       same = sym (touched.nets_stay key free) ∙ found
@@ -144,16 +137,16 @@ module _ (old new : Keyed) (old_keys : AreKeys old) (keys : AreKeys new) (distin
 
       driver_stays : (e : ℕ × KeyedGate) → (record_at new.gates e.0 ≡ Some e.1) × (drives_key e.1 key ≡ true) → named_at new e.0 ≡ named_at old e.0
       driver_stays e facts =
-          let output : key ≡ e.1.output = same_number key e.1.output facts.1 in
+          let output : key ≡ e.1.output = eqb-true key e.1.output facts.1 in
           let at_output : place_of new.nets e.1.output ≡ Some k = ap (place_of new.nets) (sym output) ∙ at in
-          touched.names_stay e.0 (untouched_by (is_touched gates e.0) (λ on. never (live k) (covers k (are.of_gates e.0 on e.1 facts.0 k at_output)) dead))
+          touched.names_stay e.0 (false_from_ne_true (is_touched gates e.0) (λ on. never (live k) (covers k (are.of_gates e.0 on e.1 facts.0 k at_output)) dead))
 
       drivers_same : map (named_at new) (driver_keys new key) ≡ map (named_at old) (driver_keys old key)
       drivers_same =
           let P : ℕ × KeyedGate → Type 0 = λ e. (record_at new.gates e.0 ≡ Some e.1) × (drives_key e.1 key ≡ true) in
           let all : All P (drivers_in new key) = filter_where (λ e. drives_key e.1 key) P new.gates (λ q d within on. (entries_found new.gates keys.distinct_gates q d within, on)) in
           map_twice (λ (e : ℕ × KeyedGate). e.0) (named_at new) (drivers_in new key)
-          ∙ map_all P (λ e. named_at new e.0) (λ e. named_at old e.0) driver_stays (drivers_in new key) all
+          ∙ map_where P (λ e. named_at new e.0) (λ e. named_at old e.0) driver_stays (drivers_in new key) all
           ∙ sym (map_twice (λ (e : ℕ × KeyedGate). e.0) (named_at old) (drivers_in new key))
           ∙ ap (map (named_at old)) (touched.drivers_stay key free)
 
@@ -172,7 +165,7 @@ module _ (old new : Keyed) (old_keys : AreKeys old) (keys : AreKeys new) (distin
   first_closed =
       record {
         gates = λ k d low off.
-            let at = same_default (netlist new).gates k d blank_gate low in
+            let at = get_or_default (netlist new).gates k d blank_gate low in
             let key = (keyed_at new k).0 in
             let g = (keyed_at new k).1 in
             let facts = entry_at new keys k low in
@@ -181,7 +174,7 @@ module _ (old new : Keyed) (old_keys : AreKeys old) (keys : AreKeys new) (distin
             let was = some_mapped (entry_in old.nets) (gate_by_key old key) (entry_in new.nets g) (sym (ap (option_map (entry_in new.nets)) facts.found) ∙ touched.names_stay key free) in
             ap (is_new (netlist old)) (entry ∙ was.2) ∙ known_by_key old key was.0 was.1;
         nets = λ k d low off.
-            let at = same_default (netlist new).nets k d blank_net low in
+            let at = get_or_default (netlist new).nets k d blank_net low in
             let one = net_entry_at new keys k low in
             subst (IsSameNet (netlist old) (netlist new)) (sym at) (same_net k low (sym (ap (λ (n : NetEntry). is_live (netlist new) live n.name) at) ∙ off) one.0 one.1);
       }

@@ -4,36 +4,25 @@ use Rattle.std.specs.Prelude.{IfSome, nat_lt, slice_get, ◌==◌, ◌||◌}
 use Rattle.std.proofs.lemmas.Bool.Decides.{nat_tests}
 use Rattle.std.proofs.lemmas.List.Elements.{All-head, All-tail}
 use Rattle.std.proofs.lemmas.Option.{slice_get_within}
+use Rattle.std.proofs.lemmas.Bool.{eqb-true}
+use Rattle.scratch.proofs.Among.{nat_itself}
 use Rattle.rundiff.specs.kept.PlaceMaps.{item_at, owned}
 use Rattle.rundiff.specs.kept.Places.{is_among}
-use Rattle.rundiff.proofs.Steps.{same_place}
-
-itself : (p : ℕ) → (p == p) ≡ true
-itself p = grind (arith, nat_tests)
-
-apart : (p q : ℕ) → nat_eq p q ≡ false → (p == q) ≡ false
-apart p q off = grind (arith, nat_tests)
-
-same_number : (a b : ℕ) → (a == b) ≡ true → a ≡ b
-same_number a b h = grind (arith, nat_tests)
 
 same_low : (a b n : ℕ) → (a == b) ≡ true → b < n → a < n
-same_low a b n h low = let e = same_number a b h in omega (arith, e, low)
+same_low a b n h low = let e = eqb-true a b h in omega (arith, e, low)
 
 -- what holds at each of some places
 pub among_all : (P : ℕ → Type 0) (xs : List ℕ) → All P xs → (q : ℕ) → is_among xs q ≡ true → P q
 among_all P [] all q on = absurd (cc)
 among_all P (x ∷ xs) all q on =
     elim (x == q) as (λ b. (x == q) ≡ b → (b || is_among xs q) ≡ true → P q) [
-      | true ↦ λ same h. subst P (same_number x q same) (All-head P x xs all)
+      | true ↦ λ same h. subst P (eqb-true x q same) (All-head P x xs all)
       | false ↦ λ off h. among_all P xs (All-tail P x xs all) q h
     ] refl on
 
 pub is_past : (i n : ℕ) → false ≡ nat_lt i n → n ≤ i
 is_past i n h = grind (arith, nat_tests)
-
-pub number_itself : (n : ℕ) → nat_eq n n ≡ true
-number_itself n = grind (arith, nat_tests)
 
 smaller : (k i : ℕ) → nat_eq k i ≡ false → k < i + 1 → k < i
 smaller k i off less = grind (arith, nat_tests)
@@ -61,19 +50,19 @@ module _ {X : Type 0} where
   pub item_added : (now items : List (ℕ × Option X)) (p : ℕ) (x : X) (n : ℕ) → now ≡ items ++ (p, Some x) ∷ [] → n ≡ length now → item_at now p n ≡ Some x
   item_added now items p x n is number =
       ap (item_at now p) (number ∙ ap length is ∙ length_more items (p, Some x)) ∙ ap (λ (l : List (ℕ × Option X)). item_at l p (suc (length items))) is
-      ∙ ap (owned p) (last_there items (p, Some x)) ∙ ap (λ (b : Bool). cond b (Some x) None) (itself p)
+      ∙ ap (owned p) (last_there items (p, Some x)) ∙ ap (λ (b : Bool). cond b (Some x) None) (nat_itself p)
 
   -- another place has what it had
   pub others_stay : (now items : List (ℕ × Option X)) (p : ℕ) (x : X) (q n m : ℕ) → nat_eq p q ≡ false → now ≡ items ++ (p, Some x) ∷ [] → n ≡ m → item_at now q n ≡ item_at items q m
   others_stay now items p x q n m off is number =
-      ap (item_at now q) number ∙ ap (λ (l : List (ℕ × Option X)). item_at l q m) is ∙ other_item items p (Some x) q (apart p q off) m
+      ap (item_at now q) number ∙ ap (λ (l : List (ℕ × Option X)). item_at l q m) is ∙ other_item items p (Some x) q off m
 
   -- an item of a place at which there is none
   not_owned : (found : List ℕ) (count p : ℕ) (o : Option (ℕ × Option X)) → IfSome o (λ item. item.0 < count → is_among found item.0 ≡ true) → p < count → is_among found p ≡ false → owned p o ≡ None
   not_owned found count p None all low off = refl
   not_owned found count p (Some item) all low off =
       elim (item.0 == p) as (λ b. (item.0 == p) ≡ b → cond b item.1 None ≡ None) [
-        | true ↦ λ same. let no : true ≡ false = sym (all (same_low item.0 p count same low)) ∙ ap (is_among found) (same_number item.0 p same) ∙ off in absurd (cc)
+        | true ↦ λ same. let no : true ≡ false = sym (all (same_low item.0 p count same low)) ∙ ap (is_among found) (eqb-true item.0 p same) ∙ off in absurd (cc)
         | false ↦ λ apart. refl
       ] refl
 
@@ -99,7 +88,7 @@ module _ {X : Type 0} where
       → (k : ℕ) → k < i + 1 → IfSome (slice_get items k) (λ item. item.0 < count → is_among more item.0 ≡ true)
   one_more items count found more i grows before here k less =
       elim (nat_eq k i) as (λ b. nat_eq k i ≡ b → IfSome (slice_get items k) (λ item. item.0 < count → is_among more item.0 ≡ true)) [
-        | true ↦ λ same. subst (λ (j : ℕ). IfSome (slice_get items j) (λ item. item.0 < count → is_among more item.0 ≡ true)) (sym (same_place k i same)) here
+        | true ↦ λ same. subst (λ (j : ℕ). IfSome (slice_get items j) (λ item. item.0 < count → is_among more item.0 ≡ true)) (sym (eqb-true k i same)) here
         | false ↦ λ apart. some_grows found more count (slice_get items k) grows (before k (smaller k i apart less))
       ] refl
 

@@ -1,8 +1,9 @@
 -- What a front keeps is right as it is after moments at which nothing happens to what is live.
-use Rattle.std.proofs.Common.{◌≡◌, ℕ, zero, suc, ◌<◌, ◌≤◌, ◌∙◌, ap, sym, refl, subst, Bool, true, false, not, length, Option, Some, None, inl, inr, arith, ⊎_elim}
+use Rattle.std.proofs.Common.{◌≡◌, ℕ, zero, suc, ◌<◌, ◌≤◌, ◌∙◌, ap, sym, refl, Bool, true, false, not, length, Option, inl, inr, arith, ⊎_elim}
 use Rattle.rundiff.specs.kept.PlaceMaps.{kept_at}
 use Rattle.std.specs.Option.{option_map_or}
 use Rattle.std.specs.Prelude.{◌&&◌}
+use Rattle.std.proofs.lemmas.Bool.{and_parts}
 use Rattle.event_queue.specs.kept.Noted.{noted}
 use Rattle.fourstate.specs.declared.value.Value.{Value}
 use Rattle.fourstate.specs.Values.{same_value}
@@ -14,14 +15,15 @@ use Rattle.design.specs.Netlist.{GateEntry, Netlist}
 use Rattle.waveform.specs.Changes.{wave_changes_below}
 use Rattle.waveform.specs.kept.Changes.{trace_below}
 use Rattle.waveform.specs.Entries.{same_state, standing}
-use Rattle.waveform.specs.kept.Patches.{IsMended, Keeps, PatchRecord}
+use Rattle.waveform.specs.kept.Patches.{Keeps, PatchRecord}
 use Rattle.fourstate.specs.kept.ValueLaws.{same_self}
 use Rattle.waveform.specs.kept.SampleLaws.{same_state_self}
-use Rattle.waveform.specs.Timelines.{changes_below, is_change}
+use Rattle.waveform.specs.Timelines.{is_change}
 use Rattle.scratch.specs.Run.{state_after, state_before, value}
+use Rattle.scratch.proofs.Still.{none_due}
 use Rattle.rundiff.specs.Dirty.{rework_below}
 use Rattle.rundiff.specs.kept.Noting.{IsNoted, pends, wants_gate, wants_net}
-use Rattle.rundiff.specs.kept.Fronts.{IsFree, IsFront, IsOwn, held_in, live_in, named_state}
+use Rattle.rundiff.specs.kept.Fronts.{IsFree, IsFront, held_in, live_in, named_state}
 use Rattle.rundiff.specs.kept.Places.{blank_gate, blank_net, gate_at, is_live, net_at}
 use Rattle.rundiff.specs.kept.Kept.{IsClear, read_at}
 use Rattle.rundiff.specs.declared.front.Front.{Front}
@@ -29,25 +31,13 @@ use Rattle.rundiff.proofs.ByPlace.{live_at}
 use Rattle.rundiff.proofs.Known.{known_gate}
 use Rattle.rundiff.proofs.Noted.{NoneBefore, later_announced}
 use Rattle.rundiff.proofs.NamedLines.{NoChange}
-use Rattle.rundiff.proofs.Resting.{along_free, along_last, along_more, free_to}
+use Rattle.rundiff.proofs.Resting.{along_free, along_last, along_more, free_to, own_more}
 use Rattle.rundiff.proofs.Skipping.{Jumped, jump}
-use Rattle.rundiff.proofs.Still.{both, none_due}
 use Rattle.rundiff.proofs.Wired.{inputs_there}
 
 -- what goes along with the former function goes on with it
 free_on : {A : Type 0} (same : A → A → Bool) (drift : A → ℕ → A) (f g : ℕ → A) (r l : ℕ) (o : Option (PatchRecord A)) → IsFree o → Keeps same drift g f o (suc r) → r ≤ l → ((m : ℕ) → r < m → m < suc l → f m ≡ g m) → Keeps same drift g f o (suc l)
 free_on same drift f g r l o free kept order alike = free_to same drift f g (suc r) (suc l) o free kept (omega arith) (λ m from until. alike m (omega arith) until)
-
--- with a patch of its own, the new one has no change
-own_on : {A : Type 0} (same : A → A → Bool) (drift : A → ℕ → A) (f g : ℕ → A) (r l : ℕ) (o : Option (PatchRecord A)) → IsOwn o → Keeps same drift g f o (suc r) → changes_below same drift f (suc l) ≡ changes_below same drift f (suc r) → Keeps same drift g f o (suc l)
-own_on {A} same drift f g r l o own kept none =
-    let patch : PatchRecord A = own.0 in
-    let is : o ≡ Some patch = own.1 in
-    let whole : patch.since ≡ None = own.2 in
-    let at : Keeps same drift g f (Some patch) (suc r) = subst (λ (o : Option (PatchRecord A)). Keeps same drift g f o (suc r)) is kept in
-    let now : IsMended same drift g f patch.line None (suc r) = subst (λ (s : Option ℕ). IsMended same drift g f patch.line s (suc r)) whole at in
-    let then : IsMended same drift g f patch.line None (suc l) = now ∙ sym none in
-    subst (λ (o : Option (PatchRecord A)). Keeps same drift g f o (suc l)) (sym is) (subst (λ (s : Option ℕ). IsMended same drift g f patch.line s (suc l)) (sym whole) then)
 
 module _ (answer : Evaluation → ℕ → State) (old new : Netlist)
     (current : (e : Evaluation) (t : ℕ) → (answer e t).current ≡ (due e.state t).current)
@@ -87,7 +77,7 @@ module _ (answer : Evaluation → ℕ → State) (old new : Netlist)
             (λ m from until.
             let had : f r ≡ g r = along_last same_value standing f g r o along (right.live.waves p there) in
             jumped.values p blank_net there (at ∙ on) m (omega arith) until ∙ had ∙ sym (clear.waves p blank_net there (at ∙ on) m from (omega arith) (omega arith))))
-            (λ own. own_on same_value standing f g r l o own (right.live.waves p there) (wave_still p there on))
+            (λ own. own_more same_value standing f g (suc r) (suc l) o own (right.live.waves p there) (wave_still p there on))
             (right.live.kept_waves p on)
         | false ↦ λ free.
             free_on same_value standing f g r l o (right.live.other_waves p free) (right.live.waves p there) order
@@ -120,7 +110,7 @@ module _ (answer : Evaluation → ℕ → State) (old new : Netlist)
       let g : ℕ → State = named_state answer old gate.name in
       let o : Option (PatchRecord State) = kept_at front.traces p in
       elim (held_in front p) as (λ b. held_in front p ≡ b → Keeps same_state due g f o (suc l)) [
-        | true ↦ λ on. ⊎_elim (λ never. absurd (omega arith)) (λ own. own_on same_state due f g r l o own (right.traces p there) (trace_still p there on)) (right.own_traces p on)
+        | true ↦ λ on. ⊎_elim (λ never. absurd (omega arith)) (λ own. own_more same_state due f g (suc r) (suc l) o own (right.traces p there) (trace_still p there on)) (right.own_traces p on)
         | false ↦ λ free.
             let off : is_live new (live_in front) gate.output ≡ false = sym (right.live.drivers.drivers p there) ∙ free in
             let found = known_gate old is_old gate (right.live.closed.gates p blank_gate there off) in
@@ -135,7 +125,7 @@ module _ (answer : Evaluation → ℕ → State) (old new : Netlist)
       record {
         events = λ p t from wanted.
             let gate = gate_at new p in
-            let parts = both (held_in front p) (pends (state_before answer new (suc l) gate) t) wanted in
+            let parts = and_parts (held_in front p) (pends (state_before answer new (suc l) gate) t) wanted in
             let there = right.live.drivers.gates p parts.0 in
             let same : state_before answer new (suc l) gate ≡ state_before answer new (suc r) gate = jumped.states p blank_gate there (sym (right.live.drivers.drivers p there) ∙ parts.0) l order (omega arith) in
             right.awaits.events p t (omega arith) (ap (λ (b : Bool). b && pends (state_before answer new (suc r) gate) t) parts.0 ∙ ap (λ (s : State). pends s t) (sym same) ∙ parts.1);

@@ -1,25 +1,29 @@
 -- Which gates the old design has.
-use Rattle.std.proofs.Common.{◌≡◌, ℕ, zero, suc, ◌+◌, ◌∙◌, ap, sym, refl, List, [], ◌∷◌, Bool, true, false, cond, map, take, Option, Some, None, arith, add-one, not, All}
+use Rattle.std.proofs.Common.{◌≡◌, ℕ, zero, suc, ◌+◌, ◌∙◌, ap, sym, refl, List, [], ◌∷◌, Bool, true, false, cond, map, take, Option, Some, None, add-one, not, All}
 use Rattle.std.specs.Prelude.{slice_get, slice_index_or, ◌≢◌, ◌&&◌, ◌||◌, AllPairs, IfSome, IsSome, is_some}
 use Rattle.std.specs.Cmp.Lexicographic.{pointwise}
 use Rattle.std.specs.List.{find, list_any}
 use Rattle.std.specs.Option.{option_map}
 use Rattle.std.proofs.lemmas.List.Elements.{All-head, All-tail}
+use Rattle.std.proofs.Math.Bool.{or-false, and-false}
+use Rattle.std.proofs.lemmas.Bool.{and_parts, not-false}
 use Rattle.fourstate.specs.kept.DelayLaws.{same_delays_equal}
 use Rattle.fourstate.specs.Delays.{same_delays}
 use Rattle.fourstate.specs.kept.GateLaws.{same_kind_equal}
 use Rattle.fourstate.specs.Gates.{same_kind}
 use Rattle.fourstate.specs.kept.ValueLaws.{is_same}
+use Rattle.catalog.proofs.ListLemmas.{AllPairs-tail}
 use Rattle.design.specs.Connections.{Connection, to_net, to_constant}
 use Rattle.design.specs.kept.Lawful.{IsDesign}
 use Rattle.design.specs.Names.{same_name}
 use Rattle.design.specs.Netlist.{GateEntry, Netlist, gate_named, has_gate}
+use Rattle.design.proofs.NameLemmas.{name_is}
+use Rattle.scratch.proofs.Stirred.{same_self_name}
 use Rattle.rundiff.specs.Dirty.{is_new, same_connection, same_gate}
-use Rattle.rundiff.proofs.Lists.{found_any, found_in, name_itself, same_name_equal}
-use Rattle.rundiff.proofs.Still.{both, not_false}
+use Rattle.rundiff.proofs.Lists.{found_any, found_in, not_so, pairs_head}
 
 same_connection_equal : (a b : Connection) → same_connection a b ≡ true → a ≡ b
-same_connection_equal (to_net a) (to_net b) is = ap to_net (same_name_equal a b is)
+same_connection_equal (to_net a) (to_net b) is = ap to_net (name_is a b is)
 same_connection_equal (to_constant v) (to_constant w) is = ap to_constant (is_same v w is)
 same_connection_equal (to_net a) (to_constant w) is = cc
 same_connection_equal (to_constant v) (to_net b) is = cc
@@ -29,31 +33,21 @@ same_inputs_equal [] [] h = refl
 same_inputs_equal [] (y ∷ ys) h = cc
 same_inputs_equal (x ∷ xs) [] h = cc
 same_inputs_equal (x ∷ xs) (y ∷ ys) h =
-    let parts = both (same_connection x y) (pointwise same_connection xs ys) h in
+    let parts = and_parts (same_connection x y) (pointwise same_connection xs ys) h in
     let one = same_connection_equal x y parts.0 in let rest = same_inputs_equal xs ys parts.1 in λ i. one i ∷ rest i
 
 pub same_gate_equal : (a b : GateEntry) → same_gate a b ≡ true → a ≡ b
 same_gate_equal a b is =
-    let four = both (same_name a.name b.name && same_kind a.kind b.kind && same_delays a.delays b.delays && same_name a.output b.output) (pointwise same_connection a.inputs b.inputs) is in
-    let three = both (same_name a.name b.name && same_kind a.kind b.kind && same_delays a.delays b.delays) (same_name a.output b.output) four.0 in
-    let two = both (same_name a.name b.name && same_kind a.kind b.kind) (same_delays a.delays b.delays) three.0 in
-    let one = both (same_name a.name b.name) (same_kind a.kind b.kind) two.0 in
-    let name = same_name_equal a.name b.name one.0 in
+    let four = and_parts (same_name a.name b.name && same_kind a.kind b.kind && same_delays a.delays b.delays && same_name a.output b.output) (pointwise same_connection a.inputs b.inputs) is in
+    let three = and_parts (same_name a.name b.name && same_kind a.kind b.kind && same_delays a.delays b.delays) (same_name a.output b.output) four.0 in
+    let two = and_parts (same_name a.name b.name && same_kind a.kind b.kind) (same_delays a.delays b.delays) three.0 in
+    let one = and_parts (same_name a.name b.name) (same_kind a.kind b.kind) two.0 in
+    let name = name_is a.name b.name one.0 in
     let kind = same_kind_equal a.kind b.kind one.1 in
     let delays = same_delays_equal a.delays b.delays two.1 in
-    let output = same_name_equal a.output b.output three.1 in
+    let output = name_is a.output b.output three.1 in
     let inputs = same_inputs_equal a.inputs b.inputs four.1 in
     λ i. record { name = name i; kind = kind i; delays = delays i; output = output i; inputs = inputs i }
-
-pairs_head : {X : Type 0} (R : X → X → Type 0) (y : X) (ys : List X) → AllPairs R (y ∷ ys) → All (R y) ys
-pairs_head R y ys all = λ k d within. all 0 (suc k) d (omega arith) (omega arith)
-
-pairs_tail : {X : Type 0} (R : X → X → Type 0) (y : X) (ys : List X) → AllPairs R (y ∷ ys) → AllPairs R ys
-pairs_tail R y ys all = λ i j d order within. all (suc i) (suc j) d (omega arith) (omega arith)
-
-fails : (p q : Bool) → (p ≡ true → q ≡ true) → q ≡ false → p ≡ false
-fails true q says off = let no : true ≡ false = sym (says refl) ∙ off in absurd (cc)
-fails false q says off = refl
 
 -- where one test finds nothing, a stronger one finds nothing
 none_passes : {X : Type 0} (p q : X → Bool) → ((x : X) → p x ≡ true → q x ≡ true) → (xs : List X) → find q xs ≡ None → list_any p xs ≡ false
@@ -61,17 +55,13 @@ none_passes p q says [] none = refl
 none_passes {X} p q says (x ∷ xs) none =
     elim (q x) as (λ b. q x ≡ b → cond {A = Option X} b (Some x) (find q xs) ≡ None → (p x || list_any p xs) ≡ false) [
       | true ↦ λ on some. let no : ◌≡◌ {A = Option X} (Some x) None = some in absurd (cc)
-      | false ↦ λ off later. let here = fails (p x) (q x) (says x) off in rw here (none_passes p q says xs later)
+      | false ↦ λ off later. let here = not_so (p x) (q x) (says x) off in rw here (none_passes p q says xs later)
     ] refl none
 
 none_later : {X : Type 0} (p q : X → Bool) → ((x : X) → p x ≡ true → q x ≡ true) → (xs : List X) → All (λ x. q x ≡ false) xs → list_any p xs ≡ false
 none_later p q says [] off = refl
 none_later p q says (x ∷ xs) off =
-    let here = fails (p x) (q x) (says x) (All-head (λ x. q x ≡ false) x xs off) in rw here (none_later p q says xs (All-tail (λ x. q x ≡ false) x xs off))
-
-or_false : (b : Bool) → (b || false) ≡ b
-or_false true = refl
-or_false false = refl
+    let here = not_so (p x) (q x) (says x) (All-head (λ x. q x ≡ false) x xs off) in rw here (none_later p q says xs (All-tail (λ x. q x ≡ false) x xs off))
 
 -- where one test passes one element alone, a stronger one passes that or none
 any_is : {X : Type 0} (p q : X → Bool) → ((x : X) → p x ≡ true → q x ≡ true) → (xs : List X) (x : X) → AllPairs (λ a b. q a ≡ true → q b ≡ false) xs → find q xs ≡ Some x → list_any p xs ≡ p x
@@ -82,8 +72,8 @@ any_is {X} p q says (y ∷ ys) x apart is =
       | true ↦ λ on here.
           let e : y ≡ x = cc in
           let rest = none_later p q says ys (λ k d low. pairs_head R y ys apart k d low on) in
-          rw rest (or_false (p y) ∙ ap p e)
-      | false ↦ λ off later. let here = fails (p y) (q y) (says y) off in rw here (any_is p q says ys x (pairs_tail R y ys apart) later)
+          rw rest (or-false (p y) ∙ ap p e)
+      | false ↦ λ off later. let here = not_so (p y) (q y) (says y) off in rw here (any_is p q says ys x (AllPairs-tail R y ys apart) later)
     ] refl is
 
 -- what one test finds another one finds, which passes no other element
@@ -95,7 +85,7 @@ find_by {X} p q (y ∷ ys) x is passes apart =
       | true ↦ λ here. let e : y ≡ x = cc in let on : q y ≡ true = ap q e ∙ passes in rw on here
       | false ↦ λ later.
           let off : q y ≡ false = (found_in (λ b. q b ≡ true → q y ≡ false) p ys x (pairs_head R y ys apart) later).0 passes in
-          rw off (find_by p q ys x later passes (pairs_tail R y ys apart))
+          rw off (find_by p q ys x later passes (AllPairs-tail R y ys apart))
     ] is
 
 module _ (d : Netlist) (is : IsDesign d) (g : GateEntry) where
@@ -103,19 +93,19 @@ module _ (d : Netlist) (is : IsDesign d) (g : GateEntry) where
   at_name h = same_name h.name g.name
 
   named_same : (h : GateEntry) → same_gate g h ≡ true → at_name h ≡ true
-  named_same h same = ap (λ (x : GateEntry). at_name x) (sym (same_gate_equal g h same)) ∙ name_itself g.name
+  named_same h same = ap (λ (x : GateEntry). at_name x) (sym (same_gate_equal g h same)) ∙ same_self_name g.name
 
   apart_by : (a b : GateEntry) → a.name ≢ b.name → at_name a ≡ true → at_name b ≡ false
   apart_by a b apart on =
       elim (at_name b) as (λ t. at_name b ≡ t → t ≡ false) [
-        | true ↦ λ too. absurd (apart (same_name_equal a.name g.name on ∙ sym (same_name_equal b.name g.name too)))
+        | true ↦ λ too. absurd (apart (name_is a.name g.name on ∙ sym (name_is b.name g.name too)))
         | false ↦ λ off. refl
       ] refl
 
   apart_back : (a b : GateEntry) → a.name ≢ b.name → at_name b ≡ true → at_name a ≡ false
   apart_back a b apart on =
       elim (at_name a) as (λ t. at_name a ≡ t → t ≡ false) [
-        | true ↦ λ too. absurd (apart (same_name_equal a.name g.name too ∙ sym (same_name_equal b.name g.name on)))
+        | true ↦ λ too. absurd (apart (name_is a.name g.name too ∙ sym (name_is b.name g.name on)))
         | false ↦ λ off. refl
       ] refl
 
@@ -131,7 +121,7 @@ module _ (d : Netlist) (is : IsDesign d) (g : GateEntry) where
   -- a gate that is not new is the one of its name
   pub known_gate : is_new d g ≡ false → gate_named d g.name ≡ Some g
   known_gate known =
-      let some = found_any (same_gate g) d.gates (not_false (list_any (same_gate g) d.gates) known) in
+      let some = found_any (same_gate g) d.gates (not-false (list_any (same_gate g) d.gates) known) in
       let h : GateEntry = some.0 in
       let found : find (same_gate g) d.gates ≡ Some h = some.1 in
       let same : same_gate g h ≡ true = (found_in (λ x. Unit {0}) (same_gate g) d.gates h (λ k e low. tt) found).1 in
@@ -154,10 +144,6 @@ keys_there f at d name (Some key) found there = key_there f (at key) d name foun
 
 -- Two lists, element by element.
 
-and_false : (a : Bool) → (a && false) ≡ false
-and_false true = refl
-and_false false = refl
-
 module _ {X Y Z : Type 0} (p : Z → Z → Bool) (f : X → Z) (h : Y → Z) (x : X) (y : Y) where
   pub mismatch : (xs : List X) (ys : List Y) (i : ℕ) → slice_get xs i ≡ Some x → slice_get ys i ≡ Some y → p (f x) (h y) ≡ false → pointwise p (map f xs) (map h ys) ≡ false
   mismatch [] ys i at_x at_y off = absurd (cc)
@@ -165,7 +151,7 @@ module _ {X Y Z : Type 0} (p : Z → Z → Bool) (f : X → Z) (h : Y → Z) (x 
   mismatch (w ∷ xs) (z ∷ ys) zero at_x at_y off =
       let e : w ≡ x = cc in let d : z ≡ y = cc in
       let here : p (f w) (h z) ≡ false = ap (λ (v : X). p (f v) (h z)) e ∙ ap (λ (v : Y). p (f x) (h v)) d ∙ off in rw here refl
-  mismatch (w ∷ xs) (z ∷ ys) (suc i) at_x at_y off = let rest = mismatch xs ys i at_x at_y off in rw rest (and_false (p (f w) (h z)))
+  mismatch (w ∷ xs) (z ∷ ys) (suc i) at_x at_y off = let rest = mismatch xs ys i at_x at_y off in rw rest (and-false (p (f w) (h z)))
 
   pub match_more : (xs : List X) (ys : List Y) (i : ℕ) → slice_get xs i ≡ Some x → slice_get ys i ≡ Some y → pointwise p (map f (take i xs)) (map h (take i ys)) ≡ true → p (f x) (h y) ≡ true →
       pointwise p (map f (take (i + 1) xs)) (map h (take (i + 1) ys)) ≡ true
@@ -175,6 +161,6 @@ module _ {X Y Z : Type 0} (p : Z → Z → Bool) (f : X → Z) (h : Y → Z) (x 
       let e : w ≡ x = cc in let d : z ≡ y = cc in
       let here : p (f w) (h z) ≡ true = ap (λ (v : X). p (f v) (h z)) e ∙ ap (λ (v : Y). p (f x) (h v)) d ∙ on in rw here refl
   match_more (w ∷ xs) (z ∷ ys) (suc i) at_x at_y so_far on =
-      let parts = both (p (f w) (h z)) (pointwise p (map f (take i xs)) (map h (take i ys))) so_far in
+      let parts = and_parts (p (f w) (h z)) (pointwise p (map f (take i xs)) (map h (take i ys))) so_far in
       let rest = match_more xs ys i at_x at_y parts.1 on in
       rw add-one (rw parts.0 (rw add-one at rest))

@@ -1,6 +1,8 @@
 -- What a front keeps is right as it is after moments at which the live nets are inputs with the same stimulus as in the old design.
 use Rattle.std.proofs.Common.{◌≡◌, ℕ, zero, suc, ◌+◌, ◌-◌, ◌<◌, ◌≤◌, ◌++◌, ◌∙◌, ap, sym, refl, subst, Bool, true, false, cond, List, [], map, length, All, append-nil, ◌⊎◌, inl, arith, Option}
 use Rattle.std.specs.Prelude.{◌&&◌, ◌||◌, ◌==◌, slice_index_or}
+use Rattle.std.proofs.lemmas.List.{get_or_default}
+use Rattle.std.proofs.lemmas.Bool.{and_parts}
 use Rattle.fourstate.specs.declared.value.Value.{Value}
 use Rattle.fourstate.specs.Nets.{net_of}
 use Rattle.fourstate.specs.Values.{same_value}
@@ -11,6 +13,7 @@ use Rattle.design.specs.kept.Lawful.{IsDesign}
 use Rattle.design.specs.Netlist.{GateEntry, NetEntry, Netlist, drivers_of, reads, stimulus}
 use Rattle.waveform.specs.Entries.{same_state, standing}
 use Rattle.waveform.specs.kept.Patches.{Keeps, PatchRecord}
+use Rattle.waveform.proofs.Lists.{filter-none}
 use Rattle.scratch.specs.kept.Places.{has}
 use Rattle.scratch.specs.Run.{state_after, state_before, value}
 use Rattle.scratch.specs.Work.{is_stirred, task_at}
@@ -24,10 +27,8 @@ use Rattle.rundiff.specs.kept.Places.{blank_gate, blank_net, gate_at, is_live, n
 use Rattle.rundiff.specs.declared.front.Front.{Front}
 use Rattle.rundiff.specs.declared.place_map.PlaceMap.{PlaceMap}
 use Rattle.rundiff.proofs.ByPlace.{live_at}
-use Rattle.rundiff.proofs.NetsDone.{same_default}
 use Rattle.rundiff.proofs.Resting.{along_more, free_along, free_state, free_to}
 use Rattle.rundiff.proofs.Settling.{not_dirty, settled}
-use Rattle.rundiff.proofs.Still.{both, none_kept}
 use Rattle.rundiff.proofs.Wired.{inputs_there, reads_net}
 
 pub off_on : {Z : Type 0} (b : Bool) → b ≡ false → b ≡ true → Z
@@ -42,7 +43,7 @@ module _ (answer : Evaluation → ℕ → State) (old new : Netlist) (is_old : I
   -- no gate drives a live net
   undriven : (k : ℕ) (d : GateEntry) → k < length new.gates → live (slice_index_or new.gates k d).output ≡ false
   undriven k d low =
-      ap (λ (g : GateEntry). live g.output) (same_default new.gates k d blank_gate low) ∙ sym (right.live.drivers.drivers k low) ∙ free k
+      ap (λ (g : GateEntry). live g.output) (get_or_default new.gates k d blank_gate low) ∙ sym (right.live.drivers.drivers k low) ∙ free k
 
   -- the value of an input is that of its stimulus
   of_input : (d : Netlist) (x : NetEntry) (m : ℕ) → x.is_input ≡ true → value answer d x m ≡ stimulus x.points m
@@ -60,7 +61,7 @@ module _ (answer : Evaluation → ℕ → State) (old new : Netlist) (is_old : I
 
   alike : (m : ℕ) → n ≤ m → m < u → All (λ x. live x.name ≡ true → IsAlike m x) new.nets
   alike m from until = λ k d low on.
-      let same = same_default new.nets k d blank_net low in
+      let same = get_or_default new.nets k d blank_net low in
       let lives : live_in front k ≡ true = sym (live_at new (live_in front) k is.distinct_nets low) ∙ ap (λ (x : NetEntry). live x.name) (sym same) ∙ on in
       subst (IsAlike m) (sym same) (inl (live_same k lives m from until))
 
@@ -77,7 +78,7 @@ module _ (answer : Evaluation → ℕ → State) (old new : Netlist) (is_old : I
   -- nothing is evaluated
   idle_at : (m : ℕ) → n ≤ m → m < u → working_at answer old new m ≡ []
   idle_at m from until =
-      none_kept (λ g. is_dirty answer old new g m && is_stirred answer new g m) new.gates
+      filter-none (λ g. is_dirty answer old new g m && is_stirred answer new g m) new.gates
       (λ k d low.
       let g = slice_index_or new.gates k d in
       let clean : is_dirty answer old new g m ≡ false =
@@ -140,9 +141,9 @@ module _ (answer : Evaluation → ℕ → State) (old new : Netlist) (is_old : I
       IsNoted answer old new (live_in front) (held_in front) (held_in front) u events_at inputs_at nets_at u
   leap_noted events_at inputs_at nets_at no_event no_input noted early =
       record {
-        events = λ p t from h. off_on (held_in front p) (free p) (both (held_in front p) (pends (state_before answer new u (gate_at new p)) t) h).0;
-        inputs = λ p t from h. off_on (held_in front p) (free p) (both (held_in front p) (t == 0 || input_moves answer old new (live_in front) p t) h).0;
-        nets = λ p t from h. (u, omega arith, from, noted p (both (live_in front p) (t == 0 || net_moves answer old new p t) h).0);
+        events = λ p t from h. off_on (held_in front p) (free p) (and_parts (held_in front p) (pends (state_before answer new u (gate_at new p)) t) h).0;
+        inputs = λ p t from h. off_on (held_in front p) (free p) (and_parts (held_in front p) (t == 0 || input_moves answer old new (live_in front) p t) h).0;
+        nets = λ p t from h. (u, omega arith, from, noted p (and_parts (live_in front p) (t == 0 || net_moves answer old new p t) h).0);
         no_early_event = λ t low. no_event t;
         no_early_input = λ t low. no_input t;
         no_early_net = early;

@@ -4,6 +4,9 @@ use Rattle.std.specs.Prelude.{slice_index_or, nat_eq, ◌==◌, ◌||◌, ◌&&�
 use Rattle.std.specs.List.{list_any}
 use Rattle.std.proofs.lemmas.Bool.Decides.{nat_tests}
 use Rattle.std.proofs.lemmas.List.Elements.{All-cons, All-nil}
+use Rattle.std.proofs.lemmas.Bool.{or_left, or_right, eqb-true, and_from, and_parts}
+use Rattle.std.proofs.Math.Bool.{or-false}
+use Rattle.std.proofs.lemmas.List.{get_or_default}
 use Rattle.fourstate.specs.declared.value.Value.{Value}
 use Rattle.gatestep.specs.Step.{State, Evaluation}
 use Rattle.design.specs.Connections.{Connection, to_net, to_constant}
@@ -11,9 +14,13 @@ use Rattle.design.specs.kept.Lawful.{IsDesign}
 use Rattle.design.specs.Names.{same_name}
 use Rattle.design.specs.Netlist.{GateEntry, NetEntry, Netlist, is_at_net, reads}
 use Rattle.design.specs.kept.Places.{driver_places}
+use Rattle.design.proofs.NameLemmas.{name_is}
 use Rattle.waveform.specs.kept.Patches.{PatchRecord}
 use Rattle.scratch.specs.kept.Places.{IsNotedWithin, Keeps}
 use Rattle.scratch.specs.Run.{state_before, value}
+use Rattle.scratch.proofs.Stirred.{same_self_name}
+use Rattle.scratch.proofs.Among.{nat_itself}
+use Rattle.scratch.proofs.Notes.{within_on}
 use Rattle.rundiff.specs.Dirty.{is_dirty}
 use Rattle.rundiff.specs.kept.Fronts.{AreDrivers, AreLive}
 use Rattle.rundiff.specs.kept.Kept.{Agrees, IsClosed, IsSameNet, read_at}
@@ -23,34 +30,17 @@ use Rattle.rundiff.specs.kept.Places.{blank_gate, blank_net, gate_at, is_among, 
 use Rattle.rundiff.proofs.Alike.{off_shrinks}
 use Rattle.rundiff.proofs.ByPlace.{live_at}
 use Rattle.rundiff.proofs.Clean.{clean_after, clean_task, same_net}
-use Rattle.rundiff.proofs.Lists.{filter_where, name_itself, same_name_equal}
-use Rattle.rundiff.proofs.NetsDone.{same_default}
-use Rattle.rundiff.proofs.NotedMore.{within_on}
-use Rattle.rundiff.proofs.Quiet.{both_on}
+use Rattle.rundiff.proofs.Lists.{filter_where}
 use Rattle.rundiff.proofs.Readers.{driver_at, live_more}
-use Rattle.rundiff.proofs.Sets.{or_first, or_second}
-use Rattle.rundiff.proofs.Still.{both}
 use Rattle.rundiff.proofs.Wired.{reads_net}
-
-pub same_index : (k p : ℕ) → (k == p) ≡ true → k ≡ p
-same_index k p h = grind (arith, nat_tests)
-
-index_itself : (k : ℕ) → (k == k) ≡ true
-index_itself k = grind (arith, nat_tests)
-
-or_last : (b : Bool) → (b || false) ≡ b
-or_last true = refl
-or_last false = refl
-
-not_first : (t u : ℕ) (b : Bool) → suc t ≤ u → (u == 0 || b) ≡ true → b ≡ true
-not_first t u b late h = let off : (u == 0) ≡ false = grind (arith, nat_tests) in sym (ap (λ (a : Bool). a || b) off) ∙ h
+use Rattle.rundiff.proofs.Noted.{not_first}
 
 -- a list of one place has one place
 lone : (xs : List ℕ) (a b : ℕ) → length xs ≡ 1 → is_among xs a ≡ true → is_among xs b ≡ true → a ≡ b
 lone [] a b one on too = absurd (cc)
 lone (x ∷ []) a b one on too =
-    let first = same_index x a (sym (or_last (x == a)) ∙ on) in
-    let second = same_index x b (sym (or_last (x == b)) ∙ too) in sym first ∙ second
+    let first = eqb-true x a (sym (or-false (x == a)) ∙ on) in
+    let second = eqb-true x b (sym (or-false (x == b)) ∙ too) in sym first ∙ second
 lone (x ∷ y ∷ xs) a b one on too = absurd (omega arith)
 
 -- lists of values that are the same are so one by one
@@ -103,7 +93,7 @@ module _ (answer : Evaluation → ℕ → State) (old new : Netlist) (is : IsDes
   adds : (r : ℕ) → live r ≡ (r == p || later r)
   adds r =
       elim (r == p) as (λ b. (r == p) ≡ b → live r ≡ (b || later r)) [
-        | true ↦ λ same. ap live (same_index r p same) ∙ lives
+        | true ↦ λ same. ap live (eqb-true r p same) ∙ lives
         | false ↦ λ apart. sym (gone r ∙ ap (λ (b : Bool). cond b false (live r)) apart)
       ] refl
 
@@ -111,13 +101,13 @@ module _ (answer : Evaluation → ℕ → State) (old new : Netlist) (is : IsDes
   names out = live_more new is.distinct_nets p low later live adds out
 
   p_off : is_live new later name ≡ false
-  p_off = live_at new later p is.distinct_nets low ∙ gone p ∙ ap (λ (b : Bool). cond b false (live p)) (index_itself p)
+  p_off = live_at new later p is.distinct_nets low ∙ gone p ∙ ap (λ (b : Bool). cond b false (live p)) (nat_itself p)
 
   -- a net that is not live now was not live before, or it is the one that left
   off_or : (out : List ℕ) → is_live new later out ≡ false → (is_live new live out ≡ false) ⊎ (out ≡ name)
   off_or out off =
       elim (same_name out name) as (λ b. same_name out name ≡ b → (is_live new live out ≡ false) ⊎ (out ≡ name)) [
-        | true ↦ λ same. inr (same_name_equal out name same)
+        | true ↦ λ same. inr (name_is out name same)
         | false ↦ λ apart. inl (names out ∙ ap (λ (b : Bool). b || is_live new later out) apart ∙ off)
       ] refl
 
@@ -125,15 +115,15 @@ module _ (answer : Evaluation → ℕ → State) (old new : Netlist) (is : IsDes
   only : (r : ℕ) → r < length new.gates → (gate_at new r).output ≡ name → r ≡ q
   only r within drives =
       let by : (k : ℕ) → k < length new.gates → (gate_at new k).output ≡ name → is_among (driver_places new.gates name) k ≡ true =
-      λ k inside at. driver_at new name k inside ∙ ap (λ (m : List ℕ). same_name m name) at ∙ name_itself name in
+      λ k inside at. driver_at new name k inside ∙ ap (λ (m : List ℕ). same_name m name) at ∙ same_self_name name in
       lone (driver_places new.gates name) r q alone (by r within drives) (by q there output)
 
   other_output : (r : ℕ) → r < length new.gates → (r == q) ≡ false → same_name (gate_at new r).output name ≡ false
   other_output r within apart =
       elim (same_name (gate_at new r).output name) as (λ b. same_name (gate_at new r).output name ≡ b → b ≡ false) [
         | true ↦ λ same.
-            let e : r ≡ q = only r within (same_name_equal (gate_at new r).output name same) in
-            let no : true ≡ false = sym (index_itself q) ∙ ap (λ (k : ℕ). k == q) (sym e) ∙ apart in absurd (cc)
+            let e : r ≡ q = only r within (name_is (gate_at new r).output name same) in
+            let no : true ≡ false = sym (nat_itself q) ∙ ap (λ (k : ℕ). k == q) (sym e) ∙ apart in absurd (cc)
         | false ↦ λ off. refl
       ] refl
 
@@ -145,7 +135,7 @@ module _ (answer : Evaluation → ℕ → State) (old new : Netlist) (is : IsDes
         drivers = λ r within.
             elim (r == q) as (λ b. (r == q) ≡ b → kept r ≡ is_live new later (gate_at new r).output) [
               | true ↦ λ same.
-                  let e = same_index r q same in
+                  let e = eqb-true r q same in
                   freed r ∙ ap (λ (b : Bool). cond b false (held r)) same ∙ sym (ap (λ (k : ℕ). is_live new later (gate_at new k).output) e ∙ ap (is_live new later) output ∙ p_off)
               | false ↦ λ apart.
                   freed r ∙ ap (λ (b : Bool). cond b false (held r)) apart ∙ right.drivers.drivers r within ∙ names (gate_at new r).output
@@ -157,7 +147,7 @@ module _ (answer : Evaluation → ℕ → State) (old new : Netlist) (is : IsDes
   fixed_later r on =
       gone r
       ∙ elim (r == p) as (λ b. (r == p) ≡ b → cond b false (live r) ≡ true) [
-        | true ↦ λ same. let no : true ≡ false = sym on ∙ ap fixed (same_index r p same) ∙ unfixed in absurd (cc)
+        | true ↦ λ same. let no : true ≡ false = sym on ∙ ap fixed (eqb-true r p same) ∙ unfixed in absurd (cc)
         | false ↦ λ apart. right.fixed_live r on
       ] refl
 
@@ -171,7 +161,7 @@ module _ (answer : Evaluation → ℕ → State) (old new : Netlist) (is : IsDes
   -- the gate that drives the net
   the_gate : (P : GateEntry → Type 0) → P (gate_at new q) → (k : ℕ) (d : GateEntry) → k < length new.gates → (slice_index_or new.gates k d).output ≡ name → P (slice_index_or new.gates k d)
   the_gate P holds k d within drives =
-      let same : slice_index_or new.gates k d ≡ gate_at new k = same_default new.gates k d blank_gate within in
+      let same : slice_index_or new.gates k d ≡ gate_at new k = get_or_default new.gates k d blank_gate within in
       let e : k ≡ q = only k within (ap (λ (g : GateEntry). g.output) (sym same) ∙ drives) in
       subst P (sym (same ∙ ap (gate_at new) e)) holds
 
@@ -189,7 +179,7 @@ module _ (answer : Evaluation → ℕ → State) (old new : Netlist) (is : IsDes
       let same : IsSameNet old new n = right.base.nets p blank_net low (live_at new fixed p is.distinct_nets low ∙ unfixed) in
       let P : GateEntry → Type 0 = λ g. state_before answer old t g ≡ state_before answer new t g in
       let states : All P _ = filter_where (λ g. same_name g.output name) P new.gates
-      (λ k d within at. the_gate P same_before k d within (same_name_equal (slice_index_or new.gates k d).output name at)) in
+      (λ k d within at. the_gate P same_before k d within (name_is (slice_index_or new.gates k d).output name at)) in
       reads_net answer old name n t same.net ∙ same_net answer old new n t same.drivers states
 
   agrees_now : Agrees answer old new (is_live new later) (suc t)
@@ -204,10 +194,10 @@ module _ (answer : Evaluation → ℕ → State) (old new : Netlist) (is : IsDes
             (λ drives. the_gate (λ g. All (λ connection. read_at answer old connection t ≡ read_at answer new connection t) g.inputs) same_inputs k d within drives)
             (off_or (slice_index_or new.gates k d).output off);
         nets = λ k d within off.
-            let same : slice_index_or new.nets k d ≡ net_at new k = same_default new.nets k d blank_net within in
+            let same : slice_index_or new.nets k d ≡ net_at new k = get_or_default new.nets k d blank_net within in
             let P : NetEntry → Type 0 = λ x. read_at answer old (to_net x.name) t ≡ value answer new x t in
             elim (k == p) as (λ b. (k == p) ≡ b → P (slice_index_or new.nets k d)) [
-              | true ↦ λ here. subst P (sym (same ∙ ap (net_at new) (same_index k p here))) same_value_now
+              | true ↦ λ here. subst P (sym (same ∙ ap (net_at new) (eqb-true k p here))) same_value_now
               | false ↦ λ apart.
                   let named = ap (λ (x : NetEntry). is_live new live x.name) same ∙ live_at new live k is.distinct_nets within in
                   let named_later = ap (λ (x : NetEntry). is_live new later x.name) same ∙ live_at new later k is.distinct_nets within in
@@ -233,7 +223,7 @@ module _ (answer : Evaluation → ℕ → State) (old new : Netlist) (is : IsDes
     one u (to_net m) h =
         elim (same_name m name) as (λ b. same_name m name ≡ b → (test live u (to_net m) ≡ true) ⊎ ((same_name m name ≡ true) × (old_moves answer old new (to_net name) u ≡ true))) [
           | true ↦ λ same.
-              inr (same, ap (λ (k : List ℕ). old_moves answer old new (to_net k) u) (sym (same_name_equal m name same)) ∙ (both (not (is_live new later m)) (old_moves answer old new (to_net m) u) h).1)
+              inr (same, ap (λ (k : List ℕ). old_moves answer old new (to_net k) u) (sym (name_is m name same)) ∙ (and_parts (not (is_live new later m)) (old_moves answer old new (to_net m) u) h).1)
           | false ↦ λ apart.
               inl (ap (λ (b : Bool). not b && old_moves answer old new (to_net m) u) (names m ∙ ap (λ (b : Bool). b || is_live new later m) apart) ∙ h)
         ] refl
@@ -243,9 +233,9 @@ module _ (answer : Evaluation → ℕ → State) (old new : Netlist) (is : IsDes
     split u (c ∷ cs) on =
         elim (test later u c) as (λ b. test later u c ≡ b → (b || list_any (test later u) cs) ≡ true → (list_any (test live u) (c ∷ cs) ≡ true) ⊎ ((list_any (is_at_net name) (c ∷ cs) ≡ true) × (old_moves answer old new (to_net name) u ≡ true))) [
           | true ↦ λ here h.
-              ⊎_elim (λ was. inl (or_first (test live u c) (list_any (test live u) cs) was)) (λ at. inr (or_first (is_at_net name c) (list_any (is_at_net name) cs) at.0, at.1)) (one u c here)
+              ⊎_elim (λ was. inl (or_left (test live u c) (list_any (test live u) cs) was)) (λ at. inr (or_left (is_at_net name c) (list_any (is_at_net name) cs) at.0, at.1)) (one u c here)
           | false ↦ λ no h.
-              ⊎_elim (λ was. inl (or_second (test live u c) (list_any (test live u) cs) was)) (λ at. inr (or_second (is_at_net name c) (list_any (is_at_net name) cs) at.0, at.1)) (split u cs h)
+              ⊎_elim (λ was. inl (or_right (test live u c) (list_any (test live u) cs) was)) (λ at. inr (or_right (is_at_net name c) (list_any (is_at_net name) cs) at.0, at.1)) (split u cs h)
         ] refl on
 
     pub noted_less : IsNoted answer old new later kept kept (suc t) events after nets (suc t)
@@ -253,18 +243,18 @@ module _ (answer : Evaluation → ℕ → State) (old new : Netlist) (is : IsDes
         record {
           events = λ r u late h.
               let pending = pends (state_before answer new (suc t) (gate_at new r)) u in
-              let parts = both (kept r) pending h in before.events r u late (both_on (held r) pending (was_held r parts.0) parts.1);
+              let parts = and_parts (kept r) pending h in before.events r u late (and_from (held r) pending (was_held r parts.0) parts.1);
           inputs = λ r u late h.
               let moves = input_moves answer old new later r u in
               let moved = input_moves answer old new live r u in
-              let parts = both (kept r) (u == 0 || moves) h in
+              let parts = and_parts (kept r) (u == 0 || moves) h in
               ⊎_elim
-              (λ was. within_on inputs after r (suc t) u keeps (before.inputs r u late (both_on (held r) (u == 0 || moved) (was_held r parts.0) (or_second (u == 0) moved was))))
+              (λ was. within_on inputs after r (suc t) u keeps (before.inputs r u late (and_from (held r) (u == 0 || moved) (was_held r parts.0) (or_right (u == 0) moved was))))
               (λ at. next r u (right.drivers.gates r (was_held r parts.0)) at.0 late at.1)
               (split u (gate_at new r).inputs (not_first t u moves late parts.1));
           nets = λ r u late h.
               let moves = net_moves answer old new r u in
-              let parts = both (later r) (u == 0 || moves) h in before.nets r u late (both_on (live r) (u == 0 || moves) (was_live r parts.0) parts.1);
+              let parts = and_parts (later r) (u == 0 || moves) h in before.nets r u late (and_from (live r) (u == 0 || moves) (was_live r parts.0) parts.1);
           no_early_event = before.no_early_event;
           no_early_input = λ u under. early u (omega arith) ∙ before.no_early_input u under;
           no_early_net = before.no_early_net;

@@ -43,7 +43,6 @@ pub mod Settling
 pub mod Skipping
 pub mod Standing
 pub mod Steps
-pub mod Still
 pub mod Tasks
 pub mod Unchanged
 pub mod Wired

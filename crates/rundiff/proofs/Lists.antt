@@ -1,39 +1,8 @@
--- Lists: what is found, what passes, and names.
-use Rattle.std.proofs.Common.{◌≡◌, ℕ, zero, suc, ◌<◌, List, [], ◌∷◌, Bool, true, false, cond, subst, Option, Some, length, refl, arith, All}
-use Rattle.std.specs.Prelude.{nat_eq, slice_index_or, ◌||◌}
-use Rattle.std.specs.Cmp.Lexicographic.{pointwise}
-use Rattle.std.specs.List.{filter, find, list_all, list_any}
-use Rattle.std.proofs.lemmas.Bool.Decides.{nat_tests}
+-- Lists: what is found and what passes; and tests.
+use Rattle.std.proofs.Common.{◌≡◌, List, [], ◌∷◌, Bool, true, false, cond, subst, Option, Some, refl, All, suc, ◌∙◌, sym, arith}
+use Rattle.std.specs.Prelude.{◌||◌, ◌&&◌, AllPairs}
+use Rattle.std.specs.List.{filter, find, list_any}
 use Rattle.std.proofs.lemmas.List.Elements.{All-cons, All-nil, All-head, All-tail}
-use Rattle.design.specs.Names.{same_name}
-use Rattle.rundiff.proofs.Still.{both}
-
-nat_same : (m n : ℕ) → nat_eq m n ≡ true → m ≡ n
-nat_same m n h = grind (arith, nat_tests)
-
-nat_itself : (n : ℕ) → nat_eq n n ≡ true
-nat_itself n = grind (arith, nat_tests)
-
-pub same_name_equal : (a b : List ℕ) → same_name a b ≡ true → a ≡ b
-same_name_equal [] [] h = refl
-same_name_equal [] (y ∷ ys) h = cc
-same_name_equal (x ∷ xs) [] h = cc
-same_name_equal (x ∷ xs) (y ∷ ys) h =
-    let parts = both (nat_eq x y) (pointwise nat_eq xs ys) h in
-    let one = nat_same x y parts.0 in let rest = same_name_equal xs ys parts.1 in cc
-
-pub name_itself : (a : List ℕ) → same_name a a ≡ true
-name_itself [] = refl
-name_itself (x ∷ xs) = let one = nat_itself x in rw one (name_itself xs)
-
-or_true : (a b : Bool) → b ≡ true → (a || b) ≡ true
-or_true true b h = refl
-or_true false b h = h
-
-pub any_at : {X : Type 0} (p : X → Bool) (xs : List X) (k : ℕ) (d : X) → k < length xs → p (slice_index_or xs k d) ≡ true → list_any p xs ≡ true
-any_at p [] k d within is = absurd (omega arith)
-any_at p (x ∷ xs) zero d within is = rw is refl
-any_at p (x ∷ xs) (suc k) d within is = let rest = any_at p xs k d (omega arith) is in or_true (p x) (list_any p xs) rest
 
 -- what is said of each element holds of the one that is found
 pub found_in : {X : Type 0} (P : X → Type 0) (q : X → Bool) (xs : List X) (x : X) → All P xs → find q xs ≡ Some x → P x × (q x ≡ true)
@@ -64,9 +33,16 @@ filter_where {X} p P (x ∷ xs) all =
       | false ↦ λ off. rest
     ] refl
 
--- a test that all elements pass
-pub all_pass : {X : Type 0} (p : X → Bool) (xs : List X) → list_all p xs ≡ true → All (λ x. p x ≡ true) xs
-all_pass p [] is = All-nil (λ x. p x ≡ true)
-all_pass p (x ∷ xs) is =
-    let parts = both (p x) (list_all p xs) is in
-    All-cons (λ x. p x ≡ true) x xs parts.0 (all_pass p xs parts.1)
+-- what holds of each two elements of a list, of the first one and each other
+pub pairs_head : {X : Type 0} (R : X → X → Type 0) (y : X) (ys : List X) → AllPairs R (y ∷ ys) → All (R y) ys
+pairs_head R y ys all = λ k d within. all 0 (suc k) d (omega arith) (omega arith)
+
+-- what would be true if another were is not where the other is not
+pub not_so : (a b : Bool) → (a ≡ true → b ≡ true) → b ≡ false → a ≡ false
+not_so true b says off = sym (says refl) ∙ off
+not_so false b says off = refl
+
+-- where the first of two tests passes and not both do, the other fails
+pub off_by : (a b : Bool) → a ≡ true → (a && b) ≡ false → b ≡ false
+off_by true b on off = off
+off_by false b on off = absurd (cc)

@@ -1,6 +1,7 @@
 -- What holds of live nets and held gates at a moment, whether they are looked at or not.
 use Rattle.std.proofs.Common.{◌≡◌, ℕ, zero, suc, ◌∙◌, sym, refl, Bool, true, false, List, Option, ◌⊎◌, inl, inr, arith, not}
 use Rattle.std.specs.Prelude.{◌&&◌}
+use Rattle.std.proofs.lemmas.Bool.{and_parts}
 use Rattle.fourstate.specs.declared.value.Value.{Value}
 use Rattle.fourstate.specs.Values.{same_value}
 use Rattle.gatestep.specs.Step.{State, Evaluation, due}
@@ -20,8 +21,8 @@ use Rattle.rundiff.specs.kept.Steady.{IsSteady}
 use Rattle.rundiff.proofs.Alike.{alike_grows}
 use Rattle.rundiff.proofs.Calm.{all_noted, calm}
 use Rattle.rundiff.proofs.NamedLines.{NoChange}
-use Rattle.rundiff.proofs.Quiet.{AreLookedAt, all_looked, not_so, quiet_alike, quiet_wave}
-use Rattle.rundiff.proofs.Still.{both}
+use Rattle.rundiff.proofs.Quiet.{AreLookedAt, all_looked, quiet_alike, quiet_wave}
+use Rattle.rundiff.proofs.Lists.{not_so}
 
 module _ (answer : Evaluation → ℕ → State) (old new : Netlist)
     (current : (e : Evaluation) (t : ℕ) → (answer e t).current ≡ (due e.state t).current) (pending : (e : Evaluation) (t : ℕ) → IsTask e → NothingDue t (answer e t))
@@ -72,7 +73,7 @@ pub passed_by : (held kept marked all_marked chosen : ℕ → Bool) (events inpu
     ((q : ℕ) → kept q ≡ true → all_marked q ≡ true → chosen q ≡ true) → ((q : ℕ) → kept q ≡ true → has q inputs ≡ true → chosen q ≡ true) →
     (q : ℕ) → (kept q && not (chosen q)) ≡ true → IsPassed held marked events inputs q
 passed_by held kept marked all_marked chosen events inputs by_event more fresh by_mark by_input q on =
-    let parts = both (kept q) (not (chosen q)) on in
+    let parts = and_parts (kept q) (not (chosen q)) on in
     let off : chosen q ≡ false = unchosen (chosen q) parts.1 in
     let none : all_marked q ≡ false = not_so (all_marked q) (chosen q) (by_mark q parts.0) off in
     let unmarked : marked q ≡ false = not_so (marked q) (all_marked q) (more q) none in

@@ -1,6 +1,7 @@
 -- What is kept of the old run under a name.
 use Rattle.std.proofs.Common.{◌≡◌, ℕ, zero, suc, ◌<◌, ◌≤◌, ◌∙◌, ap, sym, subst, refl, Bool, true, false, is_some, not, List, [], ◌∷◌, Option, Some, None, arith}
 use Rattle.std.specs.Option.{option_map, option_map_or}
+use Rattle.std.proofs.lemmas.Option.{same_Some}
 use Rattle.fourstate.specs.declared.value.Value.{Value}
 use Rattle.fourstate.specs.declared.value.Value.TheVariants.{Unknown}
 use Rattle.fourstate.specs.Values.{same_value}
@@ -25,9 +26,6 @@ NoChange {A = A} same drift = (f : ℕ → A) (t u : ℕ) → t ≤ u → ((k : 
 pub keeps_none : {A : Type 0} (same : A → A → Bool) (drift : A → ℕ → A) (f g : ℕ → A) (n : ℕ) (o : Option (PatchRecord A)) → o ≡ None → Keeps same drift g f o n → (u : ℕ) → u < n → f u ≡ g u
 keeps_none {A} same drift f g n o is kept = let at : Keeps same drift g f None n = subst (λ o. Keeps same drift g f o n) is kept in at
 
-pub some_equal : {A : Type 0} (x y : A) → Some x ≡ Some y → x ≡ y
-some_equal x y is = cc
-
 -- a patch of its own says nothing of the former function
 pub any_former : {A : Type 0} (same : A → A → Bool) (drift : A → ℕ → A) (f g other : ℕ → A) (line : List (ℕ × A)) (since : Option ℕ) (n : ℕ) → since ≡ None →
     IsMended same drift g f line since n → IsMended same drift other f line since n
@@ -37,7 +35,7 @@ any_former same drift f g other line (Some s) n none mended = let no : ◌≡◌
 pub own_former : {A : Type 0} (same : A → A → Bool) (drift : A → ℕ → A) (f g other : ℕ → A) (o : Option (PatchRecord A)) (n : ℕ) → IsOwn o → Keeps same drift g f o n → Keeps same drift other f o n
 own_former {A} same drift f g other None n own kept = let no : ◌≡◌ {A = Option (PatchRecord A)} None (Some own.0) = own.1 in absurd (cc)
 own_former {A} same drift f g other (Some patch) n own kept =
-    let is : patch ≡ own.0 = some_equal patch own.0 own.1 in
+    let is : patch ≡ own.0 = same_Some patch own.0 own.1 in
     any_former same drift f g other patch.line patch.since n (ap (λ (q : PatchRecord A). q.since) is ∙ own.2) kept
 
 pub none_by : {A : Type 0} (o : Option A) (b : Bool) → is_some o ≡ not b → b ≡ true → o ≡ None
@@ -70,7 +68,7 @@ module _ (answer : Evaluation → ℕ → State) (d : Netlist) where
   wave_by : (w : List (ℕ × Value)) (o : Option NetEntry) → Some w ≡ option_map (wave_of answer d) o →
       w ≡ wave_changes_below (λ t. option_map_or (λ n. value answer d n t) o Unknown) (suc d.horizon)
   wave_by w None is = let no : ◌≡◌ {A = Option (List (ℕ × Value))} (Some w) None = is in absurd (cc)
-  wave_by w (Some n) is = some_equal w (wave_of answer d n) is
+  wave_by w (Some n) is = same_Some w (wave_of answer d n) is
 
   -- the wave of the net of this name
   pub named_wave : (w : List (ℕ × Value)) (name : List ℕ) → Some w ≡ option_map (wave_of answer d) (net_named d name) → w ≡ wave_changes_below (read_at answer d (to_net name)) (suc d.horizon)
@@ -85,7 +83,7 @@ module _ (answer : Evaluation → ℕ → State) (d : Netlist) where
   trace_by : (w : List (ℕ × State)) (entry : KeyedGate → GateEntry) (o : Option KeyedGate) → Some w ≡ option_map (λ g. trace_of answer d (entry g)) o →
       w ≡ trace_below (λ t. option_map_or (λ g. state_after answer d g t) (option_map entry o) initial) (suc d.horizon)
   trace_by w entry None is = let no : ◌≡◌ {A = Option (List (ℕ × State))} (Some w) None = is in absurd (cc)
-  trace_by w entry (Some g) is = some_equal w (trace_of answer d (entry g)) is
+  trace_by w entry (Some g) is = same_Some w (trace_of answer d (entry g)) is
 
   -- the trace of the gate of this name
   pub named_trace : (w : List (ℕ × State)) (name : List ℕ) (entry : KeyedGate → GateEntry) (o : Option KeyedGate) → option_map entry o ≡ gate_named d name →

@@ -1,6 +1,6 @@
 -- What holds once the nets of a moment are done.
-use Rattle.std.proofs.Common.{◌≡◌, ℕ, zero, suc, ◌<◌, ◌≤◌, ◌∙◌, ap, sym, refl, subst, Bool, true, false, List, [], ◌∷◌, length, All, Option, ◌⊎◌, inl, inr, arith}
-use Rattle.std.specs.Prelude.{slice_index_or}
+use Rattle.std.proofs.Common.{◌≡◌, ℕ, suc, ◌<◌, ◌≤◌, ◌∙◌, ap, sym, refl, subst, Bool, true, false, length, All, Option, ◌⊎◌, inl, inr}
+use Rattle.std.proofs.lemmas.List.{get_or_default}
 use Rattle.fourstate.specs.declared.value.Value.{Value}
 use Rattle.fourstate.specs.Values.{same_value}
 use Rattle.gatestep.specs.Step.{State, Evaluation}
@@ -20,11 +20,6 @@ use Rattle.rundiff.proofs.Resting.{free_more}
 use Rattle.rundiff.proofs.Settling.{not_dirty, settled, still_closed, untouched_same}
 use Rattle.rundiff.proofs.Wired.{inputs_there}
 
-pub same_default : {X : Type 0} (xs : List X) (k : ℕ) (d e : X) → k < length xs → slice_index_or xs k d ≡ slice_index_or xs k e
-same_default [] k d e low = absurd (omega arith)
-same_default (x ∷ xs) zero d e low = refl
-same_default (x ∷ xs) (suc k) d e low = same_default xs k d e (omega arith)
-
 module _ (answer : Evaluation → ℕ → State) (old new : Netlist) (is : IsDesign new) (t : ℕ) (within : t ≤ old.horizon) (live later : ℕ → Bool)
     (grows : (p : ℕ) → live p ≡ true → later p ≡ true) (closed : IsClosed old new (is_live new live)) (agrees : Agrees answer old new (is_live new live) t)
     (alike : (p : ℕ) → live p ≡ true → IsAlike answer old new later t p) where
@@ -34,12 +29,12 @@ module _ (answer : Evaluation → ℕ → State) (old new : Netlist) (is : IsDes
   fact_of : (p : ℕ) → IsAlike answer old new later t p → Fact (net_at new p)
   fact_of p (inl same) = inl same
   fact_of p (inr readers) = inr (λ q e low reading.
-      let same = same_default new.gates q e blank_gate low in
+      let same = get_or_default new.gates q e blank_gate low in
       ap (λ (g : GateEntry). is_live new later g.output) same ∙ readers q low (ap (λ (g : GateEntry). reads g (net_at new p).name) (sym same) ∙ reading))
 
   all_alike : All (λ n. is_live new live n.name ≡ true → Fact n) new.nets
   all_alike = λ k d low on.
-      let same = same_default new.nets k d blank_net low in
+      let same = get_or_default new.nets k d blank_net low in
       let lives : live k ≡ true = sym (live_at new live k is.distinct_nets low) ∙ ap (λ (n : NetEntry). is_live new live n.name) (sym same) ∙ on in
       subst Fact (sym same) (fact_of k (alike k lives))
 

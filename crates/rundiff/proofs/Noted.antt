@@ -1,33 +1,24 @@
 -- What is noted for moments to come, and what is not.
-use Rattle.std.proofs.Common.{◌≡◌, ◌≢◌, ◌<◌, ◌≤◌, ◌∙◌, sym, ap, refl, Bool, true, false, ℕ, List, [], ◌⊎◌, inl, inr, arith, ⊎_elim}
-use Rattle.std.specs.Prelude.{◌||◌}
-use Rattle.std.proofs.lemmas.Bool.{cases_lt}
+use Rattle.std.proofs.Common.{◌≡◌, ◌≢◌, ◌<◌, ◌≤◌, ◌∙◌, sym, ap, Bool, true, false, ℕ, List, [], ◌⊎◌, inl, inr, arith, ⊎_elim, suc}
+use Rattle.std.proofs.lemmas.Bool.{cases_lt, false_from_ne_true, ne_eqb}
+use Rattle.std.specs.Prelude.{◌||◌, ◌==◌}
 use Rattle.event_queue.specs.kept.Noted.{noted}
-use Rattle.scratch.specs.kept.Places.{Announces, Covers, has}
+use Rattle.scratch.specs.kept.Places.{Announces, has}
 use Rattle.rundiff.specs.declared.front.Front.{Front}
-
--- of two tests that do not both fail one passes
-pub either : (a b : Bool) → (a || b) ≡ true → (a ≡ true) ⊎ (b ≡ true)
-either true b h = inl refl
-either false b h = inr h
-
-not_true : (b : Bool) → (b ≡ true → ⊥) → b ≡ false
-not_true true h = absurd (h refl)
-not_true false h = refl
 
 none_there : (k : ℕ) (places : List ℕ) → places ≡ [] → has k places ≡ true → ⊥
 none_there k places none there = let never : false ≡ true = ap (has k) (sym none) ∙ there in cc
 
--- where no place is noted nothing is wanted
-pub unwanted : (wanted : ℕ → ℕ → Bool) (listed : ℕ → List ℕ) (n k t : ℕ) → Covers wanted listed n → n ≤ t → listed t ≡ [] → wanted k t ≡ false
-unwanted wanted listed n k t covers from none = not_true (wanted k t) (λ h. none_there k (listed t) none (covers k t from h))
-
--- nor where none is noted up to the moment
+-- where none is noted up to the moment nothing is wanted
 pub unannounced : (wanted : ℕ → ℕ → Bool) (listed : ℕ → List ℕ) (n k t u : ℕ) → Announces wanted listed n → n ≤ t → t < u → ((v : ℕ) → v < u → listed v ≡ []) → wanted k t ≡ false
 unannounced wanted listed n k t u announces from low none =
-    not_true (wanted k t) (λ h.
+    false_from_ne_true (wanted k t) (λ h.
     let at = announces k t from h in let before : at.0 ≤ t = at.2 in
     none_there k (listed at.0) (none at.0 (omega arith)) at.3)
+
+-- what is wanted after a moment is not so as the moment is the first one
+pub not_first : (t u : ℕ) (b : Bool) → suc t ≤ u → (u == 0 || b) ≡ true → b ≡ true
+not_first t u b late h = ap (λ (a : Bool). a || b) (sym (ne_eqb u 0 (λ first. omega arith))) ∙ h
 
 -- what is announced from n on is announced from a later moment on, where nothing is noted before that
 pub later_announced : (wanted : ℕ → ℕ → Bool) (listed : ℕ → List ℕ) (n u : ℕ) → Announces wanted listed n → n ≤ u → ((v : ℕ) → v < u → listed v ≡ []) → Announces wanted listed u

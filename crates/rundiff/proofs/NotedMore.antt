@@ -1,15 +1,13 @@
 -- What is noted for places, one place more.
-use Rattle.std.proofs.Common.{◌≡◌, ℕ, zero, suc, ◌+◌, ◌<◌, ◌∙◌, ap, sym, refl, subst, List, [], ◌∷◌, ◌++◌, Bool, true, false, cond, map, take, Some, arith}
-use Rattle.std.specs.Prelude.{nat_eq, slice_get, ◌||◌}
-use Rattle.std.proofs.lemmas.Bool.Decides.{nat_tests}
-use Rattle.event_queue.specs.kept.Noted.{IsAdded, noted}
+use Rattle.std.proofs.Common.{◌≡◌, ℕ, zero, suc, ◌+◌, ◌<◌, ◌∙◌, ap, sym, refl, subst, List, [], ◌∷◌, Bool, true, false, map, take, Some}
+use Rattle.std.specs.Prelude.{nat_eq, slice_get}
+use Rattle.std.proofs.lemmas.Bool.{eqb-true}
 use Rattle.rundiff.specs.kept.Places.{is_among}
 use Rattle.scratch.specs.kept.Places.{IsNotedWithin, Keeps, has}
-use Rattle.rundiff.proofs.Sets.{or_assoc, or_first, or_second}
-use Rattle.rundiff.proofs.Steps.{among_more, or_splits, same_place}
-
-nat_itself : (k : ℕ) → nat_eq k k ≡ true
-nat_itself k = grind (arith, nat_tests)
+use Rattle.scratch.proofs.Driven.{earlier}
+use Rattle.scratch.proofs.Among.{nat_itself}
+use Rattle.scratch.proofs.Notes.{within_on}
+use Rattle.rundiff.proofs.Steps.{among_more}
 
 -- an element of a list that is mapped
 pub mapped_at : {X Y : Type 0} (f : X → Y) (xs : List X) (ys : List Y) (i : ℕ) (x : X) (y : Y) → ys ≡ map f xs → slice_get xs i ≡ Some x → slice_get ys i ≡ Some y → y ≡ f x
@@ -18,16 +16,13 @@ mapped_at f (w ∷ xs) [] i x y those at read = absurd (cc)
 mapped_at f (w ∷ xs) (v ∷ ys) zero x y those at read = cc
 mapped_at f (w ∷ xs) (v ∷ ys) (suc i) x y those at read = mapped_at f xs ys i x y (let e : ys ≡ map f xs = cc in e) at read
 
-pub within_on : (old new : ℕ → List ℕ) (k n t : ℕ) → Keeps old new → IsNotedWithin old k n t → IsNotedWithin new k n t
-within_on old new k n t keeps at = (at.0, at.1, at.2, keeps k at.0 at.3)
-
 module _ (wanted : ℕ → ℕ → Bool) where
   module _ (xs : List ℕ) (i x : ℕ) (at : slice_get xs i ≡ Some x) (old new : ℕ → List ℕ) (keeps : Keeps old new)
       (so_far : (p u : ℕ) → is_among (take i xs) p ≡ true → wanted p u ≡ true → has p (old u) ≡ true)
       (here : (u : ℕ) → wanted x u ≡ true → has x (new u) ≡ true) where
     event_by : (p u : ℕ) (b : Bool) → nat_eq x p ≡ b → is_among (take (i + 1) xs) p ≡ true → wanted p u ≡ true → has p (new u) ≡ true
-    event_by p u true same among h = let e = same_place x p same in subst (λ (q : ℕ). wanted q u ≡ true → has q (new u) ≡ true) e (here u) h
-    event_by p u false apart among h = keeps p u (so_far p u (or_splits (is_among (take i xs) p) (nat_eq x p) (sym (among_more xs i x p at) ∙ among) apart) h)
+    event_by p u true same among h = let e = eqb-true x p same in subst (λ (q : ℕ). wanted q u ≡ true → has q (new u) ≡ true) e (here u) h
+    event_by p u false apart among h = keeps p u (so_far p u (earlier (is_among (take i xs) p) (nat_eq x p) (sym (among_more xs i x p at) ∙ among) apart) h)
 
     -- what is wanted at the moments themselves
     pub more_events : (p u : ℕ) → is_among (take (i + 1) xs) p ≡ true → wanted p u ≡ true → has p (new u) ≡ true
@@ -37,9 +32,9 @@ module _ (wanted : ℕ → ℕ → Bool) where
       (so_far : (p u : ℕ) → is_among (take i xs) p ≡ true → t < u → wanted p u ≡ true → IsNotedWithin old p (suc t) u)
       (here : (u : ℕ) → t < u → wanted x u ≡ true → IsNotedWithin new x (suc t) u) where
     within_by : (p u : ℕ) (b : Bool) → nat_eq x p ≡ b → is_among (take (i + 1) xs) p ≡ true → t < u → wanted p u ≡ true → IsNotedWithin new p (suc t) u
-    within_by p u true same among after h = let e = same_place x p same in subst (λ (q : ℕ). wanted q u ≡ true → IsNotedWithin new q (suc t) u) e (here u after) h
+    within_by p u true same among after h = let e = eqb-true x p same in subst (λ (q : ℕ). wanted q u ≡ true → IsNotedWithin new q (suc t) u) e (here u after) h
     within_by p u false apart among after h =
-        within_on old new p (suc t) u keeps (so_far p u (or_splits (is_among (take i xs) p) (nat_eq x p) (sym (among_more xs i x p at) ∙ among) apart) after h)
+        within_on old new p (suc t) u keeps (so_far p u (earlier (is_among (take i xs) p) (nat_eq x p) (sym (among_more xs i x p at) ∙ among) apart) after h)
 
     -- what is wanted at the moments themselves, or before
     pub more_within : (p u : ℕ) → is_among (take (i + 1) xs) p ≡ true → t < u → wanted p u ≡ true → IsNotedWithin new p (suc t) u
@@ -50,29 +45,6 @@ pub more_noted : (xs : List ℕ) (i x : ℕ) → slice_get xs i ≡ Some x → (
     (p : ℕ) → is_among (take (i + 1) xs) p ≡ true → has p (new t) ≡ true
 more_noted xs i x at old new t keeps so_far here p among =
     more_events (λ q u. nat_eq u t) xs i x at old new keeps
-    (λ q u within same. let e = same_place u t same in ap (λ (v : ℕ). has q (old v)) e ∙ so_far q within)
-    (λ u same. let e = same_place u t same in ap (λ (v : ℕ). has x (new v)) e ∙ here)
+    (λ q u within same. let e = eqb-true u t same in ap (λ (v : ℕ). has q (old v)) e ∙ so_far q within)
+    (λ u same. let e = eqb-true u t same in ap (λ (v : ℕ). has x (new v)) e ∙ here)
     p t among (nat_itself t)
-
--- A number more.
-
-has_last : (k p : ℕ) (ls : List ℕ) → has k (ls ++ p ∷ []) ≡ (has k ls || nat_eq k p)
-has_last k p [] = or_last (nat_eq k p)
-  where
-    or_last : (b : Bool) → (b || false) ≡ b
-    or_last true = refl
-    or_last false = refl
-has_last k p (w ∷ ls) = ap (λ (b : Bool). nat_eq k w || b) (has_last k p ls) ∙ sym (or_assoc (nat_eq k w) (has k ls) (nat_eq k p))
-
-kept_by : (k p : ℕ) (b : Bool) (ls : List ℕ) → has k ls ≡ true → has k (cond b (ls ++ p ∷ []) ls) ≡ true
-kept_by k p true ls h = has_last k p ls ∙ or_first (has k ls) (nat_eq k p) h
-kept_by k p false ls h = h
-
-module _ (t p : ℕ) (old new : List (ℕ × List ℕ)) (added : IsAdded t p old new) where
-  pub added_keeps : Keeps (noted old) (noted new)
-  added_keeps k u h = ap (has k) (added u) ∙ kept_by k p (nat_eq t u) (noted old u) h
-
-  pub added_there : has p (noted new t) ≡ true
-  added_there =
-      ap (has p) (added t) ∙ ap (λ (b : Bool). has p (cond b (noted old t ++ p ∷ []) (noted old t))) (nat_itself t)
-      ∙ has_last p p (noted old t) ∙ or_second (has p (noted old t)) (nat_eq p p) (nat_itself p)

@@ -3,7 +3,8 @@ use Rattle.std.proofs.Common.{◌≡◌, ◌<◌, ◌≤◌, ◌∙◌, ap, sym,
 use Rattle.std.specs.Prelude.{unwrap_or}
 use Rattle.std.specs.List.{slice_index_or}
 use Rattle.std.specs.Option.{option_map}
-use Rattle.std.proofs.lemmas.Option.{slice_get-map}
+use Rattle.std.proofs.lemmas.Option.{slice_get-map, slice_get-get_or}
+use Rattle.std.proofs.lemmas.List.Sums.{AllPass-from_list_all}
 use Rattle.fourstate.specs.declared.value.Value.{Value}
 use Rattle.fourstate.specs.declared.value.Value.TheVariants.{Unknown}
 use Rattle.gatestep.specs.Step.{State, Evaluation, due}
@@ -20,8 +21,6 @@ use Rattle.scratch.specs.declared.wiring.Input.TheVariants.{At}
 use Rattle.rundiff.specs.kept.Fronts.{named_state}
 use Rattle.rundiff.specs.kept.OldRuns.{AreOldRun, OldRunRecord}
 use Rattle.rundiff.specs.kept.Places.{blank_gate, gate_at}
-use Rattle.rundiff.proofs.ByPlace.{get_at}
-use Rattle.rundiff.proofs.Lists.{all_pass}
 use Rattle.rundiff.proofs.ReadBefore.{all_read, stored_trace}
 use Rattle.rundiff.proofs.Tasks.{old_settled}
 
@@ -31,14 +30,14 @@ module _ (answer : Evaluation → ℕ → State) (old new : Netlist) where
     read_wave : (t p : ℕ) → p < length run.waves → input_value (map (λ wave. wave_at wave t) run.waves) (At p) ≡ wave_at (slice_index_or run.waves p []) t
     read_wave t p low =
         ap (λ (o : Option Value). unwrap_or o Unknown)
-        (slice_get-map (λ (wave : List (ℕ × Value)). wave_at wave t) run.waves p ∙ ap (option_map (λ (wave : List (ℕ × Value)). wave_at wave t)) (get_at run.waves p [] low))
+        (slice_get-map (λ (wave : List (ℕ × Value)). wave_at wave t) run.waves p ∙ ap (option_map (λ (wave : List (ℕ × Value)). wave_at wave t)) (slice_get-get_or run.waves p [] low))
 
     -- what a gate reads by the waves is what it reads in the old run
     pub inputs_read : ((f : ℕ → Value) → IsAlwaysSettled standing f → (t n : ℕ) → t < n → wave_at (wave_changes_below f n) t ≡ f t) → IsDesign new → (p : ℕ) → p < length new.gates → (t : ℕ) → t ≤ old.horizon →
         map (λ input. input_value (map (λ wave. wave_at wave t) run.waves) input) (map (input_of new) (gate_at new p).inputs) ≡ inputs_at answer old (gate_at new p) t
     inputs_read law is p there t within =
         all_read answer old new run right law t within (input_value (map (λ wave. wave_at wave t) run.waves)) (read_wave t) (λ v. refl) (gate_at new p).inputs
-        (all_pass (is_readable new) (gate_at new p).inputs (is.wiring p blank_gate there).inputs)
+        (AllPass-from_list_all (is_readable new) (gate_at new p).inputs (is.wiring p blank_gate there).inputs)
 
     -- a trace is that of the states that it gives
     pub trace_again : ((f : ℕ → State) → IsAlwaysSettled due f → (t n : ℕ) → t < n → state_at (trace_below f n) t ≡ f t) → ((e : Evaluation) (t : ℕ) → IsTask e → NothingDue t (answer e t)) →

@@ -2,6 +2,8 @@
 use Rattle.std.proofs.Common.{◌≡◌, ℕ, zero, suc, ◌-◌, ◌<◌, ◌≤◌, ◌∙◌, ap, sym, refl, List, Bool, true, false, not, arith}
 use Rattle.std.specs.Prelude.{nat_le, ◌&&◌, ◌||◌}
 use Rattle.std.proofs.lemmas.Bool.Decides.{nat_tests}
+use Rattle.std.proofs.lemmas.Bool.{le-leb, or_parts, not-false}
+use Rattle.std.proofs.Math.Bool.{not-not, or-false}
 use Rattle.fourstate.specs.declared.value.Value.{Value}
 use Rattle.gatestep.specs.Step.{State, Evaluation}
 use Rattle.gatestep.specs.kept.Tasks.{NothingDue, again}
@@ -10,29 +12,14 @@ use Rattle.waveform.specs.Entries.{same_state}
 use Rattle.scratch.specs.Run.{state_after, state_before}
 use Rattle.rundiff.specs.Dirty.{is_dirty, is_new, same_task}
 use Rattle.scratch.specs.Work.{is_due, is_stirred, same_values, task_at}
-use Rattle.rundiff.proofs.Still.{neither, not_false, still_after}
-
-early : (t h : ℕ) → t ≤ h → nat_le t h ≡ true
-early t h le = grind (arith, nat_tests)
-
-pub and_false : (a : Bool) → (a && false) ≡ false
-and_false true = refl
-and_false false = refl
-
-not_not : (a : Bool) → not (not a) ≡ a
-not_not true = refl
-not_not false = refl
-
-or_false : (a : Bool) → (a || false) ≡ a
-or_false true = refl
-or_false false = refl
+use Rattle.scratch.proofs.Still.{still_after}
 
 module _ (answer : Evaluation → ℕ → State) (old new : Netlist) (g : GateEntry) (t : ℕ) where
   -- at a moment that the old run has, the tasks decide, but for a gate that is new
   pub by_task : t ≤ old.horizon → is_dirty answer old new g t ≡ (is_new old g || not (same_task (task_at answer old g t) (task_at answer new g t)))
   by_task within =
       let o = task_at answer old g t in let n = task_at answer new g t in
-      ap (λ (b : Bool). not b || (is_new old g || not (same_task o n))) (early t old.horizon within)
+      ap (λ (b : Bool). not b || (is_new old g || not (same_task o n))) (le-leb t old.horizon within)
 
   -- the state in the old run is asked of a gate of both designs alone: a new one is dirty whatever the comparison says
   unless_new : t ≤ old.horizon → (b : Bool) → (is_new old g ≡ true → b ≡ true) →
@@ -77,7 +64,7 @@ module _ (answer : Evaluation → ℕ → State) (old new : Netlist) (g : GateEn
   pub known_decides : t ≤ old.horizon → is_new old g ≡ false → (o s : State) → o ≡ state_before answer old t g → s ≡ state_before answer new t g → same_state o s ≡ true →
       (vs ws : List Value) → vs ≡ (task_at answer old g t).inputs → ws ≡ (task_at answer new g t).inputs → same_values vs ws ≡ not (is_dirty answer old new g t)
   known_decides within known o s of_old of_new on vs ws read_old read_new =
-      sym (not_not (same_values vs ws))
+      sym (not-not (same_values vs ws))
       ∙ ap not (inputs_decide within o s (λ k. of_old) of_new on vs ws read_old read_new known ∙ sym (ap (λ (b : Bool). b || not (same_task (task_at answer old g t) (task_at answer new g t))) known) ∙ sym (by_task within))
 
   -- a new gate is dirty
@@ -88,13 +75,13 @@ module _ (answer : Evaluation → ℕ → State) (old new : Netlist) (g : GateEn
   pub clean_known : is_dirty answer old new g t ≡ false → is_new old g ≡ false
   clean_known off =
       let o = task_at answer old g t in let n = task_at answer new g t in
-      (neither (is_new old g) (not (same_task o n)) (neither (not (nat_le t old.horizon)) (is_new old g || not (same_task o n)) off).1).0
+      (or_parts (is_new old g) (not (same_task o n)) (or_parts (not (nat_le t old.horizon)) (is_new old g || not (same_task o n)) off).1).0
 
   -- nor has the old run ended
   pub clean_within : is_dirty answer old new g t ≡ false → t ≤ old.horizon
   clean_within off =
       let o = task_at answer old g t in let n = task_at answer new g t in
-      let early = not_false (nat_le t old.horizon) (neither (not (nat_le t old.horizon)) (is_new old g || not (same_task o n)) off).0 in
+      let early = not-false (nat_le t old.horizon) (or_parts (not (nat_le t old.horizon)) (is_new old g || not (same_task o n)) off).0 in
       grind (arith, nat_tests)
 
 module _ (answer : Evaluation → ℕ → State) (d : Netlist) (g : GateEntry) where
@@ -108,7 +95,7 @@ module _ (answer : Evaluation → ℕ → State) (d : Netlist) (g : GateEntry) w
       ap (λ (qs : List Value). not (same_values qs vs)) now
       ∙ ap (λ (qs : List Value). not (same_values (task_at answer d g (suc r)).inputs qs)) then
       ∙ sym (ap (λ (b : Bool). not (same_values (task_at answer d g (suc r)).inputs (task_at answer d g r).inputs) || b) none
-      ∙ or_false (not (same_values (task_at answer d g (suc r)).inputs (task_at answer d g r).inputs)))
+      ∙ or-false (not (same_values (task_at answer d g (suc r)).inputs (task_at answer d g r).inputs)))
 
   -- a gate that is not stirred keeps its state
   pub rests : (stays : (e : Evaluation) (t u : ℕ) → t < u → NothingDue u (answer e t) → answer (again e (answer e t)) u ≡ answer e t) → (t : ℕ) → is_stirred answer d g t ≡ false →

@@ -1,21 +1,17 @@
 -- Numbers of places, which stand page by page.
 use Rattle.std.proofs.Common.{◌≡◌, ◌≢◌, ◌∙◌, ◌<◌, ◌≤◌, ◌++◌, ◌∷◌, ◌/◌, ◌%◌, ap, sym, refl, ℕ, zero, suc, inl, inr, true, false, List, [], map, length, arith}
 use Rattle.std.proofs.Math.ListN.{get_or, get_or-eq_default, set}
-use Rattle.std.proofs.lemmas.Bool.{cases_lt}
+use Rattle.std.proofs.lemmas.Bool.{cases_lt, eqb-true}
 use Rattle.std.proofs.lemmas.List.{get_or-set_same, get_or-set_other, length-map, map-set}
-use Rattle.std.proofs.lemmas.Bool.Decides.{nat_tests}
 use Rattle.std.specs.Prelude.{nat_eq, Vec}
 use Rattle.std.specs.Global.{Global}
+use Rattle.scratch.proofs.Among.{nat_itself}
 use Rattle.rundiff.specs.kept.PlaceMaps.{number_at, page_at}
 use Rattle.rundiff.specs.declared.place_map.TheConstants.{PAGE}
-use Rattle.rundiff.proofs.Items.{number_itself}
-
-alike : (a b : ℕ) → nat_eq a b ≡ true → a ≡ b
-alike a b h = grind (arith, nat_tests)
 
 -- numbers that differ by test differ
 differs : (j i : ℕ) → nat_eq i j ≡ false → j ≢ i
-differs j i off = λ same. let itself = number_itself i in cc
+differs j i off = λ same. let itself = nat_itself i in cc
 
 -- a page that is written
 pub page_here : (pages : List (Vec ℕ Global)) (i : ℕ) (page : Vec ℕ Global) → i < length pages → page_at (set pages i page) i ≡ page.items
@@ -51,7 +47,7 @@ other_numbers pages i q page there as_before =
     let in_page : get_or (page_at (set pages i page) (q / PAGE)) (q % PAGE) 0 ≡ get_or (page_at pages (q / PAGE)) (q % PAGE) 0 =
     elim (nat_eq i (q / PAGE)) as (λ b. nat_eq i (q / PAGE) ≡ b → get_or (page_at (set pages i page) (q / PAGE)) (q % PAGE) 0 ≡ get_or (page_at pages (q / PAGE)) (q % PAGE) 0) [
       | true ↦ λ same.
-          let is : i ≡ q / PAGE = alike i (q / PAGE) same in
+          let is : i ≡ q / PAGE = eqb-true i (q / PAGE) same in
           ap (λ k. get_or (page_at (set pages i page) k) (q % PAGE) 0) (sym is) ∙ ap (λ row. get_or row (q % PAGE) 0) (page_here pages i page there)
           ∙ as_before is ∙ ap (λ k. get_or (page_at pages k) (q % PAGE) 0) is
       | false ↦ λ off. ap (λ row. get_or row (q % PAGE) 0) (page_apart pages i (q / PAGE) page off)

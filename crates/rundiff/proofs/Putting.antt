@@ -1,15 +1,14 @@
 -- Lines taken away or put, one after another.
-use Rattle.std.proofs.Common.{◌≡◌, ◌≤◌, ◌∙◌, ap, sym, refl, subst, ℕ, ◌+◌, Bool, true, false, cond, List, [], ◌∷◌, Option, Some, None, Result, Ok, Err, IfOk, arith, take, length, inl, inr}
+use Rattle.std.proofs.Common.{◌≡◌, ◌≤◌, ◌∙◌, ap, sym, refl, subst, ℕ, ◌+◌, Bool, true, false, cond, List, [], ◌∷◌, Option, Some, Result, Ok, Err, IfOk, arith, take, length, inl, inr}
 use Rattle.std.specs.Prelude.{◌⊎◌, ◌==◌, ◌||◌, nat_eq, slice_get}
 use Rattle.std.proofs.lemmas.Bool.{eqb-true}
 use Rattle.std.proofs.lemmas.Bool.Decides.{nat_tests}
-use Rattle.edits.specs.kept.Touched.{is_touched}
+use Rattle.std.proofs.lemmas.List.{take_all}
 use Rattle.waveform.specs.kept.Tables.{IsChangedAt, line_at}
+use Rattle.scratch.proofs.Driven.{earlier}
 use Rattle.rundiff.specs.kept.Finishing.{AreCleared, ArePut}
 use Rattle.rundiff.specs.kept.Places.{is_among}
-use Rattle.rundiff.proofs.Driven.{take_whole}
-use Rattle.rundiff.proofs.Sets.{any_more, flips}
-use Rattle.rundiff.proofs.Steps.{among_more, or_splits, same_place}
+use Rattle.rundiff.proofs.Steps.{among_more}
 
 pub if_mapped : {A E : Type 0} (r : Result A E) (P Q : A → Type 0) → IfOk r P → ((x : A) → P x → Q x) → IfOk r Q
 if_mapped (Ok x) P Q p follows = follows x p
@@ -19,24 +18,6 @@ module _ {X : Type 0} where
   pub none_cleared : (keys : List ℕ) (old : List (Option X)) → AreCleared (take 0 keys) old old
   none_cleared [] old k = refl
   none_cleared (x ∷ keys) old k = refl
-
-  one_more : (a b : Bool) (line : Option X) → cond b None (cond a None line) ≡ cond (a || b) None line
-  one_more true true line = refl
-  one_more false true line = refl
-  one_more true false line = refl
-  one_more false false line = refl
-
-  -- one key more
-  pub clear_more : (keys : List ℕ) (i x : ℕ) (old now new : List (Option X)) → slice_get keys i ≡ Some x → AreCleared (take i keys) old now → IsChangedAt x None now new → AreCleared (take (i + 1) keys) old new
-  clear_more keys i x old now new at so_far changed k =
-      changed k
-      ∙ ap (λ (o : Option X). cond (k == x) None o) (so_far k)
-      ∙ ap (λ (b : Bool). cond b None (cond (is_touched (take i keys) k) None (line_at old k))) (flips k x)
-      ∙ one_more (is_touched (take i keys) k) (x == k) (line_at old k)
-      ∙ ap (λ (b : Bool). cond b None (line_at old k)) (sym (any_more (λ q. q == k) keys i x at))
-
-  pub all_cleared : (keys : List ℕ) (i : ℕ) (old new : List (Option X)) → length keys ≤ i → AreCleared (take i keys) old new → AreCleared keys old new
-  all_cleared keys i old new past are = subst (λ (l : List ℕ). AreCleared l old new) (take_whole keys i past) are
 
   module _ (due : ℕ → Option X) (keys : List ℕ) where
     pub none_put : (places : List ℕ) (old : List (Option X)) → ArePut due keys (take 0 places) old old
@@ -83,9 +64,9 @@ module _ {X : Type 0} where
         kept k is (inr e) = e ∙ is
 
         put_by : (p k : ℕ) → slice_get keys p ≡ Some k → (b : Bool) → nat_eq x p ≡ b → is_among (take (i + 1) places) p ≡ true → line_at new k ≡ due k
-        put_by p k found true same among = more.put p k (sole_on p (same_place x p same)) found
+        put_by p k found true same among = more.put p k (sole_on p (eqb-true x p same)) found
         put_by p k found false apart among =
-            kept k (so_far.put p k (or_splits (is_among (take i places) p) (nat_eq x p) (sym (among_more places i x p at) ∙ among) apart) found) (more.others k)
+            kept k (so_far.put p k (earlier (is_among (take i places) p) (nat_eq x p) (sym (among_more places i x p at) ∙ among) apart) found) (more.others k)
 
         either : (k : ℕ) → (line_at new k ≡ due k) ⊎ (line_at new k ≡ line_at now k) → (line_at now k ≡ due k) ⊎ (line_at now k ≡ line_at old k) → (line_at new k ≡ due k) ⊎ (line_at new k ≡ line_at old k)
         either k (inl e) before = inl e
@@ -93,4 +74,4 @@ module _ {X : Type 0} where
         either k (inr e) (inr d) = inr (e ∙ d)
 
     pub all_put : (places : List ℕ) (i : ℕ) (old new : List (Option X)) → length places ≤ i → ArePut due keys (take i places) old new → ArePut due keys places old new
-    all_put places i old new past are = subst (λ (l : List ℕ). ArePut due keys l old new) (take_whole places i past) are
+    all_put places i old new past are = subst (λ (l : List ℕ). ArePut due keys l old new) (take_all i places past) are

@@ -1,58 +1,46 @@
 -- What stays at a moment: live nets and held gates that are not looked at.
 use Rattle.std.proofs.Common.{◌≡◌, ℕ, zero, suc, ◌-◌, ◌<◌, ◌≤◌, ◌∙◌, ap, sym, refl, subst, Bool, true, false, not, List, [], ◌∷◌, length, Option, Some, None, ◌⊎◌, inl, inr, arith, All}
-use Rattle.std.specs.Prelude.{slice_index_or, nat_eq, nat_le, ◌&&◌, ◌||◌, ◌==◌, ◌≢◌, AllPairs}
+use Rattle.std.specs.Prelude.{slice_index_or, nat_eq, nat_le, ◌||◌, ◌==◌, ◌≢◌, AllPairs}
 use Rattle.std.specs.List.{find, list_any}
 use Rattle.std.specs.Option.{option_map_or, ForSome}
 use Rattle.std.proofs.lemmas.Bool.Decides.{nat_tests}
 use Rattle.std.proofs.lemmas.List.Elements.{All-head, All-tail}
+use Rattle.std.proofs.lemmas.Bool.{or_right, or_parts, and_from, le-leb, not-false}
+use Rattle.std.proofs.lemmas.List.{get_or_default}
 use Rattle.fourstate.specs.declared.value.Value.{Value}
 use Rattle.fourstate.specs.kept.ValueLaws.{is_same, same_self}
 use Rattle.fourstate.specs.Values.{same_value}
 use Rattle.gatestep.specs.Step.{State, Evaluation, due}
 use Rattle.gatestep.specs.Tasks.{PendingFrom}
 use Rattle.gatestep.specs.kept.Tasks.{IsTask, NothingDue}
+use Rattle.catalog.proofs.ListLemmas.{AllPairs-tail}
 use Rattle.design.specs.Connections.{Connection, to_net, to_constant}
 use Rattle.design.specs.kept.Lawful.{IsDesign}
 use Rattle.design.specs.Names.{same_name}
 use Rattle.design.specs.Netlist.{GateEntry, NetEntry, Netlist, has_point, is_at_net}
+use Rattle.design.proofs.NameLemmas.{name_is, name_differs}
 use Rattle.waveform.specs.Entries.{standing}
-use Rattle.waveform.specs.kept.Patches.{IsMended, Keeps, PatchRecord}
-use Rattle.waveform.specs.Timelines.{changes_below, is_change}
+use Rattle.waveform.specs.kept.Patches.{Keeps, PatchRecord}
+use Rattle.waveform.specs.Timelines.{is_change}
 use Rattle.scratch.specs.kept.Places.{has}
 use Rattle.scratch.specs.Run.{evaluation_at, state_before, value}
 use Rattle.scratch.specs.Work.{is_due}
+use Rattle.scratch.proofs.Stirred.{same_self_name}
+use Rattle.scratch.proofs.Still.{still_net}
+use Rattle.scratch.proofs.Runs.{is_task}
 use Rattle.rundiff.specs.kept.Fronts.{AreDrivers, GoesAlong, IsAlike, IsOwn}
 use Rattle.rundiff.specs.kept.Kept.{Agrees, IsClosed, read_at}
 use Rattle.rundiff.specs.kept.Noting.{IsNoted, net_moves, old_moves, pends}
 use Rattle.rundiff.specs.kept.Places.{blank_gate, blank_net, gate_at, is_live, net_at}
 use Rattle.rundiff.proofs.ByPlace.{live_at}
-use Rattle.rundiff.proofs.Lists.{filter_where, name_itself, same_name_equal}
-use Rattle.rundiff.proofs.NetsDone.{same_default}
+use Rattle.rundiff.proofs.Lists.{filter_where, not_so, off_by, pairs_head}
 use Rattle.rundiff.proofs.NamedLines.{NoChange}
-use Rattle.rundiff.proofs.Resting.{along_free, along_last, free_more}
-use Rattle.rundiff.proofs.Sets.{or_none, or_second}
-use Rattle.rundiff.proofs.Still.{not_false, still_net}
-use Rattle.rundiff.proofs.Tasks.{is_task}
+use Rattle.rundiff.proofs.Resting.{along_free, along_last, free_more, own_more}
 use Rattle.rundiff.proofs.Wired.{reads_net}
-
--- what would be true if another were is not where the other is not
-pub not_so : (a b : Bool) → (a ≡ true → b ≡ true) → b ≡ false → a ≡ false
-not_so true b says off = let no : true ≡ false = sym (says refl) ∙ off in absurd (cc)
-not_so false b says off = refl
-
-pub both_on : (a b : Bool) → a ≡ true → b ≡ true → (a && b) ≡ true
-both_on a b on too = rw (on, too) refl
-
-pub off_by : (a b : Bool) → a ≡ true → (a && b) ≡ false → b ≡ false
-off_by true b on off = off
-off_by false b on off = absurd (cc)
 
 due_now : (p : Option (Value × ℕ)) (t : ℕ) → ForSome p (λ event. t ≤ event.1) → option_map_or (λ event. nat_le event.1 t) p false ≡ true → option_map_or (λ event. nat_eq event.1 t) p false ≡ true
 due_now None t later on = absurd (cc)
 due_now (Some event) t later on = let after = later event refl in grind (arith, nat_tests)
-
-early : (t h : ℕ) → t ≤ h → nat_le t h ≡ true
-early t h low = grind (arith, nat_tests)
 
 -- what is said of each connection holds of the one to a net that is read
 read_of : (P : Connection → Type 0) (name : List ℕ) (cs : List Connection) → All P cs → list_any (is_at_net name) cs ≡ true → P (to_net name)
@@ -63,37 +51,17 @@ read_of P name (c ∷ cs) all on = by c (All-head P c cs all) (read_of P name cs
     by (to_constant v) one rest on = rest on
     by (to_net read) one rest on =
         elim (same_name read name) as (λ b. same_name read name ≡ b → (b || list_any (is_at_net name) cs) ≡ true → P (to_net name)) [
-          | true ↦ λ same any. subst (λ (m : List ℕ). P (to_net m)) (same_name_equal read name same) one
+          | true ↦ λ same any. subst (λ (m : List ℕ). P (to_net m)) (name_is read name same) one
           | false ↦ λ apart any. rest any
         ] refl on
-
-pairs_head : {X : Type 0} (R : X → X → Type 0) (y : X) (ys : List X) → AllPairs R (y ∷ ys) → All (R y) ys
-pairs_head R y ys all = λ k d within. all 0 (suc k) d (omega arith) (omega arith)
-
-pairs_tail : {X : Type 0} (R : X → X → Type 0) (y : X) (ys : List X) → AllPairs R (y ∷ ys) → AllPairs R ys
-pairs_tail R y ys all = λ i j d order within. all (suc i) (suc j) d (omega arith) (omega arith)
-
-not_same : (a b : List ℕ) → a ≢ b → same_name a b ≡ false
-not_same a b apart = elim (same_name a b) as (λ t. same_name a b ≡ t → t ≡ false) [ true ↦ λ is. absurd (apart (same_name_equal a b is)) | false ↦ λ is. refl ] refl
 
 -- a net is found by its name
 pub found_at_name : (ns : List NetEntry) (k : ℕ) (d : NetEntry) → AllPairs (λ n m. n.name ≢ m.name) ns → k < length ns → find (λ n. same_name n.name (slice_index_or ns k d).name) ns ≡ Some (slice_index_or ns k d)
 found_at_name [] k d apart low = absurd (omega arith)
-found_at_name (n ∷ ns) zero d apart low = let is = name_itself n.name in rw is refl
+found_at_name (n ∷ ns) zero d apart low = let is = same_self_name n.name in rw is refl
 found_at_name (n ∷ ns) (suc k) d apart low =
-    let other = not_same n.name (slice_index_or ns k d).name (pairs_head (λ n m. n.name ≢ m.name) n ns apart k d (omega arith)) in
-    rw other (found_at_name ns k d (pairs_tail (λ n m. n.name ≢ m.name) n ns apart) (omega arith))
-
--- a function with a patch of its own, a moment more
-own_more : {A : Type 0} (same : A → A → Bool) (drift : A → ℕ → A) (f g : ℕ → A) (t : ℕ) (o : Option (PatchRecord A)) → IsOwn o → Keeps same drift g f o t → changes_below same drift f (suc t) ≡ changes_below same drift f t → Keeps same drift g f o (suc t)
-own_more {A} same drift f g t o own kept none =
-    let patch : PatchRecord A = own.0 in
-    let is : o ≡ Some patch = own.1 in
-    let whole : patch.since ≡ None = own.2 in
-    let at : Keeps same drift g f (Some patch) t = subst (λ (o : Option (PatchRecord A)). Keeps same drift g f o t) is kept in
-    let now : IsMended same drift g f patch.line None t = subst (λ (s : Option ℕ). IsMended same drift g f patch.line s t) whole at in
-    let then : IsMended same drift g f patch.line None (suc t) = now ∙ sym none in
-    subst (λ (o : Option (PatchRecord A)). Keeps same drift g f o (suc t)) (sym is) (subst (λ (s : Option ℕ). IsMended same drift g f patch.line s (suc t)) (sym whole) then)
+    let other = name_differs n.name (slice_index_or ns k d).name (pairs_head (λ n m. n.name ≢ m.name) n ns apart k d (omega arith)) in
+    rw other (found_at_name ns k d (AllPairs-tail (λ n m. n.name ≢ m.name) n ns apart) (omega arith))
 
 -- what is known when the nets to be looked at are known: all is right before t, and these are the live nets that are noted for
 -- t, and the outputs of the held gates that are
@@ -110,7 +78,7 @@ pub record AreLookedAt (answer : Evaluation → ℕ → State) (old new : Netlis
 pub all_looked : (answer : Evaluation → ℕ → State) (old new : Netlist) (live held : ℕ → Bool) (events_at inputs_at nets_at : ℕ → List ℕ) (looked : ℕ → Bool) →
     AreLookedAt answer old new live held events_at inputs_at nets_at 0 looked → (p : ℕ) → live p ≡ true → looked p ≡ true
 all_looked answer old new live held events_at inputs_at nets_at looked are p on =
-    let at = are.awaits.nets p 0 (omega arith) (both_on (live p) (0 == 0 || net_moves answer old new p 0) on refl) in
+    let at = are.awaits.nets p 0 (omega arith) (and_from (live p) (0 == 0 || net_moves answer old new p 0) on refl) in
     let low : at.0 ≤ 0 = at.2 in
     let first : at.0 ≡ 0 = omega arith in
     are.noted p on (ap (λ (u : ℕ). has p (nets_at u)) (sym first) ∙ at.3)
@@ -138,13 +106,13 @@ module _ (answer : Evaluation → ℕ → State) (old new : Netlist)
   none_due q on off =
       let s = state_before answer new now (gate_at new q) in
       not_so (is_due s now) (has q (events_at now))
-      (λ at. are.awaits.events q now (omega arith) (both_on (held q) (pends s now) on (due_now s.pending now (pending_from q (are.drivers.gates q on)) at))) off
+      (λ at. are.awaits.events q now (omega arith) (and_from (held q) (pends s now) on (due_now s.pending now (pending_from q (are.drivers.gates q on)) at))) off
 
   -- what does not move in the old run stays there
   pub stays_in_old : (c : Connection) → old_moves answer old new c now ≡ false → read_at answer old c now ≡ read_at answer old c r
   stays_in_old c off =
       let before : now - 1 ≡ r = omega arith in
-      let same = not_false (same_value (read_at answer old c now) (read_at answer old c (now - 1))) (off_by (nat_le now old.horizon) (not (same_value (read_at answer old c now) (read_at answer old c (now - 1)))) (early now old.horizon are.within) off) in
+      let same = not-false (same_value (read_at answer old c now) (read_at answer old c (now - 1))) (off_by (nat_le now old.horizon) (not (same_value (read_at answer old c now) (read_at answer old c (now - 1)))) (le-leb now old.horizon are.within) off) in
       is_same (read_at answer old c now) (read_at answer old c (now - 1)) same ∙ ap (read_at answer old c) before
 
   -- Live nets that are not looked at.
@@ -156,14 +124,14 @@ module _ (answer : Evaluation → ℕ → State) (old new : Netlist)
     unmoved : net_moves answer old new p now ≡ false
     unmoved =
         not_so (net_moves answer old new p now) (looked p)
-        (λ moves. are.noted p on (at_now p nets_at (are.awaits.nets p now (omega arith) (both_on (live p) (now == 0 || net_moves answer old new p now) on (or_second (now == 0) (net_moves answer old new p now) moves))))) off
+        (λ moves. are.noted p on (at_now p nets_at (are.awaits.nets p now (omega arith) (and_from (live p) (now == 0 || net_moves answer old new p now) on (or_right (now == 0) (net_moves answer old new p now) moves))))) off
 
     pub quiet_old : read_at answer old (to_net (net_at new p).name) now ≡ read_at answer old (to_net (net_at new p).name) r
-    quiet_old = stays_in_old (to_net (net_at new p).name) (or_none (has_point (net_at new p).points now) (old_moves answer old new (to_net (net_at new p).name) now) unmoved).1
+    quiet_old = stays_in_old (to_net (net_at new p).name) (or_parts (has_point (net_at new p).points now) (old_moves answer old new (to_net (net_at new p).name) now) unmoved).1
 
     quiet_driver : (k : ℕ) → k < length new.gates → same_name (gate_at new k).output (net_at new p).name ≡ true → is_due (state_before answer new now (gate_at new k)) now ≡ false
     quiet_driver k low drives =
-        let named = same_name_equal (gate_at new k).output (net_at new p).name drives in
+        let named = name_is (gate_at new k).output (net_at new p).name drives in
         let holds : held k ≡ true = are.drivers.drivers k low ∙ ap (is_live new live) named ∙ live_at new live p is.distinct_nets there ∙ on in
         none_due k holds
         (not_so (has k (events_at now)) (looked p) (λ at. sym (live_at new looked p is.distinct_nets there) ∙ ap (is_live new looked) (sym named) ∙ are.driven k holds at) off)
@@ -171,10 +139,10 @@ module _ (answer : Evaluation → ℕ → State) (old new : Netlist)
     pub quiet_value : value answer new (net_at new p) now ≡ value answer new (net_at new p) r
     quiet_value =
         let P : GateEntry → Type 0 = λ g. is_due (state_before answer new now g) now ≡ false in
-        still_net answer new current (net_at new p) r (or_none (has_point (net_at new p).points now) (old_moves answer old new (to_net (net_at new p).name) now) unmoved).0
+        still_net answer new current (net_at new p) r (or_parts (has_point (net_at new p).points now) (old_moves answer old new (to_net (net_at new p).name) now) unmoved).0
         (filter_where (λ g. same_name g.output (net_at new p).name) P new.gates
         (λ k d low drives.
-        let same = same_default new.gates k blank_gate d low in
+        let same = get_or_default new.gates k blank_gate d low in
         subst P same (quiet_driver k low (ap (λ (g : GateEntry). same_name g.output (net_at new p).name) same ∙ drives))))
 
     -- it is alike in both runs, or its readers are held already
@@ -219,4 +187,4 @@ module _ (answer : Evaluation → ℕ → State) (old new : Netlist)
         by (inl along) =
             let had : f r ≡ g r = along_last same_value standing f g r o along kept in
             free_more same_value standing f g now o (along_free o now along) kept (quiet_value ∙ had ∙ sym quiet_old)
-        by (inr own) = own_more same_value standing f g now o own kept (law f now (suc now) (omega arith) step)
+        by (inr own) = own_more same_value standing f g now (suc now) o own kept (law f now (suc now) (omega arith) step)

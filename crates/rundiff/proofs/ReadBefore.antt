@@ -8,10 +8,12 @@ use Rattle.fourstate.specs.declared.value.Value.{Value}
 use Rattle.fourstate.specs.declared.value.Value.TheVariants.{Unknown}
 use Rattle.gatestep.specs.Step.{State, Evaluation, due, initial}
 use Rattle.gatestep.specs.kept.Tasks.{IsTask, NothingDue}
+use Rattle.catalog.proofs.ListLemmas.{position_find, position_within}
 use Rattle.design.specs.Connections.{Connection, to_net, to_constant}
 use Rattle.design.specs.kept.Lawful.{IsDesign}
 use Rattle.design.specs.Names.{same_name}
 use Rattle.design.specs.Netlist.{Netlist, is_readable}
+use Rattle.design.proofs.NameLemmas.{name_is}
 use Rattle.waveform.specs.Changes.{wave_at, wave_changes_below}
 use Rattle.waveform.specs.kept.Changes.{state_at, trace_below}
 use Rattle.waveform.specs.Entries.{standing}
@@ -27,8 +29,6 @@ use Rattle.rundiff.specs.kept.OldRuns.{AreOldRun, OldRunRecord, state_till}
 use Rattle.rundiff.specs.kept.Places.{blank_net, gate_at, net_at}
 use Rattle.rundiff.proofs.EachPlace.{holds_index}
 use Rattle.rundiff.proofs.Known.{known_gate}
-use Rattle.rundiff.proofs.Lists.{same_name_equal}
-use Rattle.rundiff.proofs.Readers.{position_found}
 use Rattle.rundiff.proofs.Tasks.{old_settled}
 
 no_position : {X : Type 0} (test : X → Bool) (start : ℕ) (xs : List X) → position_from test start xs ≡ None → list_any test xs ≡ false
@@ -46,8 +46,7 @@ module _ (answer : Evaluation → ℕ → State) (old new : Netlist) (run : OldR
     placed_by : (name : List ℕ) (o : Option ℕ) → position_from (λ n. same_name n.name name) 0 new.nets ≡ o → P (option_map_or At o (Fixed Unknown))
     placed_by name None is = fixed Unknown
     placed_by name (Some p) is =
-        let found = position_found (λ n. same_name n.name name) new.nets 0 p blank_net is in
-        at_net p (let same = found.1 in let low = found.2 in let count = right.wave_count in omega (arith, same, low, count))
+        at_net p (let low = position_within (λ n. same_name n.name name) p new.nets is in let count = right.wave_count in omega (arith, low, count))
 
     placed : (terminal : Connection) → P (input_of new terminal)
     placed (to_net name) = placed_by name (position_from (λ n. same_name n.name name) 0 new.nets) refl
@@ -64,11 +63,9 @@ module _ (answer : Evaluation → ℕ → State) (old new : Netlist) (run : OldR
         read (option_map_or At o (Fixed Unknown)) ≡ read_at answer old (to_net name) t
     read_by name None none there = let no : false ≡ true = sym (no_position (λ n. same_name n.name name) 0 new.nets none) ∙ there in absurd (cc)
     read_by name (Some p) is there =
-        let found = position_found (λ n. same_name n.name name) new.nets 0 p blank_net is in
-        let same : p ≡ found.0 = let e = found.1 in omega (arith, e) in
-        let low : p < length run.waves = let below = found.2 in let count = right.wave_count in omega (arith, same, below, count) in
+        let low : p < length run.waves = let below = position_within (λ n. same_name n.name name) p new.nets is in let count = right.wave_count in omega (arith, below, count) in
         let stored = holds_index (λ p wave. wave ≡ wave_changes_below (read_at answer old (to_net (net_at new p).name)) (suc old.horizon)) run.waves p [] right.waves low in
-        let named : (net_at new p).name ≡ name = ap (λ (q : ℕ). (net_at new q).name) same ∙ same_name_equal (net_at new found.0).name name found.3 in
+        let named : (net_at new p).name ≡ name = name_is (net_at new p).name name (position_find (λ n. same_name n.name name) p new.nets blank_net is).1 in
         at_net p low ∙ ap (λ (wave : List (ℕ × Value)). wave_at wave t) stored ∙ law (read_at answer old (to_net (net_at new p).name)) (λ u. refl) t (suc old.horizon) (omega arith)
         ∙ ap (λ (n : List ℕ). read_at answer old (to_net n) t) named
 

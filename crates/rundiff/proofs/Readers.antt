@@ -4,26 +4,17 @@ use Rattle.std.specs.Prelude.{slice_index_or, nat_lt, ◌||◌, ◌==◌, ◌≢
 use Rattle.std.specs.List.{enumerate_from, filter, position_from}
 use Rattle.std.specs.Option.{option_map_or}
 use Rattle.std.proofs.lemmas.Bool.Decides.{nat_tests}
+use Rattle.std.proofs.lemmas.Bool.{eqb-true, or_from, or_left, ltb-true}
+use Rattle.catalog.proofs.ListLemmas.{position_find}
 use Rattle.design.specs.Names.{same_name}
 use Rattle.design.specs.Netlist.{Netlist}
 use Rattle.design.specs.kept.Places.{driver_places}
+use Rattle.design.proofs.NameLemmas.{name_is}
+use Rattle.scratch.proofs.Stirred.{same_self_name}
+use Rattle.scratch.proofs.Among.{nat_apart, nat_itself, nat_beyond}
 use Rattle.rundiff.specs.kept.Fronts.{AreDrivers}
 use Rattle.rundiff.specs.kept.Places.{blank_gate, blank_net, gate_at, is_among, is_live, net_at}
 use Rattle.rundiff.proofs.ByPlace.{live_at}
-use Rattle.rundiff.proofs.Lists.{name_itself, same_name_equal}
-
-same_index : (k p : ℕ) → (k == p) ≡ true → k ≡ p
-same_index k p h = grind (arith, nat_tests)
-
-apart_index : (k p : ℕ) → k < p → (k == p) ≡ false
-apart_index k p h = grind (arith, nat_tests)
-
-index_itself : (k : ℕ) → (k == k) ≡ true
-index_itself k = grind (arith, nat_tests)
-
-or_none : (a b : Bool) → a ≡ false → b ≡ false → (a || b) ≡ false
-or_none true b h g = absurd (cc)
-or_none false b h g = g
 
 -- the places of elements that pass: none before the first, and each by its element
 module _ {X : Type 0} (test : X → Bool) where
@@ -35,16 +26,9 @@ module _ {X : Type 0} (test : X → Bool) where
   none_before k (x ∷ xs) p low =
       let rest = none_before (k + 1) xs p (omega arith) in
       elim (test x) as (λ b. is_among (map (λ q. q.0) (cond b ((k, x) ∷ filter (λ q. test q.1) (enumerate_from (k + 1) xs)) (filter (λ q. test q.1) (enumerate_from (k + 1) xs)))) p ≡ false) [
-        | true ↦ or_none (k == p) (is_among (places_from (k + 1) xs) p) (off k p low) rest
+        | true ↦ or_from (k == p) (is_among (places_from (k + 1) xs) p) (nat_beyond k p low) rest
         | false ↦ rest
       ]
-    where
-      off : (k p : ℕ) → p < k → (k == p) ≡ false
-      off k p low = grind (arith, nat_tests)
-
-  or_right : (b : Bool) → (b || false) ≡ b
-  or_right true = refl
-  or_right false = refl
 
   at_index : (k : ℕ) (xs : List X) (i : ℕ) (d : X) → i < length xs → is_among (places_from k xs) (k + i) ≡ test (slice_index_or xs i d)
   at_index k [] i d low = absurd (omega arith)
@@ -53,13 +37,13 @@ module _ {X : Type 0} (test : X → Bool) where
       let rest : is_among (places_from (k + 1) xs) k ≡ false = none_before (k + 1) xs k (omega arith) in
       ap (λ (p : ℕ). is_among (places_from k (x ∷ xs)) p) e
       ∙ elim (test x) as (λ b. is_among (map (λ q. q.0) (cond b ((k, x) ∷ filter (λ q. test q.1) (enumerate_from (k + 1) xs)) (filter (λ q. test q.1) (enumerate_from (k + 1) xs)))) k ≡ b) [
-        | true ↦ ap (λ (b : Bool). b || is_among (places_from (k + 1) xs) k) (index_itself k)
+        | true ↦ ap (λ (b : Bool). b || is_among (places_from (k + 1) xs) k) (nat_itself k)
         | false ↦ rest
       ]
   at_index k (x ∷ xs) (suc i) d low =
       let e : k + suc i ≡ k + 1 + i = omega arith in
       let rest : is_among (places_from (k + 1) xs) (k + 1 + i) ≡ test (slice_index_or xs i d) = at_index (k + 1) xs i d (omega arith) in
-      let off : (k == k + 1 + i) ≡ false = apart_index k (k + 1 + i) (omega arith) in
+      let off : (k == k + 1 + i) ≡ false = nat_apart k (k + 1 + i) (omega arith) in
       ap (λ (p : ℕ). is_among (places_from k (x ∷ xs)) p) e
       ∙ elim (test x) as (λ b. is_among (map (λ q. q.0) (cond b ((k, x) ∷ filter (λ q. test q.1) (enumerate_from (k + 1) xs)) (filter (λ q. test q.1) (enumerate_from (k + 1) xs)))) (k + 1 + i) ≡ test (slice_index_or xs i d)) [
         | true ↦ ap (λ (b : Bool). b || is_among (places_from (k + 1) xs) (k + 1 + i)) off ∙ rest
@@ -71,7 +55,7 @@ module _ {X : Type 0} (test : X → Bool) where
   none_after k (x ∷ xs) p high =
       let rest = none_after (k + 1) xs p (omega arith) in
       elim (test x) as (λ b. is_among (map (λ q. q.0) (cond b ((k, x) ∷ filter (λ q. test q.1) (enumerate_from (k + 1) xs)) (filter (λ q. test q.1) (enumerate_from (k + 1) xs)))) p ≡ false) [
-        | true ↦ or_none (k == p) (is_among (places_from (k + 1) xs) p) (apart_index k p (omega arith)) rest
+        | true ↦ or_from (k == p) (is_among (places_from (k + 1) xs) p) (nat_apart k p (omega arith)) rest
         | false ↦ rest
       ]
 
@@ -84,7 +68,7 @@ driver_at d name p low =
 pub driver_low : (d : Netlist) (name : List ℕ) (p : ℕ) → is_among (driver_places d.gates name) p ≡ true → p < length d.gates
 driver_low d name p on =
     elim (nat_lt_test p (length d.gates)) as (λ b. nat_lt_test p (length d.gates) ≡ b → p < length d.gates) [
-      | true ↦ λ low. below p (length d.gates) low
+      | true ↦ λ low. ltb-true p (length d.gates) low
       | false ↦ λ high.
           let no : false ≡ true = sym (none_after (λ g. same_name g.output name) 0 d.gates p (past p (length d.gates) high)) ∙ on in absurd (cc)
     ] refl
@@ -92,48 +76,22 @@ driver_low d name p on =
     nat_lt_test : ℕ → ℕ → Bool
     nat_lt_test a b = nat_lt a b
 
-    below : (a b : ℕ) → nat_lt a b ≡ true → a < b
-    below a b h = grind (arith, nat_tests)
-
     past : (a b : ℕ) → nat_lt a b ≡ false → 0 + b ≤ a
     past a b h = grind (arith, nat_tests)
-
--- the first element that passes, by its place
-pub position_found : {X : Type 0} (test : X → Bool) (xs : List X) (start q : ℕ) (d : X) → position_from test start xs ≡ Some q → (i : ℕ) × (q ≡ start + i) × (i < length xs) × (test (slice_index_or xs i d) ≡ true)
-position_found test [] start q d is = absurd (cc)
-position_found {X} test (x ∷ xs) start q d is =
-    elim (test x) as (λ b. test x ≡ b → cond {A = Option ℕ} b (Some start) (position_from test (start + 1) xs) ≡ Some q → (i : ℕ) × (q ≡ start + i) × (i < length (x ∷ xs)) × (test (slice_index_or (x ∷ xs) i d) ≡ true)) [
-      | true ↦ λ on here. let e : start ≡ q = cc in let at : q ≡ start + 0 = omega arith in let low : 0 < length (x ∷ xs) = omega arith in (0, at, low, on)
-      | false ↦ λ off more.
-          let rest = position_found test xs (start + 1) q d more in
-          let i : ℕ = rest.0 in
-          let at : q ≡ start + 1 + i = rest.1 in
-          let there : i < length xs = rest.2 in
-          let on : test (slice_index_or xs i d) ≡ true = rest.3 in
-          let at_more : q ≡ start + suc i = omega arith in
-          let low : suc i < length (x ∷ xs) = omega arith in (suc i, at_more, low, on)
-    ] refl is
 
 -- which names are live, one net more
 module _ (d : Netlist) (distinct : AllPairs (λ n m. n.name ≢ m.name) d.nets) (place : ℕ) (low : place < length d.nets) (live more : ℕ → Bool) (adds : (p : ℕ) → more p ≡ (p == place || live p)) where
   abbrev name : List ℕ
   name = (net_at d place).name
 
-  or_left : (a b : Bool) → a ≡ true → (a || b) ≡ true
-  or_left a b on = rw on refl
-
   by_position : (out : List ℕ) (o : Option ℕ) → position_from (λ n. same_name n.name out) 0 d.nets ≡ o → same_name out name ≡ false → option_map_or more o false ≡ option_map_or live o false
   by_position out None is off = refl
   by_position out (Some q) is off =
-      let found = position_found (λ n. same_name n.name out) d.nets 0 q blank_net is in
-      let i : ℕ = found.0 in
-      let at : q ≡ 0 + i = found.1 in
-      let on : same_name (net_at d i).name out ≡ true = found.3 in
+      let on : same_name (net_at d q).name out ≡ true = (position_find (λ n. same_name n.name out) q d.nets blank_net is).1 in
       adds q ∙ elim (q == place) as (λ b. (q == place) ≡ b → (b || live q) ≡ live q) [
         | true ↦ λ same.
-            let e : i ≡ place = let h = same_index q place same in omega arith in
-            let named : name ≡ out = ap (λ (j : ℕ). (net_at d j).name) (sym e) ∙ same_name_equal (net_at d i).name out on in
-            let no : true ≡ false = sym (name_itself name) ∙ ap (λ (m : List ℕ). same_name m name) named ∙ off in absurd (cc)
+            let named : name ≡ out = ap (λ (j : ℕ). (net_at d j).name) (sym (eqb-true q place same)) ∙ name_is (net_at d q).name out on in
+            let no : true ≡ false = sym (same_self_name name) ∙ ap (λ (m : List ℕ). same_name m name) named ∙ off in absurd (cc)
         | false ↦ λ apart. refl
       ] refl
 
@@ -141,7 +99,7 @@ module _ (d : Netlist) (distinct : AllPairs (λ n m. n.name ≢ m.name) d.nets) 
   live_more out =
       elim (same_name out name) as (λ b. same_name out name ≡ b → is_live d more out ≡ (b || is_live d live out)) [
         | true ↦ λ same.
-            ap (λ (m : List ℕ). is_live d more m) (same_name_equal out name same) ∙ live_at d more place distinct low ∙ adds place ∙ or_left (place == place) (live place) (index_itself place)
+            ap (λ (m : List ℕ). is_live d more m) (name_is out name same) ∙ live_at d more place distinct low ∙ adds place ∙ or_left (place == place) (live place) (nat_itself place)
         | false ↦ λ off. by_position out (position_from (λ n. same_name n.name out) 0 d.nets) refl off
       ] refl
 
@@ -158,7 +116,7 @@ module _ (d : Netlist) (distinct : AllPairs (λ n m. n.name ≢ m.name) d.nets) 
       }
     where
       by_net : (p : ℕ) (b : Bool) → (p == place) ≡ b → (p == place || live p) ≡ true → p < length d.nets
-      by_net p true same on = let e = same_index p place same in omega arith
+      by_net p true same on = let e = eqb-true p place same in omega arith
       by_net p false apart on = before.nets p (sym (ap (λ (b : Bool). b || live p) apart) ∙ on)
 
       by_gate : (p : ℕ) (b : Bool) → is_among (driver_places d.gates name) p ≡ b → (is_among (driver_places d.gates name) p || held p) ≡ true → p < length d.gates

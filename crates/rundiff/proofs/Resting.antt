@@ -1,8 +1,8 @@
 -- The held gates that are not evaluated.
-use Rattle.std.proofs.Common.{◌≡◌, ℕ, suc, ◌<◌, ◌≤◌, ◌∙◌, ap, sym, refl, subst, List, Bool, true, false, not, map, Option, Some, length, arith, ⊎_elim, All, ◌+◌, inl, inr}
+use Rattle.std.proofs.Common.{◌≡◌, ℕ, suc, ◌<◌, ◌≤◌, ◌∙◌, ap, sym, refl, subst, List, Bool, true, false, not, map, Option, Some, length, arith, ⊎_elim, All, ◌+◌, inl, inr, None}
 use Rattle.std.specs.Prelude.{◌&&◌, slice_index_or}
 use Rattle.std.specs.List.{filter}
-use Rattle.std.proofs.lemmas.Bool.{cases_lt}
+use Rattle.std.proofs.lemmas.Bool.{cases_lt, and_parts}
 use Rattle.std.proofs.lemmas.List.Elements.{All-map}
 use Rattle.fourstate.specs.declared.limits.TheConstants.{MAX_DELAY}
 use Rattle.gatestep.specs.Tasks.{PendingFrom}
@@ -10,21 +10,20 @@ use Rattle.gatestep.specs.kept.Tasks.{IsTask, NothingDue, PendingBefore}
 use Rattle.waveform.specs.kept.Entries.{CanStore}
 use Rattle.waveform.specs.declared.times.TheConstants.{TIME_END}
 use Rattle.std.specs.Option.{option_map_or}
+use Rattle.std.proofs.lemmas.Option.{slice_get-get_or}
 use Rattle.gatestep.specs.Step.{State, Evaluation, initial}
 use Rattle.design.specs.kept.Lawful.{IsDesign}
 use Rattle.design.specs.Netlist.{GateEntry, Netlist}
 use Rattle.waveform.specs.kept.Patches.{IsMended, Keeps, PatchRecord}
 use Rattle.waveform.specs.Timelines.{changes_below}
 use Rattle.scratch.specs.Run.{state_after}
-use Rattle.rundiff.specs.kept.Fronts.{ArePlaces, GoesAlong, IsFree, named_state}
+use Rattle.scratch.proofs.Runs.{can_store}
+use Rattle.rundiff.specs.kept.Fronts.{ArePlaces, GoesAlong, IsFree, named_state, IsOwn}
 use Rattle.rundiff.specs.kept.Places.{blank_gate, gate_at, is_among}
 use Rattle.rundiff.specs.kept.Kept.{Agrees, IsClosed}
 use Rattle.rundiff.proofs.Filtering.{filter_places}
 use Rattle.rundiff.proofs.Known.{known_gate}
-use Rattle.rundiff.proofs.ByPlace.{get_at}
-use Rattle.rundiff.proofs.Still.{both}
 use Rattle.rundiff.proofs.Steps.{is_one}
-use Rattle.rundiff.proofs.Tasks.{can_store}
 use Rattle.rundiff.proofs.NamedLines.{keeps_none}
 
 pub resting_held : (slice held_list resting_slice resting : List ℕ) (held test : ℕ → Bool) → slice ≡ held_list → resting_slice ≡ resting → ArePlaces held_list held → resting ≡ filter (λ p. not (test p)) slice →
@@ -104,6 +103,18 @@ along_last same drift f g r o along kept =
     let low : left.2 < suc r = left.4 in was.2 r (omega arith) (omega arith))
     along
 
+-- a function with a patch of its own goes on with it while it does not change
+pub own_more : {A : Type 0} (same : A → A → Bool) (drift : A → ℕ → A) (f g : ℕ → A) (n m : ℕ) (o : Option (PatchRecord A)) → IsOwn o → Keeps same drift g f o n →
+    changes_below same drift f m ≡ changes_below same drift f n → Keeps same drift g f o m
+own_more {A} same drift f g n m o own kept none =
+    let patch : PatchRecord A = own.0 in
+    let is : o ≡ Some patch = own.1 in
+    let whole : patch.since ≡ None = own.2 in
+    let at : Keeps same drift g f (Some patch) n = subst (λ (o : Option (PatchRecord A)). Keeps same drift g f o n) is kept in
+    let now : IsMended same drift g f patch.line None n = subst (λ (s : Option ℕ). IsMended same drift g f patch.line s n) whole at in
+    let then : IsMended same drift g f patch.line None m = now ∙ sym none in
+    subst (λ (o : Option (PatchRecord A)). Keeps same drift g f o m) (sym is) (subst (λ (s : Option ℕ). IsMended same drift g f patch.line s m) (sym whole) then)
+
 module _ (answer : Evaluation → ℕ → State) (old new : Netlist) where
   -- a gate that is not held has the state of the old run
   pub free_state : (live : List ℕ → Bool) (t : ℕ) → IsDesign old → IsClosed old new live → Agrees answer old new live (suc t) → (p : ℕ) → p < length new.gates → live (gate_at new p).output ≡ false →
@@ -115,8 +126,8 @@ module _ (answer : Evaluation → ℕ → State) (old new : Netlist) where
 
 -- what is not held does not work, and what is held and is not both held and working does not work
 pub idle : (h w : Bool) → (h ≡ false → w ≡ false) → (h && w) ≡ false → w ≡ false
-idle true w free both = both
-idle false w free both = free refl
+idle true w free and_parts = and_parts
+idle false w free and_parts = free refl
 
 -- the states of some gates after a moment can be stored there
 pub stored_each : (answer : Evaluation → ℕ → State) (d : Netlist) (pending : (e : Evaluation) (t : ℕ) → IsTask e → NothingDue t (answer e t))
@@ -127,7 +138,7 @@ stored_each answer d pending near is t low places gates states those =
     (All-map (CanStore t) (λ p. state_after answer d (gate_at d p) t) places
     (λ k e within.
     let p = slice_index_or places k e in
-    can_store answer d pending near (gate_at d p) (is.gates p blank_gate (gates p (is_one places k p (get_at places k e within)))) t low))
+    can_store answer d pending near (gate_at d p) (is.gates p blank_gate (gates p (is_one places k p (slice_get-get_or places k e within)))) t low))
 
 -- what can be stored at a moment is pending for later
 pub stored_later : (t : ℕ) (states : List State) → All (CanStore t) states → All (PendingFrom (suc t)) states

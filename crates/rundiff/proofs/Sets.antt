@@ -1,34 +1,27 @@
 -- Sets of places, and lists in their order.
-use Rattle.std.proofs.Common.{◌≡◌, ℕ, zero, suc, ◌+◌, ◌<◌, ◌∙◌, ap, sym, refl, subst, List, [], ◌∷◌, Bool, true, false, cond, length, map, take, Some, arith, add-one, ⊎_elim, nat_cmp}
-use Rattle.std.specs.Prelude.{slice_get, ◌||◌, ◌==◌}
+use Rattle.std.proofs.Common.{◌≡◌, ℕ, ◌∙◌, ap, sym, refl, subst, List, [], ◌∷◌, Bool, true, false, cond, length, map, arith, ⊎_elim, nat_cmp}
+use Rattle.std.specs.Prelude.{◌||◌, ◌==◌}
 use Rattle.std.specs.BTreeSet.{BTreeSet, contains}
 use Rattle.std.specs.Cmp.{nat_cmp_is}
 use Rattle.std.specs.List.{list_any}
 use Rattle.std.specs.List.Sorted.{IsStrictlySortedBy}
 use Rattle.std.specs.Ordering.{is_eq}
 use Rattle.std.specs.declared.cmp.Ordering.TheVariants.{Less, Equal, Greater}
-use Rattle.std.proofs.lemmas.Bool.{cases_lt}
-use Rattle.std.proofs.lemmas.Bool.Decides.{nat_tests}
+use Rattle.std.proofs.lemmas.Bool.{cases_lt, eq-eqb}
 use Rattle.std.proofs.lemmas.Map.Keys.{below_from_sorted}
+use Rattle.std.proofs.Math.Bool.{or-false}
+use Rattle.std.proofs.lemmas.List.{nil_from_length}
+use Rattle.scratch.proofs.Among.{nat_beyond, nat_apart}
 use Rattle.rundiff.specs.kept.Fronts.{ArePlaces}
 use Rattle.rundiff.specs.kept.Places.{is_among}
-
-less_off : (p q : ℕ) → p < q → (q == p) ≡ false
-less_off p q low = grind (arith, nat_tests)
-
-more_off : (p q : ℕ) → q < p → (q == p) ≡ false
-more_off p q low = grind (arith, nat_tests)
-
-same_on : (p q : ℕ) → p ≡ q → (q == p) ≡ true
-same_on p q e = grind (arith, nat_tests)
 
 pub test_is : (p q : ℕ) → (q == p) ≡ is_eq (nat_cmp p q)
 test_is p q =
     ⊎_elim
-    (λ low. less_off p q low ∙ ap is_eq (nat_cmp_is p q Less low))
+    (λ low. nat_beyond q p low ∙ ap is_eq (nat_cmp_is p q Less low))
     (λ high. ⊎_elim
-    (λ below. more_off p q below ∙ ap is_eq (nat_cmp_is p q Greater below))
-    (λ above. let e : p ≡ q = omega arith in same_on p q e ∙ ap is_eq (nat_cmp_is p q Equal e))
+    (λ below. nat_apart q p below ∙ ap is_eq (nat_cmp_is p q Greater below))
+    (λ above. let e : p ≡ q = omega arith in eq-eqb q p (sym e) ∙ ap is_eq (nat_cmp_is p q Equal e))
     (cases_lt q p))
     (cases_lt p q)
 
@@ -45,28 +38,9 @@ set_places s places same sorted =
     } in
     subst (λ (l : List ℕ). ArePlaces l (contains nat_cmp s)) (sym same) those
 
-no_keys : (keys : List ℕ) → length keys ≡ 0 → keys ≡ []
-no_keys [] none = refl
-no_keys (k ∷ keys) none = absurd (omega arith)
-
 -- no place is in a set that has no key
 pub none_in : (s : BTreeSet ℕ) → length s.keys ≡ 0 → (p : ℕ) → contains nat_cmp s p ≡ false
-none_in s none p = sym (among_keys s.keys p) ∙ ap (λ (keys : List ℕ). is_among keys p) (no_keys s.keys none)
-
-pub or_assoc : (a b c : Bool) → ((a || b) || c) ≡ (a || (b || c))
-or_assoc true b c = refl
-or_assoc false b c = refl
-
-or_last : (b : Bool) → (b || false) ≡ b
-or_last true = refl
-or_last false = refl
-
--- one element more
-pub any_more : {X : Type 0} (test : X → Bool) (xs : List X) (i : ℕ) (x : X) → slice_get xs i ≡ Some x → list_any test (take (i + 1) xs) ≡ (list_any test (take i xs) || test x)
-any_more test [] i x at = absurd (cc)
-any_more test (w ∷ xs) zero x at = let e : w ≡ x = cc in or_last (test w) ∙ ap test e
-any_more test (w ∷ xs) (suc i) x at =
-    rw add-one (ap (λ (b : Bool). test w || b) (rw add-one at (any_more test xs i x at)) ∙ sym (or_assoc (test w) (list_any test (take i xs)) (test x)))
+none_in s none p = sym (among_keys s.keys p) ∙ ap (λ (keys : List ℕ). is_among keys p) (nil_from_length s.keys none)
 
 pub any_map : {X Y : Type 0} (test : Y → Bool) (f : X → Y) (xs : List X) → list_any (λ x. test (f x)) xs ≡ list_any test (map f xs)
 any_map test f [] = refl
@@ -76,10 +50,7 @@ any_map test f (x ∷ xs) = ap (λ (b : Bool). test (f x) || b) (any_map test f 
 pub held_more : (a b c : Bool) → cond b true (a || c) ≡ ((a || b) || c)
 held_more true true c = refl
 held_more false true c = refl
-held_more a false c = ap (λ (x : Bool). x || c) (sym (or_last a))
-
-pub flips : (p q : ℕ) → (p == q) ≡ (q == p)
-flips p q = grind (arith, nat_tests)
+held_more a false c = ap (λ (x : Bool). x || c) (sym (or-false a))
 
 pub cond_or : (a b : Bool) → cond a true b ≡ (a || b)
 cond_or true b = refl
@@ -91,14 +62,3 @@ live_step true true c = refl
 live_step true false c = refl
 live_step false true c = refl
 live_step false false c = refl
-
-pub or_first : (a b : Bool) → a ≡ true → (a || b) ≡ true
-or_first a b on = rw on refl
-
-pub or_second : (a b : Bool) → b ≡ true → (a || b) ≡ true
-or_second true b on = refl
-or_second false b on = on
-
-pub or_none : (a b : Bool) → (a || b) ≡ false → (a ≡ false) × (b ≡ false)
-or_none true b h = absurd (cc)
-or_none false b h = (refl, h)

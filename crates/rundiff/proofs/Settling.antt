@@ -1,16 +1,19 @@
 -- What a moment changes of what is live.
 use Rattle.std.proofs.Common.{◌≡◌, ℕ, suc, ◌<◌, ◌≤◌, List, Bool, true, false, Some, length, refl, ap, sym, ◌∙◌, All, ◌⊎◌, inl, inr}
 use Rattle.std.specs.Prelude.{slice_index_or}
+use Rattle.std.proofs.lemmas.List.Folds.{list_any_at}
 use Rattle.gatestep.specs.Step.{State, Evaluation}
 use Rattle.design.specs.Connections.{Connection, to_net, to_constant}
 use Rattle.design.specs.Names.{same_name}
 use Rattle.design.specs.Netlist.{GateEntry, NetEntry, Netlist, is_at_net, net_named, reads}
+use Rattle.design.proofs.NameLemmas.{name_is}
 use Rattle.scratch.specs.Run.{state_before, value}
+use Rattle.scratch.proofs.Stirred.{same_self_name}
+use Rattle.scratch.proofs.Runs.{map_where}
 use Rattle.rundiff.specs.Dirty.{is_dirty}
 use Rattle.rundiff.specs.kept.Kept.{Agrees, IsClosed, IsSameNet, read_at}
 use Rattle.rundiff.proofs.Clean.{clean_after, is_clean, same_net}
-use Rattle.rundiff.proofs.Lists.{any_at, filter_where, name_itself, same_name_equal}
-use Rattle.rundiff.proofs.Still.{map_all}
+use Rattle.rundiff.proofs.Lists.{filter_where}
 use Rattle.rundiff.proofs.Wired.{IsThere, named_in, reads_net}
 
 module _ (answer : Evaluation → ℕ → State) (old new : Netlist) where
@@ -23,7 +26,7 @@ module _ (answer : Evaluation → ℕ → State) (old new : Netlist) where
       read_at answer old (to_net n.name) t ≡ value answer new n t
   untouched_same live t states n off same =
       let drivers = filter_where (λ g. same_name g.output n.name) (λ g. state_before answer old t g ≡ state_before answer new t g) new.gates
-      (λ k d within at. states k d within (ap live (same_name_equal (slice_index_or new.gates k d).output n.name at) ∙ off)) in
+      (λ k d within at. states k d within (ap live (name_is (slice_index_or new.gates k d).output n.name at) ∙ off)) in
       reads_net answer old n.name n t same.net ∙ same_net answer old new n t same.drivers drivers
 
   module _ (there : All (λ g. All (IsThere new) g.inputs) new.gates) (t : ℕ) (live later : List ℕ → Bool)
@@ -58,7 +61,7 @@ module _ (answer : Evaluation → ℕ → State) (old new : Netlist) where
         let facts = named_in new IsAlike name n all_alike found in
         let same : n.name ≡ name = facts.1 in
         let reading : reads g n.name ≡ true =
-        any_at (is_at_net n.name) g.inputs i e in_list (ap (is_at_net n.name) at ∙ ap (λ (m : List ℕ). same_name name m) same ∙ name_itself name) in
+        list_any_at (is_at_net n.name) g.inputs i e in_list (ap (is_at_net n.name) at ∙ ap (λ (m : List ℕ). same_name name m) same ∙ same_self_name name) in
         ap (λ (m : List ℕ). read_at answer old (to_net m) t) (sym same) ∙ unread k d low off n reading facts.0 ∙ sym (reads_net answer new name n t found)
 
     same_inputs : (k : ℕ) (d : GateEntry) → k < length new.gates → later (slice_index_or new.gates k d).output ≡ false →
@@ -72,7 +75,7 @@ module _ (answer : Evaluation → ℕ → State) (old new : Netlist) where
         let g = slice_index_or new.gates k d in
         let free = more g.output off in
         is_clean answer old new g t (within g.output off) (closed.gates k d low free) (states k d low free)
-        (map_all (λ connection. read_at answer old connection t ≡ read_at answer new connection t) (λ c. read_at answer old c t) (λ c. read_at answer new c t) (λ c is. is) g.inputs (same_inputs k d low off))
+        (map_where (λ connection. read_at answer old connection t ≡ read_at answer new connection t) (λ c. read_at answer old c t) (λ c. read_at answer new c t) (λ c is. is) g.inputs (same_inputs k d low off))
 
     -- after the moment what is not live is the same in both runs
     pub settled : Agrees answer old new later (suc t)

@@ -2,6 +2,7 @@
 use Rattle.std.proofs.Common.{◌≡◌, ℕ, zero, suc, ◌+◌, ◌-◌, ◌<◌, ◌≤◌, List, [], ◌++◌, Bool, true, false, subst, Some, map, length, refl, ap, sym, ◌∙◌, arith, All, append-nil, ⊎_elim}
 use Rattle.std.specs.Prelude.{slice_index_or, ◌&&◌}
 use Rattle.std.proofs.lemmas.Bool.{cases_lt}
+use Rattle.std.proofs.Math.Bool.{and-false}
 use Rattle.fourstate.specs.declared.value.Value.{Value}
 use Rattle.gatestep.specs.Record.{at_moment}
 use Rattle.gatestep.specs.Step.{State, Evaluation, due}
@@ -9,19 +10,18 @@ use Rattle.gatestep.specs.kept.Tasks.{NothingDue, again}
 use Rattle.design.specs.Connections.{Connection, to_net, to_constant}
 use Rattle.design.specs.Names.{same_name}
 use Rattle.design.specs.Netlist.{GateEntry, NetEntry, Netlist, net_named}
+use Rattle.design.proofs.NameLemmas.{name_is}
+use Rattle.waveform.proofs.Lists.{filter-none}
 use Rattle.scratch.specs.Run.{state_before, value}
 use Rattle.rundiff.specs.Dirty.{is_dirty, rework_below, working_at}
 use Rattle.rundiff.specs.kept.Kept.{Agrees, Between, IsClear, IsClosed, IsStill, read_at}
 use Rattle.scratch.specs.Work.{is_due, is_stirred, task_at}
+use Rattle.scratch.proofs.Runs.{map_where}
+use Rattle.scratch.proofs.Still.{still_net, is_still, still_after}
 use Rattle.rundiff.proofs.Clean.{clean_after, is_clean}
-use Rattle.rundiff.proofs.Lists.{filter_where, same_name_equal}
+use Rattle.rundiff.proofs.Lists.{filter_where}
 use Rattle.rundiff.proofs.Settling.{untouched_same}
-use Rattle.rundiff.proofs.Still.{is_still, map_all, none_kept, still_after, still_net}
 use Rattle.rundiff.proofs.Wired.{IsThere, named_in, reads_net}
-
-and_false : (a : Bool) → (a && false) ≡ false
-and_false true = refl
-and_false false = refl
 
 -- at each moment from r up to and with l
 abbrev pub Through : (r l : ℕ) → (ℕ → Type 0) → Type 0
@@ -50,7 +50,7 @@ module _ (answer : Evaluation → ℕ → State) (old new : Netlist)
         let n = slice_index_or new.nets k d in
         still_net answer new current n r (still.points k d low on)
         (filter_where (λ g. same_name g.output n.name) (λ g. is_due (state_before answer new next g) next ≡ false) new.gates
-        (λ i e within at. still.due i e within (ap live (same_name_equal (slice_index_or new.gates i e).output n.name at) ∙ on)))
+        (λ i e within at. still.due i e within (ap live (name_is (slice_index_or new.gates i e).output n.name at) ∙ on)))
 
     -- what is known of each net of the new design
     abbrev NetFacts : NetEntry → Type 0
@@ -109,15 +109,15 @@ module _ (answer : Evaluation → ℕ → State) (old new : Netlist)
     gate_facts = λ k d low.
         let g = slice_index_or new.gates k d in (
           (λ off. is_clean answer old new g next (still.within g.output off) (closed.gates k d low off) (agrees.states k d low off)
-              (map_all (λ c. IsThere new c × (read_at answer old c r ≡ read_at answer new c r)) (λ c. read_at answer old c next) (λ c. read_at answer new c next)
+              (map_where (λ c. IsThere new c × (read_at answer old c r ≡ read_at answer new c r)) (λ c. read_at answer old c next) (λ c. read_at answer new c next)
               (same_input (still.within g.output off)) g.inputs (λ i e in_list. (there k d low i e in_list, agrees.inputs k d low off i e in_list)))),
           (λ on. is_still answer new g r (still.due k d low on)
-              (map_all (λ c. IsThere new c × (next ≤ old.horizon → read_at answer old c next ≡ read_at answer old c r)) (λ c. read_at answer new c next) (λ c. read_at answer new c r)
+              (map_where (λ c. IsThere new c × (next ≤ old.horizon → read_at answer old c next ≡ read_at answer old c r)) (λ c. read_at answer new c next) (λ c. read_at answer new c r)
               kept_input g.inputs (λ i e in_list. (there k d low i e in_list, still.reads k d low on i e in_list)))),
         )
 
     idle_by : (g : GateEntry) (b : Bool) → live g.output ≡ b → GateFacts g → (is_dirty answer old new g next && is_stirred answer new g next) ≡ false
-    idle_by g true on facts = let calm = facts.1 on in rw calm (and_false (is_dirty answer old new g next))
+    idle_by g true on facts = let calm = facts.1 on in rw calm (and-false (is_dirty answer old new g next))
     idle_by g false off facts = let clean = facts.0 off in rw clean refl
 
     -- what is known of a moment that may be skipped
@@ -141,7 +141,7 @@ module _ (answer : Evaluation → ℕ → State) (old new : Netlist)
           states = λ k d low on. still_after answer new stays (slice_index_or new.gates k d) r ((gate_facts k d low).1 on);
           values = λ k d low on. ((net_facts k d low).0 on).0;
           idle =
-              none_kept (λ g. is_dirty answer old new g next && is_stirred answer new g next) new.gates
+              filter-none (λ g. is_dirty answer old new g next && is_stirred answer new g next) new.gates
               (λ k d low. let g = slice_index_or new.gates k d in idle_by g (live g.output) refl (gate_facts k d low));
         }
 

@@ -7,8 +7,8 @@ use Rattle.fourstate.specs.declared.value.Value.{Value}
 use Rattle.design.specs.kept.Lawful.{AreRising}
 use Rattle.design.specs.Netlist.{has_point, stimulus}
 use Rattle.design.specs.kept.Netlist.{next_point}
+use Rattle.scratch.proofs.Still.{same_stimulus}
 use Rattle.rundiff.proofs.Points.{point_first}
-use Rattle.rundiff.proofs.Still.{same_stimulus}
 
 not_yet : (o : Option ℕ) (u end : ℕ) → u < end → IfSome o (λ m. end ≤ m) → IsSomeAnd o (λ m. m ≤ u) → true ≡ false
 not_yet None u end low late early = absurd early

@@ -1,8 +1,8 @@
 -- Nets whose waves are those of the old run.
-use Rattle.std.proofs.Common.{◌≡◌, ℕ, suc, ◌<◌, ◌∙◌, ap, sym, refl, List, [], ◌∷◌, ◌++◌, Bool, true, false, length, Option, Some, None, arith}
-use Rattle.std.specs.Prelude.{◌||◌, nat_eq, slice_get}
+use Rattle.std.proofs.Common.{◌≡◌, ℕ, suc, ◌<◌, ◌∙◌, ap, sym, refl, List, [], ◌∷◌, ◌++◌, true, false, length, Option, Some, None}
+use Rattle.std.specs.Prelude.{nat_eq, slice_get}
 use Rattle.std.specs.Option.{option_map, option_map_or}
-use Rattle.std.proofs.lemmas.Bool.Decides.{nat_tests}
+use Rattle.std.proofs.lemmas.Bool.{or_right}
 use Rattle.fourstate.specs.declared.value.Value.{Value}
 use Rattle.fourstate.specs.declared.value.Value.TheVariants.{Unknown}
 use Rattle.fourstate.specs.Values.{same_value}
@@ -17,6 +17,7 @@ use Rattle.waveform.specs.Changes.{wave_changes_below}
 use Rattle.waveform.specs.Entries.{standing}
 use Rattle.waveform.specs.kept.Patches.{PatchRecord}
 use Rattle.scratch.specs.Run.{value, wave_of}
+use Rattle.scratch.proofs.Among.{nat_itself}
 use Rattle.rundiff.specs.kept.Changed.{AreChanged}
 use Rattle.rundiff.specs.kept.Finishing.{new_wave}
 use Rattle.rundiff.specs.kept.Fronts.{AreWaves}
@@ -28,21 +29,11 @@ use Rattle.rundiff.proofs.ByKey.{IsNetAt, net_placed}
 use Rattle.rundiff.proofs.Finished.{SameChanges}
 use Rattle.rundiff.proofs.NamedLines.{keeps_none}
 use Rattle.rundiff.proofs.Steps.{among_push}
+use Rattle.rundiff.proofs.Lists.{not_so}
 
 -- a place is among those to which it was added
 pub among_last : (xs : List ℕ) (x : ℕ) → is_among (xs ++ x ∷ []) x ≡ true
-among_last xs x = among_push xs x x ∙ or_right (is_among xs x) (nat_eq x x) (itself x)
-  where
-    or_right : (a b : Bool) → b ≡ true → (a || b) ≡ true
-    or_right true b on = refl
-    or_right false b on = on
-
-    itself : (n : ℕ) → nat_eq n n ≡ true
-    itself n = grind (arith, nat_tests)
-
-not_among : (a b : Bool) → (a ≡ true → b ≡ true) → b ≡ false → a ≡ false
-not_among true b more off = sym (more refl) ∙ off
-not_among false b more off = refl
+among_last xs x = among_push xs x x ∙ or_right (is_among xs x) (nat_eq x x) (nat_itself x)
 
 module _ (answer : Evaluation → ℕ → State) (old new : Keyed)
     (names : (key : ℕ) → net_named (netlist old) (name_of old.nets key) ≡ net_by_key old key)
@@ -69,7 +60,7 @@ module _ (answer : Evaluation → ℕ → State) (old new : Keyed)
       (all_touched : (key : ℕ) → is_touched nets key ≡ true → is_touched keys key ≡ true)
       (all_places : (p key : ℕ) → is_among places p ≡ true → slice_get (keys_of new.nets) p ≡ Some key → is_touched keys key ≡ true) where
     net_stays : (key : ℕ) → is_touched keys key ≡ false → net_by_key new key ≡ net_by_key old key
-    net_stays key off = touched.nets_stay key (not_among (is_touched nets key) (is_touched keys key) (all_touched key) off)
+    net_stays key off = touched.nets_stay key (not_so (is_touched nets key) (is_touched keys key) (all_touched key) off)
 
     stays_with : (key : ℕ) → is_touched keys key ≡ false → (o : Option NetEntry) → net_by_key new key ≡ o → new_wave answer new key ≡ new_wave answer old key
     stays_with key off None found =
@@ -77,7 +68,7 @@ module _ (answer : Evaluation → ℕ → State) (old new : Keyed)
     stays_with key off (Some n) found =
         let one = net_placed new key n found in let p : ℕ = one.0 in let at : IsNetAt new key p n = one.1 in
         let there : net_by_key old key ≡ Some (net_at (netlist new) p) = sym (net_stays key off) ∙ found ∙ ap (λ (x : NetEntry). Some x) (sym at.net) in
-        let none = no_waves p at.low (not_among (is_among places p) (is_touched keys key) (λ on. all_places p key on at.under) off) in
+        let none = no_waves p at.low (not_so (is_among places p) (is_touched keys key) (λ on. all_places p key on at.under) off) in
         ap (option_map (wave_of answer (netlist new))) (net_stays key off ∙ there)
         ∙ ap (λ (w : List (ℕ × Value)). Some w) (sym (wave_stays key p at.low there none))
         ∙ ap (option_map (wave_of answer (netlist old))) (sym there)

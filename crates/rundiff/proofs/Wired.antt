@@ -2,15 +2,17 @@
 use Rattle.std.proofs.Common.{◌≡◌, ℕ, List, true, Option, Some, ap, All}
 use Rattle.std.specs.Prelude.{slice_index_or}
 use Rattle.std.specs.Option.{option_map_or}
+use Rattle.std.proofs.lemmas.List.Sums.{AllPass-from_list_all}
 use Rattle.fourstate.specs.declared.value.Value.TheVariants.{Unknown}
 use Rattle.gatestep.specs.Step.{State, Evaluation}
 use Rattle.design.specs.Connections.{Connection, to_net, to_constant}
 use Rattle.design.specs.kept.Lawful.{IsDesign}
 use Rattle.design.specs.Names.{same_name}
 use Rattle.design.specs.Netlist.{NetEntry, Netlist, is_readable, net_named}
+use Rattle.design.proofs.NameLemmas.{name_is}
 use Rattle.scratch.specs.Run.{value}
 use Rattle.rundiff.specs.kept.Kept.{read_at}
-use Rattle.rundiff.proofs.Lists.{all_pass, found_any, found_in, same_name_equal}
+use Rattle.rundiff.proofs.Lists.{found_any, found_in}
 
 -- a connection is a constant, or names a net
 abbrev pub IsThere : Netlist → Connection → Type 0
@@ -24,13 +26,13 @@ readable_there d (to_constant v) is = tt
 pub inputs_there : (d : Netlist) → IsDesign d → All (λ g. All (IsThere d) g.inputs) d.gates
 inputs_there d is = λ k e within i c low.
     let g = slice_index_or d.gates k e in
-    readable_there d (slice_index_or g.inputs i c) (all_pass (is_readable d) g.inputs (is.wiring k e within).inputs i c low)
+    readable_there d (slice_index_or g.inputs i c) (AllPass-from_list_all (is_readable d) g.inputs (is.wiring k e within).inputs i c low)
 
 -- what is said of each net holds of the one that has a name
 pub named_in : (d : Netlist) (P : NetEntry → Type 0) (name : List ℕ) (n : NetEntry) → All P d.nets → net_named d name ≡ Some n → P n × (n.name ≡ name)
 named_in d P name n all found =
     let facts = found_in P (λ m. same_name m.name name) d.nets n all found in
-    (facts.0, same_name_equal n.name name facts.1)
+    (facts.0, name_is n.name name facts.1)
 
 -- what reads a net that is there reads its value
 pub reads_net : (answer : Evaluation → ℕ → State) (d : Netlist) (name : List ℕ) (n : NetEntry) (t : ℕ) → net_named d name ≡ Some n →

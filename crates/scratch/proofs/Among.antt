@@ -7,6 +7,8 @@ use Rattle.std.proofs.lemmas.Bool.Decides.{nat_tests}
 use Rattle.std.proofs.lemmas.List.Folds.{list_any-append}
 use Rattle.std.proofs.lemmas.Map.Views.{All-from_any, Contains-from_any, list_any-from_Contains, exact_unsigned_eq}
 use Rattle.std.proofs.lemmas.Option.{slice_get-get_or}
+use Rattle.std.proofs.lemmas.Bool.{eqb-true, or_parts}
+use Rattle.std.proofs.Math.Bool.{or-false, or_assoc, and-false}
 use Rattle.scratch.specs.kept.Places.{AreRising, has}
 use Rattle.scratch.proofs.Lists.{take_next}
 
@@ -19,39 +21,7 @@ nat_apart k j h = grind (arith, nat_tests)
 pub nat_beyond : (k j : ℕ) → j < k → nat_eq k j ≡ false
 nat_beyond k j h = grind (arith, nat_tests)
 
-pub nat_same : (k j : ℕ) → nat_eq k j ≡ true → k ≡ j
-nat_same k j h = grind (arith, nat_tests)
-
-pub or_true : (b : Bool) → (b || true) ≡ true
-or_true true = refl
-or_true false = refl
-
-pub or_false : (b : Bool) → (b || false) ≡ b
-or_false true = refl
-or_false false = refl
-
-pub or_right : (a b : Bool) → b ≡ true → (a || b) ≡ true
-or_right true b h = refl
-or_right false b h = h
-
-pub or_assoc : (a b c : Bool) → ((a || b) || c) ≡ (a || (b || c))
-or_assoc true b c = refl
-or_assoc false b c = refl
-
-pub and_false : (a : Bool) → (a && false) ≡ false
-and_false true = refl
-and_false false = refl
-
-pub and_true : (b : Bool) → (b && true) ≡ b
-and_true true = refl
-and_true false = refl
-
 -- What a test finds in a list.
-
-pub any_to : {X : Type 0} (test : X → Bool) (xs : List X) (k : ℕ) (x : X) → slice_get xs k ≡ Some x → test x ≡ true → list_any test xs ≡ true
-any_to test [] k x at ok = absurd (cc)
-any_to test (w ∷ xs) zero x at ok = let e : w ≡ x = cc in ap (λ z. test z || list_any test xs) e ∙ ap (λ (b : Bool). b || list_any test xs) ok
-any_to test (w ∷ xs) (suc k) x at ok = or_right (test w) (list_any test xs) (any_to test xs k x at ok)
 
 abbrev pub Found : {X : Type 0} → (X → Bool) → List X → Type 0
 Found {X} test xs = (k : ℕ) × (x : X) × (slice_get xs k ≡ Some x) × (test x ≡ true)
@@ -65,18 +35,18 @@ any_from test [] h = absurd (cc)
 any_from test (w ∷ xs) h = found_by test w xs (test w) refl (any_from test xs) h
 
 pub has_at : (k : ℕ) (ks : List ℕ) → has k ks ≡ true → (i : ℕ) × (slice_get ks i ≡ Some k)
-has_at k ks h = let f = any_from (nat_eq k) ks h in (f.0, f.2 ∙ ap (λ x. Some x) (sym (nat_same k f.1 f.3)))
+has_at k ks h = let f = any_from (nat_eq k) ks h in (f.0, f.2 ∙ ap (λ x. Some x) (sym (eqb-true k f.1 f.3)))
 
 has_filter_by : (p : ℕ → Bool) (k j : ℕ) (ks : List ℕ) (b : Bool) → p j ≡ b → (c : Bool) → nat_eq k j ≡ c → has k (filter p ks) ≡ (has k ks && p k) →
     has k (cond b (j ∷ filter p ks) (filter p ks)) ≡ ((c || has k ks) && p k)
 has_filter_by p k j ks true is true same rest =
-    let e : k ≡ j = nat_same k j same in
+    let e : k ≡ j = eqb-true k j same in
     ap (λ (x : Bool). x || has k (filter p ks)) same ∙ sym (ap p e ∙ is)
 has_filter_by p k j ks true is false same rest = ap (λ (x : Bool). x || has k (filter p ks)) same ∙ rest
 has_filter_by p k j ks false is true same rest =
-    let e : k ≡ j = nat_same k j same in
+    let e : k ≡ j = eqb-true k j same in
     let none : p k ≡ false = ap p e ∙ is in
-    rest ∙ ap (λ (x : Bool). has k ks && x) none ∙ and_false (has k ks) ∙ sym none
+    rest ∙ ap (λ (x : Bool). has k ks && x) none ∙ and-false (has k ks) ∙ sym none
 has_filter_by p k j ks false is false same rest = rest
 
 pub has_filter : (p : ℕ → Bool) (k : ℕ) (ks : List ℕ) → has k (filter p ks) ≡ (has k ks && p k)
@@ -89,22 +59,18 @@ in_range ks n h = All-from_any nat_eq_equiv (λ k. k < n) ks h
 
 -- one place more
 pub has_more : (k p : ℕ) (ks : List ℕ) → has k (ks ++ p ∷ []) ≡ (has k ks || nat_eq k p)
-has_more k p ks = list_any-append (nat_eq k) ks (p ∷ []) ∙ ap (λ (b : Bool). has k ks || b) (or_false (nat_eq k p))
+has_more k p ks = list_any-append (nat_eq k) ks (p ∷ []) ∙ ap (λ (b : Bool). has k ks || b) (or-false (nat_eq k p))
 
 pub has_next : (k : ℕ) (ks : List ℕ) (i : ℕ) → i < length ks → has k (take (i + 1) ks) ≡ (has k (take i ks) || nat_eq k (get_or ks i 0))
 has_next k ks i low = ap (has k) (take_next ks i (get_or ks i 0) (slice_get-get_or ks i 0 low)) ∙ has_more k (get_or ks i 0) (take i ks)
 
 -- a place that is in neither of two lists
 pub in_neither : (k : ℕ) (xs ys : List ℕ) → has k (xs ++ ys) ≡ false → (has k xs ≡ false) × (has k ys ≡ false)
-in_neither k xs ys off = neither_by (has k xs) (has k ys) (sym (list_any-append (nat_eq k) xs ys) ∙ off)
-  where
-    neither_by : (a b : Bool) → (a || b) ≡ false → (a ≡ false) × (b ≡ false)
-    neither_by true b h = absurd (cc)
-    neither_by false b h = (refl, h)
+in_neither k xs ys off = or_parts (has k xs) (has k ys) (sym (list_any-append (nat_eq k) xs ys) ∙ off)
 
-any_more : {X : Type 0} (f : X → Bool) (xs : List X) (i : ℕ) (x : X) → slice_get xs i ≡ Some x → list_any f (take (i + 1) xs) ≡ (list_any f (take i xs) || f x)
+pub any_more : {X : Type 0} (f : X → Bool) (xs : List X) (i : ℕ) (x : X) → slice_get xs i ≡ Some x → list_any f (take (i + 1) xs) ≡ (list_any f (take i xs) || f x)
 any_more f xs i x at =
-    ap (list_any f) (take_next xs i x at) ∙ list_any-append f (take i xs) (x ∷ []) ∙ ap (λ (b : Bool). list_any f (take i xs) || b) (or_false (f x))
+    ap (list_any f) (take_next xs i x at) ∙ list_any-append f (take i xs) (x ∷ []) ∙ ap (λ (b : Bool). list_any f (take i xs) || b) (or-false (f x))
 
 -- a set to which the places of one element more are added
 pub bits_more : {X : Type 0} (k : ℕ) (f : X → List ℕ) (xs : List X) (i : ℕ) (x : X) (first prev now : Bool) → slice_get xs i ≡ Some x → now ≡ (prev || has k (f x)) →
@@ -145,7 +111,7 @@ same_rest false b c h e = e
 
 more_of : (k : ℕ) (ks js : List ℕ) → AreRising (suc k) ks → AreRising (suc k) js → ((m : ℕ) → has m (k ∷ ks) ≡ has m (k ∷ js)) → (m : ℕ) (b : Bool) → nat_eq m k ≡ b → has m ks ≡ has m js
 more_of k ks js r s h m true e =
-    let same : m ≡ k = nat_same m k e in
+    let same : m ≡ k = eqb-true m k e in
     rw same (absent k (suc k) ks r (omega arith) ∙ sym (absent k (suc k) js s (omega arith)))
 more_of k ks js r s h m false e = same_rest (nat_eq m k) (has m ks) (has m js) e (h m)
 

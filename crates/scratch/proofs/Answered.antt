@@ -6,6 +6,7 @@ use Rattle.std.specs.Option.{option_map, option_map_or}
 use Rattle.std.proofs.lemmas.List.{length-append, length-map, take-append-drop}
 use Rattle.std.proofs.lemmas.List.Concat.{flat_map-append}
 use Rattle.std.proofs.lemmas.Option.{slice_get-map, slice_get_within}
+use Rattle.std.proofs.lemmas.Map.Keys.{any_passes_from_place}
 use Rattle.fourstate.specs.declared.value.Value.{Value}
 use Rattle.gatestep.specs.Step.{State, Evaluation}
 use Rattle.design.specs.Netlist.{GateEntry, Netlist}
@@ -16,7 +17,7 @@ use Rattle.scratch.specs.kept.Open.{asked_at, is_open_at, open_work_at}
 use Rattle.scratch.specs.kept.Places.{AreApart, has, passing}
 use Rattle.scratch.specs.Run.{state_before, value}
 use Rattle.scratch.specs.Work.{is_stirred, task_at}
-use Rattle.scratch.proofs.Among.{any_to, nat_itself}
+use Rattle.scratch.proofs.Among.{nat_itself}
 use Rattle.scratch.proofs.Apart.{apart_rising, same_work}
 use Rattle.scratch.proofs.Lists.{take_next}
 use Rattle.scratch.proofs.Moments.{evaluation_is, map_twice}
@@ -71,7 +72,7 @@ module _ (is_open : GateEntry → ℕ → Bool) (answer : Evaluation → ℕ →
   -- the gate at a place among the stirred ones is there
   pub is_there : (gates : List ℕ) → ((k : ℕ) → has k gates ≡ has k (passing stirred 0 d.gates)) → (i place : ℕ) → slice_get gates i ≡ Some place → place < length d.gates
   is_there gates those i place at =
-      in_list stirred d.gates place (sym (has_place stirred d.gates place) ∙ sym (those place) ∙ any_to (nat_eq place) gates i place at (nat_itself place))
+      in_list stirred d.gates place (sym (has_place stirred d.gates place) ∙ sym (those place) ∙ any_passes_from_place (nat_eq place) gates i place at (nat_itself place))
 
   module _ (gates : List ℕ) (apart : AreApart gates) (those : (k : ℕ) → has k gates ≡ has k (passing stirred 0 d.gates)) where
     rearranged : IsPermutation (open_work_at is_open answer d t) (flat_map asks gates)

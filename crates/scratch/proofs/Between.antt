@@ -3,9 +3,11 @@ use Rattle.std.proofs.Common.{◌≡◌, ◌<◌, ◌∙◌, sym, ap, refl, Bool
 use Rattle.std.specs.Prelude.{nat_eq, ◌||◌}
 use Rattle.std.proofs.Math.ListN.{set}
 use Rattle.std.proofs.lemmas.Bool.Decides.{nat_tests}
+use Rattle.std.proofs.lemmas.Bool.{eqb-true}
+use Rattle.std.proofs.Math.Bool.{or-true, or-false}
 pub use Rattle.scratch.specs.kept.Places.{Between}
 use Rattle.scratch.specs.kept.Places.{has}
-use Rattle.scratch.proofs.Among.{has_more, nat_itself, nat_same, or_false, or_true}
+use Rattle.scratch.proofs.Among.{has_more, nat_itself}
 
 module _ {X : Type 0} (done : List ℕ) (old new now : ℕ → X) (so_far : Between done old new now) where
   pub is_old : (p : ℕ) → has p done ≡ false → now p ≡ old p
@@ -17,10 +19,10 @@ module _ {X : Type 0} (done : List ℕ) (old new now : ℕ → X) (so_far : Betw
   module _ (p : ℕ) (next : ℕ → X) (is : next p ≡ new p) (same : (k : ℕ) → nat_eq k p ≡ false → next k ≡ now k) where
     step_by : (k : ℕ) (b : Bool) → nat_eq k p ≡ b → next k ≡ cond (has k done || nat_eq k p) (new k) (old k)
     step_by k true e =
-        let here : k ≡ p = nat_same k p e in
-        ap next here ∙ is ∙ sym (ap new here) ∙ sym (ap (λ (b : Bool). cond b (new k) (old k)) (ap (λ (c : Bool). has k done || c) e ∙ or_true (has k done)))
+        let here : k ≡ p = eqb-true k p e in
+        ap next here ∙ is ∙ sym (ap new here) ∙ sym (ap (λ (b : Bool). cond b (new k) (old k)) (ap (λ (c : Bool). has k done || c) e ∙ or-true (has k done)))
     step_by k false e =
-        same k e ∙ so_far k ∙ sym (ap (λ (b : Bool). cond b (new k) (old k)) (ap (λ (c : Bool). has k done || c) e ∙ or_false (has k done)))
+        same k e ∙ so_far k ∙ sym (ap (λ (b : Bool). cond b (new k) (old k)) (ap (λ (c : Bool). has k done || c) e ∙ or-false (has k done)))
 
     -- one place more is done
     pub step : Between (done ++ p ∷ []) old new next
@@ -54,11 +56,6 @@ set_apart (w ∷ xs) zero zero x h = absurd (let e = nat_itself 0 in cc)
 set_apart (w ∷ xs) zero (suc k) x h = refl
 set_apart (w ∷ xs) (suc p) zero x h = refl
 set_apart (w ∷ xs) (suc p) (suc k) x h = set_apart xs p k x (grind (arith, nat_tests))
-
-pub length_set : {X : Type 0} (xs : List X) (p : ℕ) (x : X) → length (set xs p x) ≡ length xs
-length_set [] p x = refl
-length_set (w ∷ xs) zero x = refl
-length_set (w ∷ xs) (suc p) x = ap suc (length_set xs p x)
 
 module _ {X : Type 0} (done : List ℕ) (old new now : List X) (so_far : Between done (slice_get old) (slice_get new) (slice_get now)) where
   -- one place more is written

@@ -2,10 +2,10 @@
 use Rattle.std.proofs.Common.{Bool, true, false, set, inl, inr, ◌⊎◌, IfSome, ◌≡◌, ◌<◌, ◌≤◌, ◌∙◌, sym, ap, subst, refl, ℕ, suc, ◌+◌, List, [], ◌∷◌, map, Option, Some, None, slice_get, slice_index_or, unwrap_or, length, All, arith}
 use Rattle.std.specs.Option.{option_map}
 use Rattle.std.specs.List.{enumerate_from, filter}
-use Rattle.std.proofs.lemmas.List.{length-map}
+use Rattle.std.proofs.lemmas.List.{length-map, length-set}
 use Rattle.std.proofs.lemmas.List.Elements.{All-cons, All-filter, All-head, All-map, All-nil, All-weaker}
 use Rattle.std.specs.Prelude.{nat_eq}
-use Rattle.std.proofs.lemmas.Bool.{cases_lt}
+use Rattle.std.proofs.lemmas.Bool.{cases_lt, eqb-true}
 use Rattle.std.proofs.lemmas.Bool.Decides.{nat_tests}
 use Rattle.std.proofs.lemmas.Option.{slice_get-map, slice_get_past, slice_get_read}
 use Rattle.fourstate.specs.declared.value.Value.{Value}
@@ -16,6 +16,7 @@ use Rattle.design.specs.kept.Lawful.{IsGate}
 use Rattle.design.specs.Names.{same_name}
 use Rattle.design.specs.Netlist.{GateEntry, NetEntry, Netlist}
 use Rattle.design.specs.kept.Places.{driver_places}
+use Rattle.design.proofs.ByNameLemmas.{all_at}
 use Rattle.waveform.specs.Changes.{wave_changes_below}
 use Rattle.waveform.specs.kept.Changes.{state_at}
 use Rattle.waveform.specs.kept.Currents.{GoesOn, currents}
@@ -24,14 +25,12 @@ use Rattle.scratch.specs.kept.Kept.{currents_of, lone_driver}
 use Rattle.scratch.specs.kept.Recorded.{recorded_below}
 use Rattle.scratch.specs.Run.{evaluation_at, state_after, state_before, value, wave_of}
 use Rattle.scratch.specs.kept.Run.{trace_of}
-use Rattle.scratch.proofs.Among.{nat_same}
-use Rattle.scratch.proofs.Between.{alike as alike_lists, length_set, set_apart, set_here}
+use Rattle.scratch.proofs.Between.{alike as alike_lists, set_apart, set_here}
 use Rattle.scratch.proofs.Copies.{GivesValues}
 use Rattle.scratch.proofs.Lists.{some_at}
 use Rattle.scratch.proofs.NetSteps.{lone_gives, lone_is, resolved_is}
 use Rattle.scratch.proofs.Recorded.{recorded_alone}
 use Rattle.scratch.proofs.Runs.{settled}
-use Rattle.scratch.proofs.Skips.{all_at}
 
 enumerated : (i : ℕ) (gates : List GateEntry) → All (λ (p : ℕ × GateEntry). p.0 < i + length gates) (enumerate_from i gates)
 enumerated i [] = All-nil (λ (p : ℕ × GateEntry). p.0 < i + 0)
@@ -149,7 +148,7 @@ module _ (answer : Evaluation → ℕ → State) (d : Netlist) where
       IfSome (slice_get d.nets place) (λ n. wave ≡ wave_of answer d n) → Completed answer d (place + 1) (set waves place wave)
   one_completed place waves wave within so_far is =
       record {
-        as_many = length_set waves place wave ∙ so_far.as_many;
+        as_many = length-set waves place wave ∙ so_far.as_many;
         whole = λ k low. by k (nat_eq k place) refl low;
         rest = λ k from. set_apart waves place k wave (grind (arith, nat_tests)) ∙ so_far.rest k (omega arith);
       }
@@ -160,6 +159,6 @@ module _ (answer : Evaluation → ℕ → State) (d : Netlist) where
 
       by : (k : ℕ) (b : Bool) → nat_eq k place ≡ b → k < place + 1 → slice_get (set waves place wave) k ≡ slice_get (map (wave_of answer d) d.nets) k
       by k true e low =
-          subst (λ p. slice_get (set waves place wave) p ≡ slice_get (map (wave_of answer d) d.nets) p) (sym (nat_same k place e))
+          subst (λ p. slice_get (set waves place wave) p ≡ slice_get (map (wave_of answer d) d.nets) p) (sym (eqb-true k place e))
           (set_here waves place wave within ∙ here (slice_get d.nets place) refl is ∙ sym (slice_get-map (wave_of answer d) d.nets place))
       by k false e low = set_apart waves place k wave e ∙ so_far.whole k (grind (arith, nat_tests))

@@ -10,6 +10,7 @@ use Rattle.design.specs.Keys.{Keyed, KeyedGate, entry_in, netlist}
 use Rattle.design.specs.kept.Keys.{gate_by_key}
 use Rattle.design.specs.kept.Lawful.{IsGate}
 use Rattle.design.specs.Netlist.{GateEntry, NetEntry, Netlist}
+use Rattle.design.proofs.ByNameLemmas.{gate_at_is}
 use Rattle.waveform.specs.Entries.{same_state, standing}
 use Rattle.waveform.specs.kept.Runs.{RunRecord}
 use Rattle.waveform.specs.kept.Tables.{line_at}
@@ -26,17 +27,6 @@ use Rattle.scratch.proofs.Moments.{map_twice}
 use Rattle.scratch.proofs.Recorded.{recorded_alone, recorded_whole}
 use Rattle.scratch.proofs.Runs.{map_where, settled}
 
-gates_by : (nets : List (ℕ × NetEntry)) (es : List (ℕ × KeyedGate)) (k : ℕ) →
-    slice_get (records_of (map (λ e. (e.0, entry_in nets e.1)) es)) k ≡ option_map (entry_in nets) (slice_get (records_of es) k)
-gates_by nets [] k = refl
-gates_by nets (e ∷ es) zero = refl
-gates_by nets (e ∷ es) (suc k) = gates_by nets es k
-
--- a gate by its place
-gate_at : (d : Keyed) (k : ℕ) → slice_get (netlist d).gates k ≡ option_map (entry_in d.nets) (slice_get (records_of d.gates) k)
-unfolding netlist
-gate_at d k = gates_by d.nets d.gates k
-
 both : {A B C : Type 0} (f : A → B) (h : B → C) (o : Option A) → option_map h (option_map f o) ≡ option_map (λ a. h (f a)) o
 both f h None = refl
 both f h (Some a) = refl
@@ -45,7 +35,7 @@ both f h (Some a) = refl
 pub trace_there : (answer : Evaluation → ℕ → State) (d : Keyed) (run : RunRecord) → IsRun answer d run → (k key : ℕ) → gate_by_key d key ≡ slice_get (records_of d.gates) k →
     option_map (trace_of answer (netlist d)) (slice_get (netlist d).gates k) ≡ line_at run.traces key
 trace_there answer d run is k key at =
-    ap (option_map (trace_of answer (netlist d))) (gate_at d k)
+    ap (option_map (trace_of answer (netlist d))) (gate_at_is d k)
     ∙ both (entry_in d.nets) (trace_of answer (netlist d)) (slice_get (records_of d.gates) k)
     ∙ ap (option_map (λ g. trace_of answer (netlist d) (entry_in d.nets g))) (sym at)
     ∙ sym (is.traces key)

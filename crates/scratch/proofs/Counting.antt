@@ -8,6 +8,9 @@ use Rattle.std.proofs.lemmas.Bool.Decides.{nat_tests}
 use Rattle.std.proofs.lemmas.List.{length-map, length-take-le, map-append}
 use Rattle.std.proofs.lemmas.List.Sums.{count_by-le-length, length-filter, sum_by-append, sum_by-cons}
 use Rattle.std.proofs.lemmas.Option.{slice_get-map, slice_get_within}
+use Rattle.std.proofs.lemmas.Bool.{eqb-true, false_from_ne_true, or_parts}
+use Rattle.std.proofs.Math.Bool.{or-false}
+use Rattle.std.proofs.lemmas.List.FromFn.{length-enumerate_from}
 use Rattle.fourstate.specs.declared.net.NetKind.{NetKind}
 use Rattle.fourstate.specs.declared.net.NetRule.{NetRule}
 use Rattle.fourstate.specs.declared.value.Value.{Value}
@@ -27,13 +30,12 @@ use Rattle.scratch.specs.Work.{is_due, task_at}
 use Rattle.scratch.specs.declared.tallies.Tallies.{Tallies}
 use Rattle.scratch.specs.declared.tally.Tally.{Tally}
 use Rattle.smallvec.specs.SmallVec.{SmallVec}
-use Rattle.scratch.proofs.Among.{absent, nat_itself, nat_same, or_false}
+use Rattle.scratch.proofs.Among.{absent, nat_itself}
 use Rattle.scratch.proofs.Between.{set_apart, set_here}
 use Rattle.scratch.proofs.Lists.{map_alike, take_next}
 use Rattle.scratch.proofs.Moments.{map_twice}
 use Rattle.scratch.proofs.Passing.{has_place, passing_rises}
-use Rattle.scratch.proofs.Skips.{not_true}
-use Rattle.scratch.proofs.Still.{neither, none_due}
+use Rattle.scratch.proofs.Still.{none_due}
 
 -- the value of a driver
 abbrev pub at : List Value → ℕ → Value
@@ -88,17 +90,13 @@ added values places i p there old new value is before zeros ones unknowns =
     unknowns ∙ ap (λ (t : Tally). t.unknowns + times Unknown value) before ∙ ap (λ x. givers Unknown values (take i places) + times Unknown x) is ∙ sym (one_giver_more Unknown values places i p there) in
     λ j. record { zeros = z j; ones = o j; unknowns = x j }
 
-length_enumerated : {X : Type 0} (a : ℕ) (xs : List X) → length (enumerate_from a xs) ≡ length xs
-length_enumerated a [] = refl
-length_enumerated a (x ∷ xs) = ap suc (length_enumerated (a + 1) xs)
-
 pub few_drivers : (gates : List GateEntry) (name : List ℕ) → length (driver_places gates name) ≤ length gates
 few_drivers gates name =
     let pairs = enumerate_from 0 gates in
     let a = length-map (filter (λ p. same_name p.1.output name) pairs) (λ p. p.0) in
     let b = length-filter (λ p. same_name p.1.output name) pairs in
     let c = count_by-le-length (λ p. same_name p.1.output name) pairs in
-    let e = length_enumerated 0 gates in
+    let e = length-enumerate_from 0 gates in
     omega (arith, a, b, c, e)
 
 swapped : (k q : ℕ) → nat_eq k q ≡ false → nat_eq q k ≡ false
@@ -112,7 +110,7 @@ module _ (values : List Value) (k : ℕ) (next : Value) where
   pub apart : (places : List ℕ) → has k places ≡ false → values_at (set values k next) places ≡ values_at values places
   apart [] off = refl
   apart (q ∷ qs) off =
-      let parts = neither (nat_eq k q) (has k qs) off in
+      let parts = or_parts (nat_eq k q) (has k qs) off in
       ap (λ x. x ∷ values_at (set values k next) qs) (elsewhere q parts.0) ∙ ap (λ l. at values q ∷ l) (apart qs parts.1)
 
   module _ (former : Value) (there : slice_get values k ≡ Some former) where
@@ -126,7 +124,7 @@ module _ (values : List Value) (k : ℕ) (next : Value) where
         (has k qs ≡ true → givers v (set values k next) qs + times v former ≡ givers v values qs + times v next) →
         givers v (set values k next) (q ∷ qs) + times v former ≡ givers v values (q ∷ qs) + times v next
     exchanged_by v q qs true e rising on later =
-        let same = nat_same k q e in
+        let same = eqb-true k q e in
         let off : has k qs ≡ false = absent k (suc q) qs rising (omega (arith, same)) in
         let now : givers v (set values k next) (q ∷ qs) ≡ times v next + givers v values qs =
         giver_first v (set values k next) q qs ∙ ap (λ x. times v x + givers v (set values k next) qs) (is q same) ∙ ap (λ l. times v next + count_by (same_value v) l) (apart qs off) in
@@ -147,7 +145,7 @@ module _ (values : List Value) (k : ℕ) (next : Value) where
     counted_by : (v : Value) (q : ℕ) (qs : List ℕ) (b : Bool) → nat_eq k q ≡ b → (b || has k qs) ≡ true → (has k qs ≡ true → times v former ≤ givers v values qs) →
         times v former ≤ givers v values (q ∷ qs)
     counted_by v q qs true e on later =
-        let before : givers v values (q ∷ qs) ≡ times v former + givers v values qs = giver_first v values q qs ∙ ap (λ x. times v x + givers v values qs) (was q (nat_same k q e)) in
+        let before : givers v values (q ∷ qs) ≡ times v former + givers v values qs = giver_first v values q qs ∙ ap (λ x. times v x + givers v values qs) (was q (eqb-true k q e)) in
         omega (arith, before)
     counted_by v q qs false e on later =
         let before : givers v values (q ∷ qs) ≡ times v (at values q) + givers v values qs = giver_first v values q qs in
@@ -173,7 +171,7 @@ module _ (d : Netlist) (outputs : List ℕ)
     (nets : List (Option Tally)) (values : List Value) (are : AreTallies d nets values) (k : ℕ) (next : Value) where
   no_driver : (m : ℕ) (n : NetEntry) → slice_get d.nets m ≡ Some n → has m (output_at outputs k) ≡ false → has k (driver_places d.gates n.name) ≡ false
   no_driver m n net off =
-      not_true (has k (driver_places d.gates n.name)) (λ h.
+      false_from_ne_true (has k (driver_places d.gates n.name)) (λ h.
       let there = drives k m (drives_is d k m n net ∙ h) in
       let never : false ≡ true = sym off ∙ there in cc)
 
@@ -254,7 +252,7 @@ module _ (d : Netlist) (outputs : List ℕ)
       moved_by : (m : ℕ) (t : Tally) (n : NetEntry) (b : Bool) → nat_eq m o ≡ b → slice_get (set nets o (Some new)) m ≡ Some (Some t) → slice_get d.nets m ≡ Some n →
           t ≡ tally_of (values_at (set values k next) (driver_places d.gates n.name))
       moved_by m t n true e got net =
-          let same = nat_same m o e in
+          let same = eqb-true m o e in
           let both : Some (Some t) ≡ Some (Some new) = sym got ∙ ap (slice_get (set nets o (Some new))) same ∙ set_here nets o (Some new) (slice_get_within nets o (Some tally) here) in
           let one : t ≡ new = cc in
           let nets_same : Some n ≡ Some its_net = sym net ∙ ap (slice_get d.nets) same ∙ net_at_output in
@@ -358,8 +356,8 @@ pub other_net : (nets : List (Option Tally)) (outputs : List ℕ) (k o : ℕ) �
     (m : ℕ) (tally : Tally) → slice_get nets m ≡ Some (Some tally) → has m (output_at outputs k) ≡ false
 other_net nets outputs k o output none m tally there =
     ap (λ w. has m (option_map_or (λ m. m ∷ []) w [])) output
-    ∙ not_true (nat_eq m o || false) (λ h.
-    let same = nat_same m o (sym (or_false (nat_eq m o)) ∙ h) in
+    ∙ false_from_ne_true (nat_eq m o || false) (λ h.
+    let same = eqb-true m o (sym (or-false (nat_eq m o)) ∙ h) in
     none_there (slice_get nets o) tally none (ap (slice_get nets) (sym same) ∙ there))
 
 -- the tally of one net more

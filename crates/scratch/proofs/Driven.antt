@@ -2,18 +2,20 @@
 use Rattle.std.proofs.Common.{◌≡◌, ◌∙◌, sym, ap, refl, Bool, true, false, ℕ, List, [], ◌∷◌, ◌++◌, Some, slice_get, nat_eq}
 use Rattle.std.specs.Prelude.{◌||◌, ◌&&◌}
 use Rattle.std.specs.Option.{option_map_or}
+use Rattle.std.proofs.lemmas.Bool.{eqb-true}
+use Rattle.std.proofs.Math.Bool.{or-true, or-false}
 use Rattle.scratch.specs.kept.Kept.{output_at}
 use Rattle.scratch.specs.kept.Places.{has}
-use Rattle.scratch.proofs.Among.{has_more, nat_itself, nat_same, or_false, or_true}
+use Rattle.scratch.proofs.Among.{has_more, nat_itself}
 
 -- the net that is listed as a gate's is its output
 pub is_output : (outputs : List ℕ) (gate net m : ℕ) → slice_get outputs gate ≡ Some net → has m (output_at outputs gate) ≡ true → m ≡ net
 is_output outputs gate net m at on =
-    nat_same m net (sym (or_false (nat_eq m net)) ∙ ap (λ o. has m (option_map_or (λ (k : ℕ). k ∷ []) o [])) (sym at) ∙ on)
+    eqb-true m net (sym (or-false (nat_eq m net)) ∙ ap (λ o. has m (option_map_or (λ (k : ℕ). k ∷ []) o [])) (sym at) ∙ on)
 
 -- it is not missing where it was added
 pub added : (xs : List ℕ) (net m : ℕ) → m ≡ net → has m (xs ++ net ∷ []) ≡ true
-added xs net m same = has_more m net xs ∙ ap (λ (b : Bool). has m xs || b) (ap (λ z. nat_eq z net) same ∙ nat_itself net) ∙ or_true (has m xs)
+added xs net m same = has_more m net xs ∙ ap (λ (b : Bool). has m xs || b) (ap (λ z. nat_eq z net) same ∙ nat_itself net) ∙ or-true (has m xs)
 
 -- tests of one gate more, which is due or not
 pub due_too : (a b c : Bool) → (b ≡ true → c ≡ true) → ((a && c) || b) ≡ ((a || b) && c)

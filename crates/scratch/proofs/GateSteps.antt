@@ -6,6 +6,7 @@ use Rattle.gatestep.specs.Step.{State, Evaluation, due}
 use Rattle.gatestep.specs.kept.Tasks.{IsTask, NothingDue, again}
 use Rattle.design.specs.kept.Lawful.{IsGate}
 use Rattle.design.specs.Netlist.{GateEntry, Netlist}
+use Rattle.design.proofs.ByNameLemmas.{all_at}
 use Rattle.waveform.specs.kept.Changes.{trace_below}
 use Rattle.waveform.specs.Entries.{same_state}
 use Rattle.waveform.specs.kept.Timelines.{is_reached, pushed}
@@ -14,7 +15,6 @@ use Rattle.scratch.specs.Run.{state_after, state_before}
 use Rattle.scratch.specs.Work.{is_stirred}
 use Rattle.scratch.proofs.Passing.{has_place}
 use Rattle.scratch.proofs.Runs.{Grows, Reached, settled}
-use Rattle.scratch.proofs.Skips.{all_at}
 use Rattle.scratch.proofs.Still.{Stays, still_after, trace_stays}
 
 module _ (answer : Evaluation → ℕ → State) (d : Netlist) where
@@ -22,11 +22,11 @@ module _ (answer : Evaluation → ℕ → State) (d : Netlist) where
       (stays : (e : Evaluation) (t u : ℕ) → t < u → NothingDue u (answer e t) → answer (again e (answer e t)) u ≡ answer e t) where
     still_state : (g : GateEntry) (t : ℕ) → 0 < t → is_stirred answer d g t ≡ false → state_before answer d t g ≡ state_before answer d (t + 1) g
     still_state g zero begun h = absurd (omega arith)
-    still_state g (suc v) begun h = rw add-one (sym (still_after answer d current stays g v h))
+    still_state g (suc v) begun h = rw add-one (sym (still_after answer d stays g v h))
 
     still_trace : Stays same_state due → (g : GateEntry) (t : ℕ) → 0 < t → is_stirred answer d g t ≡ false → trace_below (state_after answer d g) t ≡ trace_below (state_after answer d g) (t + 1)
     still_trace still g zero begun h = absurd (omega arith)
-    still_trace still g (suc v) begun h = rw add-one (sym (trace_stays answer d current stays still g v h))
+    still_trace still g (suc v) begun h = rw add-one (sym (trace_stays answer d stays still g v h))
 
     module _ {Y : Type 0} (f h : GateEntry → Y) (t : ℕ) (same : (g : GateEntry) → is_stirred answer d g t ≡ false → f g ≡ h g) where
       unstirred_by : (o : Option GateEntry) → option_map_or (λ g. is_stirred answer d g t) o false ≡ false → option_map f o ≡ option_map h o

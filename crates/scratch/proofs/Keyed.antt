@@ -18,7 +18,7 @@ drop_at [] i x at = absurd (cc)
 drop_at (w ∷ xs) zero x at = cc
 drop_at (w ∷ xs) (suc i) x at = rw add-one (rw add-one at (drop_at xs i x at))
 
-same_test : (a b : ℕ) → (a == b) ≡ (b == a)
+pub same_test : (a b : ℕ) → (a == b) ≡ (b == a)
 same_test a b = step (a == b) (b == a) refl refl
   where
     step : (c d : Bool) → (a == b) ≡ c → (b == a) ≡ d → c ≡ d

@@ -3,8 +3,10 @@ use Rattle.std.proofs.Common.{◌≡◌, ◌<◌, ◌∙◌, sym, ap, subst, ref
 use Rattle.std.specs.Option.{is_some, option_map_or, option_map}
 use Rattle.std.specs.Prelude.{◌||◌, if◌then◌else◌}
 use Rattle.std.proofs.Math.ListN.{set}
-use Rattle.std.proofs.lemmas.List.{length-map}
+use Rattle.std.proofs.lemmas.List.{length-map, length-set}
 use Rattle.std.proofs.lemmas.Option.{slice_get-map, slice_get_read, slice_get_within}
+use Rattle.std.proofs.Math.Bool.{or-true, or-false}
+use Rattle.std.proofs.lemmas.Bool.{not-false}
 use Rattle.fourstate.specs.declared.net.NetKind.{NetKind}
 use Rattle.fourstate.specs.declared.value.Value.{Value}
 use Rattle.fourstate.specs.declared.value.Value.TheVariants.{Unknown}
@@ -25,12 +27,12 @@ use Rattle.scratch.specs.kept.Places.{changes_at, has}
 use Rattle.scratch.specs.kept.Nets.{Part}
 use Rattle.scratch.specs.kept.Recorded.{recorded_below}
 use Rattle.scratch.specs.Run.{state_before, value}
-use Rattle.scratch.proofs.Among.{has_more, nat_itself, or_false, or_true}
-use Rattle.scratch.proofs.Between.{Between, is_new, is_old, length_set, pass, step, write}
+use Rattle.scratch.proofs.Among.{has_more, nat_itself}
+use Rattle.scratch.proofs.Between.{Between, is_new, is_old, pass, step, write}
 use Rattle.scratch.proofs.Moments.{map_twice, net_is}
 use Rattle.scratch.proofs.Recorded.{recorded_alone, recorded_moves, recorded_whole}
 use Rattle.scratch.proofs.Runs.{Grows, LieBefore, Reached}
-use Rattle.scratch.proofs.Still.{Stays, not_false, wave_stays}
+use Rattle.scratch.proofs.Still.{Stays, wave_stays}
 
 module _ (answer : Evaluation → ℕ → State) (d : Netlist) (t : ℕ) where
   abbrev values_of : ℕ → List Value
@@ -55,7 +57,7 @@ module _ (answer : Evaluation → ℕ → State) (d : Netlist) (t : ℕ) where
         option_map (λ n. value answer d n (t - 1)) o ≡ option_map (λ n. value answer d n t) o
     same_value_by None h = refl
     same_value_by (Some n) h =
-        ap (λ v. Some v) (sym (is_same (value answer d n t) (value answer d n (t - 1)) (not_false (same_value (value answer d n t) (value answer d n (t - 1))) h)))
+        ap (λ v. Some v) (sym (is_same (value answer d n t) (value answer d n (t - 1)) (not-false (same_value (value answer d n t) (value answer d n (t - 1))) h)))
 
     -- a net that does not change keeps its value
     pub same_value_at : (k : ℕ) → changes k ≡ false → slice_get (values_of (t - 1)) k ≡ slice_get (values_of t) k
@@ -71,7 +73,7 @@ module _ (answer : Evaluation → ℕ → State) (d : Netlist) (t : ℕ) where
         option_map (λ n. recorded_below answer d n t) o ≡ option_map (λ n. recorded_below answer d n (t + 1)) o
     same_wave_by None h = refl
     same_wave_by (Some n) h =
-        ap (λ v. Some v) (recorded_moves answer d n t (t + 1) (wave_on n t begun (is_same (value answer d n t) (value answer d n (t - 1)) (not_false (same_value (value answer d n t) (value answer d n (t - 1))) h))))
+        ap (λ v. Some v) (recorded_moves answer d n t (t + 1) (wave_on n t begun (is_same (value answer d n t) (value answer d n (t - 1)) (not-false (same_value (value answer d n t) (value answer d n (t - 1))) h))))
 
     -- and its wave
     pub same_wave_at : (k : ℕ) → changes k ≡ false → slice_get (waves_of t) k ≡ slice_get (waves_of (t + 1)) k
@@ -160,9 +162,9 @@ module _ (answer : Evaluation → ℕ → State) (d : Netlist) (t : ℕ) where
                 values = write done (values_of (t - 1)) (values_of t) values part.values p v new_value in_values;
                 waves = are;
                 changed = step done (λ k. false) changes (λ k. has k changed) part.changed p (λ k. has k (changed ++ p ∷ []))
-                    (has_more p p changed ∙ ap (λ (b : Bool). has p changed || b) (nat_itself p) ∙ or_true (has p changed) ∙ sym on)
-                    (λ k e. has_more k p changed ∙ ap (λ (b : Bool). has k changed || b) e ∙ or_false (has k changed));
-                as_many = length_set values p v ∙ part.as_many;
+                    (has_more p p changed ∙ ap (λ (b : Bool). has p changed || b) (nat_itself p) ∙ or-true (has p changed) ∙ sym on)
+                    (λ k e. has_more k p changed ∙ ap (λ (b : Bool). has k changed || b) e ∙ or-false (has k changed));
+                as_many = length-set values p v ∙ part.as_many;
                 as_many_waves = as_many;
               }
 
@@ -200,7 +202,7 @@ module _ (answer : Evaluation → ℕ → State) (d : Netlist) (t : ℕ) where
                 ∙ ap (λ x. Some x) (recorded_whole answer d n (t + 1) whole ∙ sym one ∙ ap (λ x. pushed same_value standing x t (value answer d n t)) wave_is ∙ ap (pushed same_value standing w t) (sym is)) in
                 goes_on (set waves p (pushed same_value standing w t v))
                 (write done (waves_of t) (waves_of (t + 1)) waves part.waves p (pushed same_value standing w t v) new_wave in_waves)
-                (length_set waves p (pushed same_value standing w t v) ∙ part.as_many_waves)
+                (length-set waves p (pushed same_value standing w t v) ∙ part.as_many_waves)
 
 -- the drivers that stand at the place of a net
 pub drivers_at : (d : Netlist) (lists : List (SmallVec ℕ)) (p : ℕ) (n : NetEntry) (places : SmallVec ℕ) → map (λ (v : SmallVec ℕ). v.items) lists ≡ map (λ n. driver_places d.gates n.name) d.nets →

@@ -5,14 +5,17 @@ use Rattle.std.specs.List.{find}
 use Rattle.std.specs.Option.{option_map, option_map_or}
 use Rattle.std.proofs.lemmas.Bool.Decides.{nat_tests}
 use Rattle.std.proofs.lemmas.Option.{get_or_from_slice_get, slice_get_within}
+use Rattle.std.proofs.lemmas.Bool.{eqb-true}
+use Rattle.std.proofs.Math.Bool.{or-true}
 use Rattle.event_queue.specs.kept.Noted.{IsAdded, IsTaken, noted}
 use Rattle.fourstate.specs.declared.value.Value.{Value}
 use Rattle.gatestep.specs.Step.{State}
 use Rattle.design.specs.kept.Lawful.{AreRising}
 use Rattle.design.specs.Netlist.{has_point}
 use Rattle.design.specs.kept.Netlist.{next_point}
+use Rattle.design.proofs.PointLemmas.{rising_tail}
 use Rattle.scratch.specs.kept.Places.{Announces, Covers, IsNotedWithin, Keeps, has, pends_at}
-use Rattle.scratch.proofs.Among.{any_from, has_more, nat_apart, nat_itself, nat_same, or_true}
+use Rattle.scratch.proofs.Among.{any_from, has_more, nat_apart, nat_itself}
 
 abbrev Queue : Type 0
 Queue = List (ℕ × List ℕ)
@@ -22,7 +25,7 @@ kept_by k p true ls h = has_more k p ls ∙ ap (λ (c : Bool). c || nat_eq k p) 
 kept_by k p false ls h = h
 
 here_by : (p : ℕ) (b : Bool) (ls : List ℕ) → b ≡ true → has p (cond b (ls ++ p ∷ []) ls) ≡ true
-here_by p true ls h = has_more p p ls ∙ ap (λ (c : Bool). has p ls || c) (nat_itself p) ∙ or_true (has p ls)
+here_by p true ls h = has_more p p ls ∙ ap (λ (c : Bool). has p ls || c) (nat_itself p) ∙ or-true (has p ls)
 here_by p false ls h = absurd (cc)
 
 module _ (t p : ℕ) (old new : Queue) (added : IsAdded t p old new) where
@@ -49,7 +52,7 @@ module _ (states : List State) (p : ℕ) (s : State) (is : slice_get states p �
   none_here none u h = let never : false ≡ true = ap (λ o. option_map_or (λ event. nat_eq event.1 u) o false) (sym none) ∙ pends_here u h in cc
 
   pub some_here : (event : Value × ℕ) → s.pending ≡ Some event → (u : ℕ) → pends_at states p u ≡ true → event.1 ≡ u
-  some_here event some u h = nat_same event.1 u (ap (λ o. option_map_or (λ event. nat_eq event.1 u) o false) (sym some) ∙ pends_here u h)
+  some_here event some u h = eqb-true event.1 u (ap (λ o. option_map_or (λ event. nat_eq event.1 u) o false) (sym some) ∙ pends_here u h)
 
   -- the event is noted where it is pending
   pub event_noted : (event : Value × ℕ) → s.pending ≡ Some event → (old new : Queue) → IsAdded event.1 p old new → (u : ℕ) → pends_at states p u ≡ true → has p (noted new u) ≡ true
@@ -59,8 +62,8 @@ module _ (states : List State) (p : ℕ) (s : State) (is : slice_get states p �
     both_by : Keeps (noted old) (noted new) → ((u : ℕ) → pends_at states p u ≡ true → has p (noted new u) ≡ true) → (k u : ℕ) → n ≤ u → (b : Bool) → nat_eq k p ≡ b →
         ((has k done || b) && pends_at states k u) ≡ true → has k (noted new u) ≡ true
     both_by stay here k u from true e h =
-        let same : k ≡ p = nat_same k p e in
-        let pends : pends_at states k u ≡ true = ap (λ (b : Bool). b && pends_at states k u) (sym (or_true (has k done))) ∙ h in
+        let same : k ≡ p = eqb-true k p e in
+        let pends : pends_at states k u ≡ true = ap (λ (b : Bool). b && pends_at states k u) (sym (or-true (has k done))) ∙ h in
         ap (λ v. has v (noted new u)) same ∙ here u (ap (λ v. pends_at states v u) (sym same) ∙ pends)
     both_by stay here k u from false e h = stay k u (covers k u from (ap (λ (b : Bool). b && pends_at states k u) (sym (or_no (has k done))) ∙ h))
       where
@@ -101,7 +104,7 @@ module _ (wanted : ℕ → ℕ → Bool) (t : ℕ) (old left new : Queue) (taken
     (next : (m u : ℕ) → has m (noted old t) ≡ true → t < u → wanted m u ≡ true → IsNotedWithin (noted new) m (t + 1) u) where
   announced_by : (k u v : ℕ) → t + 1 ≤ u → wanted k u ≡ true → t ≤ v → v ≤ u → has k (noted old v) ≡ true → (b : Bool) → nat_eq t v ≡ b → IsNotedWithin (noted new) k (t + 1) u
   announced_by k u v from h after before there true same =
-      let now : t ≡ v = nat_same t v same in
+      let now : t ≡ v = eqb-true t v same in
       next k u (ap (λ w. has k (noted old w)) now ∙ there) (omega arith) h
   announced_by k u v from h after before there false apart =
       let later : t + 1 ≤ v = grind (arith, nat_tests) in
@@ -129,9 +132,6 @@ in_order p ps k x rising at =
     let within = slice_get_within ps k x at in
     subst (λ y. p.0 < y.0) (get_or_from_slice_get ps k x x at) (rising 0 (suc k) x (omega arith) (omega arith))
 
-tail : (p : ℕ × Value) (ps : List (ℕ × Value)) → AreRising (p ∷ ps) → AreRising ps
-tail p ps rising = λ i j d below within. rising (suc i) (suc j) d (omega arith) (omega arith)
-
 first_by : (t u : ℕ) (p w : ℕ × Value) (ps : List (ℕ × Value)) (b : Bool) → nat_lt t p.0 ≡ b → AreRising (p ∷ ps) → cond b (Some p) (find (λ q. nat_lt t q.0) ps) ≡ Some w → t < u → (c : Bool) → p.0 == u ≡ c →
     (c || has_point ps u) ≡ true → (find (λ q. nat_lt t q.0) ps ≡ Some w → has_point ps u ≡ true → w.0 ≤ u) → w.0 ≤ u
 first_by t u p w ps true is rising at low true same there later =
@@ -150,7 +150,7 @@ first_by t u p w ps false is rising at low false apart there later = later at th
 -- no point lies between
 first : (t u : ℕ) (ps : List (ℕ × Value)) (w : ℕ × Value) → AreRising ps → find (λ q. nat_lt t q.0) ps ≡ Some w → t < u → has_point ps u ≡ true → w.0 ≤ u
 first t u [] w rising at low there = absurd (cc)
-first t u (p ∷ ps) w rising at low there = first_by t u p w ps (nat_lt t p.0) refl rising at low (p.0 == u) refl there (λ found later. first t u ps w (tail p ps rising) found low later)
+first t u (p ∷ ps) w rising at low there = first_by t u p w ps (nat_lt t p.0) refl rising at low (p.0 == u) refl there (λ found later. first t u ps w (rising_tail p ps rising) found low later)
 
 never_none : {X : Type 0} (test : X → Bool) (xs : List X) (k : ℕ) (x : X) → slice_get xs k ≡ Some x → test x ≡ true → find test xs ≡ None → ⊥
 never_none test [] k x at ok none = absurd (cc)

@@ -9,6 +9,8 @@ use Rattle.std.proofs.lemmas.Option.{slice_get-map, slice_get_past, slice_get_wi
 use Rattle.std.proofs.Math.ListN.{set}
 use Rattle.std.proofs.lemmas.Bool.Decides.{nat_tests}
 use Rattle.std.proofs.lemmas.List.Folds.{list_any-append}
+use Rattle.std.proofs.lemmas.Bool.{eqb-true}
+use Rattle.std.proofs.Math.Bool.{or-false, and-false, and-true}
 use Rattle.fourstate.specs.declared.value.Value.TheVariants.{Unknown}
 use Rattle.design.specs.Connections.{Connection, to_net, to_constant}
 use Rattle.design.specs.Names.{same_name}
@@ -18,7 +20,7 @@ use Rattle.scratch.specs.kept.Cells.{CellRecord}
 use Rattle.scratch.specs.kept.Kept.{cell_of, input_of, is_at, output_at, places_at}
 use Rattle.scratch.specs.kept.Places.{drives_at, has, reads_at}
 use Rattle.scratch.specs.declared.wiring.Input.TheVariants.{At, Fixed}
-use Rattle.scratch.proofs.Among.{and_false, and_true, nat_itself, nat_same, or_false}
+use Rattle.scratch.proofs.Among.{nat_itself}
 use Rattle.scratch.proofs.Between.{set_apart, set_here}
 use Rattle.scratch.proofs.Stirred.{same_self_name}
 
@@ -81,7 +83,7 @@ module _ (d : Netlist) (apart : AllPairs (λ n m. n.name ≢ m.name) d.nets) whe
   driven_by k m (Some g) (Some out) are h =
       let is : position_from (λ n. same_name n.name g.output) 0 d.nets ≡ Some out = cc in
       let f = position_at (λ (x : NetEntry). same_name x.name g.output) 0 out d.nets is in
-      let e : m ≡ out = nat_same m out (sym (or_false (nat_eq m out)) ∙ h) in let sum = f.2 in
+      let e : m ≡ out = eqb-true m out (sym (or-false (nat_eq m out)) ∙ h) in let sum = f.2 in
       let place : f.0 ≡ m = omega arith in
       let net : slice_get d.nets m ≡ Some f.1 = ap (slice_get d.nets) (sym place) ∙ f.3 in
       let named : f.1.name ≡ g.output = same_text f.1.name g.output (sym f.4) in
@@ -100,7 +102,7 @@ module _ (d : Netlist) (apart : AllPairs (λ n m. n.name ≢ m.name) d.nets) whe
   back_by m n name None net is h = absurd (cc)
   back_by m n name (Some p) net is h =
       let f = position_at (λ (x : NetEntry). same_name x.name name) 0 p d.nets is in
-      let e : m ≡ p = nat_same m p h in let sum = f.2 in
+      let e : m ≡ p = eqb-true m p h in let sum = f.2 in
       let place : f.0 ≡ m = omega arith in
       let both : Some f.1 ≡ Some n = sym f.3 ∙ ap (slice_get d.nets) place ∙ net in
       let one : f.1 ≡ n = cc in
@@ -138,16 +140,16 @@ none_beyond (x ∷ xs) (suc m) h = let rest = none_beyond xs m h in omega arith
 module _ (all : List (SmallVec ℕ)) (net place : ℕ) (old new : SmallVec ℕ) (there : slice_get all net ≡ Some old) (grows : new.items ≡ old.items ++ place ∷ []) where
   push_by : (k m : ℕ) (b : Bool) → nat_eq m net ≡ b → has k (places_at (set all net new) m) ≡ (has k (places_at all m) || (nat_eq k place && b))
   push_by k m true same =
-      let e : m ≡ net = nat_same m net same in
+      let e : m ≡ net = eqb-true m net same in
       ap (λ z. has k (places_at (set all net new) z)) e
       ∙ ap (λ o. has k (option_map_or (λ (v : SmallVec ℕ). v.items) o [])) (set_here all net new (slice_get_within all net old there))
       ∙ ap (has k) grows ∙ list_any-append (nat_eq k) old.items (place ∷ [])
-      ∙ ap (λ (b : Bool). has k old.items || b) (or_false (nat_eq k place) ∙ sym (and_true (nat_eq k place)))
+      ∙ ap (λ (b : Bool). has k old.items || b) (or-false (nat_eq k place) ∙ sym (and-true (nat_eq k place)))
       ∙ ap (λ o. has k (option_map_or (λ (v : SmallVec ℕ). v.items) o []) || (nat_eq k place && true)) (sym there)
       ∙ ap (λ z. has k (places_at all z) || (nat_eq k place && true)) (sym e)
   push_by k m false apart =
       ap (λ o. has k (option_map_or (λ (v : SmallVec ℕ). v.items) o [])) (set_apart all net m new apart)
-      ∙ sym (ap (λ (b : Bool). has k (places_at all m) || b) (and_false (nat_eq k place)) ∙ or_false (has k (places_at all m)))
+      ∙ sym (ap (λ (b : Bool). has k (places_at all m) || b) (and-false (nat_eq k place)) ∙ or-false (has k (places_at all m)))
 
   -- one reader more
   pub push_reader : (k m : ℕ) → has k (places_at (set all net new) m) ≡ (has k (places_at all m) || (nat_eq k place && nat_eq m net))
@@ -163,7 +165,7 @@ none_more (w ∷ all) v e none k (suc m) = none_more all v e (λ j i. none j (su
 more_by : (f : ℕ → Bool) (k p : ℕ) (y : Bool) → f p ≡ y → (k < p) ⊎ ((p < k) ⊎ (k ≡ p)) → ((nat_lt k p && f k) || (nat_eq k p && y)) ≡ (nat_lt k (p + 1) && f k)
 more_by f k p y is (inl low) =
     let a : nat_lt k p ≡ true = grind (arith, nat_tests) in let b : nat_eq k p ≡ false = grind (arith, nat_tests) in let c : nat_lt k (p + 1) ≡ true = grind (arith, nat_tests) in
-    ap (λ (x : Bool). (x && f k) || (nat_eq k p && y)) a ∙ ap (λ (x : Bool). f k || (x && y)) b ∙ or_false (f k) ∙ sym (ap (λ (x : Bool). x && f k) c)
+    ap (λ (x : Bool). (x && f k) || (nat_eq k p && y)) a ∙ ap (λ (x : Bool). f k || (x && y)) b ∙ or-false (f k) ∙ sym (ap (λ (x : Bool). x && f k) c)
 more_by f k p y is (inr (inl high)) =
     let a : nat_lt k p ≡ false = grind (arith, nat_tests) in let b : nat_eq k p ≡ false = grind (arith, nat_tests) in let c : nat_lt k (p + 1) ≡ false = grind (arith, nat_tests) in
     ap (λ (x : Bool). (x && f k) || (nat_eq k p && y)) a ∙ ap (λ (x : Bool). x && y) b ∙ sym (ap (λ (x : Bool). x && f k) c)
@@ -180,7 +182,7 @@ none_first k x = let z : nat_lt k 0 ≡ false = grind (arith, nat_tests) in sym 
 module _ (d : Netlist) (apart : AllPairs (λ n m. n.name ≢ m.name) d.nets) (cells : List CellRecord) (are : cells ≡ map (cell_of d) d.gates) (all : List (SmallVec ℕ)) (as_many : length all ≡ length d.nets) (p : ℕ) (past : length cells ≤ p)
     (so_far : (k m : ℕ) → m < length d.nets → has k (places_at all m) ≡ (nat_lt k p && option_map_or (λ (cell : CellRecord). list_any (is_at m) cell.inputs) (slice_get cells k) false)) where
   whole_by : (k : ℕ) (o : Option CellRecord) (f : CellRecord → Bool) → slice_get cells k ≡ o → (nat_lt k p && option_map_or f o false) ≡ option_map_or f o false
-  whole_by k None f at = and_false (nat_lt k p)
+  whole_by k None f at = and-false (nat_lt k p)
   whole_by k (Some c) f at =
       let within = slice_get_within cells k c at in
       let low : nat_lt k p ≡ true = grind (arith, nat_tests) in

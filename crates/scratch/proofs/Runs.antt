@@ -41,7 +41,7 @@ LieBefore {A = A} same drift = (f : ℕ → A) (n : ℕ) → All (λ e. e.0 < n)
 
 module _ (answer : Evaluation → ℕ → State) (d : Netlist) where
   module _ (pending : (e : Evaluation) (t : ℕ) → IsTask e → NothingDue t (answer e t)) where
-    is_task : (g : GateEntry) → IsGate g → (t : ℕ) → IsTask (evaluation_at d (state_before answer d t) g t)
+    pub is_task : (g : GateEntry) → IsGate g → (t : ℕ) → IsTask (evaluation_at d (state_before answer d t) g t)
     is_task g is t =
         record {
           inputs_fit = rw length-map is.inputs_fit;
@@ -73,7 +73,7 @@ module _ (answer : Evaluation → ℕ → State) (d : Netlist) where
       near_before g is (suc t) = λ event some.
           let before = near (evaluation_at d (state_before answer d t) g t) t (is_task g is t) (near_before g is t) event some in omega arith
 
-      can_store : (g : GateEntry) → IsGate g → (t : ℕ) → t < TIME_END → CanStore t (state_after answer d g t)
+      pub can_store : (g : GateEntry) → IsGate g → (t : ℕ) → t < TIME_END → CanStore t (state_after answer d g t)
       can_store g is t low = (
         low,
         λ event some.

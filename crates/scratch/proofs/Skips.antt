@@ -1,10 +1,9 @@
 -- The moments before the next one for which something is noted are skipped.
-use Rattle.std.proofs.Common.{◌≡◌, ◌≢◌, ◌<◌, ◌≤◌, ◌∙◌, sym, ap, subst, refl, Bool, true, false, ℕ, zero, suc, ◌+◌, ◌-◌, List, [], ◌∷◌, map, Option, Some, None, slice_get, slice_index_or, length, All, arith, ◌⊎◌, inl, inr}
+use Rattle.std.proofs.Common.{◌≡◌, ◌≢◌, ◌<◌, ◌≤◌, ◌∙◌, sym, ap, subst, refl, Bool, true, false, ℕ, zero, suc, ◌+◌, ◌-◌, List, [], map, Option, Some, None, slice_get, slice_index_or, length, All, arith, ◌⊎◌, inl, inr}
 use Rattle.std.specs.Prelude.{nat_eq, nat_le}
 use Rattle.std.specs.Option.{option_map_or, option_map, ForSome}
-use Rattle.std.proofs.lemmas.Bool.{cases_lt}
+use Rattle.std.proofs.lemmas.Bool.{cases_lt, false_from_ne_true}
 use Rattle.std.proofs.lemmas.Bool.Decides.{nat_tests}
-use Rattle.std.proofs.lemmas.List.Elements.{All-head, All-tail}
 use Rattle.std.proofs.lemmas.Option.{slice_get-map, slice_get-get_or}
 use Rattle.event_queue.specs.kept.Noted.{noted}
 use Rattle.fourstate.specs.declared.value.Value.{Value}
@@ -14,8 +13,10 @@ use Rattle.gatestep.specs.Tasks.{PendingFrom}
 use Rattle.gatestep.specs.kept.Tasks.{IsTask, NothingDue, again}
 use Rattle.design.specs.kept.Lawful.{IsGate}
 use Rattle.design.specs.Netlist.{GateEntry, Netlist, has_point}
+use Rattle.design.proofs.ByNameLemmas.{all_at}
 use Rattle.waveform.specs.kept.Changes.{trace_below}
 use Rattle.waveform.specs.Entries.{same_state, standing}
+use Rattle.waveform.proofs.Lists.{filter-none}
 use Rattle.scratch.specs.kept.Places.{Announces, Covers, has, pends_at, point_at}
 use Rattle.scratch.specs.kept.Quiet.{IsQuiet}
 use Rattle.scratch.specs.kept.Recorded.{recorded_below}
@@ -25,21 +26,12 @@ use Rattle.scratch.specs.Work.{is_due, is_stirred, stirred_at}
 use Rattle.scratch.specs.declared.engine.Engine.{Engine}
 use Rattle.scratch.proofs.Recorded.{recorded_moves}
 use Rattle.scratch.proofs.Runs.{map_where, ready_all}
-use Rattle.scratch.proofs.Still.{Stays, none_kept, quiet_gate, quiet_net, still_after, trace_stays, wave_stays}
-
-pub all_at : {X : Type 0} (P : X → Type 0) (xs : List X) (k : ℕ) (x : X) → All P xs → slice_get xs k ≡ Some x → P x
-all_at P [] k x all is = absurd (cc)
-all_at P (w ∷ xs) zero x all is = let e : w ≡ x = cc in subst P e (All-head P w xs all)
-all_at P (w ∷ xs) (suc k) x all is = all_at P xs k x (All-tail P w xs all) is
-
-pub not_true : (b : Bool) → (b ≡ true → ⊥) → b ≡ false
-not_true true h = absurd (h refl)
-not_true false h = refl
+use Rattle.scratch.proofs.Still.{Stays, quiet_gate, quiet_net, still_after, trace_stays, wave_stays}
 
 -- where no place is noted nothing is wanted
 pub unwanted : (wanted : ℕ → ℕ → Bool) (listed : ℕ → List ℕ) (n k t : ℕ) → Covers wanted listed n → n ≤ t → listed t ≡ [] → wanted k t ≡ false
 unwanted wanted listed n k t covers from off =
-    not_true (wanted k t) (λ h.
+    false_from_ne_true (wanted k t) (λ h.
     let there = covers k t from h in
     let none : has k (listed t) ≡ false = ap (has k) off in
     let never : false ≡ true = sym none ∙ there in cc)
@@ -47,7 +39,7 @@ unwanted wanted listed n k t covers from off =
 -- nor where none is noted up to the moment
 pub unannounced : (wanted : ℕ → ℕ → Bool) (listed : ℕ → List ℕ) (n k t : ℕ) → Announces wanted listed n → n ≤ t → ((u : ℕ) → n ≤ u → u ≤ t → listed u ≡ []) → wanted k t ≡ false
 unannounced wanted listed n k t announces from off =
-    not_true (wanted k t) (λ h.
+    false_from_ne_true (wanted k t) (λ h.
     let there = announces k t from h in
     let none : has k (listed there.0) ≡ false = ap (has k) (off there.0 there.1 there.2) in
     let never : false ≡ true = sym none ∙ there.3 in cc)
@@ -96,10 +88,10 @@ module _ (answer : Evaluation → ℕ → State) (d : Netlist)
     calm = λ k x within. quiet_gate answer d current v quiet (slice_index_or d.gates k x) (quiet.nothing_due k x within)
 
     states_stay : map (state_before answer d (suc (suc v))) d.gates ≡ map (state_before answer d (suc v)) d.gates
-    states_stay = map_where (λ g. is_stirred answer d g (suc v) ≡ false) _ _ (λ g p. still_after answer d current stays g v p) d.gates calm
+    states_stay = map_where (λ g. is_stirred answer d g (suc v) ≡ false) _ _ (λ g p. still_after answer d stays g v p) d.gates calm
 
     traces_stay : map (λ g. trace_below (state_after answer d g) (suc (suc v))) d.gates ≡ map (λ g. trace_below (state_after answer d g) (suc v)) d.gates
-    traces_stay = map_where (λ g. is_stirred answer d g (suc v) ≡ false) _ _ (λ g p. trace_stays answer d current stays still_traces g v p) d.gates calm
+    traces_stay = map_where (λ g. is_stirred answer d g (suc v) ≡ false) _ _ (λ g p. trace_stays answer d stays still_traces g v p) d.gates calm
 
     values_stay : map (λ x. value answer d x (suc v)) d.nets ≡ map (λ x. value answer d x v) d.nets
     values_stay = map_where (λ n. has_point n.points (suc v) ≡ false) _ _ (quiet_net answer d current v quiet) d.nets quiet.no_point
@@ -136,7 +128,7 @@ module _ (answer : Evaluation → ℕ → State) (d : Netlist)
                 no_early_point = λ t below. early_on (noted e.points) no_point s.no_early_point t (search arith);
                 counts = s.counts;
               };
-          quiet = λ w from low. let same : suc v ≡ w = omega arith in ap (stirred_at answer d) (sym same) ∙ none_kept (λ g. is_stirred answer d g (suc v)) d.gates calm;
+          quiet = λ w from low. let same : suc v ≡ w = omega arith in ap (stirred_at answer d) (sym same) ∙ filter-none (λ g. is_stirred answer d g (suc v)) d.gates calm;
         }
 
   quiet_by : (e : Engine) (n v w : ℕ) → Skipped e n (suc v) → Skipped e (suc v) (suc (suc v)) → n ≤ w → (w < suc v) ⊎ (suc v ≤ w) → w < suc (suc v) → stirred_at answer d w ≡ []

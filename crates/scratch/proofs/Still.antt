@@ -5,6 +5,7 @@ use Rattle.std.specs.List.{filter, find, list_any, last_or}
 use Rattle.std.specs.Option.{option_map_or, ForSome}
 use Rattle.std.proofs.lemmas.Bool.Decides.{nat_tests}
 use Rattle.std.proofs.lemmas.List.Elements.{All-head, All-tail, All-filter}
+use Rattle.std.proofs.lemmas.Bool.{or_parts, and_parts, not-false}
 use Rattle.fourstate.specs.declared.value.Value.{Value}
 use Rattle.fourstate.specs.declared.value.Value.TheVariants.{Unknown}
 use Rattle.fourstate.specs.Nets.{net_of}
@@ -26,29 +27,15 @@ use Rattle.scratch.specs.Work.{inputs_at, is_due, is_stirred, same_values, task_
 use Rattle.scratch.proofs.Lists.{map_alike}
 use Rattle.scratch.proofs.Runs.{map_where}
 
-pub neither : (a b : Bool) → (a || b) ≡ false → (a ≡ false) × (b ≡ false)
-neither true b h = cc
-neither false true h = cc
-neither false false h = (refl, refl)
-
-both : (a b : Bool) → (a && b) ≡ true → (a ≡ true) × (b ≡ true)
-both true true h = (refl, refl)
-both true false h = cc
-both false b h = cc
-
-pub not_false : (a : Bool) → not a ≡ false → a ≡ true
-not_false true h = refl
-not_false false h = cc
-
-same_values_equal : (vs ws : List Value) → same_values vs ws ≡ true → vs ≡ ws
+pub same_values_equal : (vs ws : List Value) → same_values vs ws ≡ true → vs ≡ ws
 same_values_equal [] [] h = refl
 same_values_equal [] (w ∷ ws) h = cc
 same_values_equal (v ∷ vs) [] h = cc
 same_values_equal (v ∷ vs) (w ∷ ws) h =
-    let parts = both (same_value v w) (same_values vs ws) h in
+    let parts = and_parts (same_value v w) (same_values vs ws) h in
     let one = is_same v w parts.0 in let rest = same_values_equal vs ws parts.1 in cc
 
-same_values_itself : (vs : List Value) → same_values vs vs ≡ true
+pub same_values_itself : (vs : List Value) → same_values vs vs ≡ true
 same_values_itself [] = refl
 same_values_itself (v ∷ vs) = ap (λ (b : Bool). b && same_values vs vs) (same_self v) ∙ same_values_itself vs
 
@@ -77,7 +64,7 @@ points_kept : (points : List (ℕ × Value)) (t : ℕ) → has_point points (suc
     filter (λ point. nat_le point.0 (suc t)) points ≡ filter (λ point. nat_le point.0 t) points
 points_kept [] t h = refl
 points_kept (p ∷ ps) t h =
-    let parts = neither (p.0 == suc t) (list_any (λ point. point.0 == suc t) ps) h in
+    let parts = or_parts (p.0 == suc t) (list_any (λ point. point.0 == suc t) ps) h in
     let one = le_next p.0 t parts.0 in let rest = points_kept ps t parts.1 in
     ap (λ (b : Bool). cond b (p ∷ filter (λ point. nat_le point.0 (suc t)) ps) (filter (λ point. nat_le point.0 (suc t)) ps)) one
     ∙ ap (λ (qs : List (ℕ × Value)). cond (nat_le p.0 t) (p ∷ qs) qs) rest
@@ -115,19 +102,13 @@ found : (P : NetEntry → Type 0) (f h : NetEntry → Value) → ((n : NetEntry)
 found P f h same q [] all = refl
 found P f h same q (n ∷ ns) all = found_by f h q n ns (q n) (same n (All-head P n ns all)) (found P f h same q ns (All-tail P n ns all)) refl
 
-pub none_kept : {X : Type 0} (p : X → Bool) (xs : List X) → All (λ x. p x ≡ false) xs → filter p xs ≡ []
-none_kept p [] none = refl
-none_kept p (x ∷ xs) none =
-    let here = All-head (λ x. p x ≡ false) x xs none in
-    rw here (none_kept p xs (All-tail (λ x. p x ≡ false) x xs none))
-
 -- a gate's evaluation with this state and these inputs
-abbrev evaluation : GateEntry → State → List Value → Evaluation
+abbrev pub evaluation : GateEntry → State → List Value → Evaluation
 evaluation g s inputs = record { kind = g.kind; delays = g.delays; state = s; inputs = inputs }
 
 module _ (answer : Evaluation → ℕ → State) (d : Netlist) where
   -- a gate is not stirred where nothing of it is due and its inputs stay
-  is_still : (g : GateEntry) (t : ℕ) → is_due (state_before answer d (suc t) g) (suc t) ≡ false → inputs_at answer d g (suc t) ≡ inputs_at answer d g t → is_stirred answer d g (suc t) ≡ false
+  pub is_still : (g : GateEntry) (t : ℕ) → is_due (state_before answer d (suc t) g) (suc t) ≡ false → inputs_at answer d g (suc t) ≡ inputs_at answer d g t → is_stirred answer d g (suc t) ≡ false
   is_still g t none inputs =
       let now = inputs_at answer d g (suc t) in
       ap (λ (vs : List Value). not (same_values now vs) || is_due (state_before answer d (suc t) g) (suc t)) (sym inputs)
@@ -166,22 +147,26 @@ module _ (answer : Evaluation → ℕ → State) (d : Netlist) where
         is_still g t none
         (map_alike (λ terminal. terminal_at d (state_before answer d (suc t)) terminal (suc t)) (λ terminal. terminal_at d (state_before answer d t) terminal t) (quiet_terminal t quiet) g.inputs)
 
-    module _ (stays : (e : Evaluation) (t u : ℕ) → t < u → NothingDue u (answer e t) → answer (again e (answer e t)) u ≡ answer e t) where
-      -- a gate that is not stirred keeps its state
-      pub still_after : (g : GateEntry) (t : ℕ) → is_stirred answer d g (suc t) ≡ false → state_before answer d (suc (suc t)) g ≡ state_before answer d (suc t) g
-      still_after g t h =
-          let e = task_at answer d g t in let f = task_at answer d g (suc t) in
-          let parts = neither (not (same_values f.inputs e.inputs)) (is_due f.state (suc t)) h in
-          ap (λ (vs : List Value). answer (evaluation g f.state vs) (suc t)) (same_values_equal f.inputs e.inputs (not_false (same_values f.inputs e.inputs) parts.0))
-          ∙ stays e t (suc t) (omega arith) (nothing_due f.state (suc t) parts.1)
+  -- a gate that is not stirred has nothing due
+  pub still_due : (g : GateEntry) (t : ℕ) → is_stirred answer d g (suc t) ≡ false → is_due (state_before answer d (suc t) g) (suc t) ≡ false
+  still_due g t h =
+      let e = task_at answer d g t in let f = task_at answer d g (suc t) in
+      (or_parts (not (same_values f.inputs e.inputs)) (is_due f.state (suc t)) h).1
 
-      -- and adds no entry to its trace
-      pub trace_stays : Stays same_state due → (g : GateEntry) (t : ℕ) → is_stirred answer d g (suc t) ≡ false →
-          trace_below (state_after answer d g) (suc (suc t)) ≡ trace_below (state_after answer d g) (suc t)
-      trace_stays no_more g t h =
-          let e = task_at answer d g t in let f = task_at answer d g (suc t) in
-          let parts = neither (not (same_values f.inputs e.inputs)) (is_due f.state (suc t)) h in
-          no_change same_state due no_more (state_after answer d g) t
-          (ap (λ s. same_state s (due (state_before answer d (suc t) g) (suc t))) (still_after g t h)
-          ∙ ap (λ s. same_state (state_before answer d (suc t) g) s) (none_due (state_before answer d (suc t) g) (suc t) parts.1)
-          ∙ same_state_self (state_before answer d (suc t) g))
+  module _ (stays : (e : Evaluation) (t u : ℕ) → t < u → NothingDue u (answer e t) → answer (again e (answer e t)) u ≡ answer e t) where
+    -- it keeps its state
+    pub still_after : (g : GateEntry) (t : ℕ) → is_stirred answer d g (suc t) ≡ false → state_before answer d (suc (suc t)) g ≡ state_before answer d (suc t) g
+    still_after g t h =
+        let e = task_at answer d g t in let f = task_at answer d g (suc t) in
+        let parts = or_parts (not (same_values f.inputs e.inputs)) (is_due f.state (suc t)) h in
+        ap (λ (vs : List Value). answer (evaluation g f.state vs) (suc t)) (same_values_equal f.inputs e.inputs (not-false (same_values f.inputs e.inputs) parts.0))
+        ∙ stays e t (suc t) (omega arith) (nothing_due f.state (suc t) parts.1)
+
+    -- and adds no entry to its trace
+    pub trace_stays : Stays same_state due → (g : GateEntry) (t : ℕ) → is_stirred answer d g (suc t) ≡ false →
+        trace_below (state_after answer d g) (suc (suc t)) ≡ trace_below (state_after answer d g) (suc t)
+    trace_stays no_more g t h =
+        no_change same_state due no_more (state_after answer d g) t
+        (ap (λ s. same_state s (due (state_before answer d (suc t) g) (suc t))) (still_after g t h)
+        ∙ ap (λ s. same_state (state_before answer d (suc t) g) s) (none_due (state_before answer d (suc t) g) (suc t) (still_due g t h))
+        ∙ same_state_self (state_before answer d (suc t) g))

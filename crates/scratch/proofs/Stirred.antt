@@ -7,6 +7,9 @@ use Rattle.std.specs.List.{filter, find, list_any}
 use Rattle.std.specs.Option.{option_map_or, option_map}
 use Rattle.std.proofs.lemmas.List.Elements.{All-cons, All-nil}
 use Rattle.std.proofs.lemmas.Option.{slice_get-map, slice_get_within, get_or_from_slice_get}
+use Rattle.std.proofs.Math.Bool.{and-false}
+use Rattle.std.proofs.lemmas.Map.Keys.{any_passes_from_place}
+use Rattle.std.proofs.lemmas.Bool.{false_from_ne_true}
 use Rattle.fourstate.specs.declared.value.Value.{Value}
 use Rattle.fourstate.specs.declared.value.Value.TheVariants.{Unknown}
 use Rattle.fourstate.specs.Values.{same_value}
@@ -15,13 +18,14 @@ use Rattle.gatestep.specs.Tasks.{PendingFrom}
 use Rattle.design.specs.Connections.{Connection, to_net, to_constant}
 use Rattle.design.specs.Names.{same_name}
 use Rattle.design.specs.Netlist.{NetEntry, GateEntry, Netlist, drivers_of, has_point, is_at_net, net_named, reads}
+use Rattle.design.proofs.ByNameLemmas.{all_at}
 use Rattle.fourstate.specs.kept.ValueLaws.{same_self}
 use Rattle.scratch.specs.kept.Places.{Announces, Covers, changes_at, drives_at, has, is_due_at, passing, pends_at, point_at, reads_at}
 use Rattle.scratch.specs.Run.{state_before, terminal_at, value}
 use Rattle.scratch.specs.Work.{is_due, is_stirred, same_values}
-use Rattle.scratch.proofs.Among.{and_false, any_from, any_to, has_at, has_filter, nat_itself}
+use Rattle.scratch.proofs.Among.{any_from, has_at, has_filter, nat_itself}
 use Rattle.scratch.proofs.Passing.{has_place}
-use Rattle.scratch.proofs.Skips.{all_at, is_due_now, not_true}
+use Rattle.scratch.proofs.Skips.{is_due_now}
 use Rattle.scratch.proofs.Still.{still_net}
 
 or_swap : (a b : Bool) → (a || b) ≡ (b || a)
@@ -32,7 +36,7 @@ or_swap false false = refl
 
 passes_if : (a b : Bool) → (b ≡ true → a ≡ true) → (a && b) ≡ b
 passes_if a true h = ap (λ (x : Bool). x && true) (h refl)
-passes_if a false h = and_false a
+passes_if a false h = and-false a
 
 pub same_self_name : (a : List ℕ) → same_name a a ≡ true
 same_self_name [] = refl
@@ -117,19 +121,19 @@ module _ (answer : Evaluation → ℕ → State) (d : Netlist) (t : ℕ) (begun 
       (gates : List ℕ) (due_gates : (k : ℕ) → has k gates ≡ is_due_at states k t) where
     keeps : (m : ℕ) (n : NetEntry) → slice_get d.nets m ≡ Some n → has m (points t) ≡ false → list_any (λ k. output k m) gates ≡ false → value answer d n t ≡ value answer d n (t - 1)
     keeps m n at undriven off =
-        let no_point : has_point n.points t ≡ false = not_true (has_point n.points t) (λ h.
+        let no_point : has_point n.points t ≡ false = false_from_ne_true (has_point n.points t) (λ h.
         let there = announces m t (omega arith) (ap (λ o. option_map_or (λ n. has_point n.points t) o false) at ∙ h) in
         let from = there.1 in let to = there.2 in
         let same : there.0 ≡ t = omega arith in
         let never : false ≡ true = sym undriven ∙ ap (λ u. has m (points u)) (sym same) ∙ there.3 in cc) in
         let none : All (λ g. is_due (state_before answer d t g) t ≡ false) (drivers_of d n.name) =
         all_of_filter (λ g. same_name g.output n.name) (λ g. is_due (state_before answer d t g) t ≡ false) d.gates (λ k g here named.
-        not_true (is_due (state_before answer d t g) t) (λ h.
+        false_from_ne_true (is_due (state_before answer d t g) t) (λ h.
         let drives : drives_at d k m ≡ true = ap (λ o. option_map_or (λ n. option_map_or (λ g. same_name g.output n.name) (slice_get d.gates k) false) o false) at
         ∙ ap (λ o. option_map_or (λ g. same_name g.output n.name) o false) here ∙ named in
         let in_due : has k gates ≡ true = due_gates k ∙ ap (λ o. option_map_or (λ s. is_due s t) o false) (state_here k g here) ∙ h in
         let i = has_at k gates in_due in
-        let any = any_to (λ k. output k m) gates i.0 k i.1 (drive k m drives) in
+        let any = any_passes_from_place (λ k. output k m) gates i.0 k i.1 (drive k m drives) in
         let never : false ≡ true = sym off ∙ any in cc)) in
         still_at current n t begun no_point none
 
@@ -161,7 +165,7 @@ module _ (answer : Evaluation → ℕ → State) (d : Netlist) (t : ℕ) (begun 
           not (same_value (value answer d n t) (value answer d n (t - 1))) ≡ true → list_any moved g.inputs ≡ true
       one_reads i (to_net name) n at named found differs =
           let same : name ≡ n.name = same_text name n.name (sym named) in
-          any_to moved g.inputs i (to_net name) at (moved_net name n (ap (net_named d) same ∙ found) ∙ differs)
+          any_passes_from_place moved g.inputs i (to_net name) at (moved_net name n (ap (net_named d) same ∙ found) ∙ differs)
       one_reads i (to_constant v) n at named found differs = absurd (cc)
 
       there_by : (m : ℕ) (o : Option NetEntry) → slice_get d.nets m ≡ o → has m changed ≡ true → reads_at d k m ≡ true → list_any moved g.inputs ≡ true
@@ -171,7 +175,7 @@ module _ (answer : Evaluation → ℕ → State) (d : Netlist) (t : ℕ) (begun 
           one_reads f.0 f.1 n f.2 f.3 (find_there d.nets m n distinct at) (sym (changes_here m n at) ∙ sym (change m) ∙ on)
 
       there : list_any (λ m. reads_at d k m) changed ≡ true → list_any moved g.inputs ≡ true
-      there h = let f = any_from (λ m. reads_at d k m) changed h in there_by f.1 (slice_get d.nets f.1) refl (any_to (nat_eq f.1) changed f.0 f.1 f.2 (nat_itself f.1)) f.3
+      there h = let f = any_from (λ m. reads_at d k m) changed h in there_by f.1 (slice_get d.nets f.1) refl (any_passes_from_place (nat_eq f.1) changed f.0 f.1 f.2 (nat_itself f.1)) f.3
 
       back_net : (i : ℕ) (name : List ℕ) (o : Option NetEntry) → net_named d name ≡ o → slice_get g.inputs i ≡ Some (to_net name) → moved (to_net name) ≡ true → list_any (λ m. reads_at d k m) changed ≡ true
       back_net i name None found at on =
@@ -180,9 +184,9 @@ module _ (answer : Evaluation → ℕ → State) (d : Netlist) (t : ℕ) (begun 
           let f = found_at name n d.nets found in
           let same : n.name ≡ name = same_text n.name name (sym f.2) in
           let in_changed : has f.0 changed ≡ true = change f.0 ∙ changes_here f.0 n f.1 ∙ sym (moved_net name n found) ∙ on in
-          let read : reads_at d k f.0 ≡ true = reads_here f.0 n f.1 ∙ any_to (is_at_net n.name) g.inputs i (to_net name) at (ap (same_name name) same ∙ same_self_name name) in
+          let read : reads_at d k f.0 ≡ true = reads_here f.0 n f.1 ∙ any_passes_from_place (is_at_net n.name) g.inputs i (to_net name) at (ap (same_name name) same ∙ same_self_name name) in
           let j = has_at f.0 changed in_changed in
-          any_to (λ m. reads_at d k m) changed j.0 f.0 j.1 read
+          any_passes_from_place (λ m. reads_at d k m) changed j.0 f.0 j.1 read
 
       back_by : (i : ℕ) (terminal : Connection) → slice_get g.inputs i ≡ Some terminal → moved terminal ≡ true → list_any (λ m. reads_at d k m) changed ≡ true
       back_by i (to_net name) at on = back_net i name (net_named d name) refl at on

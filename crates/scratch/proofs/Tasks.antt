@@ -1,10 +1,10 @@
 -- The answers of the stirred gates.
-use Rattle.std.proofs.Common.{◌≡◌, ◌∙◌, ap, sym, refl, ℕ, ◌+◌, Bool, true, false, List, [], ◌∷◌, map, Some, slice_get, length, arith}
-use Rattle.std.specs.Prelude.{◌&&◌}
+use Rattle.std.proofs.Common.{◌≡◌, ◌∙◌, ap, sym, refl, ℕ, ◌+◌, Bool, List, [], ◌∷◌, map, Some, slice_get}
 use Rattle.std.specs.List.{filter}
 use Rattle.gatestep.specs.Record.{at_moment}
 use Rattle.gatestep.specs.Step.{State, Evaluation}
 use Rattle.design.specs.Netlist.{GateEntry, Netlist}
+use Rattle.design.proofs.EntryLemmas.{filter_filter}
 use Rattle.scratch.specs.kept.Open.{open_work_at}
 use Rattle.scratch.specs.kept.Places.{passing}
 use Rattle.scratch.specs.Run.{state_before}
@@ -13,24 +13,10 @@ use Rattle.scratch.proofs.Lists.{same_put}
 use Rattle.scratch.proofs.Moments.{map_twice}
 use Rattle.scratch.proofs.Passing.{slices}
 
-pub nothing_in : {X : Type 0} (xs : List X) → length xs ≡ 0 → xs ≡ []
-nothing_in [] h = refl
-nothing_in (x ∷ xs) h = absurd (omega arith)
-
 -- the answers to the tasks of a moment
 pub answered : (answer : Evaluation → ℕ → State) (t : ℕ) (tasks : List Evaluation) → map (λ task. answer task t) tasks ≡ map (λ (asked : Evaluation × ℕ). answer asked.0 asked.1) (at_moment t tasks)
 answered answer t [] = refl
 answered answer t (task ∷ tasks) = ap (λ l. answer task t ∷ l) (answered answer t tasks)
-
-filter_twice : {X : Type 0} (p q : X → Bool) (xs : List X) → filter p (filter q xs) ≡ filter (λ x. p x && q x) xs
-filter_twice p q [] = refl
-filter_twice p q (x ∷ xs) = by (p x) (q x) refl refl (filter_twice p q xs)
-  where
-    by : (b c : Bool) → p x ≡ b → q x ≡ c → filter p (filter q xs) ≡ filter (λ z. p z && q z) xs → filter p (filter q (x ∷ xs)) ≡ filter (λ z. p z && q z) (x ∷ xs)
-    by true true on too later = rw (too, on) (ap (λ l. x ∷ l) later)
-    by true false on off later = rw (off, on) later
-    by false true off on later = rw (on, off) later
-    by false false off none later = rw (none, off) later
 
 module _ (answer : Evaluation → ℕ → State) (d : Netlist) (t : ℕ) where
   -- the answers at the places of the stirred gates
@@ -46,7 +32,7 @@ module _ (answer : Evaluation → ℕ → State) (d : Netlist) (t : ℕ) where
   pub none_asked : (is_open : GateEntry → ℕ → Bool) → stirred_at answer d t ≡ [] → open_work_at is_open answer d t ≡ []
   none_asked is_open none =
       ap (λ (gs : List GateEntry). at_moment t (map (λ g. task_at answer d g t) gs))
-      (sym (filter_twice (λ g. is_open g t) (λ g. is_stirred answer d g t) d.gates) ∙ ap (filter (λ g. is_open g t)) none)
+      (sym (filter_filter (λ g. is_open g t) (λ g. is_stirred answer d g t) d.gates) ∙ ap (filter (λ g. is_open g t)) none)
 
 all_kept : (answer : Evaluation → ℕ → State) (d : Netlist) (gs : List GateEntry) → filter (λ g. is_stirred answer d g 0) gs ≡ gs
 all_kept answer d [] = refl

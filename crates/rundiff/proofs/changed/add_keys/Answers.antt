@@ -1,11 +1,12 @@
 use Rattle.std.proofs.Common.{◌≡◌, ◌∙◌, ap, sym, subst, refl, ℕ, List, Bool, true, false, take}
 use Rattle.std.specs.Prelude.{◌||◌, nat_eq, slice_get, slice_index_or}
+use Rattle.std.proofs.lemmas.Bool.{eqb-true}
+use Rattle.std.proofs.lemmas.Option.{slice_get-get_or, same_Some}
+use Rattle.std.proofs.lemmas.List.{take_all}
 use Rattle.catalog.specs.kept.Catalog.{keys_of}
+use Rattle.scratch.proofs.Driven.{earlier}
 use Rattle.rundiff.specs.kept.Places.{is_among}
-use Rattle.rundiff.proofs.ByPlace.{get_at}
-use Rattle.rundiff.proofs.Driven.{take_whole}
-use Rattle.rundiff.proofs.NamedLines.{some_equal}
-use Rattle.rundiff.proofs.Steps.{among_more, among_push, or_splits, same_place}
+use Rattle.rundiff.proofs.Steps.{among_more, among_push}
 use Rattle.rundiff.proofs.Unchanged.{among_last}
 use Rattle.rundiff.proofs.changed.add_keys.Goals as goal
 
@@ -22,13 +23,13 @@ loop-place-preserved c =
       added = λ p key among at.
           elim (nat_eq x p) as (λ b. nat_eq x p ≡ b → is_among now key ≡ true) [
             | true ↦ λ same.
-                let one : added ≡ key = some_equal added key (sym c.net_key_at.ensures.key ∙ ap (λ (q : ℕ). slice_get all q) (same_place x p same) ∙ at) in
+                let one : added ≡ key = same_Some added key (sym c.net_key_at.ensures.key ∙ ap (λ (q : ℕ). slice_get all q) (eqb-true x p same) ∙ at) in
                 subst (λ (k : ℕ). is_among now k ≡ true) one (ap (λ (l : List ℕ). is_among l added) pushed ∙ among_last before added)
             | false ↦ λ apart.
-                grows key (c.loop-place.invariant.added p key (or_splits (is_among (take i xs) p) (nat_eq x p) (sym (among_more xs i x p (get_at xs i 0 c.loop-place-test.true)) ∙ among) apart) at)
+                grows key (c.loop-place.invariant.added p key (earlier (is_among (take i xs) p) (nat_eq x p) (sym (among_more xs i x p (slice_get-get_or xs i 0 c.loop-place-test.true)) ∙ among) apart) at)
           ] refl;
     }
 
 pub returns-clause-added : goal.returns-clause-added
 returns-clause-added c = λ p key among at.
-    c.loop-place.invariant.added p key (ap (λ (l : List ℕ). is_among l p) (take_whole c.args.places.now c.loop-place.place-index c.loop-place-test.false) ∙ among) at
+    c.loop-place.invariant.added p key (ap (λ (l : List ℕ). is_among l p) (take_all c.loop-place.place-index c.args.places.now c.loop-place-test.false) ∙ among) at

@@ -2,14 +2,14 @@ use Rattle.std.proofs.Common.{◌≡◌, ◌<◌, All, length, ◌∙◌, ap, sy
 use Rattle.std.specs.Prelude.{nat_eq, IsSome}
 use Rattle.std.specs.Option.{option_map_or}
 use Rattle.std.proofs.lemmas.Bool.Decides.{nat_tests}
+use Rattle.std.proofs.lemmas.Bool.{or_left, or_right}
+use Rattle.std.proofs.lemmas.List.Elements.{All-push}
+use Rattle.std.proofs.lemmas.Option.{get_or_from_slice_get}
 use Rattle.catalog.specs.kept.Catalog.{place_of}
 use Rattle.design.specs.Keys.{entry_in, netlist}
 use Rattle.design.specs.kept.Keys.{net_by_key}
 use Rattle.design.specs.Netlist.{GateEntry}
 use Rattle.rundiff.specs.kept.Places.{blank_gate, is_among, is_live}
-use Rattle.rundiff.proofs.ByPlace.{at_place}
-use Rattle.rundiff.proofs.Sets.{or_first, or_second}
-use Rattle.rundiff.proofs.Outcoming.{all_more}
 use Rattle.rundiff.proofs.Steps.{among_push}
 use Rattle.rundiff.proofs.choosing.add_output.Goals as goal
 
@@ -18,11 +18,11 @@ itself n = grind (arith, nat_tests)
 
 pub returns-clause-more : goal.returns-clause-more
 returns-clause-more c = λ p on.
-    ap (λ (l : List ℕ). is_among l p) c.in_ok-push.ensures.items ∙ among_push c.args.nets.now.items c.in-Some.net p ∙ or_first (is_among c.args.nets.now.items p) (nat_eq c.in-Some.net p) on
+    ap (λ (l : List ℕ). is_among l p) c.in_ok-push.ensures.items ∙ among_push c.args.nets.now.items c.in-Some.net p ∙ or_left (is_among c.args.nets.now.items p) (nat_eq c.in-Some.net p) on
 
 pub returns-clause-there : goal.returns-clause-there
 returns-clause-there c = λ all.
-    subst (All (λ p. p < length (netlist c.args.new.now).nets)) (sym c.in_ok-push.ensures.items) (all_more (λ p. p < length (netlist c.args.new.now).nets) c.args.nets.now.items c.in-Some.net all c.in-Some.ensures.within)
+    subst (All (λ p. p < length (netlist c.args.new.now).nets)) (sym c.in_ok-push.ensures.items) (All-push (λ p. p < length (netlist c.args.new.now).nets) c.args.nets.now.items c.in-Some.net all c.in-Some.ensures.within)
 
 pub returns-clause-driven : goal.returns-clause-driven
 returns-clause-driven c =
@@ -31,7 +31,7 @@ returns-clause-driven c =
     let net = c.in-Some.net in
     let was = c.args.nets.now.items in
     let now = c.push.new.self.items in
-    let entry = at_place d.gates c.args.place blank_gate (entry_in keyed.nets gate) c.gate_at.ensures.named in
+    let entry = get_or_from_slice_get d.gates c.args.place (entry_in keyed.nets gate) blank_gate c.gate_at.ensures.named in
     let key : c.output.result ≡ gate.output = c.output.ensures in
     let there : IsSome (net_by_key keyed gate.output) = subst (λ (k : ℕ). IsSome (net_by_key keyed k)) key (sym c.in-Some.ensures.there) in
     ap (λ (g : GateEntry). is_live d (is_among now) g.output) entry
@@ -39,4 +39,4 @@ returns-clause-driven c =
     (c.places_are_keys.ensures.nets gate.output there ∙ ap (place_of keyed.nets) (sym key) ∙ sym c.in-Some.ensures.place)
     ∙ ap (λ (l : List ℕ). is_among l net) c.in_ok-push.ensures.items
     ∙ among_push was net net
-    ∙ or_second (is_among was net) (nat_eq net net) (itself net)
+    ∙ or_right (is_among was net) (nat_eq net net) (itself net)

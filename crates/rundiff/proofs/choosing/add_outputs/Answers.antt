@@ -1,17 +1,19 @@
 use Rattle.std.proofs.Common.{◌≡◌, ◌∙◌, ap, sym, subst, refl, ℕ, List, true, false, take}
 use Rattle.std.specs.Prelude.{slice_index_or, nat_eq}
+use Rattle.std.proofs.lemmas.Bool.{eqb-true}
+use Rattle.std.proofs.lemmas.Option.{slice_get-get_or}
+use Rattle.std.proofs.lemmas.List.{take_all}
 use Rattle.design.specs.Keys.{netlist}
+use Rattle.scratch.proofs.Driven.{earlier}
 use Rattle.rundiff.specs.kept.Places.{gate_at, is_among, is_live}
 use Rattle.rundiff.proofs.Alike.{live_grows}
-use Rattle.rundiff.proofs.ByPlace.{get_at}
-use Rattle.rundiff.proofs.Driven.{take_whole}
-use Rattle.rundiff.proofs.Steps.{among_more, is_one, or_splits, same_place}
+use Rattle.rundiff.proofs.Steps.{among_more, is_one}
 use Rattle.rundiff.proofs.choosing.add_outputs.Goals as goal
 
 pub add_output-requires : goal.add_output-requires
 add_output-requires c =
     let xs = c.args.gates.now in let i = c.loop-place.place-index in
-    record { there = c.requires.there (slice_index_or xs i 0) (is_one xs i (slice_index_or xs i 0) (get_at xs i 0 c.loop-place-test.true)) }
+    record { there = c.requires.there (slice_index_or xs i 0) (is_one xs i (slice_index_or xs i 0) (slice_get-get_or xs i 0 c.loop-place-test.true)) }
 
 pub loop-place-preserved : goal.loop-place-preserved
 loop-place-preserved c =
@@ -24,13 +26,13 @@ loop-place-preserved c =
       more = λ p on. done.more p (c.loop-place.invariant.more p on);
       driven = λ q among.
           elim (nat_eq x q) as (λ b. nat_eq x q ≡ b → is_live d now (gate_at d q).output ≡ true) [
-            | true ↦ λ same. subst (λ (p : ℕ). is_live d now (gate_at d p).output ≡ true) (same_place x q same) done.driven
+            | true ↦ λ same. subst (λ (p : ℕ). is_live d now (gate_at d p).output ≡ true) (eqb-true x q same) done.driven
             | false ↦ λ apart.
                 live_grows d (is_among c.loop-place.nets.items) now done.more (gate_at d q).output
-                (c.loop-place.invariant.driven q (or_splits (is_among (take i xs) q) (nat_eq x q) (sym (among_more xs i x q (get_at xs i 0 c.loop-place-test.true)) ∙ among) apart))
+                (c.loop-place.invariant.driven q (earlier (is_among (take i xs) q) (nat_eq x q) (sym (among_more xs i x q (slice_get-get_or xs i 0 c.loop-place-test.true)) ∙ among) apart))
           ] refl;
     }
 
 pub returns-clause-driven : goal.returns-clause-driven
 returns-clause-driven c = λ q among.
-    c.loop-place.invariant.driven q (ap (λ (l : List ℕ). is_among l q) (take_whole c.args.gates.now c.loop-place.place-index c.loop-place-test.false) ∙ among)
+    c.loop-place.invariant.driven q (ap (λ (l : List ℕ). is_among l q) (take_all c.loop-place.place-index c.args.gates.now c.loop-place-test.false) ∙ among)

@@ -1,29 +1,28 @@
 use Rattle.std.proofs.Common.{◌∙◌, ap, sym, refl, ℕ, List}
 use Rattle.std.specs.BTreeSet.{contains}
 use Rattle.std.specs.Ordering.{nat_cmp}
+use Rattle.std.proofs.lemmas.Bool.{and_from, or_left, and_parts}
 use Rattle.event_queue.specs.kept.Noted.{noted}
 use Rattle.scratch.specs.kept.Places.{has}
 use Rattle.rundiff.specs.kept.Places.{is_among}
-use Rattle.rundiff.proofs.Among.{and_true, either_among, taken_among}
-use Rattle.rundiff.proofs.Sets.{or_first}
-use Rattle.rundiff.proofs.Still.{both}
+use Rattle.rundiff.proofs.Among.{either_among, taken_among}
 use Rattle.rundiff.proofs.choosing.choose_gates.Goals as goal
 
 pub returns-clause-rising : goal.returns-clause-rising
 returns-clause-rising c = record { rising = c.keep_in_order.ensures.rising; all = λ p. refl }
 
 pub returns-clause-held : goal.returns-clause-held
-returns-clause-held c = λ q among. (both (is_among c.take.new.out.items q) (contains nat_cmp c.args.held.now q) (sym (c.keep_in_order.ensures.all q) ∙ among)).1
+returns-clause-held c = λ q among. (and_parts (is_among c.take.new.out.items q) (contains nat_cmp c.args.held.now q) (sym (c.keep_in_order.ensures.all q) ∙ among)).1
 
 pub returns-clause-more : goal.returns-clause-more
 returns-clause-more c = λ q on among.
     c.keep_in_order.ensures.all q
-    ∙ and_true (is_among c.take.new.out.items q) (contains nat_cmp c.args.held.now q)
+    ∙ and_from (is_among c.take.new.out.items q) (contains nat_cmp c.args.held.now q)
     (ap (λ (l : List ℕ). is_among l q) c.in_ok-take.ensures.taken ∙ either_among c.args.gates.now.items (noted c.args.queue.now c.args.t) q
-    ∙ or_first (is_among c.args.gates.now.items q) (has q (noted c.args.queue.now c.args.t)) among) on
+    ∙ or_left (is_among c.args.gates.now.items q) (has q (noted c.args.queue.now c.args.t)) among) on
 
 pub returns-clause-noted : goal.returns-clause-noted
 returns-clause-noted c = λ q on there.
     c.keep_in_order.ensures.all q
-    ∙ and_true (is_among c.take.new.out.items q) (contains nat_cmp c.args.held.now q)
+    ∙ and_from (is_among c.take.new.out.items q) (contains nat_cmp c.args.held.now q)
     (taken_among c.take.new.out.items c.args.gates.now.items (noted c.args.queue.now c.args.t) c.in_ok-take.ensures.taken q there) on

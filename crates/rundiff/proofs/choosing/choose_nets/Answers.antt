@@ -1,23 +1,23 @@
 use Rattle.std.proofs.Common.{◌∙◌, sym}
 use Rattle.std.specs.BTreeSet.{contains}
 use Rattle.std.specs.Ordering.{nat_cmp}
+use Rattle.std.proofs.lemmas.Bool.{and_from, and_parts}
 use Rattle.event_queue.specs.kept.Noted.{noted}
 use Rattle.design.specs.Keys.{netlist}
 use Rattle.rundiff.specs.kept.Places.{gate_at, is_among}
-use Rattle.rundiff.proofs.Among.{and_true, live_both, taken_among}
-use Rattle.rundiff.proofs.Still.{both}
+use Rattle.rundiff.proofs.Among.{live_both, taken_among}
 use Rattle.rundiff.proofs.choosing.choose_nets.Goals as goal
 
 pub returns-clause-rising : goal.returns-clause-rising
 returns-clause-rising c = c.keep_in_order.ensures.rising
 
 pub returns-clause-live : goal.returns-clause-live
-returns-clause-live c = λ p among. (both (is_among c.add_outputs.new.nets.items p) (contains nat_cmp c.args.live.now p) (sym (c.keep_in_order.ensures.all p) ∙ among)).1
+returns-clause-live c = λ p among. (and_parts (is_among c.add_outputs.new.nets.items p) (contains nat_cmp c.args.live.now p) (sym (c.keep_in_order.ensures.all p) ∙ among)).1
 
 pub returns-clause-noted : goal.returns-clause-noted
 returns-clause-noted c = λ p on there.
     c.keep_in_order.ensures.all p
-    ∙ and_true (is_among c.add_outputs.new.nets.items p) (contains nat_cmp c.args.live.now p)
+    ∙ and_from (is_among c.add_outputs.new.nets.items p) (contains nat_cmp c.args.live.now p)
     (c.in_ok-add_outputs.ensures.more p (taken_among c.take.new.out.items c.clear.new.self.items (noted c.args.queue.now c.args.t) c.in_ok-take.ensures.taken p there)) on
 
 pub returns-clause-driven : goal.returns-clause-driven
@@ -26,5 +26,5 @@ returns-clause-driven c = λ q among.
     let live = contains nat_cmp c.args.live.now in
     let added = is_among c.add_outputs.new.nets.items in
     live_both d added live (is_among c.keep_in_order.new.places.items)
-    (λ p at lives. c.keep_in_order.ensures.all p ∙ and_true (added p) (live p) at lives) (gate_at d q).output
+    (λ p at lives. c.keep_in_order.ensures.all p ∙ and_from (added p) (live p) at lives) (gate_at d q).output
     (c.in_ok-add_outputs.ensures.driven q among) (c.requires.live q among)

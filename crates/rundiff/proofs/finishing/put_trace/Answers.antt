@@ -1,5 +1,6 @@
 use Rattle.std.proofs.Common.{◌≡◌, ◌∙◌, ◌+◌, ap, sym, suc, ℕ, List, Option, Some, subst, arith}
 use Rattle.std.specs.Option.{option_map}
+use Rattle.std.proofs.lemmas.Option.{get_or_from_slice_get}
 use Rattle.gatestep.specs.Step.{State, due}
 use Rattle.catalog.specs.kept.Catalog.{keys_of}
 use Rattle.design.specs.Keys.{KeyedGate, entry_in, netlist}
@@ -8,15 +9,15 @@ use Rattle.design.specs.Netlist.{GateEntry}
 use Rattle.waveform.specs.kept.Changes.{trace_below}
 use Rattle.waveform.specs.Entries.{same_state}
 use Rattle.waveform.specs.kept.Patches.{Keeps, PatchRecord}
+use Rattle.event_queue.proofs.Changes.{by_ok}
 use Rattle.scratch.specs.Run.{state_after}
 use Rattle.scratch.specs.kept.Run.{trace_of}
+use Rattle.scratch.proofs.Runs.{settled}
 use Rattle.rundiff.specs.kept.Finishing.{new_trace}
 use Rattle.rundiff.specs.kept.Fronts.{named_state}
 use Rattle.rundiff.specs.kept.Places.{blank_gate, gate_at}
-use Rattle.rundiff.proofs.ByPlace.{at_place}
 use Rattle.rundiff.proofs.Putting.{put_one}
-use Rattle.rundiff.proofs.Steps.{mapped}
-use Rattle.rundiff.proofs.Tasks.{old_settled, settled}
+use Rattle.rundiff.proofs.Tasks.{old_settled}
 use Rattle.rundiff.proofs.finishing.put_trace.Goals as goal
 
 pub returns-clause-traces : goal.returns-clause-traces
@@ -28,7 +29,7 @@ returns-clause-traces g c =
     let place = c.args.place in
     let x = gate_at new place in
     let entry = entry_in keyed.nets c.gate_at.result.now in
-    let at : x ≡ entry = at_place new.gates place blank_gate entry c.gate_at.ensures.named in
+    let at : x ≡ entry = get_or_from_slice_get new.gates place entry blank_gate c.gate_at.ensures.named in
     let named : c.as_str.result.now ≡ x.name = c.as_str.ensures ∙ c.name.ensures ∙ sym (ap (λ (y : GateEntry). y.name) at) in
     let end : c.horizon.result + 1 ≡ suc new.horizon = let h = c.horizon.ensures.horizon in omega arith in
     let same_end : suc old.horizon ≡ c.horizon.result + 1 = let h = c.horizon.ensures.horizon in let e = c.requires.horizon in omega arith in
@@ -47,6 +48,6 @@ returns-clause-traces g c =
     let trace : KeyedGate → List (ℕ × State) = λ gate. trace_of answer new (entry_in keyed.nets gate) in
     let due_there : new_trace answer keyed c.gate_key_at-key.result ≡ Some c.in_ok-trace.trace =
     ap (option_map trace) found ∙ ap (λ (gate : GateEntry). Some (trace_of answer new gate)) (sym at) ∙ ap (λ (w : List (ℕ × State)). Some w) (sym line) in
-    mapped c.put_trace.result c.put_trace.ensures.ok
+    by_ok c.put_trace.result c.put_trace.ensures.ok
     (λ changed. put_one (new_trace answer keyed) (keys_of keyed.gates) place c.number.result c.in_ok-trace.trace c.args.made.now.traces c.put_trace.new.self.traces
     (c.gate_key_at-key.ensures.key ∙ ap (λ (k : ℕ). Some k) (sym c.number.ensures)) (ap (new_trace answer keyed) c.number.ensures ∙ due_there) changed)

@@ -1,6 +1,7 @@
 use Rattle.std.proofs.Common.{◌∙◌, ◌≤◌, sym, subst, refl, suc, Option}
 use Rattle.std.specs.Prelude.{slice_index_or}
 use Rattle.std.specs.Option.{ForSome}
+use Rattle.std.proofs.lemmas.Option.{slice_get-get_or}
 use Rattle.rundiff.specs.kept.PlaceMaps.{kept_at}
 use Rattle.gatestep.specs.Step.{State, due}
 use Rattle.catalog.specs.kept.Catalog.{keys_of}
@@ -12,7 +13,6 @@ use Rattle.scratch.specs.Run.{state_after}
 use Rattle.rundiff.specs.kept.Finishing.{new_trace}
 use Rattle.rundiff.specs.kept.Fronts.{named_state}
 use Rattle.rundiff.specs.kept.Places.{gate_at}
-use Rattle.rundiff.proofs.ByPlace.{get_at}
 use Rattle.rundiff.proofs.Putting.{all_put, none_put, put_next}
 use Rattle.rundiff.proofs.Steps.{is_one, not_yet, others_more}
 use Rattle.rundiff.proofs.finishing.put_traces.Goals as goal
@@ -20,12 +20,12 @@ use Rattle.rundiff.proofs.finishing.put_traces.Goals as goal
 pub put_trace-requires-clause-there : goal.put_trace-requires-clause-there
 put_trace-requires-clause-there g c =
     let xs = c.args.held.now in let i = c.loop-place.place-index in
-    c.requires.there (slice_index_or xs i 0) (is_one xs i (slice_index_or xs i 0) (get_at xs i 0 c.loop-place-test.true))
+    c.requires.there (slice_index_or xs i 0) (is_one xs i (slice_index_or xs i 0) (slice_get-get_or xs i 0 c.loop-place-test.true))
 
 pub put_trace-requires-clause-trace : goal.put_trace-requires-clause-trace
 put_trace-requires-clause-trace g c =
     let xs = c.args.held.now in let i = c.loop-place.place-index in let x = slice_index_or xs i 0 in
-    let at = get_at xs i 0 c.loop-place-test.true in
+    let at = slice_get-get_or xs i 0 c.loop-place-test.true in
     let old = netlist c.args.former.now.old.now in let new = netlist c.args.former.now.new.now in
     let same = c.loop-place.invariant.patches x (not_yet xs i x c.requires.rising at) in
     let there = c.requires.there x (is_one xs i x at) in
@@ -34,7 +34,7 @@ put_trace-requires-clause-trace g c =
 pub put_trace-requires-clause-end : goal.put_trace-requires-clause-end
 put_trace-requires-clause-end g c =
     let xs = c.args.held.now in let i = c.loop-place.place-index in let x = slice_index_or xs i 0 in
-    let same = c.loop-place.invariant.patches x (not_yet xs i x c.requires.rising (get_at xs i 0 c.loop-place-test.true)) in
+    let same = c.loop-place.invariant.patches x (not_yet xs i x c.requires.rising (slice_get-get_or xs i 0 c.loop-place-test.true)) in
     subst (λ (o : Option (PatchRecord State)). ForSome o (λ patch. end_of patch.line ≤ suc (netlist c.args.former.now.new.now).horizon)) (sym same) (c.requires.ends x)
 
 pub loop-place-init : goal.loop-place-init
@@ -49,7 +49,7 @@ loop-place-init g c =
 pub loop-place-preserved : goal.loop-place-preserved
 loop-place-preserved g c =
     let xs = c.args.held.now in let i = c.loop-place.place-index in let x = slice_index_or xs i 0 in
-    let at = get_at xs i 0 c.loop-place-test.true in
+    let at = slice_get-get_or xs i 0 c.loop-place-test.true in
     record {
       traces = put_next (new_trace g.S.Stepper.answer c.args.former.now.new.now) (keys_of c.args.former.now.new.now.gates) xs i x c.args.made.now.traces c.loop-place.made.traces c.put_trace.new.made.traces at c.loop-place.invariant.traces c.in_ok-put_trace.ensures.traces;
       patches = others_more (λ q o. Unit {0}) (kept_at c.args.traces.now) (kept_at c.loop-place.traces) (kept_at c.put_trace.new.traces) xs i x at c.put_trace.ensures.others c.loop-place.invariant.patches;

@@ -1,5 +1,6 @@
 use Rattle.std.proofs.Common.{◌≡◌, ◌∙◌, ◌+◌, ap, sym, refl, suc, ℕ, List, Option, Some, subst, arith}
 use Rattle.std.specs.Option.{option_map}
+use Rattle.std.proofs.lemmas.Option.{slice_get-get_or, get_or_from_slice_get}
 use Rattle.fourstate.specs.declared.value.Value.{Value}
 use Rattle.fourstate.specs.Values.{same_value}
 use Rattle.catalog.specs.kept.Catalog.{keys_of}
@@ -10,13 +11,12 @@ use Rattle.design.specs.Netlist.{NetEntry}
 use Rattle.waveform.specs.Changes.{wave_changes_below}
 use Rattle.waveform.specs.Entries.{standing}
 use Rattle.waveform.specs.kept.Patches.{Keeps, PatchRecord}
+use Rattle.event_queue.proofs.Changes.{by_ok}
 use Rattle.scratch.specs.Run.{value, wave_of}
 use Rattle.rundiff.specs.kept.Finishing.{new_wave}
 use Rattle.rundiff.specs.kept.Places.{blank_net, net_at}
 use Rattle.rundiff.specs.kept.Kept.{read_at}
-use Rattle.rundiff.proofs.ByPlace.{at_place, get_at}
 use Rattle.rundiff.proofs.Putting.{put_one}
-use Rattle.rundiff.proofs.Steps.{mapped}
 use Rattle.rundiff.proofs.finishing.put_wave.Goals as goal
 
 pub returns-clause-waves : goal.returns-clause-waves
@@ -26,7 +26,7 @@ returns-clause-waves g c =
     let keyed = c.args.former.now.new.now in let new = netlist keyed in
     let place = c.args.place in
     let x = net_at new place in
-    let at = at_place new.nets place blank_net c.net_at.result.now c.net_at.ensures in
+    let at = get_or_from_slice_get new.nets place c.net_at.result.now blank_net c.net_at.ensures in
     let named : c.as_str.result.now ≡ x.name = c.as_str.ensures ∙ c.name.ensures ∙ sym (ap (λ (y : NetEntry). y.name) at) in
     let end : c.horizon.result + 1 ≡ suc new.horizon = let h = c.horizon.ensures.horizon in omega arith in
     let same_end : suc old.horizon ≡ c.horizon.result + 1 = let h = c.horizon.ensures.horizon in let e = c.requires.horizon in omega arith in
@@ -40,8 +40,8 @@ returns-clause-waves g c =
     let line : c.in_ok-wave.wave ≡ wave_of answer new x =
     c.in_ok-wave.ensures (value answer new x) (read_at answer old (to_net x.name)) (λ t. refl) (λ t. refl) stored keeps
     ∙ ap (wave_changes_below (value answer new x)) end in
-    let found : net_by_key keyed c.net_key_at-key.result ≡ Some x = c.net_key_at-key.ensures.net ∙ get_at new.nets place blank_net c.requires.there in
+    let found : net_by_key keyed c.net_key_at-key.result ≡ Some x = c.net_key_at-key.ensures.net ∙ slice_get-get_or new.nets place blank_net c.requires.there in
     let due : new_wave answer keyed c.net_key_at-key.result ≡ Some c.in_ok-wave.wave = ap (option_map (wave_of answer new)) found ∙ ap (λ (w : List (ℕ × Value)). Some w) (sym line) in
-    mapped c.put_wave.result c.put_wave.ensures.ok
+    by_ok c.put_wave.result c.put_wave.ensures.ok
     (λ changed. put_one (new_wave answer keyed) (keys_of keyed.nets) place c.number.result c.in_ok-wave.wave c.args.made.now.waves c.put_wave.new.self.waves
     (c.net_key_at-key.ensures.key ∙ ap (λ (k : ℕ). Some k) (sym c.number.ensures)) (ap (new_wave answer keyed) c.number.ensures ∙ due) changed)

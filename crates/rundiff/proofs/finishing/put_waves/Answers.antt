@@ -1,6 +1,7 @@
 use Rattle.std.proofs.Common.{◌∙◌, ◌≤◌, sym, subst, refl, suc, Option}
 use Rattle.std.specs.Prelude.{slice_index_or}
 use Rattle.std.specs.Option.{ForSome}
+use Rattle.std.proofs.lemmas.Option.{slice_get-get_or}
 use Rattle.rundiff.specs.kept.PlaceMaps.{kept_at}
 use Rattle.fourstate.specs.declared.value.Value.{Value}
 use Rattle.fourstate.specs.Values.{same_value}
@@ -14,7 +15,6 @@ use Rattle.scratch.specs.Run.{value}
 use Rattle.rundiff.specs.kept.Finishing.{new_wave}
 use Rattle.rundiff.specs.kept.Places.{net_at}
 use Rattle.rundiff.specs.kept.Kept.{read_at}
-use Rattle.rundiff.proofs.ByPlace.{get_at}
 use Rattle.rundiff.proofs.Putting.{all_put, none_put, put_next}
 use Rattle.rundiff.proofs.Steps.{is_one, not_yet, others_more}
 use Rattle.rundiff.proofs.finishing.put_waves.Goals as goal
@@ -22,12 +22,12 @@ use Rattle.rundiff.proofs.finishing.put_waves.Goals as goal
 pub put_wave-requires-clause-there : goal.put_wave-requires-clause-there
 put_wave-requires-clause-there g c =
     let xs = c.args.live.now in let i = c.loop-place.place-index in
-    c.requires.there (slice_index_or xs i 0) (is_one xs i (slice_index_or xs i 0) (get_at xs i 0 c.loop-place-test.true))
+    c.requires.there (slice_index_or xs i 0) (is_one xs i (slice_index_or xs i 0) (slice_get-get_or xs i 0 c.loop-place-test.true))
 
 pub put_wave-requires-clause-wave : goal.put_wave-requires-clause-wave
 put_wave-requires-clause-wave g c =
     let xs = c.args.live.now in let i = c.loop-place.place-index in let x = slice_index_or xs i 0 in
-    let at = get_at xs i 0 c.loop-place-test.true in
+    let at = slice_get-get_or xs i 0 c.loop-place-test.true in
     let old = netlist c.args.former.now.old.now in let new = netlist c.args.former.now.new.now in
     let same = c.loop-place.invariant.patches x (not_yet xs i x c.requires.rising at) in
     let there = c.requires.there x (is_one xs i x at) in
@@ -36,7 +36,7 @@ put_wave-requires-clause-wave g c =
 pub put_wave-requires-clause-end : goal.put_wave-requires-clause-end
 put_wave-requires-clause-end g c =
     let xs = c.args.live.now in let i = c.loop-place.place-index in let x = slice_index_or xs i 0 in
-    let same = c.loop-place.invariant.patches x (not_yet xs i x c.requires.rising (get_at xs i 0 c.loop-place-test.true)) in
+    let same = c.loop-place.invariant.patches x (not_yet xs i x c.requires.rising (slice_get-get_or xs i 0 c.loop-place-test.true)) in
     subst (λ (o : Option (PatchRecord Value)). ForSome o (λ patch. end_of patch.line ≤ suc (netlist c.args.former.now.new.now).horizon)) (sym same) (c.requires.ends x)
 
 pub loop-place-init : goal.loop-place-init
@@ -51,7 +51,7 @@ loop-place-init g c =
 pub loop-place-preserved : goal.loop-place-preserved
 loop-place-preserved g c =
     let xs = c.args.live.now in let i = c.loop-place.place-index in let x = slice_index_or xs i 0 in
-    let at = get_at xs i 0 c.loop-place-test.true in
+    let at = slice_get-get_or xs i 0 c.loop-place-test.true in
     record {
       waves = put_next (new_wave g.S.Stepper.answer c.args.former.now.new.now) (keys_of c.args.former.now.new.now.nets) xs i x c.args.made.now.waves c.loop-place.made.waves c.put_wave.new.made.waves at c.loop-place.invariant.waves c.in_ok-put_wave.ensures.waves;
       patches = others_more (λ q o. Unit {0}) (kept_at c.args.waves.now) (kept_at c.loop-place.waves) (kept_at c.put_wave.new.waves) xs i x at c.put_wave.ensures.others c.loop-place.invariant.patches;

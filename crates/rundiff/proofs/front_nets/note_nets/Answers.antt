@@ -1,19 +1,21 @@
 use Rattle.std.proofs.Common.{◌≡◌, ◌∙◌, ap, sym, subst, refl, ℕ, suc, List, true, false, take}
 use Rattle.std.specs.Prelude.{slice_index_or, nat_eq}
+use Rattle.std.proofs.lemmas.Bool.{eqb-true}
+use Rattle.std.proofs.lemmas.Option.{slice_get-get_or}
+use Rattle.std.proofs.lemmas.List.{take_all}
 use Rattle.event_queue.specs.kept.Noted.{noted}
 use Rattle.design.specs.Keys.{netlist}
 use Rattle.scratch.specs.kept.Places.{IsNotedWithin}
+use Rattle.scratch.proofs.Driven.{earlier}
 use Rattle.rundiff.specs.kept.Noting.{net_moves}
 use Rattle.rundiff.specs.kept.Places.{is_among}
-use Rattle.rundiff.proofs.ByPlace.{get_at}
-use Rattle.rundiff.proofs.Driven.{take_whole}
-use Rattle.rundiff.proofs.Steps.{among_more, is_one, or_splits, same_place}
+use Rattle.rundiff.proofs.Steps.{among_more, is_one}
 use Rattle.rundiff.proofs.front_nets.note_nets.Goals as goal
 
 pub note_net-requires-clause-there : goal.note_net-requires-clause-there
 note_net-requires-clause-there g c =
     let xs = c.args.nets.now in let i = c.loop-place.place-index in
-    c.requires.there (slice_index_or xs i 0) (is_one xs i (slice_index_or xs i 0) (get_at xs i 0 c.loop-place-test.true))
+    c.requires.there (slice_index_or xs i 0) (is_one xs i (slice_index_or xs i 0) (slice_get-get_or xs i 0 c.loop-place-test.true))
 
 pub loop-place-preserved : goal.loop-place-preserved
 loop-place-preserved g c =
@@ -25,10 +27,10 @@ loop-place-preserved g c =
       next = λ p u among later moves.
           elim (nat_eq x p) as (λ b. nat_eq x p ≡ b → IsNotedWithin now p (suc t) u) [
             | true ↦ λ same.
-                let e = same_place x p same in
+                let e = eqb-true x p same in
                 subst (λ q. IsNotedWithin now q (suc t) u) e (done.next u later (ap (λ q. net_moves g.S.Stepper.answer old new q u) e ∙ moves))
             | false ↦ λ apart.
-                let at = c.loop-place.invariant.next p u (or_splits (is_among (take i xs) p) (nat_eq x p) (sym (among_more xs i x p (get_at xs i 0 c.loop-place-test.true)) ∙ among) apart) later moves in
+                let at = c.loop-place.invariant.next p u (earlier (is_among (take i xs) p) (nat_eq x p) (sym (among_more xs i x p (slice_get-get_or xs i 0 c.loop-place-test.true)) ∙ among) apart) later moves in
                 (at.0, at.1, at.2, done.kept p at.0 at.3)
           ] refl;
       kept = λ k u h. done.kept k u (c.loop-place.invariant.kept k u h);
@@ -37,4 +39,4 @@ loop-place-preserved g c =
 
 pub returns-clause-next : goal.returns-clause-next
 returns-clause-next g c = λ p u among.
-    c.loop-place.invariant.next p u (ap (λ (l : List ℕ). is_among l p) (take_whole c.args.nets.now c.loop-place.place-index c.loop-place-test.false) ∙ among)
+    c.loop-place.invariant.next p u (ap (λ (l : List ℕ). is_among l p) (take_all c.loop-place.place-index c.args.nets.now c.loop-place-test.false) ∙ among)

@@ -2,12 +2,12 @@ use Rattle.std.proofs.Common.{◌∙◌, ap, ℕ, List, Bool}
 use Rattle.std.specs.Prelude.{slice_index_or}
 use Rattle.std.specs.BTreeSet.{contains}
 use Rattle.std.specs.Ordering.{nat_cmp}
+use Rattle.std.proofs.lemmas.Option.{slice_get-get_or}
+use Rattle.std.proofs.lemmas.List.{take_all}
 use Rattle.event_queue.specs.kept.Noted.{noted}
 use Rattle.design.specs.Keys.{netlist}
 use Rattle.rundiff.specs.kept.Noting.{input_moves}
 use Rattle.rundiff.specs.kept.Places.{is_among}
-use Rattle.rundiff.proofs.ByPlace.{get_at}
-use Rattle.rundiff.proofs.Driven.{take_whole}
 use Rattle.rundiff.proofs.NotedMore.{more_within}
 use Rattle.rundiff.proofs.Steps.{is_one}
 use Rattle.rundiff.proofs.gate_notes.note_all_inputs.Goals as goal
@@ -15,7 +15,7 @@ use Rattle.rundiff.proofs.gate_notes.note_all_inputs.Goals as goal
 pub note_inputs-requires-clause-there : goal.note_inputs-requires-clause-there
 note_inputs-requires-clause-there g c =
     let xs = c.args.places.now in let i = c.loop-place.place-index in
-    c.requires.there (slice_index_or xs i 0) (is_one xs i (slice_index_or xs i 0) (get_at xs i 0 c.loop-place-test.true))
+    c.requires.there (slice_index_or xs i 0) (is_one xs i (slice_index_or xs i 0) (slice_get-get_or xs i 0 c.loop-place-test.true))
 
 pub loop-place-preserved : goal.loop-place-preserved
 loop-place-preserved g c =
@@ -23,12 +23,12 @@ loop-place-preserved g c =
     let done = c.in_ok-note_inputs.ensures in
     let moves : ℕ → ℕ → Bool = input_moves g.S.Stepper.answer (netlist c.args.former.now.old.now) (netlist c.args.former.now.new.now) (contains nat_cmp c.args.live.now) in
     record {
-      next = more_within moves c.args.t xs i x (get_at xs i 0 c.loop-place-test.true) (noted c.loop-place.queue) (noted c.note_inputs.new.queue) done.kept c.loop-place.invariant.next done.next;
+      next = more_within moves c.args.t xs i x (slice_get-get_or xs i 0 c.loop-place-test.true) (noted c.loop-place.queue) (noted c.note_inputs.new.queue) done.kept c.loop-place.invariant.next done.next;
       kept = λ k u h. done.kept k u (c.loop-place.invariant.kept k u h);
       early = λ u low. done.early u low ∙ c.loop-place.invariant.early u low;
     }
 
 pub returns-clause-next : goal.returns-clause-next
 returns-clause-next g c = λ p u among after h.
-    let whole = take_whole c.args.places.now c.loop-place.place-index c.loop-place-test.false in
+    let whole = take_all c.loop-place.place-index c.args.places.now c.loop-place-test.false in
     c.loop-place.invariant.next p u (ap (λ (l : List ℕ). is_among l p) whole ∙ among) after h

@@ -1,12 +1,13 @@
 use Rattle.std.proofs.Common.{◌∙◌, ◌<◌, ap, subst, arith, ℕ, suc, List, length}
 use Rattle.std.specs.Prelude.{slice_index_or}
+use Rattle.std.proofs.lemmas.Option.{slice_get-get_or, get_or_from_slice_get}
+use Rattle.std.proofs.lemmas.List.{take_all}
 use Rattle.event_queue.specs.kept.Noted.{noted}
 use Rattle.gatestep.specs.Step.{State}
 use Rattle.gatestep.specs.Tasks.{PendingFrom}
 use Rattle.rundiff.specs.kept.Noting.{pends}
 use Rattle.rundiff.specs.kept.Places.{is_among}
-use Rattle.rundiff.proofs.ByPlace.{at_place, get_at}
-use Rattle.rundiff.proofs.Driven.{read_get, take_whole}
+use Rattle.rundiff.proofs.Driven.{read_get}
 use Rattle.rundiff.proofs.NotedMore.{mapped_at, more_events}
 use Rattle.rundiff.proofs.gate_notes.note_events.Goals as goal
 
@@ -15,12 +16,12 @@ note_event-requires c =
     let i = c.loop-i.i in
     let low : i < length c.args.states.now = let h = c.loop-i-test.true in let many = c.requires.many in omega arith in
     let y = c.index-states-i.result in
-    subst (PendingFrom (suc c.args.t)) (at_place c.args.states.now i y y (read_get c.args.states.now i y low c.index-states-i.is)) (c.requires.later i y low)
+    subst (PendingFrom (suc c.args.t)) (get_or_from_slice_get c.args.states.now i y y (read_get c.args.states.now i y low c.index-states-i.is)) (c.requires.later i y low)
 
 pub loop-i-preserved : goal.loop-i-preserved
 loop-i-preserved c =
     let xs = c.args.places.now in let i = c.loop-i.i in let x = slice_index_or xs i 0 in
-    let at = get_at xs i 0 c.loop-i-test.true in
+    let at = slice_get-get_or xs i 0 c.loop-i-test.true in
     let low : i < length c.args.states.now = let h = c.loop-i-test.true in let many = c.requires.many in omega arith in
     let y = c.index-states-i.result in
     let read = read_get c.args.states.now i y low c.index-states-i.is in
@@ -35,5 +36,5 @@ loop-i-preserved c =
 
 pub returns-clause-events : goal.returns-clause-events
 returns-clause-events c = λ f those p u among h.
-    let whole = take_whole c.args.places.now c.loop-i.i c.loop-i-test.false in
+    let whole = take_all c.loop-i.i c.args.places.now c.loop-i-test.false in
     c.loop-i.invariant.events f those p u (ap (λ (l : List ℕ). is_among l p) whole ∙ among) h

@@ -1,11 +1,11 @@
 use Rattle.std.proofs.Common.{sym, subst, All}
+use Rattle.std.proofs.lemmas.List.Elements.{All-push}
+use Rattle.event_queue.proofs.Changes.{by_ok}
 use Rattle.rundiff.specs.kept.Fronts.{IsClean}
-use Rattle.rundiff.proofs.Outcoming.{all_more}
-use Rattle.rundiff.proofs.Steps.{mapped}
 use Rattle.rundiff.proofs.gates.add_clean.Goals as goal
 
 pub returns : goal.returns
-returns c = mapped c.add_resting.result c.add_resting.ensures (λ add answer old new t places before off is can same.
+returns c = by_ok c.add_resting.result c.add_resting.ensures (λ add answer old new t places before off is can same.
     add answer old new t places (record {
       working = before.working;
       tasks = before.tasks;
@@ -13,5 +13,5 @@ returns c = mapped c.add_resting.result c.add_resting.ensures (λ add answer old
       resting = before.resting;
       states = before.states;
       can = before.can;
-      same = subst (All (IsClean answer old new t)) (sym c.in_ok-push.ensures.items) (all_more (IsClean answer old new t) c.args.out.now.clean.items c.args.place before.same same);
+      same = subst (All (IsClean answer old new t)) (sym c.in_ok-push.ensures.items) (All-push (IsClean answer old new t) c.args.out.now.clean.items c.args.place before.same same);
     }) off is can)

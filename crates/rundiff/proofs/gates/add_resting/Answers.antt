@@ -1,9 +1,10 @@
 use Rattle.std.proofs.Common.{◌∙◌, ap, sym, subst, ℕ, List, [], ◌∷◌, ◌++◌, All, not, map}
+use Rattle.std.proofs.lemmas.List.Elements.{All-push}
 use Rattle.waveform.specs.kept.Entries.{CanStore}
 use Rattle.scratch.specs.Run.{state_after}
 use Rattle.rundiff.specs.kept.Fronts.{is_working}
 use Rattle.rundiff.specs.kept.Places.{gate_at}
-use Rattle.rundiff.proofs.Outcoming.{all_more, filter_off, filter_on, map_one_more}
+use Rattle.rundiff.proofs.Outcoming.{filter_off, filter_on, map_one_more}
 use Rattle.rundiff.proofs.gates.add_resting.Goals as goal
 
 pub returns : goal.returns
@@ -19,6 +20,6 @@ returns c = λ answer old new t places before off is can.
       resting = resting ∙ ap (λ (l : List ℕ). l ++ x ∷ []) before.resting ∙ sym (filter_on (λ p. not (is_working answer old new t p)) places x (ap not off));
       states = states ∙ map_one_more (λ p. state_after answer new (gate_at new p) t) out.resting.items out.states.items x c.args.state before.states is
           ∙ ap (λ (l : List ℕ). map (λ p. state_after answer new (gate_at new p) t) l) (sym resting);
-      can = subst (All (CanStore t)) (sym states) (all_more (CanStore t) out.states.items c.args.state before.can can);
+      can = subst (All (CanStore t)) (sym states) (All-push (CanStore t) out.states.items c.args.state before.can can);
       same = before.same;
     }

@@ -2,10 +2,12 @@ use Rattle.std.proofs.Common.{◌∙◌, ap, sym, ℕ, List, take, Bool}
 use Rattle.std.specs.Prelude.{◌||◌, ◌==◌, slice_index_or}
 use Rattle.std.specs.BTreeSet.{contains}
 use Rattle.std.specs.Ordering.{nat_cmp}
+use Rattle.std.proofs.lemmas.Option.{slice_get-get_or}
+use Rattle.std.proofs.lemmas.List.{take_all}
+use Rattle.scratch.proofs.Among.{any_more}
+use Rattle.scratch.proofs.Keyed.{same_test}
 use Rattle.rundiff.specs.kept.Places.{is_among}
-use Rattle.rundiff.proofs.ByPlace.{get_at}
-use Rattle.rundiff.proofs.Driven.{take_whole}
-use Rattle.rundiff.proofs.Sets.{any_more, flips, live_step}
+use Rattle.rundiff.proofs.Sets.{live_step}
 use Rattle.rundiff.proofs.holding.hold.Goals as goal
 
 pub hold_one-requires-clause-there : goal.hold_one-requires-clause-there
@@ -20,11 +22,11 @@ loop-place-preserved c =
           let held = contains nat_cmp c.args.live.now p in
           c.in_ok-hold_one.ensures.live p
           ∙ ap (λ (b : Bool). p == x || b) (c.loop-place.invariant.live p)
-          ∙ ap (λ (b : Bool). b || (is_among (take i xs) p || held)) (flips p x)
+          ∙ ap (λ (b : Bool). b || (is_among (take i xs) p || held)) (same_test p x)
           ∙ live_step (is_among (take i xs) p) (x == p) held
-          ∙ ap (λ (b : Bool). b || held) (sym (any_more (λ q. q == p) xs i x (get_at xs i 0 c.loop-place-test.true)));
+          ∙ ap (λ (b : Bool). b || held) (sym (any_more (λ q. q == p) xs i x (slice_get-get_or xs i 0 c.loop-place-test.true)));
     }
 
 pub returns-clause-live : goal.returns-clause-live
 returns-clause-live c = λ p.
-    c.loop-place.invariant.live p ∙ ap (λ (l : List ℕ). is_among l p || contains nat_cmp c.args.live.now p) (take_whole c.args.found.now c.loop-place.place-index c.loop-place-test.false)
+    c.loop-place.invariant.live p ∙ ap (λ (l : List ℕ). is_among l p || contains nat_cmp c.args.live.now p) (take_all c.loop-place.place-index c.args.found.now c.loop-place-test.false)

@@ -4,15 +4,18 @@ use Rattle.std.specs.BTreeSet.{contains}
 use Rattle.std.specs.List.{list_any}
 use Rattle.std.specs.Option.{option_map_or}
 use Rattle.std.specs.Ordering.{nat_cmp}
+use Rattle.std.proofs.lemmas.Option.{slice_get-get_or}
+use Rattle.std.proofs.lemmas.List.{take_all}
 use Rattle.catalog.specs.kept.Catalog.{place_of}
 use Rattle.design.specs.Keys.{name_of, netlist}
 use Rattle.design.specs.kept.Keys.{driver_keys, net_by_key}
 use Rattle.design.specs.Netlist.{NetEntry}
 use Rattle.design.specs.kept.Places.{driver_places}
+use Rattle.scratch.proofs.Among.{any_more}
+use Rattle.scratch.proofs.Keyed.{same_test}
 use Rattle.rundiff.specs.kept.Places.{blank_net, is_among, net_at}
-use Rattle.rundiff.proofs.ByPlace.{get_at}
-use Rattle.rundiff.proofs.Driven.{is_there, read_get, take_whole}
-use Rattle.rundiff.proofs.Sets.{any_map, any_more, flips, held_more, test_is}
+use Rattle.rundiff.proofs.Driven.{is_there, read_get}
+use Rattle.rundiff.proofs.Sets.{any_map, held_more, test_is}
 use Rattle.rundiff.proofs.holding.hold_drivers.Goals as goal
 
 pub loop-driver-preserved : goal.loop-driver-preserved
@@ -26,7 +29,7 @@ loop-driver-preserved c = λ p.
     let so_far = list_any test (take i keys) in
     let here : test x ≡ (gate == p) = ap (λ (o : Option ℕ). option_map_or (λ q. q == p) o false) (sym c.in-Some.ensures.place) in
     c.in_ok-insert.ensures.updates.0 p
-    ∙ ap (λ (b : Bool). cond b true (contains nat_cmp c.loop-driver.held p)) (sym (test_is gate p) ∙ flips p gate)
+    ∙ ap (λ (b : Bool). cond b true (contains nat_cmp c.loop-driver.held p)) (sym (test_is gate p) ∙ same_test p gate)
     ∙ ap (λ (b : Bool). cond (gate == p) true b) (c.loop-driver.invariant p)
     ∙ held_more so_far (gate == p) held
     ∙ ap (λ (b : Bool). b || held) (ap (λ (b : Bool). so_far || b) (sym here) ∙ sym (any_more test keys i x at))
@@ -36,13 +39,13 @@ returns c = λ p.
     let keyed = c.args.new.now in let d = netlist keyed in
     let key = c.net_key_at.result in
     let n = net_at d c.args.place in
-    let there : net_by_key keyed key ≡ Some n = c.net_key_at.ensures.net ∙ get_at d.nets c.args.place blank_net c.requires.there in
+    let there : net_by_key keyed key ≡ Some n = c.net_key_at.ensures.net ∙ slice_get-get_or d.nets c.args.place blank_net c.requires.there in
     let named : name_of keyed.nets key ≡ n.name = ap (λ (o : Option NetEntry). option_map_or (λ m. m.name) o []) there in
     let test : Option ℕ → Bool = λ o. option_map_or (λ q. q == p) o false in
     let held = contains nat_cmp c.args.held.now p in
     c.loop-driver.invariant p
     ∙ ap (λ (b : Bool). b || held)
-    (ap (list_any (λ key. test (place_of keyed.gates key))) (take_whole c.drivers-drivers.result.now c.loop-driver.driver-index c.loop-driver-test.false ∙ c.drivers-drivers.ensures.drivers)
+    (ap (list_any (λ key. test (place_of keyed.gates key))) (take_all c.loop-driver.driver-index c.drivers-drivers.result.now c.loop-driver-test.false ∙ c.drivers-drivers.ensures.drivers)
     ∙ any_map test (λ gate. place_of keyed.gates gate) (driver_keys keyed key)
     ∙ ap (list_any test) (c.places_are_keys.ensures.drivers key (is_there (net_by_key keyed key) n there))
     ∙ sym (any_map test (λ place. Some place) (driver_places d.gates (name_of keyed.nets key)))

@@ -1,12 +1,14 @@
 use Rattle.std.proofs.Common.{◌≡◌, ◌≤◌, ◌∙◌, ap, sym, subst, refl, ℕ, List, true, false, take, arith}
 use Rattle.std.specs.Prelude.{nat_eq, slice_index_or}
+use Rattle.std.proofs.lemmas.Bool.{eqb-true}
+use Rattle.std.proofs.lemmas.Option.{slice_get-get_or}
+use Rattle.std.proofs.lemmas.List.{take_all}
 use Rattle.design.specs.Keys.{netlist}
 use Rattle.design.specs.Netlist.{Netlist}
+use Rattle.scratch.proofs.Driven.{earlier}
 use Rattle.rundiff.specs.kept.Inputs.{IsSameInput}
 use Rattle.rundiff.specs.kept.Places.{is_among}
-use Rattle.rundiff.proofs.ByPlace.{get_at}
-use Rattle.rundiff.proofs.Driven.{take_whole}
-use Rattle.rundiff.proofs.Steps.{among_more, is_one, or_splits, same_place}
+use Rattle.rundiff.proofs.Steps.{among_more, is_one}
 use Rattle.rundiff.proofs.leaping.all_same_until.Goals as goal
 
 -- what is the same until a moment is so until an earlier one
@@ -17,12 +19,12 @@ sooner old new p n u v order is =
 pub same_until-requires : goal.same_until-requires
 same_until-requires c =
     let xs = c.args.places.now in let i = c.loop-place.place-index in
-    record { there = c.requires.there (slice_index_or xs i 0) (is_one xs i (slice_index_or xs i 0) (get_at xs i 0 c.loop-place-test.true)) }
+    record { there = c.requires.there (slice_index_or xs i 0) (is_one xs i (slice_index_or xs i 0) (slice_get-get_or xs i 0 c.loop-place-test.true)) }
 
 pub loop-place-preserved : goal.loop-place-preserved
 loop-place-preserved c =
     let xs = c.args.places.now in let i = c.loop-place.place-index in let x = slice_index_or xs i 0 in
-    let at = get_at xs i 0 c.loop-place-test.true in
+    let at = slice_get-get_or xs i 0 c.loop-place-test.true in
     let old = netlist c.args.former.now.old.now in let new = netlist c.args.former.now.new.now in
     let now = c.min-until.result in
     record {
@@ -30,14 +32,14 @@ loop-place-preserved c =
       same = λ after p among.
           elim (nat_eq x p) as (λ b. nat_eq x p ≡ b → IsSameInput old new p c.args.t now) [
             | true ↦ λ same.
-                subst (λ (q : ℕ). IsSameInput old new q c.args.t now) (same_place x p same)
+                subst (λ (q : ℕ). IsSameInput old new q c.args.t now) (eqb-true x p same)
                 (sooner old new x c.args.t c.same_until.result now (omega (arith, c.min-until.ensures)) (c.same_until.ensures (omega (arith, c.min-until.ensures))))
             | false ↦ λ apart.
                 sooner old new p c.args.t c.loop-place.until now (omega (arith, c.min-until.ensures))
-                (c.loop-place.invariant.same (omega (arith, c.min-until.ensures)) p (or_splits (is_among (take i xs) p) (nat_eq x p) (sym (among_more xs i x p at) ∙ among) apart))
+                (c.loop-place.invariant.same (omega (arith, c.min-until.ensures)) p (earlier (is_among (take i xs) p) (nat_eq x p) (sym (among_more xs i x p at) ∙ among) apart))
           ] refl;
     }
 
 pub returns-clause-same : goal.returns-clause-same
 returns-clause-same c = λ after p among.
-    c.loop-place.invariant.same after p (ap (λ (l : List ℕ). is_among l p) (take_whole c.args.places.now c.loop-place.place-index c.loop-place-test.false) ∙ among)
+    c.loop-place.invariant.same after p (ap (λ (l : List ℕ). is_among l p) (take_all c.loop-place.place-index c.args.places.now c.loop-place-test.false) ∙ among)

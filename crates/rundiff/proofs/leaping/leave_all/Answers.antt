@@ -1,18 +1,19 @@
 use Rattle.std.proofs.Common.{◌≡◌, ◌∙◌, ap, sym, subst, refl, ℕ, List, true, false, Option, take}
 use Rattle.std.specs.Option.{ForSome}
 use Rattle.std.specs.Prelude.{◌≤◌, nat_eq, slice_index_or}
+use Rattle.std.proofs.lemmas.Bool.{eqb-true, or_parts}
+use Rattle.std.proofs.lemmas.Option.{slice_get-get_or}
+use Rattle.std.proofs.lemmas.List.{take_all}
 use Rattle.fourstate.specs.declared.value.Value.{Value}
 use Rattle.fourstate.specs.Values.{same_value}
 use Rattle.waveform.specs.Entries.{standing}
 use Rattle.waveform.specs.kept.Patches.{Keeps, PatchRecord}
 use Rattle.waveform.specs.kept.Timelines.{end_of}
+use Rattle.scratch.proofs.Driven.{earlier}
 use Rattle.rundiff.specs.kept.Fronts.{IsFree}
 use Rattle.rundiff.specs.kept.PlaceMaps.{kept_at}
 use Rattle.rundiff.specs.kept.Places.{is_among}
-use Rattle.rundiff.proofs.ByPlace.{get_at}
-use Rattle.rundiff.proofs.Driven.{take_whole}
-use Rattle.rundiff.proofs.Still.{neither}
-use Rattle.rundiff.proofs.Steps.{among_more, or_splits, same_place}
+use Rattle.rundiff.proofs.Steps.{among_more}
 use Rattle.rundiff.proofs.leaping.leave_all.Goals as goal
 
 -- what holds of the patch of one place, and of all others as they were
@@ -20,7 +21,7 @@ by_place : (P : Option (PatchRecord Value) → Type 0) (before now : ℕ → Opt
     (nat_eq x p ≡ true → P (now x)) → (nat_eq x p ≡ false → P (before p)) → P (now p)
 by_place P before now x p others here there =
     elim (nat_eq x p) as (λ b. nat_eq x p ≡ b → P (now p)) [
-      | true ↦ λ same. subst (λ (q : ℕ). P (now q)) (same_place x p same) (here same)
+      | true ↦ λ same. subst (λ (q : ℕ). P (now q)) (eqb-true x p same) (here same)
       | false ↦ λ apart. subst P (sym (others p apart)) (there apart)
     ] refl
 
@@ -30,7 +31,7 @@ leave-requires c = record { later = c.loop-place.invariant.ends (slice_index_or 
 pub loop-place-preserved : goal.loop-place-preserved
 loop-place-preserved c =
     let xs = c.args.places.now in let i = c.loop-place.place-index in let x = slice_index_or xs i 0 in
-    let at = get_at xs i 0 c.loop-place-test.true in
+    let at = slice_get-get_or xs i 0 c.loop-place-test.true in
     let before : ℕ → Option (PatchRecord Value) = kept_at c.loop-place.waves in
     let now : ℕ → Option (PatchRecord Value) = kept_at c.leave.new.patches in
     let done = c.in_ok-leave.ensures in
@@ -39,20 +40,20 @@ loop-place-preserved c =
       ends = λ p. by_place End before now x p done.others (λ same. done.end) (λ apart. c.loop-place.invariant.ends p);
       free = λ p among.
           by_place (λ o. IsFree o) before now x p done.others (λ same. done.free)
-          (λ apart. c.loop-place.invariant.free p (or_splits (is_among (take i xs) p) (nat_eq x p) (sym (among_more xs i x p at) ∙ among) apart));
+          (λ apart. c.loop-place.invariant.free p (earlier (is_among (take i xs) p) (nat_eq x p) (sym (among_more xs i x p at) ∙ among) apart));
       others = λ p off.
-          let parts = neither (is_among (take i xs) p) (nat_eq x p) (sym (among_more xs i x p at) ∙ off) in
+          let parts = or_parts (is_among (take i xs) p) (nat_eq x p) (sym (among_more xs i x p at) ∙ off) in
           done.others p parts.1 ∙ c.loop-place.invariant.others p parts.0;
       made = λ p f g kept.
           let was = c.loop-place.invariant.made p f g kept in
           by_place (λ o. Keeps same_value standing g f o c.args.t) before now x p done.others
-          (λ same. done.made f g (subst (λ (q : ℕ). Keeps same_value standing g f (before q) c.args.t) (sym (same_place x p same)) was)) (λ apart. was);
+          (λ same. done.made f g (subst (λ (q : ℕ). Keeps same_value standing g f (before q) c.args.t) (sym (eqb-true x p same)) was)) (λ apart. was);
     }
 
 pub returns : goal.returns
 returns c =
     let xs = c.args.places.now in
-    let whole = take_whole xs c.loop-place.place-index c.loop-place-test.false in
+    let whole = take_all c.loop-place.place-index xs c.loop-place-test.false in
     let done = c.loop-place.invariant in
     record {
       ends = done.ends;

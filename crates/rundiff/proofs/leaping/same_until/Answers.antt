@@ -1,8 +1,8 @@
 use Rattle.std.proofs.Common.{◌≡◌, ◌∙◌, ap, sym, ℕ, List}
+use Rattle.std.proofs.lemmas.Option.{get_or_from_slice_get}
 use Rattle.design.specs.Keys.{netlist}
 use Rattle.design.specs.Netlist.{NetEntry, net_named, stimulus}
 use Rattle.rundiff.specs.kept.Places.{blank_net, net_at}
-use Rattle.rundiff.proofs.ByPlace.{at_place}
 use Rattle.rundiff.proofs.leaping.same_until.Goals as goal
 
 pub returns : goal.returns
@@ -10,7 +10,7 @@ returns c = λ after.
     let old = netlist c.args.former.now.old.now in let new = netlist c.args.former.now.new.now in
     let net = c.net_at-net.result.now in
     let was = c.net_of-was.result.now in
-    let at : net_at new c.args.place ≡ net = at_place new.nets c.args.place blank_net net c.net_at-net.ensures in
+    let at : net_at new c.args.place ≡ net = get_or_from_slice_get new.nets c.args.place net blank_net c.net_at-net.ensures in
     let named : c.as_str.result.now ≡ net.name = c.as_str.ensures ∙ c.name.ensures in
     record {
       was = was;

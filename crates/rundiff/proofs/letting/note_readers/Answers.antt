@@ -1,5 +1,8 @@
 use Rattle.std.proofs.Common.{◌≡◌, ◌∙◌, ap, sym, subst, refl, ℕ, suc, List, true, false, take, Some}
 use Rattle.std.specs.Prelude.{nat_eq}
+use Rattle.std.proofs.lemmas.Bool.{eqb-true}
+use Rattle.std.proofs.lemmas.Option.{slice_get-get_or, same_Some, get_or_from_slice_get}
+use Rattle.std.proofs.lemmas.List.{take_all}
 use Rattle.catalog.specs.kept.Catalog.{place_of}
 use Rattle.event_queue.specs.kept.Noted.{noted}
 use Rattle.design.specs.Connections.{to_net}
@@ -7,13 +10,12 @@ use Rattle.design.specs.Keys.{netlist}
 use Rattle.design.specs.kept.Keys.{net_by_key}
 use Rattle.design.specs.Netlist.{NetEntry}
 use Rattle.scratch.specs.kept.Places.{IsNotedWithin}
+use Rattle.scratch.proofs.Driven.{earlier}
 use Rattle.rundiff.specs.kept.Noting.{old_moves}
 use Rattle.rundiff.specs.kept.Places.{blank_net, is_among, net_at}
-use Rattle.rundiff.proofs.ByPlace.{at_place, get_at}
-use Rattle.rundiff.proofs.Driven.{read_get, take_whole}
-use Rattle.rundiff.proofs.NamedLines.{some_equal}
+use Rattle.rundiff.proofs.Driven.{read_get}
 use Rattle.rundiff.proofs.ReaderKeys.{entry_at, keyed_at, reader_at}
-use Rattle.rundiff.proofs.Steps.{among_more, or_splits, same_place}
+use Rattle.rundiff.proofs.Steps.{among_more}
 use Rattle.rundiff.proofs.letting.note_readers.Goals as goal
 
 pub loop-reader-preserved : goal.loop-reader-preserved
@@ -28,10 +30,10 @@ loop-reader-preserved g c =
       next = λ key among q u place some.
           elim (nat_eq x key) as (λ b. nat_eq x key ≡ b → IsNotedWithin now q (suc c.args.t) u) [
             | true ↦ λ same.
-                let e : gate ≡ q = some_equal gate q (c.in-Some.ensures.place ∙ ap (place_of gates) (same_place x key same) ∙ place) in
+                let e : gate ≡ q = same_Some gate q (c.in-Some.ensures.place ∙ ap (place_of gates) (eqb-true x key same) ∙ place) in
                 subst (λ k. IsNotedWithin now k (suc c.args.t) u) e (done.next u some)
             | false ↦ λ apart.
-                let old = c.loop-reader.invariant.next key (or_splits (is_among (take i keys) key) (nat_eq x key) (sym (among_more keys i x key at) ∙ among) apart) q u place some in
+                let old = c.loop-reader.invariant.next key (earlier (is_among (take i keys) key) (nat_eq x key) (sym (among_more keys i x key at) ∙ among) apart) q u place some in
                 (old.0, old.1, old.2, done.kept q old.0 old.3)
           ] refl;
       kept = λ k u h. done.kept k u (c.loop-reader.invariant.kept k u h);
@@ -43,11 +45,11 @@ returns-clause-next g c = λ q u low reading later moves.
     let keyed = c.args.former.now.new.now in let d = netlist keyed in
     let key = c.net_key_at-key.result in
     let n = net_at d c.args.net in
-    let there : net_by_key keyed key ≡ Some n = c.net_key_at-key.ensures.net ∙ get_at d.nets c.args.net blank_net c.requires.there in
-    let whole = take_whole c.fanout-readers.result.now c.loop-reader.reader-index c.loop-reader-test.false in
+    let there : net_by_key keyed key ≡ Some n = c.net_key_at-key.ensures.net ∙ slice_get-get_or d.nets c.args.net blank_net c.requires.there in
+    let whole = take_all c.loop-reader.reader-index c.fanout-readers.result.now c.loop-reader-test.false in
     let k = (keyed_at keyed q).0 in
     let among = reader_at keyed c.lawful.ensures.keys c.places_are_keys.ensures.nets key q n there low reading in
     let net = c.net_at.result.now in
-    let name : c.as_str-name.result.now ≡ n.name = c.as_str-name.ensures ∙ c.name.ensures ∙ ap (λ (m : NetEntry). m.name) (sym (at_place d.nets c.args.net blank_net net c.net_at.ensures)) in
+    let name : c.as_str-name.result.now ≡ n.name = c.as_str-name.ensures ∙ c.name.ensures ∙ ap (λ (m : NetEntry). m.name) (sym (get_or_from_slice_get d.nets c.args.net net blank_net c.net_at.ensures)) in
     c.loop-reader.invariant.next k (ap (λ (l : List ℕ). is_among l k) (whole ∙ c.fanout-readers.ensures.readers) ∙ among) q u (entry_at keyed c.lawful.ensures.keys q low).position
     (c.next_old_change-change.ensures.first d u later (ap (λ (m : List ℕ). old_moves g.S.Stepper.answer (netlist c.args.former.now.old.now) d (to_net m) u) name ∙ moves))

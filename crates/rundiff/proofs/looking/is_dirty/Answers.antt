@@ -1,11 +1,11 @@
 use Rattle.std.proofs.Common.{◌≡◌, ◌∙◌, ap, sym, Some, false}
 use Rattle.design.specs.Keys.{connection_in, entry_in, netlist}
 use Rattle.design.specs.Netlist.{gate_named}
+use Rattle.scratch.proofs.Moments.{map_twice}
 use Rattle.rundiff.specs.Dirty.{is_new}
 use Rattle.rundiff.specs.kept.Kept.{read_at}
 use Rattle.rundiff.proofs.Known.{known_gate}
 use Rattle.rundiff.proofs.OneGate.{inputs_differ, new_decides, state_differs}
-use Rattle.rundiff.proofs.ByPlace.{map_twice}
 use Rattle.rundiff.proofs.looking.is_dirty.Goals as goal
 
 pub returns-then-not-is_same : goal.returns-then-not-is_same

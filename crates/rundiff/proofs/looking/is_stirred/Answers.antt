@@ -4,8 +4,8 @@ use Rattle.design.specs.Keys.{connection_in, entry_in, netlist}
 use Rattle.scratch.specs.Run.{state_before}
 use Rattle.rundiff.specs.kept.Kept.{read_at}
 use Rattle.scratch.specs.Work.{is_due}
+use Rattle.scratch.proofs.Moments.{map_twice}
 use Rattle.rundiff.proofs.OneGate.{stirred_is}
-use Rattle.rundiff.proofs.ByPlace.{map_twice}
 use Rattle.rundiff.proofs.looking.is_stirred.Goals as goal
 
 pub returns : goal.returns

@@ -3,6 +3,8 @@ use Rattle.std.specs.Prelude.{◌&&◌}
 use Rattle.std.specs.BTreeSet.{contains}
 use Rattle.std.specs.Ordering.{nat_cmp}
 use Rattle.std.proofs.lemmas.List.{length-map}
+use Rattle.std.proofs.Math.Bool.{and-false}
+use Rattle.std.proofs.lemmas.Option.{get_or_from_slice_get}
 use Rattle.fourstate.specs.declared.value.Value.{Value}
 use Rattle.gatestep.specs.Tasks.{IsReady}
 use Rattle.design.specs.Keys.{connection_in, entry_in, netlist}
@@ -16,11 +18,11 @@ use Rattle.rundiff.specs.kept.Fronts.{is_working}
 use Rattle.rundiff.specs.kept.Places.{blank_gate, gate_at, is_live}
 use Rattle.rundiff.specs.kept.Kept.{read_at}
 use Rattle.scratch.specs.Work.{is_stirred, task_at}
+use Rattle.scratch.proofs.Moments.{map_twice}
+use Rattle.scratch.proofs.Runs.{can_store}
 use Rattle.rundiff.proofs.Clean.{clean_after}
 use Rattle.rundiff.proofs.Known.{known_gate}
-use Rattle.rundiff.proofs.OneGate.{and_false, clean_known, rests}
-use Rattle.rundiff.proofs.ByPlace.{at_place, map_twice}
-use Rattle.rundiff.proofs.Tasks.{can_store}
+use Rattle.rundiff.proofs.OneGate.{clean_known, rests}
 use Rattle.rundiff.proofs.looking.look.Goals as goal
 
 pub is_dirty-requires-clause-known : goal.is_dirty-requires-clause-known
@@ -28,7 +30,7 @@ is_dirty-requires-clause-known g c = λ off.
     let old = netlist c.args.former.now.old.now in
     let keyed = c.args.former.now.new.now in let new = netlist keyed in
     let gate = entry_in keyed.nets c.gate_at-gate.result.now in
-    let at : gate_at new c.args.place ≡ gate = at_place new.gates c.args.place blank_gate gate c.gate_at-gate.ensures.named in
+    let at : gate_at new c.args.place ≡ gate = get_or_from_slice_get new.gates c.args.place gate blank_gate c.gate_at-gate.ensures.named in
     ap (is_new old) (sym at)
     ∙ c.requires.base.gates c.args.place blank_gate c.requires.there (ap (λ (h : GateEntry). is_live new (contains nat_cmp c.args.fixed.now) h.output) at ∙ c.is_touched-touched.ensures off)
 
@@ -42,7 +44,7 @@ pub is_stirred-requires-clause-state : goal.is_stirred-requires-clause-state
 is_stirred-requires-clause-state g c =
     let keyed = c.args.former.now.new.now in let new = netlist keyed in
     c.gate_state-state.ensures.state
-    ∙ ap (state_before g.S.Stepper.answer new c.args.t) (at_place new.gates c.args.place blank_gate (entry_in keyed.nets c.gate_at-gate.result.now) c.gate_at-gate.ensures.named)
+    ∙ ap (state_before g.S.Stepper.answer new c.args.t) (get_or_from_slice_get new.gates c.args.place (entry_in keyed.nets c.gate_at-gate.result.now) blank_gate c.gate_at-gate.ensures.named)
 
 pub is_stirred-requires-clause-inputs : goal.is_stirred-requires-clause-inputs
 is_stirred-requires-clause-inputs g c =
@@ -56,7 +58,7 @@ returns-then-not-is_dirty g c =
     let old = netlist c.args.former.now.old.now in
     let keyed = c.args.former.now.new.now in let new = netlist keyed in
     let gate = entry_in keyed.nets c.gate_at-gate.result.now in
-    let at : gate_at new c.args.place ≡ gate = at_place new.gates c.args.place blank_gate gate c.gate_at-gate.ensures.named in
+    let at : gate_at new c.args.place ≡ gate = get_or_from_slice_get new.gates c.args.place gate blank_gate c.gate_at-gate.ensures.named in
     let clean : is_dirty answer old new gate c.args.t ≡ false = sym c.is_dirty.ensures ∙ c.if-not-is_dirty.true in
     let known = clean_known answer old new gate c.args.t clean in
     let named : gate_named old c.as_str.result.now ≡ Some gate = ap (gate_named old) (c.as_str.ensures ∙ c.name.ensures) ∙ known_gate old c.lawful.ensures.design gate known in
@@ -74,11 +76,11 @@ returns-then-not-is_stirred g c =
     let old = netlist c.args.former.now.old.now in
     let keyed = c.args.former.now.new.now in let new = netlist keyed in
     let gate = entry_in keyed.nets c.gate_at-gate.result.now in
-    let at : gate_at new c.args.place ≡ gate = at_place new.gates c.args.place blank_gate gate c.gate_at-gate.ensures.named in
+    let at : gate_at new c.args.place ≡ gate = get_or_from_slice_get new.gates c.args.place gate blank_gate c.gate_at-gate.ensures.named in
     let calm : is_stirred answer new gate c.args.t ≡ false = sym c.is_stirred.ensures ∙ c.if-not-is_stirred.true in
     let off : is_working answer old new c.args.t c.args.place ≡ false =
     ap (λ (h : GateEntry). is_dirty answer old new h c.args.t && is_stirred answer new h c.args.t) at
-    ∙ ap (λ (b : Bool). is_dirty answer old new gate c.args.t && b) calm ∙ and_false (is_dirty answer old new gate c.args.t) in
+    ∙ ap (λ (b : Bool). is_dirty answer old new gate c.args.t && b) calm ∙ and-false (is_dirty answer old new gate c.args.t) in
     let still : is_stirred answer new (gate_at new c.args.place) c.args.t ≡ false = ap (λ (h : GateEntry). is_stirred answer new h c.args.t) at ∙ calm in
     let state : c.gate_state-state.result ≡ state_after answer new (gate_at new c.args.place) c.args.t =
     c.gate_state-state.ensures.state ∙ rests answer new (gate_at new c.args.place) laws.answer_stays c.args.t still in
@@ -90,7 +92,7 @@ pub new-requires : goal.new-requires
 new-requires g c =
     let keyed = c.args.former.now.new.now in let new = netlist keyed in
     let gate = entry_in keyed.nets c.gate_at-gate.result.now in
-    let at : gate_at new c.args.place ≡ gate = at_place new.gates c.args.place blank_gate gate c.gate_at-gate.ensures.named in
+    let at : gate_at new c.args.place ≡ gate = get_or_from_slice_get new.gates c.args.place gate blank_gate c.gate_at-gate.ensures.named in
     let is : IsGate gate = subst IsGate at (c.lawful-2.ensures.design.gates c.args.place blank_gate c.requires.there) in
     let many : length c.inputs_at-inputs.result ≡ length gate.inputs =
     ap (λ (vs : List Value). length vs) c.inputs_at-inputs.ensures
@@ -103,7 +105,7 @@ returns g c =
     let old = netlist c.args.former.now.old.now in
     let keyed = c.args.former.now.new.now in let new = netlist keyed in
     let gate = entry_in keyed.nets c.gate_at-gate.result.now in
-    let at : gate_at new c.args.place ≡ gate = at_place new.gates c.args.place blank_gate gate c.gate_at-gate.ensures.named in
+    let at : gate_at new c.args.place ≡ gate = get_or_from_slice_get new.gates c.args.place gate blank_gate c.gate_at-gate.ensures.named in
     let dirty : is_dirty answer old new gate c.args.t ≡ true = sym c.is_dirty.ensures ∙ c.if-not-is_dirty.false in
     let stirred : is_stirred answer new gate c.args.t ≡ true = sym c.is_stirred.ensures ∙ c.if-not-is_stirred.false in
     let on : is_working answer old new c.args.t c.args.place ≡ true =

@@ -2,17 +2,19 @@ use Rattle.std.proofs.Common.{◌≡◌, ◌∙◌, ◌<◌, ap, sym, subst, ref
 use Rattle.std.specs.Prelude.{◌||◌, nat_eq}
 use Rattle.std.specs.Option.{option_map_or}
 use Rattle.std.proofs.lemmas.Bool.Decides.{nat_tests}
+use Rattle.std.proofs.lemmas.Bool.{eqb-true}
+use Rattle.std.proofs.lemmas.Option.{slice_get-get_or, same_Some}
+use Rattle.std.proofs.lemmas.List.Elements.{All-push}
+use Rattle.std.proofs.lemmas.List.{take_all}
 use Rattle.catalog.specs.kept.Catalog.{place_of}
 use Rattle.design.specs.Keys.{KeyedGate, netlist}
 use Rattle.design.specs.kept.Keys.{gate_by_key, net_by_key}
 use Rattle.design.specs.Netlist.{GateEntry}
+use Rattle.scratch.proofs.Driven.{earlier}
 use Rattle.rundiff.specs.kept.Places.{blank_net, is_among, is_live, net_at}
-use Rattle.rundiff.proofs.ByPlace.{get_at}
-use Rattle.rundiff.proofs.Driven.{read_get, take_whole}
-use Rattle.rundiff.proofs.NamedLines.{some_equal}
-use Rattle.rundiff.proofs.Outcoming.{all_more}
+use Rattle.rundiff.proofs.Driven.{read_get}
 use Rattle.rundiff.proofs.ReaderKeys.{entry_at, keyed_at, reader_at}
-use Rattle.rundiff.proofs.Steps.{among_more, among_push, or_splits, same_place}
+use Rattle.rundiff.proofs.Steps.{among_more, among_push}
 use Rattle.rundiff.proofs.nets.add_readers.Goals as goal
 
 pub loop-reader-preserved : goal.loop-reader-preserved
@@ -26,18 +28,18 @@ loop-reader-preserved c =
     let grows : (p : ℕ) → is_among before p ≡ true → is_among c.push.new.self.items p ≡ true = λ p on.
     ap (λ (l : List ℕ). is_among l p) pushed ∙ among_push before output p ∙ ap (λ (b : Bool). b || nat_eq output p) on in
     record {
-      there = λ all. subst (All (λ p. p < length (netlist keyed).nets)) (sym pushed) (all_more (λ p. p < length (netlist keyed).nets) before output (c.loop-reader.invariant.there all) c.in-Some.ensures.within);
+      there = λ all. subst (All (λ p. p < length (netlist keyed).nets)) (sym pushed) (All-push (λ p. p < length (netlist keyed).nets) before output (c.loop-reader.invariant.there all) c.in-Some.ensures.within);
       more = λ p on. grows p (c.loop-reader.invariant.more p on);
       readers = λ key among gate found.
           elim (nat_eq x key) as (λ b. nat_eq x key ≡ b → (q : ℕ) × (place_of keyed.nets gate.output ≡ Some q) × (is_among c.push.new.self.items q ≡ true)) [
             | true ↦ λ same.
-                let e = same_place x key same in
-                let one : c.gate_of.result.now ≡ gate = some_equal c.gate_of.result.now gate (sym c.gate_of.ensures.gate ∙ ap (λ (k : ℕ). gate_by_key keyed k) e ∙ found) in
+                let e = eqb-true x key same in
+                let one : c.gate_of.result.now ≡ gate = same_Some c.gate_of.result.now gate (sym c.gate_of.ensures.gate ∙ ap (λ (k : ℕ). gate_by_key keyed k) e ∙ found) in
                 let at_output : place_of keyed.nets gate.output ≡ Some output =
                 ap (λ (h : KeyedGate). place_of keyed.nets h.output) (sym one) ∙ ap (place_of keyed.nets) (sym c.output.ensures) ∙ sym c.in-Some.ensures.place in
                 (output, at_output, ap (λ (l : List ℕ). is_among l output) pushed ∙ among_push before output output ∙ last_one (is_among before output) (nat_eq output output) (itself output))
             | false ↦ λ apart.
-                let rest = c.loop-reader.invariant.readers key (or_splits (is_among (take i keys) key) (nat_eq x key) (sym (among_more keys i x key at) ∙ among) apart) gate found in
+                let rest = c.loop-reader.invariant.readers key (earlier (is_among (take i keys) key) (nat_eq x key) (sym (among_more keys i x key at) ∙ among) apart) gate found in
                 (rest.0, rest.1, grows rest.0 rest.2)
           ] refl;
     }
@@ -54,8 +56,8 @@ returns-clause-readers c = λ q low reading.
     let keyed = c.args.new.now in let d = netlist keyed in
     let key = c.net_key_at.result in
     let n = net_at d c.args.place in
-    let there : net_by_key keyed key ≡ Some n = c.net_key_at.ensures.net ∙ get_at d.nets c.args.place blank_net c.requires.there in
-    let whole = take_whole c.fanout-readers.result.now c.loop-reader.reader-index c.loop-reader-test.false in
+    let there : net_by_key keyed key ≡ Some n = c.net_key_at.ensures.net ∙ slice_get-get_or d.nets c.args.place blank_net c.requires.there in
+    let whole = take_all c.loop-reader.reader-index c.fanout-readers.result.now c.loop-reader-test.false in
     let k = (keyed_at keyed q).0 in
     let gate = (keyed_at keyed q).1 in
     let facts = entry_at keyed c.lawful.ensures.keys q low in

@@ -1,4 +1,6 @@
 use Rattle.std.proofs.Common.{◌≡◌, ◌∙◌, ◌<◌, ap, sym, refl, suc, arith, ℕ, List, inr}
+use Rattle.std.proofs.lemmas.Bool.{not-false}
+use Rattle.std.proofs.lemmas.Option.{get_or_from_slice_get}
 use Rattle.fourstate.specs.declared.value.Value.{Value}
 use Rattle.fourstate.specs.declared.value.Value.TheVariants.{Unknown}
 use Rattle.design.specs.Connections.{to_net}
@@ -11,8 +13,6 @@ use Rattle.waveform.specs.Timelines.{value_by}
 use Rattle.scratch.specs.Run.{value}
 use Rattle.rundiff.specs.kept.Places.{blank_net, net_at}
 use Rattle.rundiff.specs.kept.Kept.{read_at}
-use Rattle.rundiff.proofs.ByPlace.{at_place}
-use Rattle.rundiff.proofs.Still.{not_false}
 use Rattle.rundiff.proofs.nets.differs.Goals as goal
 
 pub returns : goal.returns
@@ -21,7 +21,7 @@ returns g c = λ off.
     let old = netlist c.args.former.now.old.now in
     let new = netlist c.args.former.now.new.now in
     let x = net_at new c.args.place in
-    let at = at_place new.nets c.args.place blank_net c.net_at.result.now c.net_at.ensures in
+    let at = get_or_from_slice_get new.nets c.args.place c.net_at.result.now blank_net c.net_at.ensures in
     let named : c.as_str.result.now ≡ x.name = c.as_str.ensures ∙ c.name.ensures ∙ sym (ap (λ (y : NetEntry). y.name) at) in
     let stored = c.old_wave-was.ensures answer c.requires.run ∙ ap (λ (name : List ℕ). wave_changes_below (read_at answer old (to_net name)) (suc old.horizon)) named in
     let below : c.args.t < suc old.horizon = let h = c.requires.within in omega arith in
@@ -29,5 +29,5 @@ returns g c = λ off.
     let mine = c.value_at.ensures.value (value answer new x) (read_at answer old (to_net x.name)) (suc old.horizon) (suc c.args.t) (λ t. refl) (λ t. refl) (inr stored) below known c.requires.wave in
     let theirs = c.at.ensures.value ∙ ap (λ (xs : List (ℕ × Value)). value_by standing Unknown xs c.args.t) stored
     ∙ c.value_of_changes.ensures (read_at answer old (to_net x.name)) (λ t. refl) c.args.t (suc old.horizon) below in
-    let same = is_same c.value_at.result c.at.result (sym c.is_same.ensures ∙ not_false c.is_same.result off) in
+    let same = is_same c.value_at.result c.at.result (sym c.is_same.ensures ∙ not-false c.is_same.result off) in
     sym theirs ∙ sym same ∙ mine

@@ -2,24 +2,26 @@ use Rattle.std.proofs.Common.{◌≡◌, ◌∙◌, ap, sym, subst, refl, Bool, 
 use Rattle.std.specs.Prelude.{◌||◌, slice_index_or, nat_eq}
 use Rattle.std.specs.BTreeSet.{contains}
 use Rattle.std.specs.Ordering.{nat_cmp}
+use Rattle.std.proofs.lemmas.Bool.{eqb-true}
+use Rattle.std.proofs.lemmas.Option.{slice_get-get_or}
+use Rattle.std.proofs.lemmas.List.{take_all}
 use Rattle.design.specs.Keys.{netlist}
+use Rattle.scratch.proofs.Driven.{earlier}
 use Rattle.rundiff.specs.kept.Fronts.{IsAlike}
 use Rattle.rundiff.specs.kept.Places.{is_among}
 use Rattle.rundiff.proofs.Alike.{alike_grows, either_more}
-use Rattle.rundiff.proofs.ByPlace.{get_at}
-use Rattle.rundiff.proofs.Driven.{take_whole}
-use Rattle.rundiff.proofs.Steps.{among_more, is_one, or_splits, same_place}
+use Rattle.rundiff.proofs.Steps.{among_more, is_one}
 use Rattle.rundiff.proofs.nets.find_differing.Goals as goal
 
 pub add_differing-requires-clause-there : goal.add_differing-requires-clause-there
 add_differing-requires-clause-there g c =
     let xs = c.args.live.now in let i = c.loop-place.place-index in
-    c.requires.there (slice_index_or xs i 0) (is_one xs i (slice_index_or xs i 0) (get_at xs i 0 c.loop-place-test.true))
+    c.requires.there (slice_index_or xs i 0) (is_one xs i (slice_index_or xs i 0) (slice_get-get_or xs i 0 c.loop-place-test.true))
 
 pub add_differing-requires-clause-wave : goal.add_differing-requires-clause-wave
 add_differing-requires-clause-wave g c =
     let xs = c.args.live.now in let i = c.loop-place.place-index in
-    c.requires.waves (slice_index_or xs i 0) (is_one xs i (slice_index_or xs i 0) (get_at xs i 0 c.loop-place-test.true))
+    c.requires.waves (slice_index_or xs i 0) (is_one xs i (slice_index_or xs i 0) (slice_get-get_or xs i 0 c.loop-place-test.true))
 
 pub loop-place-preserved : goal.loop-place-preserved
 loop-place-preserved g c =
@@ -33,13 +35,13 @@ loop-place-preserved g c =
       there = done.there c.loop-place.invariant.there;
       alike = λ p among.
           elim (nat_eq x p) as (λ b. nat_eq x p ≡ b → IsAlike g.S.Stepper.answer old new now t p) [
-            | true ↦ λ same. subst (λ (q : ℕ). IsAlike g.S.Stepper.answer old new now t q) (same_place x p same) done.alike
+            | true ↦ λ same. subst (λ (q : ℕ). IsAlike g.S.Stepper.answer old new now t q) (eqb-true x p same) done.alike
             | false ↦ λ apart.
                 alike_grows g.S.Stepper.answer old new was now t p (λ q on. either_more (is_among c.loop-place.found.items q) (is_among c.add_differing.new.found.items q) (live q) (done.more q) on)
-                (c.loop-place.invariant.alike p (or_splits (is_among (take i xs) p) (nat_eq x p) (sym (among_more xs i x p (get_at xs i 0 c.loop-place-test.true)) ∙ among) apart))
+                (c.loop-place.invariant.alike p (earlier (is_among (take i xs) p) (nat_eq x p) (sym (among_more xs i x p (slice_get-get_or xs i 0 c.loop-place-test.true)) ∙ among) apart))
           ] refl;
     }
 
 pub returns-clause-alike : goal.returns-clause-alike
 returns-clause-alike g c = λ p among.
-    c.loop-place.invariant.alike p (ap (λ (l : List ℕ). is_among l p) (take_whole c.args.live.now c.loop-place.place-index c.loop-place-test.false) ∙ among)
+    c.loop-place.invariant.alike p (ap (λ (l : List ℕ). is_among l p) (take_all c.loop-place.place-index c.args.live.now c.loop-place-test.false) ∙ among)

@@ -1,6 +1,8 @@
 use Rattle.std.proofs.Common.{◌≡◌, ◌∙◌, ◌≤◌, ap, sym, subst, suc, refl, arith, ℕ, true, false, List, Option}
 use Rattle.std.specs.Prelude.{slice_index_or}
 use Rattle.std.specs.Option.{ForSome}
+use Rattle.std.proofs.lemmas.Option.{slice_get-get_or}
+use Rattle.std.proofs.lemmas.List.{take_all}
 use Rattle.rundiff.specs.kept.PlaceMaps.{kept_at}
 use Rattle.fourstate.specs.declared.value.Value.{Value}
 use Rattle.fourstate.specs.Values.{same_value}
@@ -13,20 +15,18 @@ use Rattle.scratch.specs.Run.{value}
 use Rattle.rundiff.specs.kept.Fronts.{IsOwn}
 use Rattle.rundiff.specs.kept.Places.{is_among, net_at}
 use Rattle.rundiff.specs.kept.Kept.{read_at}
-use Rattle.rundiff.proofs.ByPlace.{get_at}
-use Rattle.rundiff.proofs.Driven.{take_whole}
 use Rattle.rundiff.proofs.Steps.{is_one, not_yet, others_more, put_more}
 use Rattle.rundiff.proofs.nets.put_values.Goals as goal
 
 pub put_value-requires-clause-there : goal.put_value-requires-clause-there
 put_value-requires-clause-there g c =
     let xs = c.args.live.now in let i = c.loop-place.place-index in
-    c.requires.there (slice_index_or xs i 0) (is_one xs i (slice_index_or xs i 0) (get_at xs i 0 c.loop-place-test.true))
+    c.requires.there (slice_index_or xs i 0) (is_one xs i (slice_index_or xs i 0) (slice_get-get_or xs i 0 c.loop-place-test.true))
 
 pub put_value-requires-clause-wave : goal.put_value-requires-clause-wave
 put_value-requires-clause-wave g c =
     let xs = c.args.live.now in let i = c.loop-place.place-index in let x = slice_index_or xs i 0 in
-    let at = get_at xs i 0 c.loop-place-test.true in
+    let at = slice_get-get_or xs i 0 c.loop-place-test.true in
     let old = netlist c.args.former.now.old.now in let new = netlist c.args.former.now.new.now in
     let same = c.loop-place.invariant.others x (not_yet xs i x c.requires.rising at) in
     let there = c.requires.there x (is_one xs i x at) in
@@ -35,13 +35,13 @@ put_value-requires-clause-wave g c =
 pub put_value-requires-clause-end : goal.put_value-requires-clause-end
 put_value-requires-clause-end g c =
     let xs = c.args.live.now in let i = c.loop-place.place-index in let x = slice_index_or xs i 0 in
-    let same = c.loop-place.invariant.others x (not_yet xs i x c.requires.rising (get_at xs i 0 c.loop-place-test.true)) in
+    let same = c.loop-place.invariant.others x (not_yet xs i x c.requires.rising (slice_get-get_or xs i 0 c.loop-place-test.true)) in
     subst (λ (o : Option (PatchRecord Value)). ForSome o (λ patch. end_of patch.line ≤ c.args.t)) (sym same) (c.requires.ends x)
 
 pub loop-place-preserved : goal.loop-place-preserved
 loop-place-preserved g c =
     let xs = c.args.live.now in let i = c.loop-place.place-index in let x = slice_index_or xs i 0 in
-    let at = get_at xs i 0 c.loop-place-test.true in
+    let at = slice_get-get_or xs i 0 c.loop-place-test.true in
     let old = netlist c.args.former.now.old.now in let new = netlist c.args.former.now.new.now in
     let P : ℕ → Option (PatchRecord Value) → Type 0 = λ q o. Keeps same_value standing (read_at g.S.Stepper.answer old (to_net (net_at new q).name)) (value g.S.Stepper.answer new (net_at new q)) o (suc c.args.t) × IsOwn o × ForSome o (λ patch. end_of patch.line ≤ suc c.args.t) in
     let done = c.in_ok-put_value.ensures in
@@ -52,22 +52,22 @@ loop-place-preserved g c =
 
 pub returns-clause-put : goal.returns-clause-put
 returns-clause-put g c = λ p among.
-    let xs = c.args.live.now in let whole = take_whole xs c.loop-place.place-index c.loop-place-test.false in
+    let xs = c.args.live.now in let whole = take_all c.loop-place.place-index xs c.loop-place-test.false in
     (c.loop-place.invariant.put p (ap (λ (l : List ℕ). is_among l p) whole ∙ among)).0
 
 pub returns-clause-own : goal.returns-clause-own
 returns-clause-own g c = λ p among.
-    let xs = c.args.live.now in let whole = take_whole xs c.loop-place.place-index c.loop-place-test.false in
+    let xs = c.args.live.now in let whole = take_all c.loop-place.place-index xs c.loop-place-test.false in
     (c.loop-place.invariant.put p (ap (λ (l : List ℕ). is_among l p) whole ∙ among)).1
 
 pub returns-clause-others : goal.returns-clause-others
 returns-clause-others g c = λ p off.
-    let xs = c.args.live.now in let whole = take_whole xs c.loop-place.place-index c.loop-place-test.false in
+    let xs = c.args.live.now in let whole = take_all c.loop-place.place-index xs c.loop-place-test.false in
     c.loop-place.invariant.others p (ap (λ (l : List ℕ). is_among l p) whole ∙ off)
 
 pub returns-clause-ends : goal.returns-clause-ends
 returns-clause-ends g c = λ p.
-    let xs = c.args.live.now in let whole = take_whole xs c.loop-place.place-index c.loop-place-test.false in
+    let xs = c.args.live.now in let whole = take_all c.loop-place.place-index xs c.loop-place-test.false in
     let At : Option (PatchRecord Value) → Type 0 = λ o. ForSome o (λ patch. end_of patch.line ≤ suc c.args.t) in
     elim (is_among xs p) as (λ b. is_among xs p ≡ b → At (kept_at c.loop-place.waves p)) [
       | true ↦ λ among. (c.loop-place.invariant.put p (ap (λ (l : List ℕ). is_among l p) whole ∙ among)).2

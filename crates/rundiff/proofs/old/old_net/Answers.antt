@@ -4,8 +4,9 @@ use Rattle.design.specs.Keys.{Keyed, name_of, netlist}
 use Rattle.design.specs.kept.Keys.{net_by_key}
 use Rattle.design.specs.Names.{same_name}
 use Rattle.design.specs.Netlist.{has_net, net_named}
+use Rattle.design.proofs.NameLemmas.{name_is}
 use Rattle.rundiff.proofs.Driven.{is_there}
-use Rattle.rundiff.proofs.Lists.{found_any, same_name_equal}
+use Rattle.rundiff.proofs.Lists.{found_any}
 use Rattle.rundiff.proofs.old.old_net.Goals as goal
 
 -- a net that is found by its name is there
@@ -19,7 +20,7 @@ pub returns-then-eq-clause-net : goal.returns-then-eq-clause-net
 returns-then-eq-clause-net c =
     let old = c.args.old.now in
     let same : name_of old.nets c.args.guess ≡ c.args.name.now =
-    sym (c.as_str.ensures ∙ c.name_of.ensures) ∙ same_name_equal c.as_str.result.now c.args.name.now (sym c.eq.ensures ∙ c.if-eq.true) in
+    sym (c.as_str.ensures ∙ c.name_of.ensures) ∙ name_is c.as_str.result.now c.args.name.now (sym c.eq.ensures ∙ c.if-eq.true) in
     sym (c.names_are_keys.ensures.nets c.args.guess) ∙ ap (net_named (netlist old)) same
 
 pub returns-clause-there : goal.returns-clause-there

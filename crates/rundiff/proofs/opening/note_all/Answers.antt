@@ -1,11 +1,12 @@
 use Rattle.std.proofs.Common.{◌≡◌, ◌∙◌, ap, cond, ℕ, List, [], ◌∷◌, ◌++◌, false, true, arith}
 use Rattle.std.specs.Prelude.{nat_eq, slice_index_or}
 use Rattle.std.proofs.lemmas.Bool.Decides.{nat_tests}
+use Rattle.std.proofs.lemmas.Option.{slice_get-get_or}
+use Rattle.std.proofs.lemmas.List.{take_all}
 use Rattle.event_queue.specs.kept.Noted.{noted}
+use Rattle.scratch.proofs.Notes.{is_noted as added_there, keeps as added_keeps}
 use Rattle.rundiff.specs.kept.Places.{is_among}
-use Rattle.rundiff.proofs.ByPlace.{get_at}
-use Rattle.rundiff.proofs.Driven.{take_whole}
-use Rattle.rundiff.proofs.NotedMore.{added_keeps, added_there, more_noted}
+use Rattle.rundiff.proofs.NotedMore.{more_noted}
 use Rattle.rundiff.proofs.opening.note_all.Goals as goal
 
 pub loop-place-preserved : goal.loop-place-preserved
@@ -14,7 +15,7 @@ loop-place-preserved c =
     let added = c.in_ok-add.ensures.ok in
     record {
       listed =
-          more_noted xs i x (get_at xs i 0 c.loop-place-test.true) (noted c.loop-place.queue) (noted c.add.new.self) c.args.t (added_keeps c.args.t x c.loop-place.queue c.add.new.self added)
+          more_noted xs i x (slice_get-get_or xs i 0 c.loop-place-test.true) (noted c.loop-place.queue) (noted c.add.new.self) c.args.t (added_keeps c.args.t x c.loop-place.queue c.add.new.self added)
           c.loop-place.invariant.listed (added_there c.args.t x c.loop-place.queue c.add.new.self added);
       early = λ u low.
           let apart : nat_eq c.args.t u ≡ false = grind (arith, nat_tests) in
@@ -24,7 +25,7 @@ loop-place-preserved c =
 pub returns-clause-noted : goal.returns-clause-noted
 returns-clause-noted c = λ p among.
     let xs = c.deref-place-items.result.now in
-    let whole = take_whole xs c.loop-place.place-index c.loop-place-test.false in
+    let whole = take_all c.loop-place.place-index xs c.loop-place-test.false in
     let listed : is_among xs p ≡ true = ap (λ (l : List ℕ). is_among l p) c.deref-place-items.ensures.value ∙ c.in_ok-listed.ensures.all p ∙ among in
     c.loop-place.invariant.listed p (ap (λ (l : List ℕ). is_among l p) whole ∙ listed)
 

@@ -2,10 +2,12 @@ use Rattle.std.proofs.Common.{◌≡◌, ◌∙◌, ap, sym, refl, ℕ, List, Bo
 use Rattle.std.specs.Prelude.{slice_index_or, ◌||◌, ◌==◌}
 use Rattle.std.specs.BTreeSet.{contains}
 use Rattle.std.specs.Ordering.{nat_cmp}
+use Rattle.std.proofs.lemmas.Option.{slice_get-get_or}
+use Rattle.std.proofs.lemmas.List.{take_all}
+use Rattle.scratch.proofs.Among.{any_more}
+use Rattle.scratch.proofs.Keyed.{same_test}
 use Rattle.rundiff.specs.kept.Places.{is_among}
-use Rattle.rundiff.proofs.ByPlace.{get_at}
-use Rattle.rundiff.proofs.Driven.{take_whole}
-use Rattle.rundiff.proofs.Sets.{any_more, cond_or, flips, test_is}
+use Rattle.rundiff.proofs.Sets.{cond_or, test_is}
 use Rattle.rundiff.proofs.opening.set_of.Goals as goal
 
 or_swap : (a b : Bool) → (a || b) ≡ (b || a)
@@ -22,10 +24,10 @@ loop-place-preserved c = λ p.
     ∙ ap (λ (b : Bool). cond b true (contains nat_cmp c.loop-place.set p)) (sym (test_is x p))
     ∙ cond_or (p == x) (contains nat_cmp c.loop-place.set p)
     ∙ ap (λ (b : Bool). p == x || b) (c.loop-place.invariant p)
-    ∙ ap (λ (b : Bool). b || so_far) (flips p x)
+    ∙ ap (λ (b : Bool). b || so_far) (same_test p x)
     ∙ or_swap (x == p) so_far
-    ∙ sym (any_more (λ q. q == p) xs i x (get_at xs i 0 c.loop-place-test.true))
+    ∙ sym (any_more (λ q. q == p) xs i x (slice_get-get_or xs i 0 c.loop-place-test.true))
 
 pub returns : goal.returns
 returns c = λ p.
-    c.loop-place.invariant p ∙ ap (λ (l : List ℕ). is_among l p) (take_whole c.args.places.now c.loop-place.place-index c.loop-place-test.false)
+    c.loop-place.invariant p ∙ ap (λ (l : List ℕ). is_among l p) (take_all c.loop-place.place-index c.args.places.now c.loop-place-test.false)

@@ -1,10 +1,13 @@
 use Rattle.std.proofs.Common.{◌≡◌, ◌∙◌, ◌≤◌, ap, sym, subst, refl, ℕ, List, true, false, take, length, Some}
 use Rattle.std.specs.Prelude.{slice_get, nat_eq}
+use Rattle.std.proofs.lemmas.Bool.{eqb-true}
+use Rattle.std.proofs.lemmas.List.{take_all}
 use Rattle.catalog.specs.kept.Catalog.{place_of}
 use Rattle.design.specs.kept.Keys.{gate_by_key}
+use Rattle.scratch.proofs.Driven.{earlier}
 use Rattle.rundiff.specs.kept.Places.{is_among}
-use Rattle.rundiff.proofs.Driven.{read_get, take_whole}
-use Rattle.rundiff.proofs.Steps.{among_more, or_splits, same_place}
+use Rattle.rundiff.proofs.Driven.{read_get}
+use Rattle.rundiff.proofs.Steps.{among_more}
 use Rattle.rundiff.proofs.opening.touched_places.Goals as goal
 
 pub loop-net-preserved : goal.loop-net-preserved
@@ -17,8 +20,8 @@ loop-net-preserved c =
       there = done.there c.loop-net.invariant.there;
       nets = λ key among p found.
           elim (nat_eq x key) as (λ b. nat_eq x key ≡ b → is_among c.add_net.new.places.items p ≡ true) [
-            | true ↦ λ same. done.net p (ap (place_of nets) (same_place x key same) ∙ found)
-            | false ↦ λ apart. done.more p (c.loop-net.invariant.nets key (or_splits (is_among (take i keys) key) (nat_eq x key) (sym (among_more keys i x key at) ∙ among) apart) p found)
+            | true ↦ λ same. done.net p (ap (place_of nets) (eqb-true x key same) ∙ found)
+            | false ↦ λ apart. done.more p (c.loop-net.invariant.nets key (earlier (is_among (take i keys) key) (nat_eq x key) (sym (among_more keys i x key at) ∙ among) apart) p found)
           ] refl;
     }
 
@@ -28,7 +31,7 @@ loop-gate-init c =
     let past : length keys ≤ i = subst (λ (l : List ℕ). length l ≤ i) c.deref-net-items.ensures.value c.loop-net-test.false in
     record {
       there = c.loop-net.invariant.there;
-      nets = λ key among. c.loop-net.invariant.nets key (ap (λ (l : List ℕ). is_among l key) (take_whole keys i past) ∙ among);
+      nets = λ key among. c.loop-net.invariant.nets key (ap (λ (l : List ℕ). is_among l key) (take_all i keys past) ∙ among);
       gates = λ key never. absurd (cc);
     }
 
@@ -42,8 +45,8 @@ loop-gate-preserved c =
       nets = λ key among p found. done.more p (c.loop-gate.invariant.nets key among p found);
       gates = λ key among gate under p found.
           elim (nat_eq x key) as (λ b. nat_eq x key ≡ b → is_among c.add_output.new.places.items p ≡ true) [
-            | true ↦ λ same. done.output gate (ap (gate_by_key c.args.new.now) (same_place x key same) ∙ under) p found
-            | false ↦ λ apart. done.more p (c.loop-gate.invariant.gates key (or_splits (is_among (take i keys) key) (nat_eq x key) (sym (among_more keys i x key at) ∙ among) apart) gate under p found)
+            | true ↦ λ same. done.output gate (ap (gate_by_key c.args.new.now) (eqb-true x key same) ∙ under) p found
+            | false ↦ λ apart. done.more p (c.loop-gate.invariant.gates key (earlier (is_among (take i keys) key) (nat_eq x key) (sym (among_more keys i x key at) ∙ among) apart) gate under p found)
           ] refl;
     }
 
@@ -53,5 +56,5 @@ returns-clause-touched c =
     let past : length keys ≤ i = subst (λ (l : List ℕ). length l ≤ i) c.deref-gate-items.ensures.value c.loop-gate-test.false in
     record {
       of_nets = c.loop-gate.invariant.nets;
-      of_gates = λ key among. c.loop-gate.invariant.gates key (ap (λ (l : List ℕ). is_among l key) (take_whole keys i past) ∙ among);
+      of_gates = λ key among. c.loop-gate.invariant.gates key (ap (λ (l : List ℕ). is_among l key) (take_all i keys past) ∙ among);
     }

@@ -2,8 +2,8 @@ use Rattle.std.proofs.Common.{◌≡◌, ◌∙◌, ◌<◌, ◌/◌, ◌%◌, a
 use Rattle.std.proofs.Math.ListN.{set}
 use Rattle.std.proofs.lemmas.List.{get_or-set_same, get_or-set_other}
 use Rattle.std.specs.Vec.{with_item}
+use Rattle.scratch.proofs.Among.{nat_itself}
 use Rattle.rundiff.specs.declared.place_map.TheConstants.{PAGE}
-use Rattle.rundiff.proofs.Items.{number_itself}
 use Rattle.rundiff.proofs.Pages.{number_is, other_numbers, page_here, page_is}
 use Rattle.rundiff.proofs.place_map.set_number.Goals as goal
 
@@ -26,5 +26,5 @@ returns-clause-others c =
     let new = with_item old (place % PAGE) c.args.number in
     let is = page_is pages (place / PAGE) old c.requires.page c.index_mut-page.ensures.value in
     λ q off. other_numbers pages (place / PAGE) q new c.requires.page (λ in_page.
-    get_or-set_other old.items (place % PAGE) (q % PAGE) c.args.number 0 (λ at. let same : place ≡ q = omega (arith, at, in_page) in let itself = number_itself q in absurd (cc))
+    get_or-set_other old.items (place % PAGE) (q % PAGE) c.args.number 0 (λ at. let same : place ≡ q = omega (arith, at, in_page) in let itself = nat_itself q in absurd (cc))
     ∙ ap (λ row. slice_index_or row (q % PAGE) 0) is)

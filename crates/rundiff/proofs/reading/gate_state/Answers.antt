@@ -2,9 +2,10 @@ use Rattle.std.proofs.Common.{◌∙◌, ◌<◌, ◌-◌, ap, suc, arith, ℕ}
 use Rattle.design.specs.Keys.{netlist}
 use Rattle.waveform.specs.declared.times.TheConstants.{TIME_END}
 use Rattle.scratch.specs.Run.{state_after, state_before}
+use Rattle.scratch.proofs.Runs.{settled}
 use Rattle.rundiff.specs.kept.Fronts.{named_state}
 use Rattle.rundiff.specs.kept.Places.{blank_gate, gate_at}
-use Rattle.rundiff.proofs.Tasks.{next_one, old_settled, settled, stored_ready}
+use Rattle.rundiff.proofs.Tasks.{next_one, old_settled, stored_ready}
 use Rattle.rundiff.proofs.reading.gate_state.Goals as goal
 
 pub returns-clause-state : goal.returns-clause-state

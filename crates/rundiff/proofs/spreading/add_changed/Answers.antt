@@ -1,13 +1,15 @@
 use Rattle.std.proofs.Common.{◌≡◌, ◌∙◌, ap, sym, subst, refl, ℕ, List, Bool, true, false, take, inl, inr}
 use Rattle.std.specs.Prelude.{slice_index_or, nat_eq}
+use Rattle.std.proofs.lemmas.Bool.{eqb-true}
+use Rattle.std.proofs.lemmas.Option.{slice_get-get_or}
+use Rattle.std.proofs.lemmas.List.{take_all}
 use Rattle.gatestep.specs.Step.{State, Evaluation}
 use Rattle.design.specs.Keys.{netlist}
 use Rattle.design.specs.Netlist.{Netlist}
+use Rattle.scratch.proofs.Driven.{earlier}
 use Rattle.rundiff.specs.kept.Places.{is_among}
 use Rattle.rundiff.specs.kept.Steady.{IsSteady}
-use Rattle.rundiff.proofs.ByPlace.{get_at}
-use Rattle.rundiff.proofs.Driven.{take_whole}
-use Rattle.rundiff.proofs.Steps.{among_more, is_one, or_splits, same_place}
+use Rattle.rundiff.proofs.Steps.{among_more, is_one}
 use Rattle.rundiff.proofs.spreading.add_changed.Goals as goal
 
 steady_grows : (answer : Evaluation → ℕ → State) (new : Netlist) (f g : ℕ → Bool) (t p : ℕ) → ((q : ℕ) → f q ≡ true → g q ≡ true) → IsSteady answer new f t p → IsSteady answer new g t p
@@ -17,12 +19,12 @@ steady_grows answer new f g t p more (inr readers) = inr (λ q low reading. more
 pub add_if_changed-requires-clause-there : goal.add_if_changed-requires-clause-there
 add_if_changed-requires-clause-there g c =
     let xs = c.args.nets.now in let i = c.loop-place.place-index in
-    c.requires.there (slice_index_or xs i 0) (is_one xs i (slice_index_or xs i 0) (get_at xs i 0 c.loop-place-test.true))
+    c.requires.there (slice_index_or xs i 0) (is_one xs i (slice_index_or xs i 0) (slice_get-get_or xs i 0 c.loop-place-test.true))
 
 pub add_if_changed-requires-clause-wave : goal.add_if_changed-requires-clause-wave
 add_if_changed-requires-clause-wave g c =
     let xs = c.args.nets.now in let i = c.loop-place.place-index in
-    c.requires.waves (slice_index_or xs i 0) (is_one xs i (slice_index_or xs i 0) (get_at xs i 0 c.loop-place-test.true))
+    c.requires.waves (slice_index_or xs i 0) (is_one xs i (slice_index_or xs i 0) (slice_get-get_or xs i 0 c.loop-place-test.true))
 
 pub loop-place-preserved : goal.loop-place-preserved
 loop-place-preserved g c =
@@ -34,13 +36,13 @@ loop-place-preserved g c =
       more = λ q on. done.more q (c.loop-place.invariant.more q on);
       steady = λ p among.
           elim (nat_eq x p) as (λ b. nat_eq x p ≡ b → IsSteady answer new now t p) [
-            | true ↦ λ same. subst (λ (q : ℕ). IsSteady answer new now t q) (same_place x p same) done.steady
+            | true ↦ λ same. subst (λ (q : ℕ). IsSteady answer new now t q) (eqb-true x p same) done.steady
             | false ↦ λ apart.
                 steady_grows answer new (is_among c.loop-place.gates.items) now t p done.more
-                (c.loop-place.invariant.steady p (or_splits (is_among (take i xs) p) (nat_eq x p) (sym (among_more xs i x p (get_at xs i 0 c.loop-place-test.true)) ∙ among) apart))
+                (c.loop-place.invariant.steady p (earlier (is_among (take i xs) p) (nat_eq x p) (sym (among_more xs i x p (slice_get-get_or xs i 0 c.loop-place-test.true)) ∙ among) apart))
           ] refl;
     }
 
 pub returns-clause-steady : goal.returns-clause-steady
 returns-clause-steady g c = λ p among.
-    c.loop-place.invariant.steady p (ap (λ (l : List ℕ). is_among l p) (take_whole c.args.nets.now c.loop-place.place-index c.loop-place-test.false) ∙ among)
+    c.loop-place.invariant.steady p (ap (λ (l : List ℕ). is_among l p) (take_all c.loop-place.place-index c.args.nets.now c.loop-place-test.false) ∙ among)

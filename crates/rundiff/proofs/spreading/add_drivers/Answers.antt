@@ -1,16 +1,17 @@
 use Rattle.std.proofs.Common.{◌≡◌, ◌∙◌, ap, sym, refl, ℕ, List, true, false, take}
 use Rattle.std.specs.Prelude.{slice_index_or, nat_eq}
+use Rattle.std.proofs.lemmas.Bool.{or_left, or_right, eqb-true}
+use Rattle.std.proofs.lemmas.Option.{slice_get-get_or}
+use Rattle.std.proofs.lemmas.List.{take_all}
 use Rattle.design.specs.Keys.{netlist}
 use Rattle.design.specs.Names.{same_name}
 use Rattle.design.specs.kept.Places.{driver_places}
+use Rattle.scratch.proofs.Stirred.{same_self_name}
+use Rattle.scratch.proofs.Driven.{earlier}
 use Rattle.rundiff.specs.kept.Places.{gate_at, is_among, net_at}
 use Rattle.rundiff.proofs.Among.{live_net}
-use Rattle.rundiff.proofs.ByPlace.{get_at}
-use Rattle.rundiff.proofs.Driven.{take_whole}
-use Rattle.rundiff.proofs.Lists.{name_itself}
 use Rattle.rundiff.proofs.Readers.{driver_at}
-use Rattle.rundiff.proofs.Sets.{or_first, or_second}
-use Rattle.rundiff.proofs.Steps.{among_more, or_splits, same_place}
+use Rattle.rundiff.proofs.Steps.{among_more}
 use Rattle.rundiff.proofs.spreading.add_drivers.Goals as goal
 
 pub loop-place-preserved : goal.loop-place-preserved
@@ -22,13 +23,13 @@ loop-place-preserved c =
     let now = c.add_drivers_of.new.gates.items in
     let done = c.in_ok-add_drivers_of.ensures in
     record {
-      more = λ q on. done q ∙ or_second (is_among (drivers x) q) (is_among before q) (c.loop-place.invariant.more q on);
+      more = λ q on. done q ∙ or_right (is_among (drivers x) q) (is_among before q) (c.loop-place.invariant.more q on);
       drivers = λ p among q drives.
           elim (nat_eq x p) as (λ b. nat_eq x p ≡ b → is_among now q ≡ true) [
-            | true ↦ λ same. done q ∙ or_first (is_among (drivers x) q) (is_among before q) (ap (λ (k : ℕ). is_among (drivers k) q) (same_place x p same) ∙ drives)
+            | true ↦ λ same. done q ∙ or_left (is_among (drivers x) q) (is_among before q) (ap (λ (k : ℕ). is_among (drivers k) q) (eqb-true x p same) ∙ drives)
             | false ↦ λ apart.
-                done q ∙ or_second (is_among (drivers x) q) (is_among before q)
-                (c.loop-place.invariant.drivers p (or_splits (is_among (take i xs) p) (nat_eq x p) (sym (among_more xs i x p (get_at xs i 0 c.loop-place-test.true)) ∙ among) apart) q drives)
+                done q ∙ or_right (is_among (drivers x) q) (is_among before q)
+                (c.loop-place.invariant.drivers p (earlier (is_among (take i xs) p) (nat_eq x p) (sym (among_more xs i x p (slice_get-get_or xs i 0 c.loop-place-test.true)) ∙ among) apart) q drives)
           ] refl;
     }
 
@@ -39,5 +40,5 @@ returns-clause-drivers c = λ q low on.
     let out = (gate_at d q).output in
     let net = live_net d (is_among xs) out on in
     let p : ℕ = net.0 in
-    c.loop-place.invariant.drivers p (ap (λ (l : List ℕ). is_among l p) (take_whole xs c.loop-place.place-index c.loop-place-test.false) ∙ net.1) q
-    (driver_at d (net_at d p).name q low ∙ ap (λ (name : List ℕ). same_name out name) net.2 ∙ name_itself out)
+    c.loop-place.invariant.drivers p (ap (λ (l : List ℕ). is_among l p) (take_all c.loop-place.place-index xs c.loop-place-test.false) ∙ net.1) q
+    (driver_at d (net_at d p).name q low ∙ ap (λ (name : List ℕ). same_name out name) net.2 ∙ same_self_name out)

@@ -1,16 +1,17 @@
 use Rattle.std.proofs.Common.{◌≡◌, ◌∙◌, ap, sym, refl, ℕ, List, true, false, take, Some, arith}
 use Rattle.std.specs.Prelude.{◌||◌, nat_eq}
 use Rattle.std.proofs.lemmas.Bool.Decides.{nat_tests}
+use Rattle.std.proofs.lemmas.Bool.{or_left, or_right, eqb-true}
+use Rattle.std.proofs.lemmas.Option.{slice_get-get_or, same_Some}
+use Rattle.std.proofs.lemmas.List.{take_all}
 use Rattle.catalog.specs.kept.Catalog.{place_of}
 use Rattle.design.specs.Keys.{netlist}
 use Rattle.design.specs.kept.Keys.{net_by_key}
+use Rattle.scratch.proofs.Driven.{earlier}
 use Rattle.rundiff.specs.kept.Places.{blank_net, is_among, net_at}
-use Rattle.rundiff.proofs.ByPlace.{get_at}
-use Rattle.rundiff.proofs.Driven.{read_get, take_whole}
-use Rattle.rundiff.proofs.NamedLines.{some_equal}
+use Rattle.rundiff.proofs.Driven.{read_get}
 use Rattle.rundiff.proofs.ReaderKeys.{entry_at, keyed_at, reader_at}
-use Rattle.rundiff.proofs.Sets.{or_first, or_second}
-use Rattle.rundiff.proofs.Steps.{among_more, among_push, or_splits, same_place}
+use Rattle.rundiff.proofs.Steps.{among_more, among_push}
 use Rattle.rundiff.proofs.spreading.add_readers.Goals as goal
 
 itself : (x y : ℕ) → x ≡ y → nat_eq x y ≡ true
@@ -25,15 +26,15 @@ loop-reader-preserved c =
     let before = c.loop-reader.gates.items in
     let grown : (q : ℕ) → is_among c.push.new.self.items q ≡ (is_among before q || nat_eq gate q) = λ q. ap (λ (l : List ℕ). is_among l q) c.in_ok-push.ensures.items ∙ among_push before gate q in
     record {
-      more = λ q on. grown q ∙ or_first (is_among before q) (nat_eq gate q) (c.loop-reader.invariant.more q on);
+      more = λ q on. grown q ∙ or_left (is_among before q) (nat_eq gate q) (c.loop-reader.invariant.more q on);
       readers = λ key among q place.
           elim (nat_eq x key) as (λ b. nat_eq x key ≡ b → is_among c.push.new.self.items q ≡ true) [
             | true ↦ λ same.
-                let e : gate ≡ q = some_equal gate q (c.in-Some.ensures.place ∙ ap (place_of gates) (same_place x key same) ∙ place) in
-                grown q ∙ or_second (is_among before q) (nat_eq gate q) (itself gate q e)
+                let e : gate ≡ q = same_Some gate q (c.in-Some.ensures.place ∙ ap (place_of gates) (eqb-true x key same) ∙ place) in
+                grown q ∙ or_right (is_among before q) (nat_eq gate q) (itself gate q e)
             | false ↦ λ apart.
-                grown q ∙ or_first (is_among before q) (nat_eq gate q)
-                (c.loop-reader.invariant.readers key (or_splits (is_among (take i keys) key) (nat_eq x key) (sym (among_more keys i x key at) ∙ among) apart) q place)
+                grown q ∙ or_left (is_among before q) (nat_eq gate q)
+                (c.loop-reader.invariant.readers key (earlier (is_among (take i keys) key) (nat_eq x key) (sym (among_more keys i x key at) ∙ among) apart) q place)
           ] refl;
     }
 
@@ -42,8 +43,8 @@ returns-clause-readers c = λ q low reading.
     let keyed = c.args.new.now in let d = netlist keyed in
     let key = c.net_key_at.result in
     let n = net_at d c.args.place in
-    let there : net_by_key keyed key ≡ Some n = c.net_key_at.ensures.net ∙ get_at d.nets c.args.place blank_net c.requires.there in
-    let whole = take_whole c.fanout-readers.result.now c.loop-reader.reader-index c.loop-reader-test.false in
+    let there : net_by_key keyed key ≡ Some n = c.net_key_at.ensures.net ∙ slice_get-get_or d.nets c.args.place blank_net c.requires.there in
+    let whole = take_all c.loop-reader.reader-index c.fanout-readers.result.now c.loop-reader-test.false in
     let k = (keyed_at keyed q).0 in
     let among = reader_at keyed c.lawful.ensures.keys c.places_are_keys.ensures.nets key q n there low reading in
     c.loop-reader.invariant.readers k (ap (λ (l : List ℕ). is_among l k) (whole ∙ c.fanout-readers.ensures.readers) ∙ among) q (entry_at keyed c.lawful.ensures.keys q low).position

@@ -1,4 +1,5 @@
 use Rattle.std.proofs.Common.{◌≡◌, ◌∙◌, ◌<◌, ◌-◌, ap, sym, refl, suc, arith, ℕ}
+use Rattle.std.proofs.lemmas.Bool.{not-false}
 use Rattle.fourstate.specs.declared.value.Value.{Value}
 use Rattle.design.specs.Connections.{to_net}
 use Rattle.design.specs.Keys.{netlist}
@@ -6,7 +7,6 @@ use Rattle.fourstate.specs.kept.ValueLaws.{is_same}
 use Rattle.scratch.specs.Run.{value}
 use Rattle.rundiff.specs.kept.Places.{net_at}
 use Rattle.rundiff.specs.kept.Kept.{read_at}
-use Rattle.rundiff.proofs.Still.{not_false}
 use Rattle.rundiff.proofs.spreading.changes.Goals as goal
 
 -- at 0 the moment before is 0 itself
@@ -29,5 +29,5 @@ returns g c = λ off.
     let known_too : c.args.t - 1 < suc c.args.t = omega arith in
     let now = c.value_at.ensures.value (value answer new x) (read_at answer old (to_net x.name)) (suc old.horizon) (suc c.args.t) (λ t. refl) (λ t. refl) stored below known c.requires.wave in
     let before = c.value_at-before.ensures.value (value answer new x) (read_at answer old (to_net x.name)) (suc old.horizon) (suc c.args.t) (λ t. refl) (λ t. refl) stored below_too known_too c.requires.wave in
-    let same = is_same c.value_at.result c.value_at-before.result (sym c.is_same.ensures ∙ not_false c.is_same.result off) in
+    let same = is_same c.value_at.result c.value_at-before.result (sym c.is_same.ensures ∙ not-false c.is_same.result off) in
     sym now ∙ same ∙ before

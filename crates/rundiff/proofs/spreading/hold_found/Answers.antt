@@ -4,12 +4,13 @@ use Rattle.std.specs.BTreeSet.{contains}
 use Rattle.std.specs.List.{filter}
 use Rattle.std.specs.Ordering.{nat_cmp}
 use Rattle.std.proofs.lemmas.List.Elements.{All-filter}
+use Rattle.std.proofs.lemmas.Bool.{or_left, or_right}
 use Rattle.design.specs.Keys.{netlist}
+use Rattle.event_queue.proofs.Changes.{by_ok}
 use Rattle.scratch.specs.kept.Places.{has}
+use Rattle.scratch.proofs.Driven.{earlier}
 use Rattle.rundiff.specs.kept.Places.{gate_at, is_among}
 use Rattle.rundiff.proofs.Among.{among_filter, among_has, either_among, live_gained}
-use Rattle.rundiff.proofs.Sets.{or_first, or_second}
-use Rattle.rundiff.proofs.Steps.{mapped, or_splits}
 use Rattle.rundiff.proofs.spreading.hold_found.Goals as goal
 
 with_both : {A E P Q R : Type 0} (r : Result A E) → OnOk r P → OnOk r Q → (P → Q → R) → OnOk r R
@@ -38,13 +39,13 @@ module _ (found kept slice : List ℕ) (live later : ℕ → Bool) (same : slice
   added : (nets now : List ℕ) → now ≡ nets ++ slice → (p : ℕ) → later p ≡ true → live p ≡ false → is_among now p ≡ true
   added nets now is p on off =
       ap (λ (l : List ℕ). is_among l p) is ∙ either_among nets slice p
-      ∙ or_second (is_among nets p) (has p slice) (sym (among_has slice p) ∙ or_splits (is_among slice p) (live p) (sym (adds p) ∙ on) off)
+      ∙ or_right (is_among nets p) (has p slice) (sym (among_has slice p) ∙ earlier (is_among slice p) (live p) (sym (adds p) ∙ on) off)
 
   only_added : (nets now : List ℕ) → now ≡ nets ++ slice → (p : ℕ) → is_among nets p ≡ false → is_among now p ≡ true → later p ≡ true
   only_added nets now is p off on =
       let more : (is_among nets p || has p slice) ≡ true = sym (ap (λ (l : List ℕ). is_among l p) is ∙ either_among nets slice p) ∙ on in
       let here : has p slice ≡ true = ap (λ (b : Bool). b || has p slice) (sym off) ∙ more in
-      adds p ∙ or_first (is_among slice p) (live p) (among_has slice p ∙ here)
+      adds p ∙ or_left (is_among slice p) (live p) (among_has slice p ∙ here)
 
 pub add_drivers-requires : goal.add_drivers-requires
 add_drivers-requires c =
@@ -59,7 +60,7 @@ hold-requires-clause-there c =
 pub returns-clause-live : goal.returns-clause-live
 returns-clause-live c =
     let live = contains nat_cmp c.args.live.now in
-    mapped c.hold.result c.hold.ensures.live
+    by_ok c.hold.result c.hold.ensures.live
     (λ adds p.
     by_found c.put_in_order.new.places.items c.leave_new.new.places.items c.as_slice-3.result.now live (contains nat_cmp c.hold.new.live) c.as_slice-3.ensures.value adds c.leave_new.ensures p
     ∙ ap (λ (b : Bool). b || live p) (c.put_in_order.ensures.same p))
@@ -67,7 +68,7 @@ returns-clause-live c =
 pub returns-clause-nets : goal.returns-clause-nets
 returns-clause-nets c =
     let kept = c.leave_new.new.places.items in
-    mapped c.hold.result c.hold.ensures.live
+    by_ok c.hold.result c.hold.ensures.live
     (λ adds. added c.args.found.now.items kept c.as_slice-3.result.now (contains nat_cmp c.args.live.now) (contains nat_cmp c.hold.new.live) c.as_slice-3.ensures.value adds c.args.nets.now.items c.extend_from_slice.new.self.items
     (c.in_ok-extend_from_slice.ensures.items ∙ ap (λ (l : List ℕ). c.args.nets.now.items ++ l) (c.as_slice.ensures.value ∙ sym c.as_slice-3.ensures.value)))
 
@@ -75,12 +76,12 @@ pub returns-clause-nets_more : goal.returns-clause-nets_more
 returns-clause-nets_more c =
     on_ok c.hold.result
     (λ p on.
-    ap (λ (l : List ℕ). is_among l p) c.in_ok-extend_from_slice.ensures.items ∙ either_among c.args.nets.now.items c.as_slice.result.now p ∙ or_first (is_among c.args.nets.now.items p) (has p c.as_slice.result.now) on)
+    ap (λ (l : List ℕ). is_among l p) c.in_ok-extend_from_slice.ensures.items ∙ either_among c.args.nets.now.items c.as_slice.result.now p ∙ or_left (is_among c.args.nets.now.items p) (has p c.as_slice.result.now) on)
 
 pub returns-clause-nets_live : goal.returns-clause-nets_live
 returns-clause-nets_live c =
     let kept = c.leave_new.new.places.items in
-    mapped c.hold.result c.hold.ensures.live
+    by_ok c.hold.result c.hold.ensures.live
     (λ adds. only_added c.args.found.now.items kept c.as_slice-3.result.now (contains nat_cmp c.args.live.now) (contains nat_cmp c.hold.new.live) c.as_slice-3.ensures.value adds c.args.nets.now.items c.extend_from_slice.new.self.items
     (c.in_ok-extend_from_slice.ensures.items ∙ ap (λ (l : List ℕ). c.args.nets.now.items ++ l) (c.as_slice.ensures.value ∙ sym c.as_slice-3.ensures.value)))
 

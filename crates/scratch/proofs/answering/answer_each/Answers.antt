@@ -1,11 +1,12 @@
-use Rattle.std.proofs.Common.{◌≡◌, ◌<◌, ◌+◌, ◌++◌, ◌∙◌, sym, ap, subst, refl, ℕ, [], ◌∷◌, Some, None, map, All, take, length, slice_get, slice_index_or, append-nil, Result, Ok, Err, OnErr, false, arith}
+use Rattle.std.proofs.Common.{◌≡◌, ◌<◌, ◌+◌, ◌++◌, ◌∙◌, sym, ap, subst, refl, ℕ, [], ◌∷◌, Some, None, map, All, take, length, slice_get, slice_index_or, append-nil, false, arith}
 use Rattle.std.proofs.lemmas.Grind.{common_steps}
-use Rattle.std.proofs.lemmas.List.{length-map, take_all}
+use Rattle.std.proofs.lemmas.List.{length-map, take_all, length-set}
 use Rattle.std.proofs.lemmas.Option.{slice_get-get_or, slice_get_read}
 use Rattle.std.proofs.Math.ListN.{set}
 use Rattle.std.specs.Prelude.{◌&&◌}
 use Rattle.std.specs.List.{flat_map}
 use Rattle.event_queue.specs.kept.Noted.{noted}
+use Rattle.event_queue.proofs.Changes.{held_err}
 use Rattle.fourstate.specs.declared.value.Value.{Value}
 use Rattle.gatestep.specs.Step.{due}
 use Rattle.gatestep.specs.Tasks.{PendingFrom}
@@ -14,24 +15,20 @@ use Rattle.waveform.specs.Entries.{same_state}
 use Rattle.waveform.specs.kept.Entries.{CanStore}
 use Rattle.waveform.specs.kept.Timelines.{pushed}
 use Rattle.design.specs.Keys.{netlist}
+use Rattle.design.proofs.ByNameLemmas.{all_at}
 use Rattle.scratch.specs.kept.Places.{Covers, has, pends_at}
 use Rattle.scratch.specs.Run.{state_after, state_before}
 use Rattle.scratch.proofs.Among.{nat_beyond}
 use Rattle.scratch.specs.kept.Open.{asked_at}
 use Rattle.scratch.proofs.Answered.{asked_all, asked_more, asked_some, is_there}
 use Rattle.scratch.proofs.Apart.{once_apart}
-use Rattle.scratch.proofs.Between.{Between, finish, is_old, length_set, write}
+use Rattle.scratch.proofs.Between.{Between, finish, is_old, write}
 use Rattle.scratch.proofs.GateSteps.{known, next_trace, other_states, other_traces}
 use Rattle.scratch.proofs.Lists.{take_next}
 use Rattle.scratch.proofs.Notes.{elsewhere, event_noted, keeps, none_here, one_more, others_on, whole}
 use Rattle.scratch.proofs.Runs.{storable, traces_early}
-use Rattle.scratch.proofs.Skips.{all_at}
 use Rattle.scratch.proofs.answering.answer_each.Goals as goal
 use Rattle.scratch.proofs.answering.answer_each.Goals.{in-Some+in_ok-add, in_default}
-
-held_err : {A E P : Type 0} (r : Result A E) → P → OnErr r P
-held_err (Ok x) p = tt
-held_err (Err e) p = p
 
 pub loop-i-init : goal.loop-i-init
 loop-i-init g c =
@@ -246,8 +243,8 @@ loop-i-preserved g c =
             ap (λ q. noted q u) w.events-is ∙ elsewhere event.1 place c.loop-i.events w.add.new.self w.in_ok-add.ensures.ok u (nat_beyond event.1 u (omega arith)) ∙ c.loop-i.invariant.early u low
         | in_default w ↦ λ u low. ap (λ q. noted q u) w.events-is ∙ c.loop-i.invariant.early u low
       ];
-      as_many = length_set c.loop-i.states.items place _ ∙ c.loop-i.invariant.as_many;
-      as_many_traces = ap length grown ∙ length_set c.loop-i.traces place line ∙ c.loop-i.invariant.as_many_traces;
+      as_many = length-set c.loop-i.states.items place _ ∙ c.loop-i.invariant.as_many;
+      as_many_traces = ap length grown ∙ length-set c.loop-i.traces place line ∙ c.loop-i.invariant.as_many_traces;
     }
 
 pub returns-clause-states : goal.returns-clause-states

@@ -5,10 +5,10 @@ use Rattle.std.proofs.lemmas.Option.{slice_get-get_or, slice_get_read}
 use Rattle.gatestep.specs.Record.{at_moment}
 use Rattle.gatestep.specs.Tasks.{IsReady, PendingFrom}
 use Rattle.design.specs.Keys.{netlist}
+use Rattle.design.proofs.ByNameLemmas.{all_at}
 use Rattle.scratch.specs.Run.{state_before}
 use Rattle.scratch.specs.kept.Open.{is_open_at}
 use Rattle.scratch.proofs.Answered.{asked_here, asked_more, has_cell, not_asked, when_none, when_some}
-use Rattle.scratch.proofs.Skips.{all_at}
 use Rattle.scratch.proofs.asking.find_open_tasks.Goals as goal
 use Rattle.scratch.proofs.asking.find_open_tasks.Goals.{then-is_none+in_ok-push, else-is_none}
 

@@ -1,11 +1,12 @@
 use Rattle.std.proofs.Common.{◌≡◌, ◌+◌, ◌∙◌, sym, ap, refl, ℕ, Bool, List, take, slice_index_or, true, false}
 use Rattle.std.specs.Prelude.{nat_eq, ◌||◌, ◌&&◌}
 use Rattle.std.specs.List.{list_any}
+use Rattle.std.proofs.lemmas.Bool.{eqb-true}
 use Rattle.design.specs.Keys.{netlist}
 use Rattle.design.specs.kept.Places.{driver_places}
 use Rattle.scratch.specs.kept.Kept.{currents_of, output_at, places_at}
 use Rattle.scratch.specs.kept.Places.{has, is_due_at}
-use Rattle.scratch.proofs.Among.{has_next, nat_same}
+use Rattle.scratch.proofs.Among.{has_next}
 use Rattle.scratch.proofs.Driven.{due_too, earlier, either, not_due, or_moved}
 use Rattle.scratch.proofs.NetSteps.{lone_gives, resolved_is}
 use Rattle.scratch.proofs.driving.drive_each.Goals as goal
@@ -34,14 +35,14 @@ loop-gate-preserved g c =
             let due : ℕ → Bool = λ j. (has j done && is_due_at states j t) || nat_eq j gate in
             let middle : (j : ℕ) → has j w.insert.new.self ≡ (due j || list_any (λ m. has j (places_at readers m)) c.loop-gate.changed.items) = λ j. w.in_ok-insert.ensures.ok j ∙ ap (λ (b : Bool). b || nat_eq j gate) (so_far.gates j)
             ∙ or_moved (has j done && is_due_at states j t) (list_any (λ m. has j (places_at readers m)) c.loop-gate.changed.items) (nat_eq j gate) in
-            let is_due : nat_eq k gate ≡ true → is_due_at states k t ≡ true = λ e. ap (λ z. is_due_at states z t) (nat_same k gate e) ∙ w.in-Some.ensures.some.0 in
+            let is_due : nat_eq k gate ≡ true → is_due_at states k t ≡ true = λ e. ap (λ z. is_due_at states z t) (eqb-true k gate e) ∙ w.in-Some.ensures.some.0 in
             rw (w.gates-is, w.changed-is)
             (w.in_ok-drive_net.ensures.gates due middle k
             ∙ ap (λ (b : Bool). b || read w.drive_net.new.changed.items)
             (due_too (has k done) (nat_eq k gate) (is_due_at states k t) is_due ∙ ap (λ (b : Bool). b && is_due_at states k t) (sym (more k))))
         | in_default w ↦
             let read : List ℕ → Bool = λ nets. list_any (λ m. has k (places_at readers m)) nets in
-            let none : nat_eq k gate ≡ true → is_due_at states k t ≡ false = λ e. ap (λ z. is_due_at states z t) (nat_same k gate e) ∙ w.in_default.ensures.none in
+            let none : nat_eq k gate ≡ true → is_due_at states k t ≡ false = λ e. ap (λ z. is_due_at states z t) (eqb-true k gate e) ∙ w.in_default.ensures.none in
             rw (w.gates-is, w.changed-is)
             (so_far.gates k
             ∙ ap (λ (b : Bool). b || read c.loop-gate.changed.items)
@@ -50,12 +51,12 @@ loop-gate-preserved g c =
       driven = λ k m on due out off listed. (elim c.match-due_value.branch [
         | in-Some+in_ok-insert+in_ok-drive_net w ↦
             let apart = sym (ap (λ v. has m v.items) w.nets-is) ∙ off in let unlisted = sym (ap (λ v. has m v.items) w.changed-is) ∙ listed in
-            either (nat_eq k gate) (λ e. w.in_ok-drive_net.ensures.driven m (ap (λ z. has m (output_at outputs z)) (sym (nat_same k gate e)) ∙ out) apart unlisted)
+            either (nat_eq k gate) (λ e. w.in_ok-drive_net.ensures.driven m (ap (λ z. has m (output_at outputs z)) (sym (eqb-true k gate e)) ∙ out) apart unlisted)
             (λ e. so_far.driven k m (earlier (has k done) (nat_eq k gate) (sym (more k) ∙ on) e) due out (w.in_ok-drive_net.ensures.kept m apart) (w.in_ok-drive_net.ensures.listed m unlisted))
         | in_default w ↦
             let apart = sym (ap (λ v. has m v.items) w.nets-is) ∙ off in let unlisted = sym (ap (λ v. has m v.items) w.changed-is) ∙ listed in
             either (nat_eq k gate)
-            (λ e. absurd (let never : false ≡ true = sym w.in_default.ensures.none ∙ ap (λ z. is_due_at states z t) (sym (nat_same k gate e)) ∙ due in cc))
+            (λ e. absurd (let never : false ≡ true = sym w.in_default.ensures.none ∙ ap (λ z. is_due_at states z t) (sym (eqb-true k gate e)) ∙ due in cc))
             (λ e. so_far.driven k m (earlier (has k done) (nat_eq k gate) (sym (more k) ∙ on) e) due out apart unlisted)
       ]);
       kept = λ m off. (elim c.match-due_value.branch [

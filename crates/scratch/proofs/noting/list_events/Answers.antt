@@ -6,11 +6,11 @@ use Rattle.event_queue.specs.kept.Noted.{IsAdded, noted}
 use Rattle.fourstate.specs.declared.value.Value.{Value}
 use Rattle.gatestep.specs.Step.{State}
 use Rattle.gatestep.specs.Tasks.{PendingFrom}
+use Rattle.design.proofs.ByNameLemmas.{all_at}
 use Rattle.scratch.specs.kept.Places.{has, pends_at}
 use Rattle.scratch.proofs.Among.{nat_beyond}
 use Rattle.scratch.proofs.Notes.{elsewhere, event_noted, keeps, none_here}
 use Rattle.scratch.proofs.Passing.{in_list}
-use Rattle.scratch.proofs.Skips.{all_at}
 use Rattle.scratch.proofs.noting.list_events.Goals as goal
 use Rattle.scratch.proofs.noting.list_events.Goals.{in-Some+in_ok-add, in_default}
 

@@ -1,6 +1,6 @@
 use Rattle.std.proofs.Common.{◌≡◌, ◌<◌, ◌+◌, ◌++◌, ◌∙◌, sym, ap, subst, refl, ℕ, Bool, [], ◌∷◌, Some, None, map, All, take, length, slice_get, slice_index_or, arith, false}
 use Rattle.std.proofs.lemmas.Grind.{common_steps}
-use Rattle.std.proofs.lemmas.List.{length-map, take_all}
+use Rattle.std.proofs.lemmas.List.{length-map, take_all, length-set}
 use Rattle.std.proofs.lemmas.Option.{slice_get-get_or, slice_get_read, slice_get_within}
 use Rattle.std.proofs.Math.ListN.{set}
 use Rattle.std.specs.Prelude.{◌&&◌}
@@ -13,17 +13,17 @@ use Rattle.waveform.specs.kept.Entries.{CanStore}
 use Rattle.waveform.specs.kept.Timelines.{pushed}
 use Rattle.design.specs.Keys.{netlist}
 use Rattle.design.specs.Netlist.{GateEntry}
+use Rattle.design.proofs.ByNameLemmas.{all_at}
 use Rattle.scratch.specs.kept.Places.{AreRising, Covers, has, pends_at}
 use Rattle.scratch.specs.Run.{state_after, state_before}
 use Rattle.scratch.specs.Work.{is_stirred}
 use Rattle.scratch.proofs.Among.{nat_beyond, once}
-use Rattle.scratch.proofs.Between.{Between, finish, is_old, length_set, write}
+use Rattle.scratch.proofs.Between.{Between, finish, is_old, write}
 use Rattle.scratch.proofs.GateSteps.{known, next_trace, other_states, other_traces}
 use Rattle.scratch.proofs.Lists.{take_next}
 use Rattle.scratch.proofs.Notes.{elsewhere, event_noted, keeps, none_here, one_more, others_on, whole}
 use Rattle.scratch.proofs.Passing.{passing_rises, value_at_place}
 use Rattle.scratch.proofs.Runs.{storable, traces_early}
-use Rattle.scratch.proofs.Skips.{all_at}
 use Rattle.scratch.proofs.settling.settle.Goals as goal
 use Rattle.scratch.proofs.settling.settle.Goals.{in-Some+in_ok-add, in_default}
 
@@ -193,8 +193,8 @@ loop-i-preserved g c =
             ap (λ q. noted q u) w.events-is ∙ elsewhere event.1 place c.loop-i.events w.add.new.self w.in_ok-add.ensures.ok u (nat_beyond event.1 u (omega arith)) ∙ c.loop-i.invariant.early u low
         | in_default w ↦ λ u low. ap (λ q. noted q u) w.events-is ∙ c.loop-i.invariant.early u low
       ];
-      as_many = length_set c.loop-i.states.items place _ ∙ c.loop-i.invariant.as_many;
-      as_many_traces = ap length grown ∙ length_set c.loop-i.traces place line ∙ c.loop-i.invariant.as_many_traces;
+      as_many = length-set c.loop-i.states.items place _ ∙ c.loop-i.invariant.as_many;
+      as_many_traces = ap length grown ∙ length-set c.loop-i.traces place line ∙ c.loop-i.invariant.as_many_traces;
     }
 
 pub returns-clause-states : goal.returns-clause-states

@@ -1,7 +1,8 @@
 use Rattle.std.proofs.Common.{◌∙◌, sym, ap, Bool, get_or, take, nat_eq}
 use Rattle.std.specs.Prelude.{◌||◌}
+use Rattle.std.proofs.Math.Bool.{or_assoc}
 use Rattle.scratch.specs.kept.Places.{has}
-use Rattle.scratch.proofs.Among.{has_next, or_assoc}
+use Rattle.scratch.proofs.Among.{has_next}
 use Rattle.scratch.proofs.stirring.insert_readers.Goals as goal
 
 pub loop-place-preserved : goal.loop-place-preserved

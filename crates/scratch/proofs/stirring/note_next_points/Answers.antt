@@ -2,11 +2,13 @@ use Rattle.std.proofs.Common.{◌≡◌, ◌+◌, ◌<◌, ◌∙◌, ◌++◌, 
 use Rattle.std.specs.Prelude.{nat_eq, ◌||◌}
 use Rattle.std.proofs.lemmas.List.{take_all}
 use Rattle.std.proofs.lemmas.Option.{slice_get-get_or}
+use Rattle.std.proofs.lemmas.Bool.{eqb-true}
+use Rattle.std.proofs.Math.Bool.{or-false}
 use Rattle.event_queue.specs.kept.Noted.{noted}
 use Rattle.design.specs.Keys.{netlist}
 use Rattle.design.specs.Netlist.{NetEntry}
 use Rattle.scratch.specs.kept.Places.{IsNotedWithin, Keeps, has, point_at}
-use Rattle.scratch.proofs.Among.{has_more, nat_same, or_false}
+use Rattle.scratch.proofs.Among.{has_more}
 use Rattle.scratch.proofs.Lists.{take_next}
 use Rattle.scratch.proofs.Notes.{within_on}
 use Rattle.scratch.proofs.stirring.note_next_points.Goals as goal
@@ -16,9 +18,9 @@ next_by : (nets : List NetEntry) (t p : ℕ) (done : List ℕ) (old new : List (
     ((u : ℕ) → t < u → point_at nets p u ≡ true → IsNotedWithin (noted new) p (t + 1) u) →
     (m u : ℕ) → t < u → point_at nets m u ≡ true → (b : Bool) → nat_eq m p ≡ b → (has m done || b) ≡ true → IsNotedWithin (noted new) m (t + 1) u
 next_by nets t p done old new stay before here m u after h true same among =
-    let one = nat_same m p same in
+    let one = eqb-true m p same in
     subst (λ k. IsNotedWithin (noted new) k (t + 1) u) (sym one) (here u after (ap (λ k. point_at nets k u) (sym one) ∙ h))
-next_by nets t p done old new stay before here m u after h false apart among = within_on (noted old) (noted new) m (t + 1) u stay (before m u (sym (or_false (has m done)) ∙ among) after h)
+next_by nets t p done old new stay before here m u after h false apart among = within_on (noted old) (noted new) m (t + 1) u stay (before m u (sym (or-false (has m done)) ∙ among) after h)
 
 pub loop-net-preserved : goal.loop-net-preserved
 loop-net-preserved c =

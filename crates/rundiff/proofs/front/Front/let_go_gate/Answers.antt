@@ -3,6 +3,7 @@ use Rattle.std.specs.Prelude.{nat_eq, ◌==◌}
 use Rattle.std.specs.BTreeSet.{contains}
 use Rattle.std.specs.Option.{ForSome}
 use Rattle.std.specs.Ordering.{nat_cmp}
+use Rattle.std.proofs.lemmas.Bool.{eqb-true}
 use Rattle.fourstate.specs.declared.value.Value.{Value}
 use Rattle.fourstate.specs.Values.{same_value}
 use Rattle.gatestep.specs.Step.{State, due}
@@ -19,7 +20,6 @@ use Rattle.rundiff.specs.kept.PlaceMaps.{kept_at}
 use Rattle.rundiff.specs.kept.Places.{gate_at, net_at}
 use Rattle.rundiff.proofs.Leaving.{left_now, noted_less, stays_off, taken_off}
 use Rattle.rundiff.proofs.Sets.{test_is}
-use Rattle.rundiff.proofs.Steps.{same_place}
 use Rattle.rundiff.proofs.front.Front.let_go_gate.Goals as goal
 
 pub returns-clause-front : goal.returns-clause-front
@@ -68,14 +68,14 @@ returns-clause-front g c =
         waves = λ r within.
             elim (nat_eq p r) as (λ b. nat_eq p r ≡ b → Wave r (now r) (suc t)) [
               | true ↦ λ same.
-                  subst (λ (k : ℕ). Wave k (now k) (suc t)) (same_place p r same)
+                  subst (λ (k : ℕ). Wave k (now k) (suc t)) (eqb-true p r same)
                   (subst (λ (n : ℕ). Wave p (now p) n) one (left.made (f p) (f_old p) (subst (λ (n : ℕ). Wave p (was p) n) (sym one) (right.live.waves p low))))
               | false ↦ λ apart. subst (λ (o : Option (PatchRecord Value)). Wave r o (suc t)) (sym (left.others r apart)) (right.live.waves r within)
             ] refl;
         wave_ends = λ r.
             elim (nat_eq p r) as (λ b. nat_eq p r ≡ b → ForSome (now r) (λ patch. end_of patch.line ≤ suc t)) [
               | true ↦ λ same.
-                  subst (λ (k : ℕ). ForSome (now k) (λ patch. end_of patch.line ≤ suc t)) (same_place p r same)
+                  subst (λ (k : ℕ). ForSome (now k) (λ patch. end_of patch.line ≤ suc t)) (eqb-true p r same)
                   (subst (λ (n : ℕ). ForSome (now p) (λ patch. end_of patch.line ≤ n)) one left.end)
               | false ↦ λ apart. subst (λ (o : Option (PatchRecord Value)). ForSome o (λ patch. end_of patch.line ≤ suc t)) (sym (left.others r apart)) (right.live.wave_ends r)
             ] refl;
@@ -88,21 +88,21 @@ returns-clause-front g c =
             ] refl;
         other_waves = λ r off.
             elim (nat_eq p r) as (λ b. nat_eq p r ≡ b → IsFree (now r)) [
-              | true ↦ λ same. subst (λ (k : ℕ). IsFree (now k)) (same_place p r same) left.free
+              | true ↦ λ same. subst (λ (k : ℕ). IsFree (now k)) (eqb-true p r same) left.free
               | false ↦ λ apart. subst (λ (o : Option (PatchRecord Value)). IsFree o) (sym (left.others r apart)) (right.live.other_waves r (stays_off p live later gone r apart off))
             ] refl;
       };
       traces = λ r within.
           elim (nat_eq q r) as (λ b. nat_eq q r ≡ b → Trace r (has_now r) (suc t)) [
             | true ↦ λ same.
-                subst (λ (k : ℕ). Trace k (has_now k) (suc t)) (same_place q r same)
+                subst (λ (k : ℕ). Trace k (has_now k) (suc t)) (eqb-true q r same)
                 (subst (λ (n : ℕ). Trace q (has_now q) n) one (quit.made (s q) (s_old q) (subst (λ (n : ℕ). Trace q (had q) n) (sym one) (right.traces q there))))
             | false ↦ λ apart. subst (λ (o : Option (PatchRecord State)). Trace r o (suc t)) (sym (quit.others r apart)) (right.traces r within)
           ] refl;
       trace_ends = λ r.
           elim (nat_eq q r) as (λ b. nat_eq q r ≡ b → ForSome (has_now r) (λ patch. end_of patch.line ≤ suc t)) [
             | true ↦ λ same.
-                subst (λ (k : ℕ). ForSome (has_now k) (λ patch. end_of patch.line ≤ suc t)) (same_place q r same)
+                subst (λ (k : ℕ). ForSome (has_now k) (λ patch. end_of patch.line ≤ suc t)) (eqb-true q r same)
                 (subst (λ (n : ℕ). ForSome (has_now q) (λ patch. end_of patch.line ≤ n)) one quit.end)
             | false ↦ λ apart. subst (λ (o : Option (PatchRecord State)). ForSome o (λ patch. end_of patch.line ≤ suc t)) (sym (quit.others r apart)) (right.trace_ends r)
           ] refl;
@@ -115,7 +115,7 @@ returns-clause-front g c =
           ] refl;
       other_traces = λ r off.
           elim (nat_eq q r) as (λ b. nat_eq q r ≡ b → IsFree (has_now r)) [
-            | true ↦ λ same. subst (λ (k : ℕ). IsFree (has_now k)) (same_place q r same) quit.free
+            | true ↦ λ same. subst (λ (k : ℕ). IsFree (has_now k)) (eqb-true q r same) quit.free
             | false ↦ λ apart. subst (λ (o : Option (PatchRecord State)). IsFree o) (sym (quit.others r apart)) (right.other_traces r (stays_off q held kept freed r apart off))
           ] refl;
       awaits =

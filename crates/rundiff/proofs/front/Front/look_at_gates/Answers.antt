@@ -6,6 +6,7 @@ use Rattle.std.specs.List.{filter}
 use Rattle.std.specs.Option.{ForSome}
 use Rattle.std.specs.Ordering.{nat_cmp}
 use Rattle.std.proofs.lemmas.List.{length-map}
+use Rattle.std.proofs.lemmas.Bool.{and_parts}
 use Rattle.event_queue.specs.kept.Noted.{noted}
 use Rattle.gatestep.specs.Step.{State, due}
 use Rattle.gatestep.specs.Tasks.{PendingFrom}
@@ -19,12 +20,11 @@ use Rattle.rundiff.specs.Dirty.{working_at}
 use Rattle.rundiff.specs.kept.Fronts.{ArePlaces, IsFree, IsOwn, is_working, named_state}
 use Rattle.rundiff.specs.kept.Places.{gate_at, is_among, is_live}
 use Rattle.scratch.specs.Work.{is_stirred, task_at}
+use Rattle.scratch.proofs.Moments.{map_twice}
 use Rattle.rundiff.proofs.Awaited.{looked_noted}
-use Rattle.rundiff.proofs.ByPlace.{map_twice}
 use Rattle.rundiff.proofs.Chosen.{calm, calm_state, chosen_all, chosen_working, not_chosen, still_trace}
 use Rattle.rundiff.proofs.Filtering.{filter_places}
 use Rattle.rundiff.proofs.Resting.{free_more, free_state, not_resting, resting_held, resting_off, rests_on, stored_later}
-use Rattle.rundiff.proofs.Still.{both}
 use Rattle.rundiff.proofs.front.Front.look_at_gates.Goals as goal
 
 pub look_at-requires-clause-there : goal.look_at-requires-clause-there
@@ -36,7 +36,7 @@ put_states-requires-clause-there g c = λ p among.
     let test = is_working g.S.Stepper.answer (netlist c.args.former.now.old.now) (netlist c.args.former.now.new.now) c.args.t in
     let chosen = c.args.self.now.gates.items in
     let are = resting_held c.as_slice.result.now chosen c.as_slice-2.result.now c.look_at.new.out.resting.items (is_among chosen) test c.as_slice.ensures.value c.as_slice-2.ensures.value c.requires.front.chosen c.in_ok-look_at.ensures.resting in
-    c.requires.front.live.drivers.gates p (c.requires.front.chosen_held p (both (is_among chosen p) (not (test p)) (sym (are.all p) ∙ among)).0)
+    c.requires.front.live.drivers.gates p (c.requires.front.chosen_held p (and_parts (is_among chosen p) (not (test p)) (sym (are.all p) ∙ among)).0)
 
 pub put_states-requires-clause-rising : goal.put_states-requires-clause-rising
 put_states-requires-clause-rising g c =
@@ -49,7 +49,7 @@ put_states-requires-clause-traces g c = λ p among.
     let test = is_working g.S.Stepper.answer (netlist c.args.former.now.old.now) (netlist c.args.former.now.new.now) c.args.t in
     let chosen = c.args.self.now.gates.items in
     let are = resting_held c.as_slice.result.now chosen c.as_slice-2.result.now c.look_at.new.out.resting.items (is_among chosen) test c.as_slice.ensures.value c.as_slice-2.ensures.value c.requires.front.chosen c.in_ok-look_at.ensures.resting in
-    c.requires.front.traces p (c.requires.front.live.drivers.gates p (c.requires.front.chosen_held p (both (is_among chosen p) (not (test p)) (sym (are.all p) ∙ among)).0))
+    c.requires.front.traces p (c.requires.front.live.drivers.gates p (c.requires.front.chosen_held p (and_parts (is_among chosen p) (not (test p)) (sym (are.all p) ∙ among)).0))
 
 pub put_states-requires-clause-ends : goal.put_states-requires-clause-ends
 put_states-requires-clause-ends g c = λ p among. c.requires.front.trace_ends p

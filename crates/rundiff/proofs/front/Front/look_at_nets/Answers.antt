@@ -3,6 +3,7 @@ use Rattle.std.specs.Prelude.{◌&&◌, ◌||◌, AllPairs}
 use Rattle.rundiff.specs.kept.PlaceMaps.{kept_at}
 use Rattle.std.specs.BTreeSet.{contains}
 use Rattle.std.specs.Ordering.{nat_cmp}
+use Rattle.std.proofs.lemmas.Bool.{or_right, or_parts}
 use Rattle.fourstate.specs.declared.value.Value.{Value}
 use Rattle.fourstate.specs.Values.{same_value}
 use Rattle.design.specs.Connections.{to_net}
@@ -19,9 +20,9 @@ use Rattle.rundiff.proofs.Alike.{alike_grows}
 use Rattle.rundiff.proofs.Awaiting.{noted_now}
 use Rattle.rundiff.proofs.LookedAt.{IsPassed, alike_all, calm_all, own_all, passed_by, wave_all}
 use Rattle.rundiff.proofs.NetsDone.{agrees_now, clean_now, closed_now, free_before, free_wave}
-use Rattle.rundiff.proofs.Quiet.{AreLookedAt, not_so}
+use Rattle.rundiff.proofs.Quiet.{AreLookedAt}
 use Rattle.rundiff.proofs.Resting.{along_more, free_along}
-use Rattle.rundiff.proofs.Sets.{or_none, or_second}
+use Rattle.rundiff.proofs.Lists.{not_so}
 use Rattle.rundiff.proofs.front.Front.look_at_nets.Goals as goal
 
 pub choose_nets-requires-clause-there : goal.choose_nets-requires-clause-there
@@ -97,7 +98,7 @@ returns g c =
     let events_at = noted front.events in let inputs_at = noted front.inputs in let nets_at = noted front.nets in
     let are : AreLookedAt answer old new live held events_at inputs_at nets_at t looked =
     record { within = c.requires.within; drivers = before.live.drivers; closed = before.live.closed; agrees = before.live.agrees; awaits = before.awaits; noted = chose.noted; driven = λ q on there. chose.driven q (ap (λ (l : List ℕ). is_among l q) c.as_slice.ensures.value ∙ first.noted q on there) } in
-    let grows : (p : ℕ) → live p ≡ true → later p ≡ true = λ p on. holds.live p ∙ or_second (found p) (live p) on in
+    let grows : (p : ℕ) → live p ≡ true → later p ≡ true = λ p on. holds.live p ∙ or_right (found p) (live p) on in
     let alike : (p : ℕ) → live p ≡ true → IsAlike answer old new later t p =
     alike_all answer old new current pending is live held events_at inputs_at nets_at looked t are later grows
     (λ p at. alike_grows answer old new (λ q. found q || live q) later t p (λ q on. holds.live q ∙ on) (c.in_ok-find_differing.ensures.alike p (ap (λ (l : List ℕ). is_among l p) c.as_slice-4.ensures.value ∙ at))) in
@@ -139,7 +140,7 @@ returns g c =
                   ] refl)
             ] refl;
         other_waves = λ p off.
-            let free = (or_none (found p) (live p) (sym (holds.live p) ∙ off)).1 in
+            let free = (or_parts (found p) (live p) (sym (holds.live p) ∙ off)).1 in
             subst (λ (o : Option (PatchRecord Value)). IsFree o) (sym (others p (unlooked p free))) (before.live.other_waves p free);
       };
       clean = clean_now answer old new is t c.requires.within live later grows before.live.closed before.live.agrees alike kept holds.drivers;

@@ -2,6 +2,7 @@ use Rattle.std.proofs.Common.{◌≡◌, ◌∙◌, ap, sym, subst, refl, ℕ, L
 use Rattle.std.specs.BTreeSet.{contains}
 use Rattle.std.specs.Option.{option_map_or}
 use Rattle.std.specs.Ordering.{nat_cmp}
+use Rattle.std.proofs.lemmas.Bool.{or_left, both_ways}
 use Rattle.fourstate.specs.Values.{same_value}
 use Rattle.gatestep.specs.Step.{due}
 use Rattle.event_queue.specs.kept.Noted.{noted}
@@ -15,7 +16,6 @@ use Rattle.rundiff.specs.kept.Places.{gate_at, is_among, net_at}
 use Rattle.rundiff.specs.kept.Kept.{read_at}
 use Rattle.rundiff.proofs.Awaited.{opened_noted}
 use Rattle.rundiff.proofs.FirstLive.{first_closed}
-use Rattle.rundiff.proofs.Sets.{or_first}
 use Rattle.rundiff.proofs.front.Front.open.Goals as goal
 
 none_live : (live : ℕ → Bool) → ((p : ℕ) → live p ≡ false) → (o : Option ℕ) → option_map_or live o false ≡ false
@@ -28,14 +28,11 @@ keeps_first {A} same drift f g o none = subst (λ (o : Option (PatchRecord A)). 
 never_some : {X : Type 0} (o : Option X) (x : X) → o ≡ None → o ≡ Some x → ⊥
 never_some o x none some = let no : ◌≡◌ {A = Option _} None (Some x) = sym none ∙ some in cc
 
-off_on : (b : Bool) → b ≡ false → b ≡ true → ⊥
-off_on b off on = absurd (cc)
-
 pub hold-requires-clause-drivers : goal.hold-requires-clause-drivers
 hold-requires-clause-drivers c =
     record {
-      nets = λ p on. absurd (off_on _ (c.new-live.ensures p) on);
-      gates = λ p on. absurd (off_on _ (c.new-held.ensures p) on);
+      nets = λ p on. absurd (both_ways _ (c.new-live.ensures p) on);
+      gates = λ p on. absurd (both_ways _ (c.new-held.ensures p) on);
       drivers = λ p low. c.new-held.ensures p ∙ sym (none_live (contains nat_cmp c.new-live.result) c.new-live.ensures _);
     }
 
@@ -46,7 +43,7 @@ returns-clause-front c = λ answer.
     let places = c.in_ok-found.found.items in
     let covers : (p : ℕ) → is_among places p ≡ true → later p ≡ true = λ p among.
     c.in_ok-hold.ensures.live p
-    ∙ or_first (is_among c.as_slice.result.now p) (contains nat_cmp c.new-live.result p) (ap (λ (l : List ℕ). is_among l p) c.as_slice.ensures.value ∙ among) in
+    ∙ or_left (is_among c.as_slice.result.now p) (contains nat_cmp c.new-live.result p) (ap (λ (l : List ℕ). is_among l p) c.as_slice.ensures.value ∙ among) in
     let fixed = contains nat_cmp c.in_ok-fixed.fixed in
     let fixed_is : (p : ℕ) → fixed p ≡ is_among places p = λ p. c.in_ok-fixed.ensures p ∙ ap (λ (l : List ℕ). is_among l p) c.as_slice-2.ensures.value in
     let no_wave = c.new-waves.ensures in

@@ -5,6 +5,8 @@ use Rattle.std.specs.BTreeSet.{contains}
 use Rattle.std.specs.Option.{ForSome}
 use Rattle.std.specs.Ordering.{nat_cmp}
 use Rattle.std.proofs.lemmas.List.{length-map}
+use Rattle.std.proofs.Math.Bool.{and-false}
+use Rattle.std.proofs.lemmas.Bool.{and_parts}
 use Rattle.gatestep.specs.Step.{State, due}
 use Rattle.event_queue.specs.kept.Noted.{noted}
 use Rattle.design.specs.Keys.{netlist}
@@ -13,20 +15,18 @@ use Rattle.waveform.specs.declared.times.TheConstants.{TIME_END}
 use Rattle.waveform.specs.kept.Patches.{Keeps, PatchRecord}
 use Rattle.waveform.specs.kept.Timelines.{end_of}
 use Rattle.scratch.specs.Run.{state_after}
+use Rattle.scratch.proofs.Moments.{map_twice}
 use Rattle.rundiff.specs.kept.Fronts.{IsFree, IsOwn, is_working, named_state}
 use Rattle.rundiff.specs.kept.Places.{gate_at, is_among}
 use Rattle.rundiff.proofs.Awaited.{settled_noted}
-use Rattle.rundiff.proofs.ByPlace.{map_twice}
-use Rattle.rundiff.proofs.OneGate.{and_false}
 use Rattle.rundiff.proofs.Resting.{idle, stored_each, stored_later}
-use Rattle.rundiff.proofs.Still.{both}
 use Rattle.rundiff.proofs.front.Front.take_answers.Goals as goal
 
 pub put_states-requires-clause-there : goal.put_states-requires-clause-there
 put_states-requires-clause-there g c = λ p among.
     let test = is_working g.S.Stepper.answer (netlist c.args.former.now.old.now) (netlist c.args.former.now.new.now) c.args.t in
     let held = contains nat_cmp c.args.self.now.held in
-    c.requires.front.live.drivers.gates p (both (held p) (test p) (sym (c.requires.front.places.all p) ∙ ap (λ (l : List ℕ). is_among l p) (sym c.as_slice.ensures.value) ∙ among)).0
+    c.requires.front.live.drivers.gates p (and_parts (held p) (test p) (sym (c.requires.front.places.all p) ∙ ap (λ (l : List ℕ). is_among l p) (sym c.as_slice.ensures.value) ∙ among)).0
 
 pub put_states-requires-clause-rising : goal.put_states-requires-clause-rising
 put_states-requires-clause-rising g c = subst (AllPairs (λ p q. p < q)) (sym c.as_slice.ensures.value) c.requires.front.places.rising
@@ -35,14 +35,14 @@ pub put_states-requires-clause-traces : goal.put_states-requires-clause-traces
 put_states-requires-clause-traces g c = λ p among.
     let test = is_working g.S.Stepper.answer (netlist c.args.former.now.old.now) (netlist c.args.former.now.new.now) c.args.t in
     let held = contains nat_cmp c.args.self.now.held in
-    let parts = both (held p) (test p) (sym (c.requires.front.places.all p) ∙ ap (λ (l : List ℕ). is_among l p) (sym c.as_slice.ensures.value) ∙ among) in
+    let parts = and_parts (held p) (test p) (sym (c.requires.front.places.all p) ∙ ap (λ (l : List ℕ). is_among l p) (sym c.as_slice.ensures.value) ∙ among) in
     c.requires.front.working p (c.requires.front.live.drivers.gates p parts.0) parts.1
 
 pub put_states-requires-clause-ends : goal.put_states-requires-clause-ends
 put_states-requires-clause-ends g c = λ p among.
     let test = is_working g.S.Stepper.answer (netlist c.args.former.now.old.now) (netlist c.args.former.now.new.now) c.args.t in
     let held = contains nat_cmp c.args.self.now.held in
-    let parts = both (held p) (test p) (sym (c.requires.front.places.all p) ∙ ap (λ (l : List ℕ). is_among l p) (sym c.as_slice.ensures.value) ∙ among) in
+    let parts = and_parts (held p) (test p) (sym (c.requires.front.places.all p) ∙ ap (λ (l : List ℕ). is_among l p) (sym c.as_slice.ensures.value) ∙ among) in
     λ patch is. (c.requires.front.trace_ends p patch is).1 parts.1
 
 pub put_states-requires-clause-states : goal.put_states-requires-clause-states
@@ -60,7 +60,7 @@ put_states-requires-clause-can g c =
     let those = c.requires.answers ∙ ap (map (λ h. state_after answer new h t)) c.requires.front.tasks ∙ map_twice (gate_at new) (λ h. state_after answer new h t) c.args.self.now.outcomes.working.items in
     let low : t < TIME_END = let h = c.requires.within in let end = c.lawful.ensures.design.horizon in omega arith in
     stored_each answer new laws.answer_pending laws.answer_near c.lawful-2.ensures.design t low c.args.self.now.outcomes.working.items
-    (λ p among. c.requires.front.live.drivers.gates p (both (held p) (test p) (sym (c.requires.front.places.all p) ∙ among)).0) c.args.answers.now those
+    (λ p among. c.requires.front.live.drivers.gates p (and_parts (held p) (test p) (sym (c.requires.front.places.all p) ∙ among)).0) c.args.answers.now those
 
 pub note_events-requires-clause-many : goal.note_events-requires-clause-many
 note_events-requires-clause-many g c =
@@ -78,7 +78,7 @@ note_events-requires-clause-later g c =
     let low : t < TIME_END = let h = c.requires.within in let end = c.lawful.ensures.design.horizon in omega arith in
     stored_later t c.args.answers.now
     (stored_each answer new laws.answer_pending laws.answer_near c.lawful-2.ensures.design t low c.args.self.now.outcomes.working.items
-    (λ p among. c.requires.front.live.drivers.gates p (both (held p) (test p) (sym (c.requires.front.places.all p) ∙ among)).0) c.args.answers.now those)
+    (λ p among. c.requires.front.live.drivers.gates p (and_parts (held p) (test p) (sym (c.requires.front.places.all p) ∙ among)).0) c.args.answers.now those)
 
 pub overflow_add-self : goal.overflow_add-self
 overflow_add-self g c = let most = c.lawful.ensures.design.horizon in let h = c.requires.within in omega arith
@@ -101,7 +101,7 @@ returns-clause-front g c =
     let among : (p : ℕ) → is_among slice p ≡ (held p && test p) = λ p. ap (λ (l : List ℕ). is_among l p) c.as_slice.ensures.value ∙ before.places.all p in
     let on_true : (a b : Bool) → a ≡ true → b ≡ true → (a && b) ≡ true = λ a b h k. rw (h, k) refl in
     let off_left : (a b : Bool) → a ≡ false → (a && b) ≡ false = λ a b h. rw h refl in
-    let off_right : (a b : Bool) → b ≡ false → (a && b) ≡ false = λ a b h. ap (λ (x : Bool). a && x) h ∙ and_false a in
+    let off_right : (a b : Bool) → b ≡ false → (a && b) ≡ false = λ a b h. ap (λ (x : Bool). a && x) h ∙ and-false a in
     record {
       live = before.live;
       traces = λ p low.

@@ -1,5 +1,6 @@
 use Rattle.std.proofs.Common.{◌≡◌, ◌∙◌, ◌<◌, ap, sym, subst, refl, ℕ, List, Bool, Some, length, map, get_or, false, not, All, arith}
 use Rattle.std.specs.Prelude.{slice_get}
+use Rattle.std.proofs.lemmas.List.Sums.{AllPass-from_list_all}
 use Rattle.gatestep.specs.Step.{Evaluation, State}
 use Rattle.design.specs.Keys.{Keyed, netlist}
 use Rattle.design.specs.kept.Lawful.{IsDesign}
@@ -13,7 +14,6 @@ use Rattle.rundiff.specs.kept.OldRuns.{AreOldRun, HasWave, OldLinesRecord, OldRu
 use Rattle.rundiff.specs.kept.Places.{blank_gate, gate_at}
 use Rattle.rundiff.proofs.Driven.{read_get}
 use Rattle.rundiff.proofs.EachPlace.{holds_at}
-use Rattle.rundiff.proofs.Lists.{all_pass}
 use Rattle.rundiff.proofs.OneGate.{known_decides, new_dirty, state_differs}
 use Rattle.rundiff.proofs.ReadBefore.{all_placed, all_read, state_read}
 use Rattle.rundiff.proofs.old_lines.OldLines.is_clean.Goals as goal
@@ -49,7 +49,7 @@ returns-then-not-is_same-clause-clean g c =
 pub returns-clause-clean : goal.returns-clause-clean
 returns-clause-clean g c =
     let answer = g.S.Stepper.answer in let old = netlist c.args.self.now.design in let new = netlist c.args.present.now.design.now in let t = c.args.present.now.t in let p = c.args.place in let gate = gate_at new p in
-    let wired = all_pass (is_readable new) gate.inputs (c.lawful-2.ensures.design.wiring p blank_gate c.requires.there).inputs in
+    let wired = AllPass-from_list_all (is_readable new) gate.inputs (c.lawful-2.ensures.design.wiring p blank_gate c.requires.there).inputs in
     let run = c.args.self.now.run in let right = c.requires.lines in
     let former = map (old_value run t) c.args.cell.now.inputs in let present = map (input_value c.args.present.now.values.now) c.args.cell.now.inputs in
     let read : former ≡ (task_at answer old gate t).inputs =

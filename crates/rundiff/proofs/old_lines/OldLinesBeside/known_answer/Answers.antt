@@ -1,7 +1,7 @@
 use Rattle.std.proofs.Common.{◌≡◌, ◌∙◌, ◌<◌, ◌+◌, ap, sym, refl, ℕ, suc, Bool, Some, length, true, false, not, arith}
 use Rattle.std.specs.Prelude.{slice_get}
 use Rattle.std.specs.Option.{option_map, option_map_or}
-use Rattle.std.proofs.lemmas.Option.{slice_get-map, slice_get_read, slice_get_within}
+use Rattle.std.proofs.lemmas.Option.{slice_get-map, slice_get_read, slice_get_within, slice_get-get_or}
 use Rattle.design.specs.Keys.{netlist}
 use Rattle.design.specs.Netlist.{GateEntry, Netlist}
 use Rattle.scratch.specs.kept.Kept.{evaluation_from}
@@ -11,11 +11,10 @@ use Rattle.scratch.proofs.Answered.{found, has_cell, the_task}
 use Rattle.rundiff.specs.Dirty.{is_dirty}
 use Rattle.rundiff.specs.kept.OldRuns.{OldLinesRecord}
 use Rattle.rundiff.specs.kept.Places.{blank_gate, gate_at}
-use Rattle.rundiff.proofs.ByPlace.{get_at}
 use Rattle.rundiff.proofs.old_lines.OldLinesBeside.known_answer.Goals as goal
 
 gate_is : (d : Netlist) (p : ℕ) (g : GateEntry) → slice_get d.gates p ≡ Some g → g ≡ gate_at d p
-gate_is d p g at = let there : Some g ≡ Some (gate_at d p) = sym at ∙ get_at d.gates p blank_gate (slice_get_within d.gates p g at) in cc
+gate_is d p g at = let there : Some g ≡ Some (gate_at d p) = sym at ∙ slice_get-get_or d.gates p blank_gate (slice_get_within d.gates p g at) in cc
 
 -- what is not clean is dirty, and the other way round
 dirty_by : (dirty clean : Bool) → clean ≡ not dirty → clean ≡ false → dirty ≡ true

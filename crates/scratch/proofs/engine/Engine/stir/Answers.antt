@@ -5,13 +5,15 @@ use Rattle.std.proofs.lemmas.Grind.{common_steps}
 use Rattle.std.proofs.lemmas.List.{take_rest}
 use Rattle.std.proofs.lemmas.List.Folds.{list_any-append}
 use Rattle.std.proofs.Math.Seq.{drop-append_seam}
+use Rattle.std.proofs.Math.Bool.{or_assoc}
+use Rattle.std.proofs.lemmas.Map.Keys.{any_passes_from_place}
 use Rattle.event_queue.specs.kept.Noted.{noted}
 use Rattle.design.specs.Keys.{netlist}
 use Rattle.scratch.specs.kept.Kept.{currents_of, output_at, places_at}
 use Rattle.scratch.specs.kept.Places.{has, is_due_at, passing, pends_at}
 use Rattle.scratch.specs.kept.Tallies.{Counts}
 use Rattle.scratch.specs.Work.{is_stirred}
-use Rattle.scratch.proofs.Among.{any_from, any_to, has_filter, nat_itself, or_assoc}
+use Rattle.scratch.proofs.Among.{any_from, has_filter, nat_itself}
 use Rattle.scratch.proofs.Driven.{either}
 use Rattle.scratch.proofs.Notes.{later_covered, none_early}
 use Rattle.scratch.proofs.Runs.{ready_all}
@@ -51,7 +53,7 @@ resolve_nets-requires-clause-others g c =
     either (list_any (λ k. has m (output_at outputs k)) due_gates)
     (λ some.
     let f = any_from (λ k. has m (output_at outputs k)) due_gates some in let k = f.1 in
-    let both = sym (has_filter (λ k. is_due_at states k t) k here) ∙ any_to (nat_eq k) due_gates f.0 k f.2 (nat_itself k) in
+    let both = sym (has_filter (λ k. is_due_at states k t) k here) ∙ any_passes_from_place (nat_eq k) due_gates f.0 k f.2 (nat_itself k) in
     c.in_ok-drive_each.ensures.driven k m (ap (has k) listed ∙ first (has k here) (is_due_at states k t) both)
     (ap (λ ss. is_due_at ss k t) c.as_slice.ensures.value ∙ second (has k here) (is_due_at states k t) both) f.3 apart unlisted)
     (others answer d t stands.begun states stands.states law.answer_current (noted c.args.self.now.points) stands.points (λ k m. has m (output_at outputs k)) c.requires.wired.outputs due_gates due m undriven)

@@ -2,6 +2,7 @@ use Rattle.std.proofs.Common.{◌≡◌, ◌++◌, ◌∙◌, ap, map, subst, sy
 use Rattle.gatestep.specs.Record.{at_moment}
 use Rattle.gatestep.specs.Tasks.{PendingFrom}
 use Rattle.design.specs.Keys.{netlist}
+use Rattle.event_queue.proofs.Changes.{by_ok}
 use Rattle.scratch.specs.Run.{evaluation_at, net_at, state_before}
 use Rattle.scratch.proofs.Moments.{evaluations_are, map_twice, task_states}
 use Rattle.scratch.proofs.moment.Moment.pass.Goals as goal
@@ -10,11 +11,6 @@ use Rattle.scratch.proofs.moment.Moment.pass.Goals as goal
 held : {A E P : Type 0} (r : Result A E) → P → OnOk r P
 held (Ok x) p = p
 held (Err e) p = tt
-
--- what follows from what an `Ok` tells
-mapped : {A E P Q : Type 0} (r : Result A E) → OnOk r P → (P → Q) → OnOk r Q
-mapped (Ok x) p follows = follows p
-mapped (Err e) p follows = tt
 
 -- what holds anyway, and what follows of it on an `Err`
 either : {A E P Q : Type 0} (r : Result A E) → P → (P → Q) → MatchResult r (λ _. P) (λ _. Q)
@@ -40,7 +36,7 @@ returns-clause-states g c =
     let tasks : c.find_tasks.new.out.items ≡ map (λ g. evaluation_at d before g c.args.t) d.gates =
     c.in_ok-find_tasks.ensures
     ∙ evaluations_are d before c.args.t c.as_slice.result.now c.args.wiring.now.cells.items c.as_slice-2.result.now values c.requires.wired.cells states in
-    mapped c.step.result c.step.ensures.states (λ answers.
+    by_ok c.step.result c.step.ensures.states (λ answers.
     rw add-one (answers ∙ ap (map (λ task. answer task c.args.t)) tasks ∙ map_twice (λ g. evaluation_at d before g c.args.t) (λ task. answer task c.args.t) d.gates))
 
 pub returns-clause-asked : goal.returns-clause-asked
