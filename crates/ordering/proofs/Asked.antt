@@ -7,7 +7,7 @@ use Rattle.scratch.specs.Asked.{IsAskedInPart, IsAskedInSomeOrder}
 use Rattle.scratch.specs.Work.{work_below}
 use Rattle.scratch.specs.kept.Work.{work_from}
 use Rattle.ordering.specs.kept.Order.{is_order, order_work_from}
-use Rattle.ordering.proofs.Columns.{all_from}
+use Rattle.ordering.proofs.Columns.{all_from_first}
 use Rattle.ordering.proofs.Orders.{work_ordered}
 
 module _ (answer : Evaluation → ℕ → State) (d : Netlist) (n : ℕ) (order : List ℕ) (ordered : is_order d order ≡ true) (old new : List (Evaluation × ℕ)) where
@@ -21,7 +21,7 @@ module _ (answer : Evaluation → ℕ → State) (d : Netlist) (n : ℕ) (order 
 
   -- and from moment 0 on
   pub gate_by_gate_all : new ≡ old ++ order_work_from answer d None 0 n order → IsAskedInSomeOrder old new (work_below answer d n)
-  gate_by_gate_all e = subst (IsAskedInSomeOrder old new) (sym (all_from answer d n)) (gate_by_gate 0 e)
+  gate_by_gate_all e = subst (IsAskedInSomeOrder old new) (sym (all_from_first answer d n)) (gate_by_gate 0 e)
 
   pub gates_in_part_all : IsAskedInPart old new (order_work_from answer d None 0 n order) → IsAskedInPart old new (work_below answer d n)
-  gates_in_part_all part = subst (IsAskedInPart old new) (sym (all_from answer d n)) (gates_in_part 0 part)
+  gates_in_part_all part = subst (IsAskedInPart old new) (sym (all_from_first answer d n)) (gates_in_part 0 part)

@@ -1,16 +1,16 @@
 -- Gates that wait for none of each other.
-use Rattle.std.proofs.Common.{◌≡◌, ◌<◌, ◌≤◌, ◌⊎◌, inl, inr, ◌∙◌, sym, ap, subst, refl, Bool, true, false, ℕ, zero, suc, ◌+◌, ◌-◌, List, [], ◌∷◌, ◌++◌, map, take, drop, length, get_or, Option, Some, None, IfSome, slice_get, append_assoc, append-nil, add-one, arith}
-use Rattle.std.specs.Prelude.{All, nat_eq, ◌||◌}
+use Rattle.std.proofs.Common.{◌≡◌, ◌<◌, ◌≤◌, ◌⊎◌, inl, inr, ◌∙◌, sym, ap, subst, refl, Bool, true, ℕ, zero, suc, ◌+◌, ◌-◌, List, [], ◌∷◌, ◌++◌, take, drop, length, get_or, Option, Some, None, IfSome, slice_get, append_assoc, append-nil, add-one, arith}
+use Rattle.std.specs.Prelude.{All, nat_eq}
 use Rattle.std.specs.Borrow.{Bor}
-use Rattle.std.specs.List.{flat_map, slice_index_or, slice_range}
-use Rattle.std.proofs.lemmas.Bool.{cases_lt}
+use Rattle.std.specs.List.{slice_index_or, slice_range}
+use Rattle.std.proofs.lemmas.Bool.{cases_lt, or_cases}
 use Rattle.std.proofs.lemmas.List.Concat.{flat_map-append}
 use Rattle.std.proofs.lemmas.List.Folds.{list_any-append}
-use Rattle.std.proofs.lemmas.List.{take-append-drop}
+use Rattle.std.proofs.lemmas.List.{take-append-drop, get_or_default, length-take, get_or-take, get_or-drop}
 use Rattle.gatestep.specs.Step.{State, Evaluation}
 use Rattle.gatestep.specs.Jobs.{IsPart}
 use Rattle.gatestep.proofs.Jobs.{none_is_part, parts_append, whole_is_part}
-use Rattle.design.specs.Netlist.{GateEntry, NetEntry, Netlist}
+use Rattle.design.specs.Netlist.{Netlist}
 use Rattle.design.specs.kept.Places.{driver_places}
 use Rattle.scratch.specs.Asked.{IsAskedInPart}
 use Rattle.scratch.specs.declared.wiring.Input.{Input}
@@ -117,33 +117,8 @@ module _ (answer : Evaluation → ℕ → State) (d : Netlist) (beside : Option 
         part.2 ∙ ap (λ l. l ++ piece) so_far ∙ append_assoc old before piece,
       )
 
--- an element that is there is read whatever stands for none
-pub same_read : {X : Type 0} (xs : List X) (i : ℕ) (a b : X) → i < length xs → get_or xs i a ≡ get_or xs i b
-same_read [] i a b low = absurd (omega arith)
-same_read (x ∷ xs) zero a b low = refl
-same_read (x ∷ xs) (suc i) a b low = same_read xs i a b (omega arith)
-
-take_read : (xs : List ℕ) (n k d : ℕ) → k < length (take n xs) → get_or (take n xs) k d ≡ get_or xs k d
-take_read [] zero k d low = absurd (omega arith)
-take_read [] (suc n) k d low = absurd (omega arith)
-take_read (x ∷ xs) zero k d low = absurd (omega arith)
-take_read (x ∷ xs) (suc n) zero d low = refl
-take_read (x ∷ xs) (suc n) (suc k) d low = take_read xs n k d (omega arith)
-
-drop_read : (xs : List ℕ) (i k d : ℕ) → get_or (drop i xs) k d ≡ get_or xs (i + k) d
-drop_read xs zero k d = let e : k ≡ 0 + k = omega arith in ap (λ n. get_or xs n d) e
-drop_read [] (suc i) k d = refl
-drop_read (x ∷ xs) (suc i) k d = let e : suc (i + k) ≡ suc i + k = omega arith in drop_read xs i k d ∙ ap (λ n. get_or (x ∷ xs) n d) e
-
 range_short : (xs : List ℕ) (i j k : ℕ) → k < length (slice_range xs i j) → i + k < j
-range_short xs i j k low = let less : k < j - i = short (drop i xs) (j - i) k low in omega arith
-  where
-    short : (ys : List ℕ) (n k : ℕ) → k < length (take n ys) → k < n
-    short [] zero k low = absurd (omega arith)
-    short [] (suc n) k low = absurd (omega arith)
-    short (y ∷ ys) zero k low = absurd (omega arith)
-    short (y ∷ ys) (suc n) zero low = omega arith
-    short (y ∷ ys) (suc n) (suc k) low = let less = short ys n k (omega arith) in omega arith
+range_short xs i j k low = let count = length-take (j - i) (drop i xs) in omega (arith, low, count)
 
 -- The gates of an order from a place on, that may come beside the first one.
 module _ (answer : Evaluation → ℕ → State) (d : Netlist) (w : Wiring) (wired : IsWiring d w) (traces : List (List (ℕ × State))) (order : List ℕ) (first end : ℕ) (some : first < end) (within : end ≤ length order) where
@@ -159,7 +134,7 @@ module _ (answer : Evaluation → ℕ → State) (d : Netlist) (w : Wiring) (wir
       inside = let before = at in omega arith
 
       read : get_or order (first + k) 0 ≡ slice_index_or (slice_range order first end) k other
-      read = same_read order (first + k) 0 other inside ∙ sym (take_read (drop first order) (end - first) k other low ∙ drop_read order first k other)
+      read = get_or_default order (first + k) 0 other inside ∙ sym (get_or-take (end - first) (drop first order) k other (let before = at in omega arith) ∙ get_or-drop first order k other)
 
       by : (0 < k) ⊎ (k ≤ 0) → IsReady answer d w traces (get_or order (first + k) 0)
       by (inl more) =
@@ -172,12 +147,9 @@ module _ (answer : Evaluation → ℕ → State) (d : Netlist) (w : Wiring) (wir
 
   -- those before them and they
   pub among : (p : ℕ) → has p (take end order) ≡ true → (has p (take first order) ≡ true) ⊎ (has p (slice_range order first end) ≡ true)
-  among p on = by (has p (take first order)) (has p (slice_range order first end))
+  among p on =
+      or_cases (has p (take first order)) (has p (slice_range order first end))
       (sym (list_any-append (nat_eq p) (take first order) (slice_range order first end)) ∙ ap (has p) (sym (taken_to order first end (omega arith))) ∙ on)
-    where
-      by : (a b : Bool) → (a || b) ≡ true → (a ≡ true) ⊎ (b ≡ true)
-      by true b h = inl refl
-      by false b h = inr h
 
 -- a slice that was written through stands where it was
 pub written_back : (xs zs : List Bool) (n : ℕ) → n ≡ length xs → take n (xs ++ zs) ≡ xs

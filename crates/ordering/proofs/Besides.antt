@@ -5,7 +5,7 @@ use Rattle.std.specs.Borrow.{Bor}
 use Rattle.std.specs.List.{filter, slice_index_or}
 use Rattle.std.specs.Option.{option_map_or}
 use Rattle.std.proofs.lemmas.List.Elements.{filter-append}
-use Rattle.std.proofs.lemmas.Option.{slice_get_within}
+use Rattle.std.proofs.lemmas.Option.{slice_get_within, get_or_from_slice_get}
 use Rattle.gatestep.specs.Step.{State, Evaluation}
 use Rattle.gatestep.proofs.Jobs.{part_moved}
 use Rattle.design.specs.Netlist.{GateEntry, Netlist}
@@ -19,24 +19,14 @@ use Rattle.scratch.specs.Work.{inputs_at, is_stirred, same_values, task_at}
 use Rattle.scratch.specs.kept.Kept.{cell_of, input_of, input_value}
 use Rattle.gateline.specs.kept.OldLines.{IsFollowedAt, IsOldLine, OldRecord, wanted_beside}
 use Rattle.rundiff.specs.Dirty.{is_dirty, is_new, same_task}
-use Rattle.rundiff.specs.kept.OldRuns.{HoldsEach}
 use Rattle.rundiff.specs.kept.OldRuns.{AreOldRun, OldRunRecord, state_till}
 use Rattle.rundiff.specs.kept.Places.{blank_gate, gate_at}
+use Rattle.rundiff.proofs.EachPlace.{holds_index}
 use Rattle.ordering.specs.kept.Gates.{column_of, gate_work_from, moments_from}
 use Rattle.ordering.specs.kept.OldRuns.{IsOldRun, line_at, wanted_at}
 use Rattle.ordering.specs.kept.Order.{each_in_order, is_order, order_work_from}
 use Rattle.ordering.specs.kept.Reworks.{rework_from}
 use Rattle.ordering.proofs.Orders.{rows_ordered}
-
-index_there : {X : Type 0} (xs : List X) (k : ℕ) (x d : X) → slice_get xs k ≡ Some x → slice_index_or xs k d ≡ x
-index_there [] k x d there = absurd (cc)
-index_there (y ∷ xs) zero x d there = cc
-index_there (y ∷ xs) (suc k) x d there = index_there xs k x d there
-
-holds_here : {X : Type 0} (P : ℕ → X → Type 0) (xs : List X) (k : ℕ) (d : X) → HoldsEach xs P → k < length xs → P k (slice_index_or xs k d)
-holds_here P [] k d each low = absurd (omega arith)
-holds_here P (x ∷ xs) zero d each low = each zero
-holds_here P (x ∷ xs) (suc k) d each low = holds_here (λ q. P (suc q)) xs k d (λ q. each (suc q)) (omega arith)
 
 -- tests that agree below n let the same of these moments through
 alike_from : (p q : ℕ → Bool) (a n : ℕ) → ((t : ℕ) → t < n → p t ≡ q t) → filter p (moments_from a n) ≡ filter q (moments_from a n)
@@ -75,7 +65,7 @@ module _ (answer : Evaluation → ℕ → State) (old new : Netlist) (run : OldR
     line = line_at run k
 
     other : line.is_other ≡ is_new old gate
-    other = holds_here (λ p other. other ≡ is_new old (gate_at new p)) run.others k true right.others (let count = right.other_count in omega arith)
+    other = holds_index (λ p other. other ≡ is_new old (gate_at new p)) run.others k true right.others (let count = right.other_count in omega arith)
 
     -- the state there was the answer to the task there
     followed : (t : ℕ) → t ≤ new.horizon → IsFollowedAt answer (cell_of new gate) line t
@@ -108,7 +98,7 @@ module _ (answer : Evaluation → ℕ → State) (old new : Netlist) (run : OldR
   old_line_at : (k : ℕ) (o : Option GateEntry) → slice_get new.gates k ≡ o → IfSome o (λ g. IsOldLine answer (cell_of new g) new.horizon (line_at run k))
   old_line_at k None at = tt
   old_line_at k (Some g) at =
-      subst (λ e. IsOldLine answer (cell_of new e) new.horizon (line_at run k)) (index_there new.gates k g blank_gate at) (old_line k (slice_get_within new.gates k g at))
+      subst (λ e. IsOldLine answer (cell_of new e) new.horizon (line_at run k)) (get_or_from_slice_get new.gates k g blank_gate at) (old_line k (slice_get_within new.gates k g at))
 
   pub is_old_run : IsOldRun answer new run
   is_old_run = record { traces = right.trace_count; others = right.other_count; lines = λ k. old_line_at k (slice_get new.gates k) refl }
@@ -123,7 +113,7 @@ module _ (answer : Evaluation → ℕ → State) (old new : Netlist) (run : OldR
     of_gate : (k : ℕ) (g : GateEntry) → slice_get new.gates k ≡ Some g → gate_work_from answer new (wanted_at (Some lent) new k g) g a (suc new.horizon) ≡ column_of answer new asks times g
     of_gate k g at =
         let low = slice_get_within new.gates k g at in
-        let here = index_there new.gates k g blank_gate at in
+        let here = get_or_from_slice_get new.gates k g blank_gate at in
         ap (map (λ t. (task_at answer new g t, t)))
         (alike_from (λ t. wanted_at (Some lent) new k g (task_at answer new g t) t && is_stirred answer new g t) (asks g) a (suc new.horizon)
         (λ t below.

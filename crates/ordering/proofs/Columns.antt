@@ -12,11 +12,11 @@ use Rattle.waveform.specs.Timelines.{moments}
 use Rattle.scratch.specs.Work.{is_stirred, stirred_at, task_at, work_at, work_below}
 use Rattle.scratch.specs.kept.Work.{work_from}
 use Rattle.scratch.proofs.Apart.{along, exchange}
+use Rattle.scratch.proofs.Moments.{map_twice}
+use Rattle.scratch.specs.kept.Grown.{all_parts}
+use Rattle.scratch.specs.kept.Open.{all_below, all_from}
+use Rattle.scratch.proofs.Asked.{below_is, from_is}
 use Rattle.ordering.specs.kept.Gates.{gates_work, gates_work_from, moments_from}
-
-pub map_twice : {A B C : Type 0} (f : A → B) (g : B → C) (xs : List A) → map g (map f xs) ≡ map (λ x. g (f x)) xs
-map_twice f g [] = refl
-map_twice f g (x ∷ xs) = ap (λ l. g (f x) ∷ l) (map_twice f g xs)
 
 none_each : {T A : Type 0} (ts : List T) → flat_map {X = T} {A = A} (λ t. []) ts ≡ []
 none_each [] = refl
@@ -83,16 +83,25 @@ none_before a (suc t) early =
     ∙ ap (λ l. l ++ filter (λ t. nat_le a t) (t ∷ [])) (none_before a t (omega arith))
     ∙ ap (λ (b : Bool). cond b (t ∷ []) []) (passes a t early)
 
-starts : (t : ℕ) → nat_le 0 t ≡ true
-starts t = grind (arith, nat_tests)
+module _ {X : Type 0} (work : ℕ → List X) where
+  one_more : (times : List ℕ) (t : ℕ) → flat_map work times ++ work t ≡ flat_map work (times ++ t ∷ [])
+  one_more times t = ap (λ l. flat_map work times ++ l) (sym (append-nil (work t))) ∙ sym (flat_map-append work times (t ∷ []))
 
--- all moments are from 0 on
-pub all_moments : (n : ℕ) → moments_from 0 n ≡ moments n
-all_moments zero = refl
-all_moments (suc n) =
-    filter-append (λ t. nat_le 0 t) (moments n) (n ∷ [])
-    ∙ ap (λ l. l ++ filter (λ t. nat_le 0 t) (n ∷ [])) (all_moments n)
-    ∙ ap (λ (b : Bool). moments n ++ cond b (n ∷ []) []) (starts n)
+  each_below : (n : ℕ) → all_below work n ≡ flat_map work (moments n)
+  each_below zero = refl
+  each_below (suc n) = ap (λ l. l ++ work n) (each_below n) ∙ one_more (moments n) n
+
+  from_by : (a t : ℕ) (b : Bool) → nat_le a t ≡ b → all_from work a t ≡ flat_map work (moments_from a t) →
+      cond b (all_from work a t ++ work t) [] ≡ flat_map work (moments_from a t ++ cond b (t ∷ []) [])
+  from_by a t true is before = ap (λ l. l ++ work t) before ∙ one_more (moments_from a t) t
+  from_by a t false is before = sym (ap (λ l. flat_map work (l ++ [])) (none_before a t (reaches a t is)))
+
+  -- what is asked at the moments from one on, moment after moment
+  pub each_from : (a n : ℕ) → all_from work a n ≡ flat_map work (moments_from a n)
+  each_from a zero = refl
+  each_from a (suc t) =
+      from_by a t (nat_le a t) refl (each_from a t)
+      ∙ sym (ap (flat_map work) (filter-append (λ t. nat_le a t) (moments t) (t ∷ [])))
 
 module _ (answer : Evaluation → ℕ → State) (d : Netlist) where
   abbrev p : GateEntry → ℕ → Bool
@@ -101,38 +110,21 @@ module _ (answer : Evaluation → ℕ → State) (d : Netlist) where
   abbrev f : GateEntry → ℕ → Evaluation × ℕ
   f g t = (task_at answer d g t, t)
 
-  row_is : (t : ℕ) → work_at answer d t ≡ row p f d.gates t
-  row_is t = map_twice (λ g. task_at answer d g t) (λ task. (task, t)) (stirred_at answer d t)
-
-  one_more : (times : List ℕ) (t : ℕ) → flat_map (row p f d.gates) times ++ work_at answer d t ≡ flat_map (row p f d.gates) (times ++ t ∷ [])
-  one_more times t =
-      ap (λ l. flat_map (row p f d.gates) times ++ l) (row_is t ∙ sym (append-nil (row p f d.gates t)))
-      ∙ sym (flat_map-append (row p f d.gates) times (t ∷ []))
-
-  below_is : (n : ℕ) → work_below answer d n ≡ flat_map (row p f d.gates) (moments n)
-  below_is zero = refl
-  below_is (suc n) = ap (λ l. l ++ work_at answer d n) (below_is n) ∙ one_more (moments n) n
-
-  from_by : (a t : ℕ) (b : Bool) → nat_le a t ≡ b → work_from answer d a t ≡ flat_map (row p f d.gates) (moments_from a t) →
-      cond b (work_from answer d a t ++ work_at answer d t) [] ≡ flat_map (row p f d.gates) (moments_from a t ++ cond b (t ∷ []) [])
-  from_by a t true is before = ap (λ l. l ++ work_at answer d t) before ∙ one_more (moments_from a t) t
-  from_by a t false is before = sym (ap (λ l. flat_map (row p f d.gates) (l ++ [])) (none_before a t (reaches a t is)))
-
-  from_is : (a n : ℕ) → work_from answer d a n ≡ flat_map (row p f d.gates) (moments_from a n)
-  from_is a zero = refl
-  from_is a (suc t) =
-      from_by a t (nat_le a t) refl (from_is a t)
-      ∙ sym (ap (flat_map (row p f d.gates)) (filter-append (λ t. nat_le a t) (moments t) (t ∷ [])))
+  rows_are : work_at answer d ≡ row p f d.gates
+  rows_are = λ i t. map_twice (λ g. task_at answer d g t) (λ task. (task, t)) (stirred_at answer d t) i
 
   pub below_by_gates : (n : ℕ) → IsPermutation (work_below answer d n) (gates_work answer d n d.gates)
-  below_by_gates n = subst (λ l. IsPermutation l (gates_work answer d n d.gates)) (sym (below_is n)) (rows_are_columns p f d.gates (moments n))
+  below_by_gates n =
+      let rows : work_below answer d n ≡ flat_map (row p f d.gates) (moments n) =
+      sym (below_is answer d n) ∙ each_below (work_at answer d) n ∙ ap (λ work. flat_map work (moments n)) rows_are in
+      subst (λ l. IsPermutation l (gates_work answer d n d.gates)) (sym rows) (rows_are_columns p f d.gates (moments n))
 
   pub from_by_gates : (a n : ℕ) → IsPermutation (work_from answer d a n) (gates_work_from answer d a n d.gates)
-  from_by_gates a n = subst (λ l. IsPermutation l (gates_work_from answer d a n d.gates)) (sym (from_is a n)) (rows_are_columns p f d.gates (moments_from a n))
+  from_by_gates a n =
+      let rows : work_from answer d a n ≡ flat_map (row p f d.gates) (moments_from a n) =
+      sym (from_is answer d a n) ∙ each_from (work_at answer d) a n ∙ ap (λ work. flat_map work (moments_from a n)) rows_are in
+      subst (λ l. IsPermutation l (gates_work_from answer d a n d.gates)) (sym rows) (rows_are_columns p f d.gates (moments_from a n))
 
   -- the work of the whole run is that from moment 0 on
-  pub all_from : (n : ℕ) → work_below answer d n ≡ work_from answer d 0 n
-  all_from zero = refl
-  all_from (suc n) =
-      ap (λ l. l ++ work_at answer d n) (all_from n)
-      ∙ sym (ap (λ (b : Bool). cond b (work_from answer d 0 n ++ work_at answer d n) []) (starts n))
+  pub all_from_first : (n : ℕ) → work_below answer d n ≡ work_from answer d 0 n
+  all_from_first n = sym (below_is answer d n) ∙ all_parts (work_at answer d) 0 n (omega arith) ∙ from_is answer d 0 n

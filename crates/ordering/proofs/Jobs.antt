@@ -1,11 +1,12 @@
 -- Gates that are followed by themselves, as jobs.
-use Rattle.std.proofs.Common.{◌≡◌, ◌<◌, ◌≤◌, ◌∙◌, sym, ap, subst, refl, ℕ, zero, suc, List, [], ◌∷◌, ◌++◌, length, get_or, Option, Some, None, IfSome, slice_get, append-nil, arith}
+use Rattle.std.proofs.Common.{◌≡◌, ◌<◌, ◌≤◌, ◌∙◌, sym, ap, subst, refl, ℕ, zero, suc, List, [], ◌∷◌, ◌++◌, length, Option, Some, IfSome, slice_get, arith}
 use Rattle.std.specs.Prelude.{All}
 use Rattle.std.specs.Borrow.{Bor}
-use Rattle.std.specs.List.{AllZip, flat_map, slice_index_or}
+use Rattle.std.specs.List.{AllZip, flat_map}
 use Rattle.std.proofs.lemmas.List.Elements.{All-cons, All-nil, All-tail}
 use Rattle.gatestep.specs.Step.{State, Evaluation}
 use Rattle.gatestep.specs.Jobs.{IsBeginning}
+use Rattle.catalog.proofs.ListLemmas.{slice_get_some}
 use Rattle.design.specs.Keys.{Keyed, netlist}
 use Rattle.design.specs.Netlist.{GateEntry, Netlist}
 use Rattle.scratch.specs.declared.wiring.Wiring.{Wiring}
@@ -20,8 +21,6 @@ use Rattle.ordering.specs.kept.Earlier.{begin_after}
 use Rattle.ordering.specs.kept.Gates.{gate_work_from}
 use Rattle.ordering.specs.kept.Jobs.{IsFollowed, IsGateJob, IsJobFollowed, IsJobFor, job_work}
 use Rattle.ordering.specs.kept.OldRuns.{OldRunRecord, wanted_at}
-use Rattle.ordering.specs.kept.Order.{order_work_from}
-use Rattle.ordering.proofs.Places.{there}
 use Rattle.ordering.proofs.Steps.{gate_begins}
 
 -- Two lists side by side.
@@ -43,14 +42,8 @@ module _ (answer : Evaluation → ℕ → State) (d : Netlist) (beside : Option 
   abbrev gate_work : GateEntry → ℕ → List (Evaluation × ℕ)
   gate_work g m = gate_work_from answer d (wanted_at beside d k g) g a m
 
-  pub all_of_gate : IfSome (slice_get d.gates k) (λ g. new ≡ [] ++ gate_work g n) → new ≡ work_at answer d beside a n k
-  all_of_gate h = let x = there d.gates k within in by x.0 x.1 h
-    where
-      by : (g : GateEntry) → slice_get d.gates k ≡ Some g → IfSome (slice_get d.gates k) (λ g. new ≡ [] ++ gate_work g n) → new ≡ work_at answer d beside a n k
-      by g at h = rw at (subst (λ o. IfSome o (λ g. new ≡ [] ++ gate_work g n)) at h)
-
   pub part_of_gate : IfSome (slice_get d.gates k) (λ g. (m : ℕ) × (m ≤ n) × (new ≡ [] ++ gate_work g m)) → IsBeginning new (work_at answer d beside a n k)
-  part_of_gate h = let x = there d.gates k within in by x.0 x.1 h
+  part_of_gate h = let x = slice_get_some d.gates k within in by x.0 x.1 h
     where
       by : (g : GateEntry) → slice_get d.gates k ≡ Some g → IfSome (slice_get d.gates k) (λ g. (m : ℕ) × (m ≤ n) × (new ≡ [] ++ gate_work g m)) → IsBeginning new (work_at answer d beside a n k)
       by g at h =

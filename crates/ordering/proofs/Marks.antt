@@ -4,13 +4,14 @@ use Rattle.std.specs.Prelude.{nat_eq, ◌||◌, ◌&&◌}
 use Rattle.std.specs.List.{list_all}
 use Rattle.std.specs.Option.{option_map, option_map_or}
 use Rattle.std.proofs.Math.ListN.{set}
-use Rattle.std.proofs.Math.Seq.{drop-cons}
+use Rattle.std.proofs.Math.Seq.{drop-cons, take-length}
 use Rattle.std.proofs.lemmas.List.{take_more}
 use Rattle.std.proofs.lemmas.Bool.Decides.{nat_tests}
 use Rattle.std.proofs.lemmas.List.Folds.{list_all-append, list_all-map}
 use Rattle.std.proofs.lemmas.Option.{slice_get-map}
-use Rattle.std.proofs.lemmas.Bool.{eqb-true}
+use Rattle.std.proofs.lemmas.Bool.{eqb-true, and_parts}
 use Rattle.std.proofs.Math.Bool.{or-true, or-false}
+use Rattle.catalog.proofs.ListLemmas.{slice_get_some}
 use Rattle.smallvec.specs.SmallVec.{SmallVec}
 use Rattle.design.specs.Netlist.{GateEntry, NetEntry, Netlist}
 use Rattle.design.specs.kept.Places.{driver_places}
@@ -22,9 +23,8 @@ use Rattle.scratch.specs.kept.Cells.{CellRecord}
 use Rattle.scratch.specs.kept.Kept.{IsWiring, cell_of, input_of}
 use Rattle.scratch.specs.kept.Places.{has}
 use Rattle.ordering.specs.kept.Order.{follow, is_marked, is_order, is_ready, is_ready_by, may_come, may_come_by, may_follow}
-use Rattle.ordering.proofs.Orders.{first_of_both, second_of_both}
 use Rattle.scratch.proofs.Among.{has_more, nat_itself}
-use Rattle.ordering.proofs.Places.{take_next, take_whole, there}
+use Rattle.ordering.proofs.Places.{take_next}
 
 -- Places one after another.
 
@@ -41,25 +41,6 @@ follow_step may order i f b low marked is =
     ∙ ap (λ (g : ℕ → Bool). may g k && follow may (take i order ++ k ∷ []) (drop (i + 1) order)) (λ j p. sym (marked p) j)
     ∙ ap (λ (c : Bool). c && follow may (take i order ++ k ∷ []) (drop (i + 1) order)) is
     ∙ ap (λ l. b && follow may l (drop (i + 1) order)) (sym (one_taken order i low))
-
--- no place is left
-pub follow_end : (may : (ℕ → Bool) → ℕ → Bool) (order : List ℕ) (i : ℕ) → length order ≤ i → follow may (take i order) (drop i order) ≡ true
-follow_end may order i past = ap (follow may (take i order)) (dropped order i past)
-  where
-    dropped : (xs : List ℕ) (i : ℕ) → length xs ≤ i → drop i xs ≡ []
-    dropped [] zero past = refl
-    dropped [] (suc i) past = refl
-    dropped (x ∷ xs) zero past = absurd (omega arith)
-    dropped (x ∷ xs) (suc i) past = dropped xs i (omega arith)
-
-taken : (xs : List ℕ) (i : ℕ) → length xs ≤ i → take i xs ≡ xs
-taken [] zero past = refl
-taken [] (suc i) past = refl
-taken (x ∷ xs) zero past = absurd (omega arith)
-taken (x ∷ xs) (suc i) past = ap (λ l. x ∷ l) (taken xs i (omega arith))
-
-pub all_taken : (xs : List ℕ) (i : ℕ) → length xs ≤ i → take i xs ≡ xs
-all_taken = taken
 
 -- Marks.
 
@@ -92,14 +73,14 @@ mark_next marks order i low within marked p =
 marked_to : (marks : List Bool) (i : ℕ) → i ≤ length marks → list_all (is_marked marks) (moments i) ≡ list_all (λ m. m) (take i marks)
 marked_to marks zero low = refl
 marked_to marks (suc i) low =
-    let m = there marks i (omega arith) in
+    let m = slice_get_some marks i (omega arith) in
     list_all-append (is_marked marks) (moments i) (i ∷ []) ∙ ap (λ (b : Bool). b && (is_marked marks i && true)) (marked_to marks i (omega arith))
     ∙ ap (λ o. list_all (λ m. m) (take i marks) && (unwrap_or o false && true)) m.1
     ∙ sym (list_all-append (λ m. m) (take i marks) (m.0 ∷ [])) ∙ ap (list_all (λ m. m)) (sym (take_next marks i m.0 m.1))
 
 -- all places are marked where each mark stands
 pub all_marked : (marks : List Bool) → list_all (λ m. m) marks ≡ list_all (is_marked marks) (moments (length marks))
-all_marked marks = sym (marked_to marks (length marks) (omega arith) ∙ ap (list_all (λ m. m)) (take_whole marks))
+all_marked marks = sym (marked_to marks (length marks) (omega arith) ∙ ap (list_all (λ m. m)) (take-length marks))
 
 -- where the places of an order are marked, all places are among them if all are marked
 pub all_among : (marks : List Bool) (order : List ℕ) → ((p : ℕ) → is_marked marks p ≡ has p order) → list_all (λ m. m) marks ≡ list_all (λ k. has k order) (moments (length marks))
@@ -147,4 +128,4 @@ follow_on d order i low h =
     let come = may_come d (λ p. has p (take i order)) (get_or order i 0) in
     let rest = may_follow d (take (i + 1) order) (drop (i + 1) order) in
     let both : (come && rest) ≡ true = sym (follow_step (may_come d) order i (λ p. has p (take i order)) come low (λ p. refl) refl) ∙ h in
-    (first_of_both come rest both, second_of_both come rest both)
+    ((and_parts come rest both).0, (and_parts come rest both).1)

@@ -8,7 +8,7 @@ use Rattle.std.proofs.lemmas.Bool.Decides.{nat_tests}
 use Rattle.std.proofs.lemmas.List.Folds.{list_all-append}
 use Rattle.std.proofs.lemmas.List.Sorted.{IsPermutation-trans}
 use Rattle.std.proofs.lemmas.Option.{slice_get_within}
-use Rattle.std.proofs.lemmas.Bool.{eqb-true}
+use Rattle.std.proofs.lemmas.Bool.{eqb-true, not-true, and_parts}
 use Rattle.std.proofs.Math.Bool.{or-true}
 use Rattle.gatestep.specs.Step.{State, Evaluation}
 use Rattle.design.specs.Netlist.{GateEntry, Netlist}
@@ -27,19 +27,6 @@ use Rattle.scratch.proofs.Apart.{left_off, same_work}
 use Rattle.scratch.specs.kept.Places.{AreApart}
 use Rattle.ordering.proofs.Places.{below, below_apart, by_places}
 
--- Both of two are so.
-pub first_of_both : (a b : Bool) → (a && b) ≡ true → a ≡ true
-first_of_both true b h = refl
-first_of_both false b h = h
-
-pub second_of_both : (a b : Bool) → (a && b) ≡ true → b ≡ true
-second_of_both true b h = h
-second_of_both false b h = absurd (cc)
-
-not_on : (b : Bool) → not b ≡ true → b ≡ false
-not_on true h = absurd (cc)
-not_on false h = refl
-
 is_there : {X : Type 0} (p : X → Bool) (o : Option X) → option_map_or p o false ≡ true → (x : X) × (o ≡ Some x)
 is_there p None h = absurd (cc)
 is_there p (Some x) h = (x, refl)
@@ -47,11 +34,11 @@ is_there p (Some x) h = (x, refl)
 module _ (d : Netlist) where
   -- a gate that may come is there, and not done
   pub comes_anew : (is_done : ℕ → Bool) (k : ℕ) → may_come d is_done k ≡ true → is_done k ≡ false
-  comes_anew is_done k h = not_on (is_done k) (first_of_both (not (is_done k)) _ h)
+  comes_anew is_done k h = not-true (is_done k) ((and_parts (not (is_done k)) _ h).0)
 
   pub comes_within : (is_done : ℕ → Bool) (k : ℕ) → may_come d is_done k ≡ true → k < length d.gates
   comes_within is_done k h =
-      let found = is_there (λ g. list_all (λ c. is_ready d is_done (input_of d c)) g.inputs) (slice_get d.gates k) (second_of_both (not (is_done k)) _ h) in
+      let found = is_there (λ g. list_all (λ c. is_ready d is_done (input_of d c)) g.inputs) (slice_get d.gates k) ((and_parts (not (is_done k)) _ h).1) in
       slice_get_within d.gates k found.0 found.1
 
   -- the gates that follow are not done
@@ -60,12 +47,12 @@ module _ (d : Netlist) where
   follow_anew done (j ∷ ks) h k on = by (nat_eq k j) refl (λ later there. follow_anew (done ++ j ∷ []) ks later k there)
     where
       come : may_come d (λ p. has p done) j ≡ true
-      come = first_of_both (may_come d (λ p. has p done) j) (may_follow d (done ++ j ∷ []) ks) h
+      come = (and_parts (may_come d (λ p. has p done) j) (may_follow d (done ++ j ∷ []) ks) h).0
 
       by : (b : Bool) → nat_eq k j ≡ b → (may_follow d (done ++ j ∷ []) ks ≡ true → has k ks ≡ true → has k (done ++ j ∷ []) ≡ false) → has k done ≡ false
       by true is rest = ap (λ z. has z done) (eqb-true k j is) ∙ comes_anew (λ p. has p done) j come
       by false is rest =
-          let later = second_of_both (may_come d (λ p. has p done) j) (may_follow d (done ++ j ∷ []) ks) h in
+          let later = (and_parts (may_come d (λ p. has p done) j) (may_follow d (done ++ j ∷ []) ks) h).1 in
           left_off (has k done) (nat_eq k j) (sym (has_more k j done) ∙ rest later (sym (ap (λ (b : Bool). b || has k ks) is) ∙ on))
 
   follow_apart : (done ks : List ℕ) → may_follow d done ks ≡ true → AreApart ks
@@ -73,7 +60,7 @@ module _ (d : Netlist) where
   follow_apart done (j ∷ ks) h = (by (has j ks) refl, follow_apart (done ++ j ∷ []) ks later)
     where
       later : may_follow d (done ++ j ∷ []) ks ≡ true
-      later = second_of_both (may_come d (λ p. has p done) j) (may_follow d (done ++ j ∷ []) ks) h
+      later = (and_parts (may_come d (λ p. has p done) j) (may_follow d (done ++ j ∷ []) ks) h).1
 
       by : (b : Bool) → has j ks ≡ b → has j ks ≡ false
       by true is =
@@ -88,10 +75,10 @@ module _ (d : Netlist) where
     where
       by : (b : Bool) → nat_eq k j ≡ b → (may_follow d (done ++ j ∷ []) ks ≡ true → has k ks ≡ true → k < length d.gates) → k < length d.gates
       by true is rest =
-          let low = comes_within (λ p. has p done) j (first_of_both (may_come d (λ p. has p done) j) (may_follow d (done ++ j ∷ []) ks) h) in
+          let low = comes_within (λ p. has p done) j ((and_parts (may_come d (λ p. has p done) j) (may_follow d (done ++ j ∷ []) ks) h).0) in
           subst (λ z. z < length d.gates) (sym (eqb-true k j is)) low
       by false is rest =
-          let later = second_of_both (may_come d (λ p. has p done) j) (may_follow d (done ++ j ∷ []) ks) h in
+          let later = (and_parts (may_come d (λ p. has p done) j) (may_follow d (done ++ j ∷ []) ks) h).1 in
           rest later (sym (ap (λ (b : Bool). b || has k ks) is) ∙ on)
 
 pub all_below : (p : ℕ → Bool) (n : ℕ) → list_all p (moments n) ≡ true → (k : ℕ) → k < n → p k ≡ true
@@ -102,17 +89,17 @@ all_below p (suc n) h k low = by (nat_eq k n) refl (all_below p n)
     parts = sym (list_all-append p (moments n) (n ∷ [])) ∙ h
 
     by : (b : Bool) → nat_eq k n ≡ b → (list_all p (moments n) ≡ true → (k : ℕ) → k < n → p k ≡ true) → p k ≡ true
-    by true is rest = ap p (eqb-true k n is) ∙ first_of_both (p n) true (second_of_both (list_all p (moments n)) (p n && true) parts)
+    by true is rest = ap p (eqb-true k n is) ∙ (and_parts (p n) true ((and_parts (list_all p (moments n)) (p n && true) parts).1)).0
     by false is rest =
         let less : k < n = grind (arith, nat_tests) in
-        rest (first_of_both (list_all p (moments n)) (p n && true) parts) k less
+        rest ((and_parts (list_all p (moments n)) (p n && true) parts).0) k less
 
 module _ (d : Netlist) (order : List ℕ) (ordered : is_order d order ≡ true) where
   follows : may_follow d [] order ≡ true
-  follows = first_of_both (may_follow d [] order) (list_all (λ k. has k order) (moments (length d.gates))) ordered
+  follows = (and_parts (may_follow d [] order) (list_all (λ k. has k order) (moments (length d.gates))) ordered).0
 
   all : list_all (λ k. has k order) (moments (length d.gates)) ≡ true
-  all = second_of_both (may_follow d [] order) (list_all (λ k. has k order) (moments (length d.gates))) ordered
+  all = (and_parts (may_follow d [] order) (list_all (λ k. has k order) (moments (length d.gates))) ordered).1
 
   has_each : (k : ℕ) → has k (moments (length d.gates)) ≡ has k order
   has_each k =

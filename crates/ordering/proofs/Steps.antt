@@ -6,10 +6,11 @@ use Rattle.std.specs.List.{filter, flat_map}
 use Rattle.std.specs.Option.{option_map_or}
 use Rattle.std.proofs.Math.Seq.{drop-cons}
 use Rattle.std.proofs.lemmas.Bool.{cases_lt}
-use Rattle.std.proofs.lemmas.List.{map-append}
+use Rattle.std.proofs.lemmas.List.{map-append, take-append-drop}
 use Rattle.std.proofs.lemmas.List.Concat.{flat_map-append}
 use Rattle.std.proofs.lemmas.List.Elements.{filter-append}
 use Rattle.gatestep.specs.Step.{State, Evaluation}
+use Rattle.catalog.proofs.ListLemmas.{slice_get_some}
 use Rattle.design.specs.Netlist.{GateEntry, Netlist}
 use Rattle.waveform.specs.Timelines.{moments}
 use Rattle.scratch.specs.Work.{is_stirred, task_at}
@@ -17,7 +18,6 @@ use Rattle.ordering.specs.kept.Gates.{IsBeginning, gate_work_at, gate_work_from,
 use Rattle.ordering.specs.kept.OldRuns.{OldRunRecord, wanted_at}
 use Rattle.ordering.specs.kept.Order.{order_work_from}
 use Rattle.ordering.proofs.Marks.{one_taken}
-use Rattle.ordering.proofs.Places.{there}
 
 moments_begin : (n m : ℕ) → n ≤ m → IsBeginning (moments n) (moments m)
 moments_begin n zero low = let e : 0 ≡ n = omega arith in ([], ap moments e ∙ sym (append-nil (moments n)))
@@ -54,7 +54,7 @@ module _ (answer : Evaluation → ℕ → State) (d : Netlist) (beside : Option 
 
     module _ (old was new : List (Evaluation × ℕ)) (so_far : was ≡ old ++ order_work_from answer d beside a n (take i order)) (within : get_or order i 0 < length d.gates) where
       more_by : (o : Option GateEntry) → slice_get d.gates (get_or order i 0) ≡ o → IfSome o (λ g. new ≡ was ++ gate_work (get_or order i 0) g a n) → get_or order i 0 < length d.gates → new ≡ was ++ f (get_or order i 0)
-      more_by None at more within = absurd (let x = there d.gates (get_or order i 0) within in let e = x.1 in cc)
+      more_by None at more within = absurd (let x = slice_get_some d.gates (get_or order i 0) within in let e = x.1 in cc)
       more_by (Some g) at more within = more ∙ ap (λ o. was ++ option_map_or (λ g. gate_work (get_or order i 0) g a n) o []) (sym at)
 
       -- one gate more is asked
@@ -69,14 +69,8 @@ module _ (answer : Evaluation → ℕ → State) (d : Netlist) (beside : Option 
       whole : order_work_from answer d beside a n order ≡ order_work_from answer d beside a n (take i order) ++ (f (get_or order i 0) ++ flat_map f (drop (i + 1) order))
       whole =
           let front : drop i order ≡ get_or order i 0 ∷ drop (i + 1) order = rw add-one (drop-cons order i 0 low) in
-          ap (flat_map f) (split order i) ∙ flat_map-append f (take i order) (drop i order)
+          ap (flat_map f) (sym (take-append-drop i order)) ∙ flat_map-append f (take i order) (drop i order)
           ∙ ap (λ l. order_work_from answer d beside a n (take i order) ++ flat_map f l) front
-        where
-          split : (xs : List ℕ) (i : ℕ) → xs ≡ take i xs ++ drop i xs
-          split [] zero = refl
-          split [] (suc i) = refl
-          split (x ∷ xs) zero = refl
-          split (x ∷ xs) (suc i) = ap (λ l. x ∷ l) (split xs i)
 
       -- a fault while it was asked
       pub part_asked : IfSome (slice_get d.gates (get_or order i 0)) (λ g. (m : ℕ) × (m ≤ n) × (new ≡ was ++ gate_work (get_or order i 0) g a m)) → (piece : List (Evaluation × ℕ)) × IsBeginning piece (order_work_from answer d beside a n order) × (new ≡ old ++ piece)
@@ -84,7 +78,7 @@ module _ (answer : Evaluation → ℕ → State) (d : Netlist) (beside : Option 
         where
           by : (o : Option GateEntry) → slice_get d.gates (get_or order i 0) ≡ o → IfSome o (λ g. (m : ℕ) × (m ≤ n) × (new ≡ was ++ gate_work (get_or order i 0) g a m)) →
               (piece : List (Evaluation × ℕ)) × IsBeginning piece (order_work_from answer d beside a n order) × (new ≡ old ++ piece)
-          by None at some = absurd (let x = there d.gates (get_or order i 0) within in let e = x.1 in cc)
+          by None at some = absurd (let x = slice_get_some d.gates (get_or order i 0) within in let e = x.1 in cc)
           by (Some g) at some =
               let begun = gate_begins (get_or order i 0) g a some.0 n some.1 in let before = order_work_from answer d beside a n (take i order) in let piece = gate_work (get_or order i 0) g a some.0 in
               let later = flat_map f (drop (i + 1) order) in (

@@ -1,14 +1,14 @@
 -- Where the traces of the gates that have come are found, so is what a gate reads that may come next.
-use Rattle.std.proofs.Common.{◌≡◌, ◌<◌, ◌≤◌, ◌⊎◌, inl, inr, replicate, append-nil, ◌∙◌, sym, ap, refl, Bool, true, false, ℕ, zero, suc, List, [], ◌∷◌, ◌++◌, map, length, Option, Some, None, IfSome, slice_get, subst, Result, Ok, Err, OnErr, OnOk, arith}
+use Rattle.std.proofs.Common.{◌≡◌, ◌<◌, ◌≤◌, ◌⊎◌, inl, inr, ◌∙◌, sym, ap, refl, Bool, true, false, ℕ, List, [], ◌∷◌, ◌++◌, map, length, Option, Some, None, IfSome, slice_get, Result, Ok, Err, OnOk, arith}
 use Rattle.std.specs.Prelude.{nat_eq, ◌||◌}
 use Rattle.std.specs.List.{list_all}
 use Rattle.std.specs.Option.{option_map, option_map_or}
 use Rattle.std.proofs.Math.ListN.{set}
-use Rattle.std.proofs.lemmas.Bool.Decides.{nat_tests}
-use Rattle.std.proofs.lemmas.Bool.{cases_lt, eqb-true}
+use Rattle.std.proofs.lemmas.Bool.{cases_lt, eqb-true, and_parts}
 use Rattle.std.proofs.lemmas.List.{length-map}
 use Rattle.std.proofs.lemmas.Option.{slice_get-map, slice_get_past}
 use Rattle.gatestep.specs.Step.{State, Evaluation}
+use Rattle.catalog.proofs.ListLemmas.{slice_get_some}
 use Rattle.design.specs.Connections.{Connection}
 use Rattle.design.specs.Netlist.{GateEntry, NetEntry, Netlist}
 use Rattle.design.specs.kept.Places.{driver_places}
@@ -21,16 +21,15 @@ use Rattle.scratch.specs.kept.Run.{trace_of}
 use Rattle.gateline.specs.kept.Known.{AreSupplied, AreTraced, IsTraced}
 use Rattle.waveform.specs.Timelines.{moments}
 use Rattle.ordering.specs.kept.Batches.{StayTraced}
-use Rattle.ordering.specs.kept.Gates.{IsBeginning}
 use Rattle.ordering.specs.kept.Order.{is_order, is_ready, may_come, may_follow}
-use Rattle.ordering.proofs.Orders.{all_below, first_of_both, second_of_both}
-use Rattle.scratch.proofs.Among.{has_more, nat_itself}
-use Rattle.ordering.proofs.Places.{there}
+use Rattle.ordering.proofs.Orders.{all_below}
+use Rattle.scratch.proofs.Among.{has_more}
+use Rattle.scratch.proofs.Between.{set_here, set_apart, alike}
 
 module _ (answer : Evaluation → ℕ → State) (d : Netlist) (traces : List (List (ℕ × State))) (f : ℕ → Bool) (come : (p : ℕ) → f p ≡ true → IsTraced answer d traces p) where
   traced_each : (places : List ℕ) → list_all f places ≡ true → AreTraced answer d traces places
   traced_each [] h = tt
-  traced_each (p ∷ places) h = (come p (first_of_both (f p) (list_all f places) h), traced_each places (second_of_both (f p) (list_all f places) h))
+  traced_each (p ∷ places) h = (come p ((and_parts (f p) (list_all f places) h).0), traced_each places ((and_parts (f p) (list_all f places) h).1))
 
   drivers_traced : (o : Option NetEntry) → option_map_or (λ n. list_all f (driver_places d.gates n.name)) o true ≡ true → IfSome o (λ n. AreTraced answer d traces (driver_places d.gates n.name))
   drivers_traced None h = tt
@@ -44,8 +43,8 @@ module _ (answer : Evaluation → ℕ → State) (d : Netlist) (traces : List (L
   supplied_all [] h = tt
   supplied_all (c ∷ inputs) h =
       let rest = list_all (λ c. is_ready d f (input_of d c)) inputs in
-      supplied_more (input_of d c) (map (input_of d) inputs) (first_of_both (is_ready d f (input_of d c)) rest h)
-      (supplied_all inputs (second_of_both (is_ready d f (input_of d c)) rest h))
+      supplied_more (input_of d c) (map (input_of d) inputs) ((and_parts (is_ready d f (input_of d c)) rest h).0)
+      (supplied_all inputs ((and_parts (is_ready d f (input_of d c)) rest h).1))
 
   supplied_by : (q : Option GateEntry) → option_map_or (λ g. list_all (λ c. is_ready d f (input_of d c)) g.inputs) q false ≡ true → IfSome (option_map (cell_of d) q) (λ cell. AreSupplied answer d traces cell.inputs)
   supplied_by None h = absurd (cc)
@@ -55,21 +54,9 @@ module _ (answer : Evaluation → ℕ → State) (d : Netlist) (traces : List (L
   pub supplied : (cells : List CellRecord) → cells ≡ map (cell_of d) d.gates → (k : ℕ) → may_come d f k ≡ true → IfSome (slice_get cells k) (λ (cell : CellRecord). AreSupplied answer d traces cell.inputs)
   supplied cells are k h =
       let at : slice_get cells k ≡ option_map (cell_of d) (slice_get d.gates k) = ap (λ l. slice_get l k) are ∙ slice_get-map (cell_of d) d.gates k in
-      rw at (supplied_by (slice_get d.gates k) (second_of_both _ (option_map_or (λ g. list_all (λ c. is_ready d f (input_of d c)) g.inputs) (slice_get d.gates k) false) h))
+      rw at (supplied_by (slice_get d.gates k) ((and_parts _ (option_map_or (λ g. list_all (λ c. is_ready d f (input_of d c)) g.inputs) (slice_get d.gates k) false) h).1))
 
 -- Elements that are written.
-
-pub set_here : {X : Type 0} (xs : List X) (p : ℕ) (x : X) → p < length xs → slice_get (set xs p x) p ≡ Some x
-set_here [] p x h = absurd (omega arith)
-set_here (w ∷ xs) zero x h = refl
-set_here (w ∷ xs) (suc p) x h = set_here xs p x (omega arith)
-
-pub set_apart : {X : Type 0} (xs : List X) (p k : ℕ) (x : X) → nat_eq k p ≡ false → slice_get (set xs p x) k ≡ slice_get xs k
-set_apart [] p k x h = refl
-set_apart (w ∷ xs) zero zero x h = absurd (let e = nat_itself 0 in cc)
-set_apart (w ∷ xs) zero (suc k) x h = refl
-set_apart (w ∷ xs) (suc p) zero x h = refl
-set_apart (w ∷ xs) (suc p) (suc k) x h = set_apart xs p k x (grind (arith, nat_tests))
 
 module _ (answer : Evaluation → ℕ → State) (d : Netlist) (traces new : List (List (ℕ × State))) (k : ℕ) (many : length traces ≡ length d.gates) (within : k < length d.gates) where
   module _ (is : IfSome (slice_get d.gates k) (λ g. new ≡ set traces k (trace_of answer d g))) where
@@ -78,7 +65,7 @@ module _ (answer : Evaluation → ℕ → State) (d : Netlist) (traces new : Lis
       where
         by : (o : Option GateEntry) → slice_get d.gates k ≡ o → IfSome o (λ g. new ≡ set traces k (trace_of answer d g)) →
             (g : GateEntry) × (slice_get d.gates k ≡ Some g) × (new ≡ set traces k (trace_of answer d g))
-        by None at is = absurd (let x = there d.gates k within in let e = x.1 in cc)
+        by None at is = absurd (let x = slice_get_some d.gates k within in let e = x.1 in cc)
         by (Some g) at is = (g, at, is)
 
     pub new_traced : IsTraced answer d new k
@@ -107,20 +94,13 @@ module _ (answer : Evaluation → ℕ → State) (d : Netlist) (traces new : Lis
             or_off true b h = refl
             or_off false b h = h
 
--- Lists that have the same at each place are the same.
-alike : {X : Type 0} (xs ys : List X) → ((k : ℕ) → slice_get xs k ≡ slice_get ys k) → xs ≡ ys
-alike [] [] h = refl
-alike [] (y ∷ ys) h = absurd (let e = h 0 in cc)
-alike (x ∷ xs) [] h = absurd (let e = h 0 in cc)
-alike (x ∷ xs) (y ∷ ys) h = let one = h 0 in let rest = alike xs ys (λ k. h (suc k)) in cc
-
 -- where the gates of an order are traced, all are
 pub all_traced : (answer : Evaluation → ℕ → State) (d : Netlist) (traces : List (List (ℕ × State))) (order : List ℕ) → is_order d order ≡ true → length traces ≡ length d.gates →
     ((p : ℕ) → has p order ≡ true → IsTraced answer d traces p) → traces ≡ map (trace_of answer d) d.gates
 all_traced answer d traces order ordered many come = alike traces (map (trace_of answer d) d.gates) (λ k. by k (cases_lt k (length d.gates)))
   where
     among : list_all (λ k. has k order) (moments (length d.gates)) ≡ true
-    among = second_of_both (may_follow d [] order) (list_all (λ k. has k order) (moments (length d.gates))) ordered
+    among = (and_parts (may_follow d [] order) (list_all (λ k. has k order) (moments (length d.gates))) ordered).1
 
     by : (k : ℕ) → (k < length d.gates) ⊎ (length d.gates ≤ k) → IsTraced answer d traces k
     by k (inl low) = come k (all_below (λ k. has k order) (length d.gates) among k low)
@@ -129,35 +109,8 @@ all_traced answer d traces order ordered many come = alike traces (map (trace_of
         let beyond : length (map (trace_of answer d) d.gates) ≤ k = rw (length-map d.gates (trace_of answer d)) high in
         slice_get_past traces k past ∙ sym (slice_get_past (map (trace_of answer d) d.gates) k beyond)
 
-pub none_found : (n m : ℕ) → slice_get (replicate n false) m ≡ Some true → ⊥
-none_found zero m h = cc
-none_found (suc n) zero h = cc
-none_found (suc n) (suc m) h = none_found n m h
-
--- all of a list is a beginning of it
-pub whole_begins : {A : Type 0} (xs : List A) → IsBeginning xs xs
-whole_begins xs = ([], sym (append-nil xs))
-
-pub none_begins : {A : Type 0} (xs : List A) → IsBeginning [] xs
-none_begins xs = (xs, refl)
-
 -- What follows from the answer of a call.
-
-pub of_there : {X : Type 0} (o : Option X) (x : X) (P : X → Type 0) → o ≡ Some x → IfSome o P → P x
-of_there None x P e p = cc
-of_there (Some y) x P e p = let same : y ≡ x = cc in subst P same p
-
-pub if_there : {X : Type 0} (o : Option X) (x : X) (P : X → Type 0) → o ≡ Some x → P x → IfSome o P
-if_there o x P e p = rw e p
 
 pub on_ok : {A E : Type 0} {P : Type 0} (r : Result A E) → P → OnOk r P
 on_ok (Ok x) p = p
 on_ok (Err e) p = tt
-
-pub ok_on : {A E : Type 0} {P Q : Type 0} (r : Result A E) → (P → Q) → OnOk r P → OnOk r Q
-ok_on (Ok x) follows p = follows p
-ok_on (Err e) follows p = p
-
-pub err_on : {A E : Type 0} {P Q : Type 0} (r : Result A E) → (P → Q) → OnErr r P → OnErr r Q
-err_on (Ok x) follows p = p
-err_on (Err e) follows p = follows p

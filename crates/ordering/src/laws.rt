@@ -22,7 +22,7 @@ pub fn work_by_gates<S: Stepper>()
 
 /// The work of the gates in an order is that of the run in another one, also of a run that goes on from a moment; and from
 /// moment 0 on it is that of the whole run.
-#[tactic(auto, using(crate::proofs::Orders::work_ordered, crate::proofs::Columns::all_from))]
+#[tactic(auto, using(crate::proofs::Orders::work_ordered, crate::proofs::Columns::all_from_first))]
 pub fn work_in_order<S: Stepper>()
     ensures from { (d : Netlist) (order : List ℕ) → is_order d order ≡ true → (a n : ℕ)
         → IsPermutation (work_from S.answer d a n) (order_work_from S.answer d None a n order) }

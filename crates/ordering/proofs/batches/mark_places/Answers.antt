@@ -1,16 +1,12 @@
 use Rattle.std.proofs.Common.{◌≡◌, ◌<◌, ◌+◌, ◌⊎◌, ◌∙◌, inl, inr, sym, ap, Bool, true, false, ℕ, refl, take, get_or, length, arith, ⊎_elim}
 use Rattle.std.specs.Prelude.{nat_eq, ◌||◌}
 use Rattle.std.proofs.Math.ListN.{length-set}
-use Rattle.std.proofs.lemmas.Bool.{or_right}
+use Rattle.std.proofs.lemmas.Bool.{or_right, or_left}
 use Rattle.scratch.specs.kept.Places.{has}
 use Rattle.scratch.proofs.Among.{has_next}
 use Rattle.ordering.specs.kept.Order.{is_marked}
 use Rattle.ordering.proofs.Marks.{mark}
 use Rattle.ordering.proofs.batches.mark_places.Goals as goal
-
-or_left : (a b : Bool) → a ≡ true → (a || b) ≡ true
-or_left true b h = refl
-or_left false b h = absurd (cc)
 
 pub loop-place-preserved : goal.loop-place-preserved
 loop-place-preserved c =

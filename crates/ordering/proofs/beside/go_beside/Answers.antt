@@ -1,9 +1,9 @@
 use Rattle.std.proofs.Common.{◌≡◌, refl, subst}
+use Rattle.std.proofs.lemmas.Result.{on_ok_weaker, on_err_weaker}
 use Rattle.design.specs.Keys.{netlist}
 use Rattle.ordering.specs.kept.Earlier.{begin_after}
 use Rattle.ordering.specs.kept.OldRuns.{IsOldRun}
 use Rattle.ordering.proofs.Besides.{beside_all, beside_part, is_old_run}
-use Rattle.ordering.proofs.Supplied.{err_on, ok_on}
 use Rattle.ordering.proofs.beside.go_beside.Goals as goal
 
 pub run_in_order-requires-clause-begin : goal.run_in_order-requires-clause-begin
@@ -21,7 +21,7 @@ returns-clause-asked g c =
     let answer = g.S.Stepper.answer in let old = netlist c.args.former.now.old.now in let new = netlist c.args.former.now.new.now in let run = c.args.old.now in
     let law = c.dirty_by_lines.ensures in let states = law.states old new run c.lawful.ensures.design c.requires.old in let inputs = law.inputs old new run c.lawful-2.ensures.design c.requires.old in
     let whole = law.trace old new run c.lawful.ensures.design c.requires.old in
-    ok_on c.run_in_order.result
+    on_ok_weaker c.run_in_order.result
     (beside_all answer old new run c.requires.old c.requires.horizon states inputs whole (law.dirty old new) c.args.old refl (begin_after c.args.earlier) c.args.order.now c.requires.order
     (g.S.Stepper.asked c.args.stepper.now) (g.S.Stepper.asked c.run_in_order.new.stepper))
     c.run_in_order.ensures.asked
@@ -31,7 +31,7 @@ returns-clause-part g c =
     let answer = g.S.Stepper.answer in let old = netlist c.args.former.now.old.now in let new = netlist c.args.former.now.new.now in let run = c.args.old.now in
     let law = c.dirty_by_lines.ensures in let states = law.states old new run c.lawful.ensures.design c.requires.old in let inputs = law.inputs old new run c.lawful-2.ensures.design c.requires.old in
     let whole = law.trace old new run c.lawful.ensures.design c.requires.old in
-    err_on c.run_in_order.result
+    on_err_weaker c.run_in_order.result
     (beside_part answer old new run c.requires.old c.requires.horizon states inputs whole (law.dirty old new) c.args.old refl (begin_after c.args.earlier) c.args.order.now c.requires.order
     (g.S.Stepper.asked c.args.stepper.now) (g.S.Stepper.asked c.run_in_order.new.stepper))
     c.run_in_order.ensures.part

@@ -1,8 +1,8 @@
-use Rattle.std.proofs.Common.{◌≡◌, ◌++◌, ◌∙◌, ap, sym, subst, suc, List, ℕ}
+use Rattle.std.proofs.Common.{◌++◌, ◌∙◌, ap, sym, subst, suc}
 use Rattle.std.specs.Prelude.{All}
 use Rattle.std.specs.List.{AllZip, flat_map}
+use Rattle.std.proofs.lemmas.Result.{on_ok_weaker, on_err_weaker}
 use Rattle.gatestep.specs.Jobs.{IsPart}
-use Rattle.gatestep.specs.Step.{Evaluation}
 use Rattle.design.specs.Keys.{netlist}
 use Rattle.gateline.proofs.Lists.{if_ok_then}
 use Rattle.scratch.specs.kept.Grown.{grown_none}
@@ -11,7 +11,6 @@ use Rattle.ordering.specs.kept.Jobs.{IsGateJob, IsJobFollowed, job_work}
 use Rattle.ordering.specs.kept.Order.{order_work_from}
 use Rattle.ordering.proofs.Jobs.{jobs_ready, jobs_followed, jobs_work}
 use Rattle.gatestep.proofs.Jobs.{on_err}
-use Rattle.ordering.proofs.Supplied.{err_on, ok_on}
 use Rattle.ordering.proofs.dealing.follow_jobs.Goals as goal
 
 pub returns-in_err-jobs-clause-part : goal.returns-in_err-jobs-clause-part
@@ -37,7 +36,7 @@ returns-clause-followed g c =
 pub returns-clause-asked : goal.returns-clause-asked
 returns-clause-asked g c =
     let answer = g.S.Stepper.answer in let jobs = c.in_ok-jobs.jobs.items in let old = g.S.Stepper.asked c.args.stepper.now in
-    ok_on c.run_jobs.result
+    on_ok_weaker c.run_jobs.result
     (λ e. e ∙ ap (λ l. old ++ flat_map (job_work answer) l) c.as_slice.ensures.value
     ∙ ap (λ l. old ++ l) (jobs_work answer c.args.design.now c.args.wiring.now c.args.begin c.args.lines.now c.args.places.now jobs c.in_ok-jobs.ensures))
     c.run_jobs.ensures.asked
@@ -45,7 +44,7 @@ returns-clause-asked g c =
 pub returns-clause-part : goal.returns-clause-part
 returns-clause-part g c =
     let answer = g.S.Stepper.answer in let jobs = c.in_ok-jobs.jobs.items in
-    err_on c.run_jobs.result
+    on_err_weaker c.run_jobs.result
     (λ part. (
       part.0,
       subst (λ l. IsPart part.0 l)

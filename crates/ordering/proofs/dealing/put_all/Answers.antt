@@ -2,11 +2,11 @@ use Rattle.std.proofs.Common.{◌≡◌, ◌<◌, ◌≤◌, ◌+◌, ◌++◌, 
 use Rattle.std.proofs.lemmas.Bool.{cases_lt}
 use Rattle.std.proofs.lemmas.Grind.{common_steps}
 use Rattle.std.proofs.lemmas.Option.{get_or_from_slice_get, slice_get_read, slice_get_within}
+use Rattle.std.proofs.lemmas.List.{get_or_default}
 use Rattle.design.specs.Keys.{netlist}
 use Rattle.gateline.specs.kept.Known.{IsTraced}
 use Rattle.scratch.proofs.Among.{has_at}
 use Rattle.ordering.specs.kept.Jobs.{IsFollowed}
-use Rattle.ordering.proofs.Batching.{same_read}
 use Rattle.ordering.proofs.Jobs.{last_of_first, zip_at, zip_length}
 use Rattle.ordering.proofs.dealing.put_all.Goals as goal
 
@@ -50,7 +50,7 @@ put_one-requires-clause-followed g c =
     let within : length left < length found = slice_get_within found (length left) trace at in
     let same : length left ≡ n = grind (arith, common_steps) in
     let low : n < length places = omega arith in
-    let here : slice_get places n ≡ Some k = slice_get_read places (length places) n k refl low (same_read places n 0 k low) in
+    let here : slice_get places n ≡ Some k = slice_get_read places (length places) n k refl low (get_or_default places n 0 k low) in
     zip_at (IsFollowed answer d) places found n k trace c.requires.followed here (subst (λ m. slice_get found m ≡ Some trace) same at)
 
 pub loop-followed-preserved : goal.loop-followed-preserved

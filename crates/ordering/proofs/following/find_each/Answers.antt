@@ -1,15 +1,15 @@
-use Rattle.std.proofs.Common.{◌≡◌, ◌<◌, ◌≤◌, ◌+◌, ◌∙◌, sym, ap, subst, ℕ, Some, IfSome, length, get_or, slice_get, refl, arith, ⊎_elim}
+use Rattle.std.proofs.Common.{◌≡◌, ◌<◌, ◌≤◌, ◌∙◌, sym, ap, subst, Some, IfSome, length, get_or, slice_get, refl, arith, ⊎_elim}
 use Rattle.std.specs.List.{slice_index_or}
 use Rattle.std.proofs.lemmas.Bool.{cases_lt}
-use Rattle.std.proofs.lemmas.List.{length-map}
+use Rattle.std.proofs.lemmas.List.{length-map, get_or_default}
 use Rattle.std.proofs.lemmas.Option.{slice_get_read}
 use Rattle.design.specs.Keys.{netlist}
 use Rattle.gateline.specs.kept.Known.{AreKnown, AreMarked}
 use Rattle.gateline.proofs.Marks.{all_known, keep_all}
 use Rattle.scratch.specs.kept.Cells.{CellRecord}
 use Rattle.scratch.specs.kept.Kept.{cell_of}
-use Rattle.ordering.proofs.Batching.{if_more, same_read}
-use Rattle.ordering.proofs.Supplied.{if_there}
+use Rattle.scratch.proofs.Lists.{if_there}
+use Rattle.ordering.proofs.Batching.{if_more}
 use Rattle.ordering.proofs.following.find_each.Goals as goal
 
 pub loop-place-preserved : goal.loop-place-preserved
@@ -48,5 +48,5 @@ returns-clause-fed g c =
       known =
           if_more (slice_get cells (slice_index_or places j other)) (λ (cell : CellRecord). AreMarked lines.found.items cell.inputs) (λ (cell : CellRecord). AreKnown answer d lines.waves.items cell.inputs)
           (λ cell. all_known answer d lines.found.items lines.waves.items c.loop-place.invariant.found c.loop-place.invariant.fit.marks c.loop-place.invariant.fit.waves cell.inputs)
-          (subst (λ k. IfSome (slice_get cells k) (λ (cell : CellRecord). AreMarked lines.found.items cell.inputs)) (same_read places j 0 other low) (c.loop-place.invariant.marked j within));
+          (subst (λ k. IfSome (slice_get cells k) (λ (cell : CellRecord). AreMarked lines.found.items cell.inputs)) (get_or_default places j 0 other low) (c.loop-place.invariant.marked j within));
     }
