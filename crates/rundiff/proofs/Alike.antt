@@ -1,5 +1,5 @@
 -- Names that are live, where more places are.
-use Rattle.std.proofs.Common.{◌≡◌, ℕ, ◌∙◌, sym, Bool, true, false, List, Option, Some, None, inl, inr, refl}
+use Rattle.std.proofs.Common.{◌≡◌, ℕ, Bool, true, false, List, Option, Some, None, inl, inr, refl}
 use Rattle.std.specs.Prelude.{◌||◌}
 use Rattle.std.specs.List.{position_from}
 use Rattle.std.specs.Option.{option_map_or}
@@ -9,6 +9,7 @@ use Rattle.design.specs.Names.{same_name}
 use Rattle.design.specs.Netlist.{Netlist}
 use Rattle.rundiff.specs.kept.Fronts.{IsAlike}
 use Rattle.rundiff.specs.kept.Places.{gate_at, is_live}
+use Rattle.rundiff.proofs.Lists.{not_so}
 
 live_by : (f g : ℕ → Bool) → ((p : ℕ) → f p ≡ true → g p ≡ true) → (o : Option ℕ) → option_map_or f o false ≡ true → option_map_or g o false ≡ true
 live_by f g more None on = on
@@ -18,11 +19,7 @@ pub live_grows : (d : Netlist) (f g : ℕ → Bool) → ((p : ℕ) → f p ≡ t
 live_grows d f g more name on = live_by f g more (position_from (λ n. same_name n.name name) 0 d.nets) on
 
 pub off_shrinks : (d : Netlist) (f g : ℕ → Bool) → ((p : ℕ) → f p ≡ true → g p ≡ true) → (name : List ℕ) → is_live d g name ≡ false → is_live d f name ≡ false
-off_shrinks d f g more name off =
-    elim (is_live d f name) as (λ b. is_live d f name ≡ b → b ≡ false) [
-      | true ↦ λ on. sym (live_grows d f g more name on) ∙ off
-      | false ↦ λ no. refl
-    ] refl
+off_shrinks d f g more name off = not_so (is_live d f name) (is_live d g name) (live_grows d f g more name) off
 
 pub alike_grows : (answer : Evaluation → ℕ → State) (old new : Netlist) (f g : ℕ → Bool) (t p : ℕ) → ((p : ℕ) → f p ≡ true → g p ≡ true) → IsAlike answer old new f t p → IsAlike answer old new g t p
 alike_grows answer old new f g t p more (inl same) = inl same

@@ -18,6 +18,7 @@ use Rattle.rundiff.specs.kept.Places.{blank_gate, gate_at, is_among}
 use Rattle.rundiff.proofs.Filtering.{passing}
 use Rattle.rundiff.proofs.OneGate.{rests}
 use Rattle.rundiff.proofs.Resting.{rests_on, own_more}
+use Rattle.rundiff.proofs.Lists.{not_so}
 
 -- `waveform::laws::no_change_by_drift`
 abbrev pub NoChangeByDrift : {A : Type 0} → (A → A → Bool) → (A → ℕ → A) → Type 0
@@ -41,11 +42,7 @@ module _ (answer : Evaluation → ℕ → State) (old new : Netlist)
 
 -- what is not held is not chosen
 pub not_chosen : (held : ℕ → Bool) (chosen : List ℕ) → ((p : ℕ) → is_among chosen p ≡ true → held p ≡ true) → (p : ℕ) → held p ≡ false → is_among chosen p ≡ false
-not_chosen held chosen of p free =
-    elim (is_among chosen p) as (λ b. is_among chosen p ≡ b → b ≡ false) [
-      | true ↦ λ among. let no : true ≡ false = sym (of p among) ∙ free in absurd (cc)
-      | false ↦ λ off. refl
-    ] refl
+not_chosen held chosen of p free = not_so (is_among chosen p) (held p) (of p) free
 
 module _ (answer : Evaluation → ℕ → State) (old new : Netlist) (t : ℕ) (held : ℕ → Bool) (chosen : List ℕ)
     (gates : (p : ℕ) → held p ≡ true → p < length new.gates)

@@ -34,6 +34,7 @@ use Rattle.rundiff.proofs.ByPlace.{live_at}
 use Rattle.rundiff.proofs.Known.{known_gate}
 use Rattle.rundiff.proofs.NamedLines.{keeps_none}
 use Rattle.rundiff.proofs.ReaderKeys.{placed}
+use Rattle.rundiff.proofs.Lists.{not_so}
 
 -- `waveform::laws::same_changes`
 abbrev pub SameChanges : {A : Type 0} → (A → A → Bool) → (A → ℕ → A) → Type 0
@@ -76,11 +77,7 @@ module _ (answer : Evaluation → ℕ → State) (old new : Keyed) (old_is : IsD
     (live held : ℕ → Bool) (drivers : AreDrivers (netlist new) live held) (more : (p : ℕ) → live_in front p ≡ true → live p ≡ true) (covers : (p : ℕ) → is_among places p ≡ true → live p ≡ true)
     (no_waves : (p : ℕ) → p < length (netlist new).nets → live p ≡ false → kept_at front.waves p ≡ None) (no_traces : (q : ℕ) → q < length (netlist new).gates → held q ≡ false → kept_at front.traces q ≡ None) where
   not_before : (p : ℕ) → live p ≡ false → live_in front p ≡ false
-  not_before p off =
-      elim (live_in front p) as (λ b. live_in front p ≡ b → b ≡ false) [
-        | true ↦ λ on. sym (more p on) ∙ off
-        | false ↦ λ no. refl
-      ] refl
+  not_before p off = not_so (live_in front p) (live p) (more p) off
 
   -- a net that is not live has the wave of the old run
   wave_same : SameChanges same_value standing → (p : ℕ) → p < length (netlist new).nets → live p ≡ false → wave_of answer (netlist old) (net_at (netlist new) p) ≡ wave_of answer (netlist new) (net_at (netlist new) p)

@@ -7,6 +7,7 @@ use Rattle.std.specs.Option.{option_map, option_map_or}
 use Rattle.std.proofs.lemmas.List.Elements.{All-filter}
 use Rattle.std.proofs.lemmas.Bool.{eqb-true, or_right, or_left, false_from_ne_true}
 use Rattle.std.proofs.lemmas.List.{get_or_default}
+use Rattle.std.proofs.lemmas.Option.{same_Some}
 use Rattle.fourstate.specs.kept.DelayLaws.{delays_itself}
 use Rattle.fourstate.specs.kept.GateLaws.{kind_itself}
 use Rattle.fourstate.specs.kept.ValueLaws.{same_self}
@@ -44,10 +45,7 @@ gate_itself g = rw (same_self_name g.name, kind_itself g.kind, delays_itself g.d
 
 some_mapped : {X Y : Type 0} (f : X → Y) (o : Option X) (y : Y) → Some y ≡ option_map f o → (x : X) × (o ≡ Some x) × (y ≡ f x)
 some_mapped f None y is = absurd (let no : ◌≡◌ {A = Option _} (Some y) None = is in cc)
-some_mapped f (Some x) y is = (x, refl, injective y (f x) is)
-  where
-    injective : {Z : Type 0} (a b : Z) → Some a ≡ Some b → a ≡ b
-    injective a b e = cc
+some_mapped f (Some x) y is = (x, refl, same_Some y (f x) is)
 
 -- a record under a key is one of the records
 any_record : {X Y : Type 0} (f : X → Y) (test : Y → Bool) (es : List (ℕ × X)) (key : ℕ) (x : X) → record_at es key ≡ Some x → test (f x) ≡ true → list_any test (map (λ (p : ℕ × Y). p.1) (map (λ e. (e.0, f e.1)) es)) ≡ true

@@ -6,7 +6,7 @@ use Rattle.std.specs.List.{find, list_any}
 use Rattle.std.specs.Option.{option_map}
 use Rattle.std.proofs.lemmas.List.Elements.{All-head, All-tail}
 use Rattle.std.proofs.Math.Bool.{or-false, and-false}
-use Rattle.std.proofs.lemmas.Bool.{and_parts, not-false}
+use Rattle.std.proofs.lemmas.Bool.{and_parts, not-false, false_from_ne_true}
 use Rattle.fourstate.specs.kept.DelayLaws.{same_delays_equal}
 use Rattle.fourstate.specs.Delays.{same_delays}
 use Rattle.fourstate.specs.kept.GateLaws.{same_kind_equal}
@@ -96,18 +96,10 @@ module _ (d : Netlist) (is : IsDesign d) (g : GateEntry) where
   named_same h same = ap (λ (x : GateEntry). at_name x) (sym (same_gate_equal g h same)) ∙ same_self_name g.name
 
   apart_by : (a b : GateEntry) → a.name ≢ b.name → at_name a ≡ true → at_name b ≡ false
-  apart_by a b apart on =
-      elim (at_name b) as (λ t. at_name b ≡ t → t ≡ false) [
-        | true ↦ λ too. absurd (apart (name_is a.name g.name on ∙ sym (name_is b.name g.name too)))
-        | false ↦ λ off. refl
-      ] refl
+  apart_by a b apart on = false_from_ne_true (at_name b) (λ too. apart (name_is a.name g.name on ∙ sym (name_is b.name g.name too)))
 
   apart_back : (a b : GateEntry) → a.name ≢ b.name → at_name b ≡ true → at_name a ≡ false
-  apart_back a b apart on =
-      elim (at_name a) as (λ t. at_name a ≡ t → t ≡ false) [
-        | true ↦ λ too. absurd (apart (name_is a.name g.name too ∙ sym (name_is b.name g.name on)))
-        | false ↦ λ off. refl
-      ] refl
+  apart_back a b apart on = false_from_ne_true (at_name a) (λ too. apart (name_is a.name g.name too ∙ sym (name_is b.name g.name on)))
 
   -- a gate whose name no gate has is new
   pub unnamed_new : gate_named d g.name ≡ None → is_new d g ≡ true

@@ -4,7 +4,7 @@ use Rattle.std.specs.Prelude.{slice_index_or, nat_eq, ◌==◌, ◌||◌, ◌&&�
 use Rattle.std.specs.List.{list_any}
 use Rattle.std.proofs.lemmas.Bool.Decides.{nat_tests}
 use Rattle.std.proofs.lemmas.List.Elements.{All-cons, All-nil}
-use Rattle.std.proofs.lemmas.Bool.{or_left, or_right, eqb-true, and_from, and_parts}
+use Rattle.std.proofs.lemmas.Bool.{or_left, or_right, eqb-true, and_from, and_parts, false_from_ne_true}
 use Rattle.std.proofs.Math.Bool.{or-false}
 use Rattle.std.proofs.lemmas.List.{get_or_default}
 use Rattle.fourstate.specs.declared.value.Value.{Value}
@@ -120,12 +120,9 @@ module _ (answer : Evaluation → ℕ → State) (old new : Netlist) (is : IsDes
 
   other_output : (r : ℕ) → r < length new.gates → (r == q) ≡ false → same_name (gate_at new r).output name ≡ false
   other_output r within apart =
-      elim (same_name (gate_at new r).output name) as (λ b. same_name (gate_at new r).output name ≡ b → b ≡ false) [
-        | true ↦ λ same.
-            let e : r ≡ q = only r within (name_is (gate_at new r).output name same) in
-            let no : true ≡ false = sym (nat_itself q) ∙ ap (λ (k : ℕ). k == q) (sym e) ∙ apart in absurd (cc)
-        | false ↦ λ off. refl
-      ] refl
+      false_from_ne_true (same_name (gate_at new r).output name) (λ same.
+      let e : r ≡ q = only r within (name_is (gate_at new r).output name same) in
+      let no : true ≡ false = sym (nat_itself q) ∙ ap (λ (k : ℕ). k == q) (sym e) ∙ apart in cc)
 
   drivers_now : AreDrivers new later kept
   drivers_now =

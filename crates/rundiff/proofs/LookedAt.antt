@@ -1,7 +1,7 @@
 -- What holds of live nets and held gates at a moment, whether they are looked at or not.
 use Rattle.std.proofs.Common.{◌≡◌, ℕ, zero, suc, ◌∙◌, sym, refl, Bool, true, false, List, Option, ◌⊎◌, inl, inr, arith, not}
 use Rattle.std.specs.Prelude.{◌&&◌}
-use Rattle.std.proofs.lemmas.Bool.{and_parts}
+use Rattle.std.proofs.lemmas.Bool.{and_parts, not-true}
 use Rattle.fourstate.specs.declared.value.Value.{Value}
 use Rattle.fourstate.specs.Values.{same_value}
 use Rattle.gatestep.specs.Step.{State, Evaluation, due}
@@ -74,7 +74,7 @@ pub passed_by : (held kept marked all_marked chosen : ℕ → Bool) (events inpu
     (q : ℕ) → (kept q && not (chosen q)) ≡ true → IsPassed held marked events inputs q
 passed_by held kept marked all_marked chosen events inputs by_event more fresh by_mark by_input q on =
     let parts = and_parts (kept q) (not (chosen q)) on in
-    let off : chosen q ≡ false = unchosen (chosen q) parts.1 in
+    let off : chosen q ≡ false = not-true (chosen q) parts.1 in
     let none : all_marked q ≡ false = not_so (all_marked q) (chosen q) (by_mark q parts.0) off in
     let unmarked : marked q ≡ false = not_so (marked q) (all_marked q) (more q) none in
     let before : held q ≡ true = was (held q) (all_marked q) (fresh q parts.0) none in
@@ -85,10 +85,6 @@ passed_by held kept marked all_marked chosen events inputs by_event more fresh b
       no_mark = unmarked;
     }
   where
-    unchosen : (b : Bool) → not b ≡ true → b ≡ false
-    unchosen true h = absurd (cc)
-    unchosen false h = refl
-
     was : (a b : Bool) → (a ≡ false → b ≡ true) → b ≡ false → a ≡ true
     was true b says off = refl
     was false b says off = sym off ∙ says refl

@@ -1,5 +1,5 @@
 -- What holds once the nets of a moment are done.
-use Rattle.std.proofs.Common.{◌≡◌, ℕ, suc, ◌<◌, ◌≤◌, ◌∙◌, ap, sym, refl, subst, Bool, true, false, length, All, Option, ◌⊎◌, inl, inr}
+use Rattle.std.proofs.Common.{◌≡◌, ℕ, suc, ◌<◌, ◌≤◌, ◌∙◌, ap, sym, subst, Bool, true, false, length, All, Option, ◌⊎◌, inl, inr}
 use Rattle.std.proofs.lemmas.List.{get_or_default}
 use Rattle.fourstate.specs.declared.value.Value.{Value}
 use Rattle.fourstate.specs.Values.{same_value}
@@ -19,6 +19,7 @@ use Rattle.rundiff.proofs.ByPlace.{live_at}
 use Rattle.rundiff.proofs.Resting.{free_more}
 use Rattle.rundiff.proofs.Settling.{not_dirty, settled, still_closed, untouched_same}
 use Rattle.rundiff.proofs.Wired.{inputs_there}
+use Rattle.rundiff.proofs.Lists.{not_so}
 
 module _ (answer : Evaluation → ℕ → State) (old new : Netlist) (is : IsDesign new) (t : ℕ) (within : t ≤ old.horizon) (live later : ℕ → Bool)
     (grows : (p : ℕ) → live p ≡ true → later p ≡ true) (closed : IsClosed old new (is_live new live)) (agrees : Agrees answer old new (is_live new live) t)
@@ -62,9 +63,5 @@ module _ (answer : Evaluation → ℕ → State) (old new : Netlist) (is : IsDes
   -- a gate that is not held now was not held before
   pub free_before : (held kept : ℕ → Bool) → AreDrivers new live held → AreDrivers new later kept → (p : ℕ) → kept p ≡ false → held p ≡ false
   free_before held kept before now p free =
-      elim (held p) as (λ b. held p ≡ b → b ≡ false) [
-        | true ↦ λ on.
-            let low = before.gates p on in
-            let no : true ≡ false = sym (live_grows new live later grows (gate_at new p).output (sym (before.drivers p low) ∙ on)) ∙ sym (now.drivers p low) ∙ free in absurd (cc)
-        | false ↦ λ off. refl
-      ] refl
+      not_so (held p) (kept p)
+      (λ on. let low = before.gates p on in now.drivers p low ∙ live_grows new live later grows (gate_at new p).output (sym (before.drivers p low) ∙ on)) free

@@ -1,13 +1,12 @@
 -- What is noted for places, one place more.
-use Rattle.std.proofs.Common.{◌≡◌, ℕ, zero, suc, ◌+◌, ◌<◌, ◌∙◌, ap, sym, refl, subst, List, [], ◌∷◌, Bool, true, false, map, take, Some}
+use Rattle.std.proofs.Common.{◌≡◌, ℕ, zero, suc, ◌+◌, ◌<◌, ◌∙◌, ap, List, [], ◌∷◌, Bool, true, map, take, Some}
 use Rattle.std.specs.Prelude.{nat_eq, slice_get}
 use Rattle.std.proofs.lemmas.Bool.{eqb-true}
 use Rattle.rundiff.specs.kept.Places.{is_among}
 use Rattle.scratch.specs.kept.Places.{IsNotedWithin, Keeps, has}
-use Rattle.scratch.proofs.Driven.{earlier}
 use Rattle.scratch.proofs.Among.{nat_itself}
 use Rattle.scratch.proofs.Notes.{within_on}
-use Rattle.rundiff.proofs.Steps.{among_more}
+use Rattle.rundiff.proofs.Steps.{each_more}
 
 -- an element of a list that is mapped
 pub mapped_at : {X Y : Type 0} (f : X → Y) (xs : List X) (ys : List Y) (i : ℕ) (x : X) (y : Y) → ys ≡ map f xs → slice_get xs i ≡ Some x → slice_get ys i ≡ Some y → y ≡ f x
@@ -20,25 +19,17 @@ module _ (wanted : ℕ → ℕ → Bool) where
   module _ (xs : List ℕ) (i x : ℕ) (at : slice_get xs i ≡ Some x) (old new : ℕ → List ℕ) (keeps : Keeps old new)
       (so_far : (p u : ℕ) → is_among (take i xs) p ≡ true → wanted p u ≡ true → has p (old u) ≡ true)
       (here : (u : ℕ) → wanted x u ≡ true → has x (new u) ≡ true) where
-    event_by : (p u : ℕ) (b : Bool) → nat_eq x p ≡ b → is_among (take (i + 1) xs) p ≡ true → wanted p u ≡ true → has p (new u) ≡ true
-    event_by p u true same among h = let e = eqb-true x p same in subst (λ (q : ℕ). wanted q u ≡ true → has q (new u) ≡ true) e (here u) h
-    event_by p u false apart among h = keeps p u (so_far p u (earlier (is_among (take i xs) p) (nat_eq x p) (sym (among_more xs i x p at) ∙ among) apart) h)
-
     -- what is wanted at the moments themselves
     pub more_events : (p u : ℕ) → is_among (take (i + 1) xs) p ≡ true → wanted p u ≡ true → has p (new u) ≡ true
-    more_events p u among h = event_by p u (nat_eq x p) refl among h
+    more_events p u among h = each_more (λ q. wanted q u ≡ true → has q (new u) ≡ true) xs i x at (λ q was apart some. keeps q u (so_far q u was some)) (here u) p among h
 
   module _ (t : ℕ) (xs : List ℕ) (i x : ℕ) (at : slice_get xs i ≡ Some x) (old new : ℕ → List ℕ) (keeps : Keeps old new)
       (so_far : (p u : ℕ) → is_among (take i xs) p ≡ true → t < u → wanted p u ≡ true → IsNotedWithin old p (suc t) u)
       (here : (u : ℕ) → t < u → wanted x u ≡ true → IsNotedWithin new x (suc t) u) where
-    within_by : (p u : ℕ) (b : Bool) → nat_eq x p ≡ b → is_among (take (i + 1) xs) p ≡ true → t < u → wanted p u ≡ true → IsNotedWithin new p (suc t) u
-    within_by p u true same among after h = let e = eqb-true x p same in subst (λ (q : ℕ). wanted q u ≡ true → IsNotedWithin new q (suc t) u) e (here u after) h
-    within_by p u false apart among after h =
-        within_on old new p (suc t) u keeps (so_far p u (earlier (is_among (take i xs) p) (nat_eq x p) (sym (among_more xs i x p at) ∙ among) apart) after h)
-
     -- what is wanted at the moments themselves, or before
     pub more_within : (p u : ℕ) → is_among (take (i + 1) xs) p ≡ true → t < u → wanted p u ≡ true → IsNotedWithin new p (suc t) u
-    more_within p u among after h = within_by p u (nat_eq x p) refl among after h
+    more_within p u among after h =
+        each_more (λ q. wanted q u ≡ true → IsNotedWithin new q (suc t) u) xs i x at (λ q was apart some. within_on old new q (suc t) u keeps (so_far q u was after some)) (here u after) p among h
 
 -- places that are all noted for one moment
 pub more_noted : (xs : List ℕ) (i x : ℕ) → slice_get xs i ≡ Some x → (old new : ℕ → List ℕ) (t : ℕ) → Keeps old new → ((p : ℕ) → is_among (take i xs) p ≡ true → has p (old t) ≡ true) → has x (new t) ≡ true →

@@ -1,14 +1,13 @@
 -- Lines taken away or put, one after another.
-use Rattle.std.proofs.Common.{◌≡◌, ◌≤◌, ◌∙◌, ap, sym, refl, subst, ℕ, ◌+◌, Bool, true, false, cond, List, [], ◌∷◌, Option, Some, Result, Ok, Err, IfOk, arith, take, length, inl, inr}
-use Rattle.std.specs.Prelude.{◌⊎◌, ◌==◌, ◌||◌, nat_eq, slice_get}
+use Rattle.std.proofs.Common.{◌≡◌, ◌≤◌, ◌∙◌, ap, sym, refl, subst, ℕ, ◌+◌, Bool, true, false, cond, List, [], ◌∷◌, Option, Some, Result, Ok, Err, IfOk, take, length, inl, inr}
+use Rattle.std.specs.Prelude.{◌⊎◌, ◌==◌, ◌||◌, slice_get}
 use Rattle.std.proofs.lemmas.Bool.{eqb-true}
-use Rattle.std.proofs.lemmas.Bool.Decides.{nat_tests}
 use Rattle.std.proofs.lemmas.List.{take_all}
 use Rattle.waveform.specs.kept.Tables.{IsChangedAt, line_at}
-use Rattle.scratch.proofs.Driven.{earlier}
+use Rattle.scratch.proofs.Among.{nat_itself}
 use Rattle.rundiff.specs.kept.Finishing.{AreCleared, ArePut}
 use Rattle.rundiff.specs.kept.Places.{is_among}
-use Rattle.rundiff.proofs.Steps.{among_more}
+use Rattle.rundiff.proofs.Steps.{each_more}
 
 pub if_mapped : {A E : Type 0} (r : Result A E) (P Q : A → Type 0) → IfOk r P → ((x : A) → P x → Q x) → IfOk r Q
 if_mapped (Ok x) P Q p follows = follows x p
@@ -39,11 +38,8 @@ module _ {X : Type 0} where
       others = λ k. by_test k (k == key) refl;
     }
       where
-        itself : (k : ℕ) → (k == k) ≡ true
-        itself k = grind (arith, nat_tests)
-
         put_there : (k : ℕ) → k ≡ key → line_at new k ≡ due k
-        put_there k same = changed k ∙ ap (λ (b : Bool). cond b (Some line) (line_at old k)) (ap (λ (n : ℕ). k == n) (sym same) ∙ itself k) ∙ sym is ∙ ap due (sym same)
+        put_there k same = changed k ∙ ap (λ (b : Bool). cond b (Some line) (line_at old k)) (ap (λ (n : ℕ). k == n) (sym same) ∙ nat_itself k) ∙ sym is ∙ ap due (sym same)
 
         by_test : (k : ℕ) (b : Bool) → (k == key) ≡ b → (line_at new k ≡ due k) ⊎ (line_at new k ≡ line_at old k)
         by_test k true same = inl (put_there k (eqb-true k key same))
@@ -52,21 +48,17 @@ module _ {X : Type 0} where
     -- one place more
     pub put_next : (places : List ℕ) (i x : ℕ) (old now new : List (Option X)) → slice_get places i ≡ Some x → ArePut due keys (take i places) old now → ArePut due keys (x ∷ []) now new → ArePut due keys (take (i + 1) places) old new
     put_next places i x old now new at so_far more = record {
-      put = λ p k among found. put_by p k found (nat_eq x p) refl among;
+      put = λ p k among found.
+          each_more (λ q. slice_get keys q ≡ Some k → line_at new k ≡ due k) places i x at (λ q was apart here. kept k (so_far.put q k was here) (more.others k)) (λ here. more.put x k sole_on here) p among found;
       others = λ k. either k (more.others k) (so_far.others k);
     }
       where
-        sole_on : (p : ℕ) → x ≡ p → is_among (x ∷ []) p ≡ true
-        sole_on p e = let on : (x == p) ≡ true = grind (arith, nat_tests) in rw on refl
+        sole_on : is_among (x ∷ []) x ≡ true
+        sole_on = let on = nat_itself x in rw on refl
 
         kept : (k : ℕ) → line_at now k ≡ due k → (line_at new k ≡ due k) ⊎ (line_at new k ≡ line_at now k) → line_at new k ≡ due k
         kept k is (inl e) = e
         kept k is (inr e) = e ∙ is
-
-        put_by : (p k : ℕ) → slice_get keys p ≡ Some k → (b : Bool) → nat_eq x p ≡ b → is_among (take (i + 1) places) p ≡ true → line_at new k ≡ due k
-        put_by p k found true same among = more.put p k (sole_on p (eqb-true x p same)) found
-        put_by p k found false apart among =
-            kept k (so_far.put p k (earlier (is_among (take i places) p) (nat_eq x p) (sym (among_more places i x p at) ∙ among) apart) found) (more.others k)
 
         either : (k : ℕ) → (line_at new k ≡ due k) ⊎ (line_at new k ≡ line_at now k) → (line_at now k ≡ due k) ⊎ (line_at now k ≡ line_at old k) → (line_at new k ≡ due k) ⊎ (line_at new k ≡ line_at old k)
         either k (inl e) before = inl e

@@ -27,16 +27,20 @@ not_yet (w ∷ xs) (suc i) x rising at =
 pub is_one : (xs : List ℕ) (i x : ℕ) → slice_get xs i ≡ Some x → is_among xs x ≡ true
 is_one xs i x at = any_passes_from_place (λ w. w == x) xs i x at (nat_itself x)
 
+-- what holds of the places so far, and of one more, holds of them all
+pub each_more : (P : ℕ → Type 0) (xs : List ℕ) (i x : ℕ) → slice_get xs i ≡ Some x → ((p : ℕ) → is_among (take i xs) p ≡ true → nat_eq x p ≡ false → P p) → P x →
+    (p : ℕ) → is_among (take (i + 1) xs) p ≡ true → P p
+each_more P xs i x at so_far here p among = by (nat_eq x p) refl
+  where
+    by : (b : Bool) → nat_eq x p ≡ b → P p
+    by true same = subst P (eqb-true x p same) here
+    by false apart = so_far p (earlier (is_among (take i xs) p) (nat_eq x p) (sym (among_more xs i x p at) ∙ among) apart) apart
+
 module _ {A : Type 0} (P : ℕ → A → Type 0) (before now later : ℕ → A) (xs : List ℕ) (i x : ℕ) (at : slice_get xs i ≡ Some x)
     (others : (q : ℕ) → nat_eq x q ≡ false → later q ≡ now q) where
-  put_by : (q : ℕ) → (b : Bool) → nat_eq x q ≡ b → is_among (take (i + 1) xs) q ≡ true → (is_among (take i xs) q ≡ true → P q (now q)) → P x (later x) → P q (later q)
-  put_by q true same among so_far here = subst (λ (v : ℕ). P v (later v)) (eqb-true x q same) here
-  put_by q false apart among so_far here =
-      subst (P q) (sym (others q apart)) (so_far (earlier (is_among (take i xs) q) (nat_eq x q) (sym (among_more xs i x q at) ∙ among) apart))
-
   -- what holds of each place that was put
   pub put_more : ((q : ℕ) → is_among (take i xs) q ≡ true → P q (now q)) → P x (later x) → (q : ℕ) → is_among (take (i + 1) xs) q ≡ true → P q (later q)
-  put_more so_far here q among = put_by q (nat_eq x q) refl among (so_far q) here
+  put_more so_far here = each_more (λ q. P q (later q)) xs i x at (λ q was apart. subst (P q) (sym (others q apart)) (so_far q was)) here
 
   -- all others stay
   pub others_more : ((q : ℕ) → is_among (take i xs) q ≡ false → now q ≡ before q) → (q : ℕ) → is_among (take (i + 1) xs) q ≡ false → later q ≡ before q

@@ -1,5 +1,5 @@
 -- What is asked from one moment on.
-use Rattle.std.proofs.Common.{◌≡◌, ◌<◌, ◌≤◌, ◌∙◌, sym, ap, subst, refl, cond, ℕ, zero, suc, ◌+◌, ◌-◌, List, [], ◌++◌, append_assoc, append-nil, arith, inl, inr, Result, Ok, Err, OnErr}
+use Rattle.std.proofs.Common.{◌≡◌, ◌<◌, ◌≤◌, ◌∙◌, sym, ap, subst, refl, cond, ℕ, zero, suc, ◌+◌, ◌-◌, List, [], ◌++◌, append_assoc, append-nil, arith, inl, inr}
 use Rattle.std.specs.Prelude.{nat_le}
 use Rattle.std.proofs.lemmas.List.{append_cancel_left}
 use Rattle.gatestep.specs.Step.{State, Evaluation}
@@ -9,11 +9,6 @@ use Rattle.scratch.specs.Work.{work_at, work_below}
 use Rattle.scratch.specs.kept.Open.{all_below, all_from}
 use Rattle.scratch.specs.kept.Grown.{all_is_part, all_parts, grown_all, grown_first, grown_none, grown_then, one_moment_more, part_of_more, part_then}
 use Rattle.scratch.specs.kept.Work.{HasGrownOrNot, work_from}
-
--- what holds of a fault
-pub held_err : {A E : Type 0} {P : Type 0} (r : Result A E) → P → OnErr r P
-held_err (Ok x) p = tt
-held_err (Err e) p = p
 
 -- of some work all was asked or nothing
 pub part_or_none : (old new work : List (Evaluation × ℕ)) → HasGrownOrNot old new work → IsAskedInPart old new work

@@ -12,6 +12,7 @@ use Rattle.fourstate.specs.declared.value.Value.{Value}
 use Rattle.fourstate.specs.declared.value.Value.TheVariants.{Unknown}
 use Rattle.gatestep.specs.Step.{State, Evaluation, due, initial}
 use Rattle.gatestep.specs.kept.Tasks.{IsTask, NothingDue}
+use Rattle.catalog.proofs.ListLemmas.{slice_get_some}
 use Rattle.design.specs.kept.Lawful.{IsGate}
 use Rattle.design.specs.Names.{same_name}
 use Rattle.design.specs.Netlist.{GateEntry, NetEntry, Netlist}
@@ -27,7 +28,6 @@ use Rattle.scratch.specs.Run.{evaluation_at, state_after, state_before, value, w
 use Rattle.scratch.specs.kept.Run.{trace_of}
 use Rattle.scratch.proofs.Between.{alike as alike_lists, set_apart, set_here}
 use Rattle.scratch.proofs.Copies.{GivesValues}
-use Rattle.scratch.proofs.Lists.{some_at}
 use Rattle.scratch.proofs.NetSteps.{lone_gives, lone_is, resolved_is}
 use Rattle.scratch.proofs.Recorded.{recorded_alone}
 use Rattle.scratch.proofs.Runs.{settled}
@@ -61,7 +61,7 @@ pub found : (answer : Evaluation → ℕ → State) (d : Netlist) (n : NetEntry)
     lone_driver d n ≡ Some k → traces ≡ map (trace_of answer d) d.gates → line ≡ slice_index_or traces k line → Found answer d n k line
 found answer d n k traces line are alone is read =
     let within : k < length d.gates = lone_within d n k alone in
-    let it = some_at d.gates k within in
+    let it = slice_get_some d.gates k within in
     let among : k < length traces = (let as_many = simp length-map at (ap length is) in omega arith) in
     let both : Some line ≡ Some (trace_of answer d it.0) =
     sym (slice_get_read traces (length traces) k line refl among read) ∙ ap (λ l. slice_get l k) is
@@ -154,7 +154,7 @@ module _ (answer : Evaluation → ℕ → State) (d : Netlist) where
       }
     where
       here : (o : Option NetEntry) → slice_get d.nets place ≡ o → IfSome o (λ n. wave ≡ wave_of answer d n) → Some wave ≡ option_map (wave_of answer d) o
-      here None at so = absurd (let some = some_at d.nets place (let many = so_far.as_many in omega arith) in let both = sym some.1 ∙ at in cc)
+      here None at so = absurd (let some = slice_get_some d.nets place (let many = so_far.as_many in omega arith) in let both = sym some.1 ∙ at in cc)
       here (Some n) at so = ap (λ w. Some w) so
 
       by : (k : ℕ) (b : Bool) → nat_eq k place ≡ b → k < place + 1 → slice_get (set waves place wave) k ≡ slice_get (map (wave_of answer d) d.nets) k

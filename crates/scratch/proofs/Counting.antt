@@ -360,14 +360,6 @@ other_net nets outputs k o output none m tally there =
     let same = eqb-true m o (sym (or-false (nat_eq m o)) ∙ h) in
     none_there (slice_get nets o) tally none (ap (slice_get nets) (sym same) ∙ there))
 
--- the tally of one net more
-pub one_net_more : (P : ℕ → Tally → Type 0) (nets : List (Option Tally)) (x : Option Tally) → ((m : ℕ) (tally : Tally) → slice_get nets m ≡ Some (Some tally) → P m tally) →
-    ((tally : Tally) → x ≡ Some tally → P (length nets) tally) → (m : ℕ) (tally : Tally) → slice_get (nets ++ x ∷ []) m ≡ Some (Some tally) → P m tally
-one_net_more P [] x before here zero tally there = here tally (cc)
-one_net_more P [] x before here (suc m) tally there = absurd (cc)
-one_net_more P (w ∷ nets) x before here zero tally there = before 0 tally there
-one_net_more P (w ∷ nets) x before here (suc m) tally there = one_net_more (λ k. P (suc k)) nets x (λ m. before (suc m)) here m tally there
-
 places_by : (o : Option (SmallVec ℕ)) (l : List ℕ) → option_map (λ (v : SmallVec ℕ). v.items) o ≡ Some l → option_map_or (λ (v : SmallVec ℕ). v.items) o [] ≡ l
 places_by None l h = cc
 places_by (Some v) l h = cc

@@ -1,5 +1,5 @@
--- Lists: side by side, and as they grow.
-use Rattle.std.proofs.Common.{◌≡◌, ◌<◌, ◌≤◌, ap, refl, ℕ, zero, suc, ◌+◌, List, [], ◌∷◌, ◌++◌, map, take, length, Option, Some, None, IfSome, subst, slice_get, add-one, arith}
+-- Lists: side by side, and as they grow; and answers of calls.
+use Rattle.std.proofs.Common.{◌≡◌, ◌<◌, ◌≤◌, ap, refl, ℕ, zero, suc, ◌+◌, List, [], ◌∷◌, ◌++◌, map, take, length, Option, Some, None, IfSome, subst, slice_get, add-one, arith, Result, Ok, Err, OnOk}
 use Rattle.std.specs.List.{zip}
 
 pub zip_whole : {A B : Type 0} (xs : List A) (ys : List B) (i : ℕ) → length xs ≤ i → take i (zip xs ys) ≡ zip xs ys
@@ -52,12 +52,6 @@ same_put {A} (x ∷ xs) (y ∷ ys) e =
     let tails : xs ≡ ys = same_put xs ys rest in
     λ i. first i ∷ tails i
 
--- an element that is there
-pub some_at : {A : Type 0} (xs : List A) (i : ℕ) → i < length xs → (x : A) × (slice_get xs i ≡ Some x)
-some_at [] i below = absurd (omega arith)
-some_at (x ∷ xs) zero below = (x, refl)
-some_at (x ∷ xs) (suc i) below = some_at xs i (omega arith)
-
 -- what holds of what is there holds if there is one, and the other way round
 pub if_there : {X : Type 0} (o : Option X) (x : X) (P : X → Type 0) → o ≡ Some x → P x → IfSome o P
 if_there o x P e p = rw e p
@@ -65,3 +59,13 @@ if_there o x P e p = rw e p
 pub of_there : {X : Type 0} (o : Option X) (x : X) (P : X → Type 0) → o ≡ Some x → IfSome o P → P x
 of_there None x P e p = cc
 of_there (Some y) x P e p = let same : y ≡ x = cc in subst P same p
+
+-- what holds anyway holds on an `Ok`
+pub on_ok : {A E P : Type 0} (r : Result A E) → P → OnOk r P
+on_ok (Ok x) p = p
+on_ok (Err e) p = tt
+
+-- what follows from two things that an `Ok` tells
+pub both_ok : {A E P Q R : Type 0} (r : Result A E) → OnOk r P → OnOk r Q → (P → Q → R) → OnOk r R
+both_ok (Ok x) p q follows = follows p q
+both_ok (Err e) p q follows = tt

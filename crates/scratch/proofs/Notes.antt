@@ -6,7 +6,7 @@ use Rattle.std.specs.Option.{option_map, option_map_or}
 use Rattle.std.proofs.lemmas.Bool.Decides.{nat_tests}
 use Rattle.std.proofs.lemmas.Option.{get_or_from_slice_get, slice_get_within}
 use Rattle.std.proofs.lemmas.Bool.{eqb-true}
-use Rattle.std.proofs.Math.Bool.{or-true}
+use Rattle.std.proofs.Math.Bool.{or-true, or-false}
 use Rattle.event_queue.specs.kept.Noted.{IsAdded, IsTaken, noted}
 use Rattle.fourstate.specs.declared.value.Value.{Value}
 use Rattle.gatestep.specs.Step.{State}
@@ -65,11 +65,7 @@ module _ (states : List State) (p : ℕ) (s : State) (is : slice_get states p �
         let same : k ≡ p = eqb-true k p e in
         let pends : pends_at states k u ≡ true = ap (λ (b : Bool). b && pends_at states k u) (sym (or-true (has k done))) ∙ h in
         ap (λ v. has v (noted new u)) same ∙ here u (ap (λ v. pends_at states v u) (sym same) ∙ pends)
-    both_by stay here k u from false e h = stay k u (covers k u from (ap (λ (b : Bool). b && pends_at states k u) (sym (or_no (has k done))) ∙ h))
-      where
-        or_no : (b : Bool) → (b || false) ≡ b
-        or_no true = refl
-        or_no false = refl
+    both_by stay here k u from false e h = stay k u (covers k u from (ap (λ (b : Bool). b && pends_at states k u) (sym (or-false (has k done))) ∙ h))
 
     -- the events of one place more are noted
     pub one_more : Keeps (noted old) (noted new) → ((u : ℕ) → pends_at states p u ≡ true → has p (noted new u) ≡ true) → Covers (λ k u. has k (done ++ p ∷ []) && pends_at states k u) (noted new) n

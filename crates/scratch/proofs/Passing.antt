@@ -1,7 +1,7 @@
 -- The places of the elements that pass a test, and what stands there.
 use Rattle.std.proofs.Common.{◌≡◌, ◌<◌, ◌∙◌, sym, ap, subst, refl, Bool, true, false, ℕ, zero, suc, ◌+◌, List, [], ◌∷◌, ◌++◌, map, drop, take, length, Option, Some, None, slice_get, add-one, arith}
 use Rattle.std.specs.Prelude.{◌||◌}
-use Rattle.std.specs.List.{filter, range_with_len, zip}
+use Rattle.std.specs.List.{filter, range_with_len}
 use Rattle.std.specs.Option.{option_map, option_map_or}
 use Rattle.std.proofs.lemmas.List.{length-map, map-append}
 use Rattle.std.proofs.lemmas.Option.{slice_get-map, slice_get_within}
@@ -86,13 +86,6 @@ pub read_more : {Y : Type 0} (values : List Y) (places : List ℕ) (i p : ℕ) (
 read_more values places i p y prev now at there is before =
     ap (map (λ z. Some z)) is ∙ map-append (λ z. Some z) prev (y ∷ []) ∙ ap (λ l. l ++ Some y ∷ []) before ∙ ap (λ o. map (slice_get values) (take i places) ++ o ∷ []) (sym there)
     ∙ sym (map-append (slice_get values) (take i places) (p ∷ [])) ∙ ap (map (slice_get values)) (sym (take_next places i p at))
-
--- a pair of lists side by side
-pub zip_at : {A B : Type 0} (xs : List A) (ys : List B) (i : ℕ) (x : A) (y : B) → slice_get xs i ≡ Some x → slice_get ys i ≡ Some y → slice_get (zip xs ys) i ≡ Some (x, y)
-zip_at [] ys i x y a b = absurd (cc)
-zip_at (v ∷ xs) [] i x y a b = absurd (cc)
-zip_at (v ∷ xs) (w ∷ ys) zero x y a b = cc
-zip_at (v ∷ xs) (w ∷ ys) (suc i) x y a b = zip_at xs ys i x y a b
 
 -- where every element passes, the places are all there are
 pub all_places : {X : Type 0} (a : ℕ) (xs : List X) → passing (λ _. true) a xs ≡ range_with_len a (length xs)

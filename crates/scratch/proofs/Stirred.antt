@@ -7,7 +7,7 @@ use Rattle.std.specs.List.{filter, find, list_any}
 use Rattle.std.specs.Option.{option_map_or, option_map}
 use Rattle.std.proofs.lemmas.List.Elements.{All-cons, All-nil}
 use Rattle.std.proofs.lemmas.Option.{slice_get-map, slice_get_within, get_or_from_slice_get}
-use Rattle.std.proofs.Math.Bool.{and-false}
+use Rattle.std.proofs.Math.Bool.{and-false, or_comm}
 use Rattle.std.proofs.lemmas.Map.Keys.{any_passes_from_place}
 use Rattle.std.proofs.lemmas.Bool.{false_from_ne_true}
 use Rattle.fourstate.specs.declared.value.Value.{Value}
@@ -27,12 +27,6 @@ use Rattle.scratch.proofs.Among.{any_from, has_at, has_filter, nat_itself}
 use Rattle.scratch.proofs.Passing.{has_place}
 use Rattle.scratch.proofs.Skips.{is_due_now}
 use Rattle.scratch.proofs.Still.{still_net}
-
-or_swap : (a b : Bool) → (a || b) ≡ (b || a)
-or_swap true true = refl
-or_swap true false = refl
-or_swap false true = refl
-or_swap false false = refl
 
 passes_if : (a b : Bool) → (b ≡ true → a ≡ true) → (a && b) ≡ b
 passes_if a true h = ap (λ (x : Bool). x && true) (h refl)
@@ -219,7 +213,7 @@ module _ (answer : Evaluation → ℕ → State) (d : Netlist) (t : ℕ) (begun 
         let state : is_due_at states k t ≡ is_due (state_before answer d t g) t = ap (λ o. option_map_or (λ s. is_due s t) o false) (state_here k g at) in
         ap (λ (b : Bool). b || list_any (λ m. reads_at d k m) changed) state
         ∙ ap (λ (b : Bool). is_due (state_before answer d t g) t || b) (some_moved k g at changed change)
-        ∙ or_swap (is_due (state_before answer d t g) t) (list_any moved g.inputs) ∙ sym (stirred_by t begun g)
+        ∙ or_comm (is_due (state_before answer d t g) t) (list_any moved g.inputs) ∙ sym (stirred_by t begun g)
 
     -- those that are looked at are the stirred gates
     pub looked : (readers : ℕ → List ℕ) → ((k m : ℕ) → has k (readers m) ≡ reads_at d k m) → (changed : List ℕ) → ((m : ℕ) → has m changed ≡ changes_at answer d m t) → (due gates : List ℕ) →

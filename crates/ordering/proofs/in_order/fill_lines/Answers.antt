@@ -1,6 +1,7 @@
 use Rattle.std.proofs.Common.{◌∙◌}
 use Rattle.design.specs.Keys.{netlist}
-use Rattle.ordering.proofs.Supplied.{all_traced, on_ok}
+use Rattle.scratch.proofs.Lists.{on_ok}
+use Rattle.ordering.proofs.Supplied.{all_traced}
 use Rattle.ordering.proofs.in_order.fill_lines.Goals as goal
 
 pub find_rest-requires-clause-traced : goal.find_rest-requires-clause-traced

@@ -1,12 +1,10 @@
-use Rattle.std.proofs.Common.{◌≡◌, ◌∙◌, ap, sym, subst, refl, ℕ, List, Bool, true, false, take}
+use Rattle.std.proofs.Common.{Some, ◌≡◌, ◌∙◌, ap, sym, subst, ℕ, List, Bool, true, false}
 use Rattle.std.specs.Prelude.{◌||◌, nat_eq, slice_get, slice_index_or}
-use Rattle.std.proofs.lemmas.Bool.{eqb-true}
 use Rattle.std.proofs.lemmas.Option.{slice_get-get_or, same_Some}
 use Rattle.std.proofs.lemmas.List.{take_all}
 use Rattle.catalog.specs.kept.Catalog.{keys_of}
-use Rattle.scratch.proofs.Driven.{earlier}
 use Rattle.rundiff.specs.kept.Places.{is_among}
-use Rattle.rundiff.proofs.Steps.{among_more, among_push}
+use Rattle.rundiff.proofs.Steps.{among_push, each_more}
 use Rattle.rundiff.proofs.Unchanged.{among_last}
 use Rattle.rundiff.proofs.changed.add_keys.Goals as goal
 
@@ -21,13 +19,11 @@ loop-place-preserved c =
     record {
       more = λ key on. grows key (c.loop-place.invariant.more key on);
       added = λ p key among at.
-          elim (nat_eq x p) as (λ b. nat_eq x p ≡ b → is_among now key ≡ true) [
-            | true ↦ λ same.
-                let one : added ≡ key = same_Some added key (sym c.net_key_at.ensures.key ∙ ap (λ (q : ℕ). slice_get all q) (eqb-true x p same) ∙ at) in
-                subst (λ (k : ℕ). is_among now k ≡ true) one (ap (λ (l : List ℕ). is_among l added) pushed ∙ among_last before added)
-            | false ↦ λ apart.
-                grows key (c.loop-place.invariant.added p key (earlier (is_among (take i xs) p) (nat_eq x p) (sym (among_more xs i x p (slice_get-get_or xs i 0 c.loop-place-test.true)) ∙ among) apart) at)
-          ] refl;
+          each_more (λ q. slice_get all q ≡ Some key → is_among now key ≡ true) xs i x (slice_get-get_or xs i 0 c.loop-place-test.true)
+          (λ q was apart at. grows key (c.loop-place.invariant.added q key was at))
+          (λ at.
+          let one : added ≡ key = same_Some added key (sym c.net_key_at.ensures.key ∙ at) in
+          subst (λ (k : ℕ). is_among now k ≡ true) one (ap (λ (l : List ℕ). is_among l added) pushed ∙ among_last before added)) p among at;
     }
 
 pub returns-clause-added : goal.returns-clause-added

@@ -1,7 +1,6 @@
-use Rattle.std.proofs.Common.{◌≡◌, ◌<◌, All, length, ◌∙◌, ap, sym, subst, ℕ, List, Option, arith, true, false}
+use Rattle.std.proofs.Common.{◌≡◌, ◌<◌, All, length, ◌∙◌, ap, sym, subst, ℕ, List, Option, false}
 use Rattle.std.specs.Prelude.{nat_eq, IsSome}
 use Rattle.std.specs.Option.{option_map_or}
-use Rattle.std.proofs.lemmas.Bool.Decides.{nat_tests}
 use Rattle.std.proofs.lemmas.Bool.{or_left, or_right}
 use Rattle.std.proofs.lemmas.List.Elements.{All-push}
 use Rattle.std.proofs.lemmas.Option.{get_or_from_slice_get}
@@ -9,12 +8,10 @@ use Rattle.catalog.specs.kept.Catalog.{place_of}
 use Rattle.design.specs.Keys.{entry_in, netlist}
 use Rattle.design.specs.kept.Keys.{net_by_key}
 use Rattle.design.specs.Netlist.{GateEntry}
+use Rattle.scratch.proofs.Among.{nat_itself}
 use Rattle.rundiff.specs.kept.Places.{blank_gate, is_among, is_live}
 use Rattle.rundiff.proofs.Steps.{among_push}
 use Rattle.rundiff.proofs.choosing.add_output.Goals as goal
-
-itself : (n : ℕ) → nat_eq n n ≡ true
-itself n = grind (arith, nat_tests)
 
 pub returns-clause-more : goal.returns-clause-more
 returns-clause-more c = λ p on.
@@ -39,4 +36,4 @@ returns-clause-driven c =
     (c.places_are_keys.ensures.nets gate.output there ∙ ap (place_of keyed.nets) (sym key) ∙ sym c.in-Some.ensures.place)
     ∙ ap (λ (l : List ℕ). is_among l net) c.in_ok-push.ensures.items
     ∙ among_push was net net
-    ∙ or_right (is_among was net) (nat_eq net net) (itself net)
+    ∙ or_right (is_among was net) (nat_eq net net) (nat_itself net)

@@ -1,13 +1,11 @@
-use Rattle.std.proofs.Common.{◌≡◌, ◌∙◌, ap, sym, subst, refl, ℕ, List, true, false, take}
-use Rattle.std.specs.Prelude.{slice_index_or, nat_eq}
-use Rattle.std.proofs.lemmas.Bool.{eqb-true}
+use Rattle.std.proofs.Common.{◌≡◌, ◌∙◌, ap, ℕ, List, true, false}
+use Rattle.std.specs.Prelude.{slice_index_or}
 use Rattle.std.proofs.lemmas.Option.{slice_get-get_or}
 use Rattle.std.proofs.lemmas.List.{take_all}
 use Rattle.design.specs.Keys.{netlist}
-use Rattle.scratch.proofs.Driven.{earlier}
 use Rattle.rundiff.specs.kept.Places.{gate_at, is_among, is_live}
 use Rattle.rundiff.proofs.Alike.{live_grows}
-use Rattle.rundiff.proofs.Steps.{among_more, is_one}
+use Rattle.rundiff.proofs.Steps.{is_one, each_more}
 use Rattle.rundiff.proofs.choosing.add_outputs.Goals as goal
 
 pub add_output-requires : goal.add_output-requires
@@ -24,13 +22,9 @@ loop-place-preserved c =
     record {
       there = λ all. done.there (c.loop-place.invariant.there all);
       more = λ p on. done.more p (c.loop-place.invariant.more p on);
-      driven = λ q among.
-          elim (nat_eq x q) as (λ b. nat_eq x q ≡ b → is_live d now (gate_at d q).output ≡ true) [
-            | true ↦ λ same. subst (λ (p : ℕ). is_live d now (gate_at d p).output ≡ true) (eqb-true x q same) done.driven
-            | false ↦ λ apart.
-                live_grows d (is_among c.loop-place.nets.items) now done.more (gate_at d q).output
-                (c.loop-place.invariant.driven q (earlier (is_among (take i xs) q) (nat_eq x q) (sym (among_more xs i x q (slice_get-get_or xs i 0 c.loop-place-test.true)) ∙ among) apart))
-          ] refl;
+      driven =
+          each_more (λ q. is_live d now (gate_at d q).output ≡ true) xs i x (slice_get-get_or xs i 0 c.loop-place-test.true)
+          (λ q was apart. live_grows d (is_among c.loop-place.nets.items) now done.more (gate_at d q).output (c.loop-place.invariant.driven q was)) done.driven;
     }
 
 pub returns-clause-driven : goal.returns-clause-driven

@@ -1,15 +1,14 @@
-use Rattle.std.proofs.Common.{◌≡◌, ◌∙◌, ap, sym, subst, refl, ℕ, suc, List, true, false, take}
-use Rattle.std.specs.Prelude.{slice_index_or, nat_eq}
-use Rattle.std.proofs.lemmas.Bool.{eqb-true}
+use Rattle.std.proofs.Common.{◌≡◌, ◌∙◌, ap, ℕ, suc, List, true, false}
+use Rattle.std.specs.Prelude.{slice_index_or}
 use Rattle.std.proofs.lemmas.Option.{slice_get-get_or}
 use Rattle.std.proofs.lemmas.List.{take_all}
 use Rattle.event_queue.specs.kept.Noted.{noted}
 use Rattle.design.specs.Keys.{netlist}
 use Rattle.scratch.specs.kept.Places.{IsNotedWithin}
-use Rattle.scratch.proofs.Driven.{earlier}
+use Rattle.scratch.proofs.Notes.{within_on}
 use Rattle.rundiff.specs.kept.Noting.{net_moves}
 use Rattle.rundiff.specs.kept.Places.{is_among}
-use Rattle.rundiff.proofs.Steps.{among_more, is_one}
+use Rattle.rundiff.proofs.Steps.{is_one, each_more}
 use Rattle.rundiff.proofs.front_nets.note_nets.Goals as goal
 
 pub note_net-requires-clause-there : goal.note_net-requires-clause-there
@@ -25,14 +24,8 @@ loop-place-preserved g c =
     let done = c.in_ok-note_net.ensures in
     record {
       next = λ p u among later moves.
-          elim (nat_eq x p) as (λ b. nat_eq x p ≡ b → IsNotedWithin now p (suc t) u) [
-            | true ↦ λ same.
-                let e = eqb-true x p same in
-                subst (λ q. IsNotedWithin now q (suc t) u) e (done.next u later (ap (λ q. net_moves g.S.Stepper.answer old new q u) e ∙ moves))
-            | false ↦ λ apart.
-                let at = c.loop-place.invariant.next p u (earlier (is_among (take i xs) p) (nat_eq x p) (sym (among_more xs i x p (slice_get-get_or xs i 0 c.loop-place-test.true)) ∙ among) apart) later moves in
-                (at.0, at.1, at.2, done.kept p at.0 at.3)
-          ] refl;
+          each_more (λ q. net_moves g.S.Stepper.answer old new q u ≡ true → IsNotedWithin now q (suc t) u) xs i x (slice_get-get_or xs i 0 c.loop-place-test.true)
+          (λ q was apart some. within_on (noted c.loop-place.queue) now q (suc t) u done.kept (c.loop-place.invariant.next q u was later some)) (done.next u later) p among moves;
       kept = λ k u h. done.kept k u (c.loop-place.invariant.kept k u h);
       early = λ u low. done.early u low ∙ c.loop-place.invariant.early u low;
     }

@@ -1,14 +1,12 @@
-use Rattle.std.proofs.Common.{◌≡◌, ◌≤◌, ◌∙◌, ap, sym, subst, refl, ℕ, List, true, false, take, arith}
-use Rattle.std.specs.Prelude.{nat_eq, slice_index_or}
-use Rattle.std.proofs.lemmas.Bool.{eqb-true}
+use Rattle.std.proofs.Common.{◌≤◌, ◌∙◌, ap, ℕ, List, true, false, arith}
+use Rattle.std.specs.Prelude.{slice_index_or}
 use Rattle.std.proofs.lemmas.Option.{slice_get-get_or}
 use Rattle.std.proofs.lemmas.List.{take_all}
 use Rattle.design.specs.Keys.{netlist}
 use Rattle.design.specs.Netlist.{Netlist}
-use Rattle.scratch.proofs.Driven.{earlier}
 use Rattle.rundiff.specs.kept.Inputs.{IsSameInput}
 use Rattle.rundiff.specs.kept.Places.{is_among}
-use Rattle.rundiff.proofs.Steps.{among_more, is_one}
+use Rattle.rundiff.proofs.Steps.{is_one, each_more}
 use Rattle.rundiff.proofs.leaping.all_same_until.Goals as goal
 
 -- what is the same until a moment is so until an earlier one
@@ -29,15 +27,10 @@ loop-place-preserved c =
     let now = c.min-until.result in
     record {
       until = omega (arith, c.min-until.ensures, c.loop-place.invariant.until);
-      same = λ after p among.
-          elim (nat_eq x p) as (λ b. nat_eq x p ≡ b → IsSameInput old new p c.args.t now) [
-            | true ↦ λ same.
-                subst (λ (q : ℕ). IsSameInput old new q c.args.t now) (eqb-true x p same)
-                (sooner old new x c.args.t c.same_until.result now (omega (arith, c.min-until.ensures)) (c.same_until.ensures (omega (arith, c.min-until.ensures))))
-            | false ↦ λ apart.
-                sooner old new p c.args.t c.loop-place.until now (omega (arith, c.min-until.ensures))
-                (c.loop-place.invariant.same (omega (arith, c.min-until.ensures)) p (earlier (is_among (take i xs) p) (nat_eq x p) (sym (among_more xs i x p at) ∙ among) apart))
-          ] refl;
+      same = λ after.
+          each_more (λ p. IsSameInput old new p c.args.t now) xs i x at
+          (λ p was apart. sooner old new p c.args.t c.loop-place.until now (omega (arith, c.min-until.ensures)) (c.loop-place.invariant.same (omega (arith, c.min-until.ensures)) p was))
+          (sooner old new x c.args.t c.same_until.result now (omega (arith, c.min-until.ensures)) (c.same_until.ensures (omega (arith, c.min-until.ensures))));
     }
 
 pub returns-clause-same : goal.returns-clause-same

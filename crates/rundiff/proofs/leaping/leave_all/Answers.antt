@@ -1,7 +1,7 @@
-use Rattle.std.proofs.Common.{◌≡◌, ◌∙◌, ap, sym, subst, refl, ℕ, List, true, false, Option, take}
+use Rattle.std.proofs.Common.{◌≡◌, ◌∙◌, ap, sym, subst, refl, ℕ, List, true, false, Option}
 use Rattle.std.specs.Option.{ForSome}
 use Rattle.std.specs.Prelude.{◌≤◌, nat_eq, slice_index_or}
-use Rattle.std.proofs.lemmas.Bool.{eqb-true, or_parts}
+use Rattle.std.proofs.lemmas.Bool.{eqb-true}
 use Rattle.std.proofs.lemmas.Option.{slice_get-get_or}
 use Rattle.std.proofs.lemmas.List.{take_all}
 use Rattle.fourstate.specs.declared.value.Value.{Value}
@@ -9,11 +9,10 @@ use Rattle.fourstate.specs.Values.{same_value}
 use Rattle.waveform.specs.Entries.{standing}
 use Rattle.waveform.specs.kept.Patches.{Keeps, PatchRecord}
 use Rattle.waveform.specs.kept.Timelines.{end_of}
-use Rattle.scratch.proofs.Driven.{earlier}
 use Rattle.rundiff.specs.kept.Fronts.{IsFree}
 use Rattle.rundiff.specs.kept.PlaceMaps.{kept_at}
 use Rattle.rundiff.specs.kept.Places.{is_among}
-use Rattle.rundiff.proofs.Steps.{among_more}
+use Rattle.rundiff.proofs.Steps.{each_more, others_more}
 use Rattle.rundiff.proofs.leaping.leave_all.Goals as goal
 
 -- what holds of the patch of one place, and of all others as they were
@@ -38,12 +37,8 @@ loop-place-preserved c =
     let End : Option (PatchRecord Value) → Type 0 = λ o. ForSome o (λ patch. end_of patch.line ≤ c.args.t) in
     record {
       ends = λ p. by_place End before now x p done.others (λ same. done.end) (λ apart. c.loop-place.invariant.ends p);
-      free = λ p among.
-          by_place (λ o. IsFree o) before now x p done.others (λ same. done.free)
-          (λ apart. c.loop-place.invariant.free p (earlier (is_among (take i xs) p) (nat_eq x p) (sym (among_more xs i x p at) ∙ among) apart));
-      others = λ p off.
-          let parts = or_parts (is_among (take i xs) p) (nat_eq x p) (sym (among_more xs i x p at) ∙ off) in
-          done.others p parts.1 ∙ c.loop-place.invariant.others p parts.0;
+      free = each_more (λ p. IsFree (now p)) xs i x at (λ p was apart. subst IsFree (sym (done.others p apart)) (c.loop-place.invariant.free p was)) done.free;
+      others = others_more (λ q o. Unit {0}) (kept_at c.args.waves.now) before now xs i x at done.others c.loop-place.invariant.others;
       made = λ p f g kept.
           let was = c.loop-place.invariant.made p f g kept in
           by_place (λ o. Keeps same_value standing g f o c.args.t) before now x p done.others

@@ -1,6 +1,4 @@
-use Rattle.std.proofs.Common.{◌≡◌, ◌∙◌, ap, sym, subst, refl, ℕ, suc, List, true, false, take, Some}
-use Rattle.std.specs.Prelude.{nat_eq}
-use Rattle.std.proofs.lemmas.Bool.{eqb-true}
+use Rattle.std.proofs.Common.{◌≡◌, ◌∙◌, ap, sym, subst, ℕ, suc, List, true, false, Some}
 use Rattle.std.proofs.lemmas.Option.{slice_get-get_or, same_Some, get_or_from_slice_get}
 use Rattle.std.proofs.lemmas.List.{take_all}
 use Rattle.catalog.specs.kept.Catalog.{place_of}
@@ -10,12 +8,12 @@ use Rattle.design.specs.Keys.{netlist}
 use Rattle.design.specs.kept.Keys.{net_by_key}
 use Rattle.design.specs.Netlist.{NetEntry}
 use Rattle.scratch.specs.kept.Places.{IsNotedWithin}
-use Rattle.scratch.proofs.Driven.{earlier}
+use Rattle.scratch.proofs.Notes.{within_on}
 use Rattle.rundiff.specs.kept.Noting.{old_moves}
 use Rattle.rundiff.specs.kept.Places.{blank_net, is_among, net_at}
 use Rattle.rundiff.proofs.Driven.{read_get}
 use Rattle.rundiff.proofs.ReaderKeys.{entry_at, keyed_at, reader_at}
-use Rattle.rundiff.proofs.Steps.{among_more}
+use Rattle.rundiff.proofs.Steps.{each_more}
 use Rattle.rundiff.proofs.letting.note_readers.Goals as goal
 
 pub loop-reader-preserved : goal.loop-reader-preserved
@@ -28,14 +26,11 @@ loop-reader-preserved g c =
     let done = c.in_ok-note.ensures in
     record {
       next = λ key among q u place some.
-          elim (nat_eq x key) as (λ b. nat_eq x key ≡ b → IsNotedWithin now q (suc c.args.t) u) [
-            | true ↦ λ same.
-                let e : gate ≡ q = same_Some gate q (c.in-Some.ensures.place ∙ ap (place_of gates) (eqb-true x key same) ∙ place) in
-                subst (λ k. IsNotedWithin now k (suc c.args.t) u) e (done.next u some)
-            | false ↦ λ apart.
-                let old = c.loop-reader.invariant.next key (earlier (is_among (take i keys) key) (nat_eq x key) (sym (among_more keys i x key at) ∙ among) apart) q u place some in
-                (old.0, old.1, old.2, done.kept q old.0 old.3)
-          ] refl;
+          each_more (λ k. place_of gates k ≡ Some q → IsNotedWithin now q (suc c.args.t) u) keys i x at
+          (λ k was apart place. within_on (noted c.loop-reader.queue) now q (suc c.args.t) u done.kept (c.loop-reader.invariant.next k was q u place some))
+          (λ place.
+          let e : gate ≡ q = same_Some gate q (c.in-Some.ensures.place ∙ place) in
+          subst (λ k. IsNotedWithin now k (suc c.args.t) u) e (done.next u some)) key among place;
       kept = λ k u h. done.kept k u (c.loop-reader.invariant.kept k u h);
       early = λ u low. done.early u low ∙ c.loop-reader.invariant.early u low;
     }

@@ -1,8 +1,7 @@
-use Rattle.std.proofs.Common.{◌≡◌, ◌∙◌, ◌<◌, ap, sym, subst, refl, ℕ, List, All, Bool, true, false, take, length, Option, Some, arith}
+use Rattle.std.proofs.Common.{◌≡◌, ◌∙◌, ◌<◌, ap, sym, subst, ℕ, List, All, Bool, true, false, length, Option, Some}
 use Rattle.std.specs.Prelude.{◌||◌, nat_eq}
 use Rattle.std.specs.Option.{option_map_or}
-use Rattle.std.proofs.lemmas.Bool.Decides.{nat_tests}
-use Rattle.std.proofs.lemmas.Bool.{eqb-true}
+use Rattle.std.proofs.lemmas.Bool.{or_right}
 use Rattle.std.proofs.lemmas.Option.{slice_get-get_or, same_Some}
 use Rattle.std.proofs.lemmas.List.Elements.{All-push}
 use Rattle.std.proofs.lemmas.List.{take_all}
@@ -10,11 +9,11 @@ use Rattle.catalog.specs.kept.Catalog.{place_of}
 use Rattle.design.specs.Keys.{KeyedGate, netlist}
 use Rattle.design.specs.kept.Keys.{gate_by_key, net_by_key}
 use Rattle.design.specs.Netlist.{GateEntry}
-use Rattle.scratch.proofs.Driven.{earlier}
+use Rattle.scratch.proofs.Among.{nat_itself}
 use Rattle.rundiff.specs.kept.Places.{blank_net, is_among, is_live, net_at}
 use Rattle.rundiff.proofs.Driven.{read_get}
 use Rattle.rundiff.proofs.ReaderKeys.{entry_at, keyed_at, reader_at}
-use Rattle.rundiff.proofs.Steps.{among_more, among_push}
+use Rattle.rundiff.proofs.Steps.{among_push, each_more}
 use Rattle.rundiff.proofs.nets.add_readers.Goals as goal
 
 pub loop-reader-preserved : goal.loop-reader-preserved
@@ -31,25 +30,14 @@ loop-reader-preserved c =
       there = λ all. subst (All (λ p. p < length (netlist keyed).nets)) (sym pushed) (All-push (λ p. p < length (netlist keyed).nets) before output (c.loop-reader.invariant.there all) c.in-Some.ensures.within);
       more = λ p on. grows p (c.loop-reader.invariant.more p on);
       readers = λ key among gate found.
-          elim (nat_eq x key) as (λ b. nat_eq x key ≡ b → (q : ℕ) × (place_of keyed.nets gate.output ≡ Some q) × (is_among c.push.new.self.items q ≡ true)) [
-            | true ↦ λ same.
-                let e = eqb-true x key same in
-                let one : c.gate_of.result.now ≡ gate = same_Some c.gate_of.result.now gate (sym c.gate_of.ensures.gate ∙ ap (λ (k : ℕ). gate_by_key keyed k) e ∙ found) in
-                let at_output : place_of keyed.nets gate.output ≡ Some output =
-                ap (λ (h : KeyedGate). place_of keyed.nets h.output) (sym one) ∙ ap (place_of keyed.nets) (sym c.output.ensures) ∙ sym c.in-Some.ensures.place in
-                (output, at_output, ap (λ (l : List ℕ). is_among l output) pushed ∙ among_push before output output ∙ last_one (is_among before output) (nat_eq output output) (itself output))
-            | false ↦ λ apart.
-                let rest = c.loop-reader.invariant.readers key (earlier (is_among (take i keys) key) (nat_eq x key) (sym (among_more keys i x key at) ∙ among) apart) gate found in
-                (rest.0, rest.1, grows rest.0 rest.2)
-          ] refl;
+          each_more (λ k. gate_by_key keyed k ≡ Some gate → (q : ℕ) × (place_of keyed.nets gate.output ≡ Some q) × (is_among c.push.new.self.items q ≡ true)) keys i x at
+          (λ k was apart found. let rest = c.loop-reader.invariant.readers k was gate found in (rest.0, rest.1, grows rest.0 rest.2))
+          (λ found.
+          let one : c.gate_of.result.now ≡ gate = same_Some c.gate_of.result.now gate (sym c.gate_of.ensures.gate ∙ found) in
+          let at_output : place_of keyed.nets gate.output ≡ Some output =
+          ap (λ (h : KeyedGate). place_of keyed.nets h.output) (sym one) ∙ ap (place_of keyed.nets) (sym c.output.ensures) ∙ sym c.in-Some.ensures.place in
+          (output, at_output, ap (λ (l : List ℕ). is_among l output) pushed ∙ among_push before output output ∙ or_right (is_among before output) (nat_eq output output) (nat_itself output))) key among found;
     }
-  where
-    last_one : (a b : Bool) → b ≡ true → (a || b) ≡ true
-    last_one true b on = refl
-    last_one false b on = on
-
-    itself : (n : ℕ) → nat_eq n n ≡ true
-    itself n = grind (arith, nat_tests)
 
 pub returns-clause-readers : goal.returns-clause-readers
 returns-clause-readers c = λ q low reading.

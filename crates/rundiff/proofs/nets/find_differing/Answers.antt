@@ -1,16 +1,14 @@
-use Rattle.std.proofs.Common.{◌≡◌, ◌∙◌, ap, sym, subst, refl, Bool, ℕ, List, true, false, take}
-use Rattle.std.specs.Prelude.{◌||◌, slice_index_or, nat_eq}
+use Rattle.std.proofs.Common.{◌∙◌, ap, Bool, ℕ, List, true, false}
+use Rattle.std.specs.Prelude.{◌||◌, slice_index_or}
 use Rattle.std.specs.BTreeSet.{contains}
 use Rattle.std.specs.Ordering.{nat_cmp}
-use Rattle.std.proofs.lemmas.Bool.{eqb-true}
 use Rattle.std.proofs.lemmas.Option.{slice_get-get_or}
 use Rattle.std.proofs.lemmas.List.{take_all}
 use Rattle.design.specs.Keys.{netlist}
-use Rattle.scratch.proofs.Driven.{earlier}
 use Rattle.rundiff.specs.kept.Fronts.{IsAlike}
 use Rattle.rundiff.specs.kept.Places.{is_among}
 use Rattle.rundiff.proofs.Alike.{alike_grows, either_more}
-use Rattle.rundiff.proofs.Steps.{among_more, is_one}
+use Rattle.rundiff.proofs.Steps.{is_one, each_more}
 use Rattle.rundiff.proofs.nets.find_differing.Goals as goal
 
 pub add_differing-requires-clause-there : goal.add_differing-requires-clause-there
@@ -33,13 +31,11 @@ loop-place-preserved g c =
     let now : ℕ → Bool = λ q. is_among c.add_differing.new.found.items q || live q in
     record {
       there = done.there c.loop-place.invariant.there;
-      alike = λ p among.
-          elim (nat_eq x p) as (λ b. nat_eq x p ≡ b → IsAlike g.S.Stepper.answer old new now t p) [
-            | true ↦ λ same. subst (λ (q : ℕ). IsAlike g.S.Stepper.answer old new now t q) (eqb-true x p same) done.alike
-            | false ↦ λ apart.
-                alike_grows g.S.Stepper.answer old new was now t p (λ q on. either_more (is_among c.loop-place.found.items q) (is_among c.add_differing.new.found.items q) (live q) (done.more q) on)
-                (c.loop-place.invariant.alike p (earlier (is_among (take i xs) p) (nat_eq x p) (sym (among_more xs i x p (slice_get-get_or xs i 0 c.loop-place-test.true)) ∙ among) apart))
-          ] refl;
+      alike =
+          each_more (IsAlike g.S.Stepper.answer old new now t) xs i x (slice_get-get_or xs i 0 c.loop-place-test.true)
+          (λ p so_far apart.
+          alike_grows g.S.Stepper.answer old new was now t p (λ q on. either_more (is_among c.loop-place.found.items q) (is_among c.add_differing.new.found.items q) (live q) (done.more q) on)
+          (c.loop-place.invariant.alike p so_far)) done.alike;
     }
 
 pub returns-clause-alike : goal.returns-clause-alike

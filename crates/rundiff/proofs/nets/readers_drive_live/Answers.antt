@@ -1,20 +1,17 @@
-use Rattle.std.proofs.Common.{◌≡◌, ◌∙◌, ap, sym, refl, ℕ, List, true, false, take, Option, Some}
-use Rattle.std.specs.Prelude.{nat_eq}
+use Rattle.std.proofs.Common.{◌≡◌, ◌∙◌, ap, sym, ℕ, List, true, false, Option, Some}
 use Rattle.std.specs.BTreeSet.{contains}
 use Rattle.std.specs.Ordering.{nat_cmp}
 use Rattle.std.specs.Option.{option_map_or}
-use Rattle.std.proofs.lemmas.Bool.{eqb-true}
 use Rattle.std.proofs.lemmas.Option.{slice_get-get_or, same_Some}
 use Rattle.std.proofs.lemmas.List.{take_all}
 use Rattle.catalog.specs.kept.Catalog.{place_of}
 use Rattle.design.specs.Keys.{KeyedGate, netlist}
 use Rattle.design.specs.kept.Keys.{gate_by_key, net_by_key}
 use Rattle.design.specs.Netlist.{GateEntry}
-use Rattle.scratch.proofs.Driven.{earlier}
 use Rattle.rundiff.specs.kept.Places.{blank_net, is_among, is_live, net_at}
 use Rattle.rundiff.proofs.Driven.{read_get}
 use Rattle.rundiff.proofs.ReaderKeys.{entry_at, keyed_at, reader_at}
-use Rattle.rundiff.proofs.Steps.{among_more}
+use Rattle.rundiff.proofs.Steps.{each_more}
 use Rattle.rundiff.proofs.nets.readers_drive_live.Goals as goal
 
 pub loop-reader-preserved : goal.loop-reader-preserved
@@ -25,15 +22,13 @@ loop-reader-preserved c =
     let output = c.in-Some.output in
     let live = contains nat_cmp c.args.all_live.now in
     λ key among gate found.
-    elim (nat_eq x key) as (λ b. nat_eq x key ≡ b → (q : ℕ) × (place_of keyed.nets gate.output ≡ Some q) × (live q ≡ true)) [
-      | true ↦ λ same.
-          let e = eqb-true x key same in
-          let one : c.gate_of.result.now ≡ gate = same_Some c.gate_of.result.now gate (sym c.gate_of.ensures.gate ∙ ap (λ (k : ℕ). gate_by_key keyed k) e ∙ found) in
-          let at_output : place_of keyed.nets gate.output ≡ Some output =
-          ap (λ (h : KeyedGate). place_of keyed.nets h.output) (sym one) ∙ ap (place_of keyed.nets) (sym c.output.ensures) ∙ sym c.in-Some.ensures.place in
-          (output, at_output, sym c.contains.ensures ∙ c.if-not-contains.false)
-      | false ↦ λ apart. c.loop-reader.invariant key (earlier (is_among (take i keys) key) (nat_eq x key) (sym (among_more keys i x key at) ∙ among) apart) gate found
-    ] refl
+    each_more (λ k. gate_by_key keyed k ≡ Some gate → (q : ℕ) × (place_of keyed.nets gate.output ≡ Some q) × (live q ≡ true)) keys i x at
+    (λ k was apart found. c.loop-reader.invariant k was gate found)
+    (λ found.
+    let one : c.gate_of.result.now ≡ gate = same_Some c.gate_of.result.now gate (sym c.gate_of.ensures.gate ∙ found) in
+    let at_output : place_of keyed.nets gate.output ≡ Some output =
+    ap (λ (h : KeyedGate). place_of keyed.nets h.output) (sym one) ∙ ap (place_of keyed.nets) (sym c.output.ensures) ∙ sym c.in-Some.ensures.place in
+    (output, at_output, sym c.contains.ensures ∙ c.if-not-contains.false)) key among found
 
 pub returns : goal.returns
 returns c = λ all q low reading.

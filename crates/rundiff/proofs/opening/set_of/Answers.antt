@@ -1,20 +1,15 @@
-use Rattle.std.proofs.Common.{◌≡◌, ◌∙◌, ap, sym, refl, ℕ, List, Bool, true, false, cond, take}
+use Rattle.std.proofs.Common.{◌∙◌, ap, sym, ℕ, List, Bool, true, false, cond, take}
 use Rattle.std.specs.Prelude.{slice_index_or, ◌||◌, ◌==◌}
 use Rattle.std.specs.BTreeSet.{contains}
 use Rattle.std.specs.Ordering.{nat_cmp}
 use Rattle.std.proofs.lemmas.Option.{slice_get-get_or}
 use Rattle.std.proofs.lemmas.List.{take_all}
+use Rattle.std.proofs.Math.Bool.{or_comm}
 use Rattle.scratch.proofs.Among.{any_more}
 use Rattle.scratch.proofs.Keyed.{same_test}
 use Rattle.rundiff.specs.kept.Places.{is_among}
 use Rattle.rundiff.proofs.Sets.{cond_or, test_is}
 use Rattle.rundiff.proofs.opening.set_of.Goals as goal
-
-or_swap : (a b : Bool) → (a || b) ≡ (b || a)
-or_swap true true = refl
-or_swap true false = refl
-or_swap false true = refl
-or_swap false false = refl
 
 pub loop-place-preserved : goal.loop-place-preserved
 loop-place-preserved c = λ p.
@@ -25,7 +20,7 @@ loop-place-preserved c = λ p.
     ∙ cond_or (p == x) (contains nat_cmp c.loop-place.set p)
     ∙ ap (λ (b : Bool). p == x || b) (c.loop-place.invariant p)
     ∙ ap (λ (b : Bool). b || so_far) (same_test p x)
-    ∙ or_swap (x == p) so_far
+    ∙ or_comm (x == p) so_far
     ∙ sym (any_more (λ q. q == p) xs i x (slice_get-get_or xs i 0 c.loop-place-test.true))
 
 pub returns : goal.returns

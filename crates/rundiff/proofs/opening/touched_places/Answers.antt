@@ -1,13 +1,11 @@
-use Rattle.std.proofs.Common.{◌≡◌, ◌∙◌, ◌≤◌, ap, sym, subst, refl, ℕ, List, true, false, take, length, Some}
-use Rattle.std.specs.Prelude.{slice_get, nat_eq}
-use Rattle.std.proofs.lemmas.Bool.{eqb-true}
+use Rattle.std.proofs.Common.{◌≡◌, ◌∙◌, ◌≤◌, ap, subst, ℕ, List, true, false, length, Some}
+use Rattle.std.specs.Prelude.{slice_get}
 use Rattle.std.proofs.lemmas.List.{take_all}
 use Rattle.catalog.specs.kept.Catalog.{place_of}
 use Rattle.design.specs.kept.Keys.{gate_by_key}
-use Rattle.scratch.proofs.Driven.{earlier}
 use Rattle.rundiff.specs.kept.Places.{is_among}
 use Rattle.rundiff.proofs.Driven.{read_get}
-use Rattle.rundiff.proofs.Steps.{among_more}
+use Rattle.rundiff.proofs.Steps.{each_more}
 use Rattle.rundiff.proofs.opening.touched_places.Goals as goal
 
 pub loop-net-preserved : goal.loop-net-preserved
@@ -19,10 +17,8 @@ loop-net-preserved c =
     record {
       there = done.there c.loop-net.invariant.there;
       nets = λ key among p found.
-          elim (nat_eq x key) as (λ b. nat_eq x key ≡ b → is_among c.add_net.new.places.items p ≡ true) [
-            | true ↦ λ same. done.net p (ap (place_of nets) (eqb-true x key same) ∙ found)
-            | false ↦ λ apart. done.more p (c.loop-net.invariant.nets key (earlier (is_among (take i keys) key) (nat_eq x key) (sym (among_more keys i x key at) ∙ among) apart) p found)
-          ] refl;
+          each_more (λ k. place_of nets k ≡ Some p → is_among c.add_net.new.places.items p ≡ true) keys i x at
+          (λ k was apart found. done.more p (c.loop-net.invariant.nets k was p found)) (done.net p) key among found;
     }
 
 pub loop-gate-init : goal.loop-gate-init
@@ -44,10 +40,8 @@ loop-gate-preserved c =
       there = done.there c.loop-gate.invariant.there;
       nets = λ key among p found. done.more p (c.loop-gate.invariant.nets key among p found);
       gates = λ key among gate under p found.
-          elim (nat_eq x key) as (λ b. nat_eq x key ≡ b → is_among c.add_output.new.places.items p ≡ true) [
-            | true ↦ λ same. done.output gate (ap (gate_by_key c.args.new.now) (eqb-true x key same) ∙ under) p found
-            | false ↦ λ apart. done.more p (c.loop-gate.invariant.gates key (earlier (is_among (take i keys) key) (nat_eq x key) (sym (among_more keys i x key at) ∙ among) apart) gate under p found)
-          ] refl;
+          each_more (λ k. gate_by_key c.args.new.now k ≡ Some gate → is_among c.add_output.new.places.items p ≡ true) keys i x at
+          (λ k was apart under. done.more p (c.loop-gate.invariant.gates k was gate under p found)) (λ under. done.output gate under p found) key among under;
     }
 
 pub returns-clause-touched : goal.returns-clause-touched

@@ -1,15 +1,13 @@
-use Rattle.std.proofs.Common.{◌≡◌, ◌∙◌, ap, sym, subst, refl, ℕ, List, Bool, true, false, take, inl, inr}
-use Rattle.std.specs.Prelude.{slice_index_or, nat_eq}
-use Rattle.std.proofs.lemmas.Bool.{eqb-true}
+use Rattle.std.proofs.Common.{◌≡◌, ◌∙◌, ap, ℕ, List, Bool, true, false, inl, inr}
+use Rattle.std.specs.Prelude.{slice_index_or}
 use Rattle.std.proofs.lemmas.Option.{slice_get-get_or}
 use Rattle.std.proofs.lemmas.List.{take_all}
 use Rattle.gatestep.specs.Step.{State, Evaluation}
 use Rattle.design.specs.Keys.{netlist}
 use Rattle.design.specs.Netlist.{Netlist}
-use Rattle.scratch.proofs.Driven.{earlier}
 use Rattle.rundiff.specs.kept.Places.{is_among}
 use Rattle.rundiff.specs.kept.Steady.{IsSteady}
-use Rattle.rundiff.proofs.Steps.{among_more, is_one}
+use Rattle.rundiff.proofs.Steps.{is_one, each_more}
 use Rattle.rundiff.proofs.spreading.add_changed.Goals as goal
 
 steady_grows : (answer : Evaluation → ℕ → State) (new : Netlist) (f g : ℕ → Bool) (t p : ℕ) → ((q : ℕ) → f q ≡ true → g q ≡ true) → IsSteady answer new f t p → IsSteady answer new g t p
@@ -34,13 +32,9 @@ loop-place-preserved g c =
     let done = c.in_ok-add_if_changed.ensures in
     record {
       more = λ q on. done.more q (c.loop-place.invariant.more q on);
-      steady = λ p among.
-          elim (nat_eq x p) as (λ b. nat_eq x p ≡ b → IsSteady answer new now t p) [
-            | true ↦ λ same. subst (λ (q : ℕ). IsSteady answer new now t q) (eqb-true x p same) done.steady
-            | false ↦ λ apart.
-                steady_grows answer new (is_among c.loop-place.gates.items) now t p done.more
-                (c.loop-place.invariant.steady p (earlier (is_among (take i xs) p) (nat_eq x p) (sym (among_more xs i x p (slice_get-get_or xs i 0 c.loop-place-test.true)) ∙ among) apart))
-          ] refl;
+      steady =
+          each_more (IsSteady answer new now t) xs i x (slice_get-get_or xs i 0 c.loop-place-test.true)
+          (λ p was apart. steady_grows answer new (is_among c.loop-place.gates.items) now t p done.more (c.loop-place.invariant.steady p was)) done.steady;
     }
 
 pub returns-clause-steady : goal.returns-clause-steady

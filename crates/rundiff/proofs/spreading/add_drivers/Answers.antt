@@ -1,17 +1,16 @@
-use Rattle.std.proofs.Common.{◌≡◌, ◌∙◌, ap, sym, refl, ℕ, List, true, false, take}
-use Rattle.std.specs.Prelude.{slice_index_or, nat_eq}
-use Rattle.std.proofs.lemmas.Bool.{or_left, or_right, eqb-true}
+use Rattle.std.proofs.Common.{◌≡◌, ◌∙◌, ap, ℕ, List, true, false}
+use Rattle.std.specs.Prelude.{slice_index_or}
+use Rattle.std.proofs.lemmas.Bool.{or_left, or_right}
 use Rattle.std.proofs.lemmas.Option.{slice_get-get_or}
 use Rattle.std.proofs.lemmas.List.{take_all}
 use Rattle.design.specs.Keys.{netlist}
 use Rattle.design.specs.Names.{same_name}
 use Rattle.design.specs.kept.Places.{driver_places}
 use Rattle.scratch.proofs.Stirred.{same_self_name}
-use Rattle.scratch.proofs.Driven.{earlier}
 use Rattle.rundiff.specs.kept.Places.{gate_at, is_among, net_at}
 use Rattle.rundiff.proofs.Among.{live_net}
 use Rattle.rundiff.proofs.Readers.{driver_at}
-use Rattle.rundiff.proofs.Steps.{among_more}
+use Rattle.rundiff.proofs.Steps.{each_more}
 use Rattle.rundiff.proofs.spreading.add_drivers.Goals as goal
 
 pub loop-place-preserved : goal.loop-place-preserved
@@ -24,13 +23,10 @@ loop-place-preserved c =
     let done = c.in_ok-add_drivers_of.ensures in
     record {
       more = λ q on. done q ∙ or_right (is_among (drivers x) q) (is_among before q) (c.loop-place.invariant.more q on);
-      drivers = λ p among q drives.
-          elim (nat_eq x p) as (λ b. nat_eq x p ≡ b → is_among now q ≡ true) [
-            | true ↦ λ same. done q ∙ or_left (is_among (drivers x) q) (is_among before q) (ap (λ (k : ℕ). is_among (drivers k) q) (eqb-true x p same) ∙ drives)
-            | false ↦ λ apart.
-                done q ∙ or_right (is_among (drivers x) q) (is_among before q)
-                (c.loop-place.invariant.drivers p (earlier (is_among (take i xs) p) (nat_eq x p) (sym (among_more xs i x p (slice_get-get_or xs i 0 c.loop-place-test.true)) ∙ among) apart) q drives)
-          ] refl;
+      drivers =
+          each_more (λ p. (q : ℕ) → is_among (drivers p) q ≡ true → is_among now q ≡ true) xs i x (slice_get-get_or xs i 0 c.loop-place-test.true)
+          (λ p was apart q drives. done q ∙ or_right (is_among (drivers x) q) (is_among before q) (c.loop-place.invariant.drivers p was q drives))
+          (λ q drives. done q ∙ or_left (is_among (drivers x) q) (is_among before q) drives);
     }
 
 pub returns-clause-drivers : goal.returns-clause-drivers

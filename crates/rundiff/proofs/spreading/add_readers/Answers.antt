@@ -1,21 +1,16 @@
-use Rattle.std.proofs.Common.{◌≡◌, ◌∙◌, ap, sym, refl, ℕ, List, true, false, take, Some, arith}
+use Rattle.std.proofs.Common.{◌≡◌, ◌∙◌, ap, ℕ, List, true, false, Some}
 use Rattle.std.specs.Prelude.{◌||◌, nat_eq}
-use Rattle.std.proofs.lemmas.Bool.Decides.{nat_tests}
-use Rattle.std.proofs.lemmas.Bool.{or_left, or_right, eqb-true}
+use Rattle.std.proofs.lemmas.Bool.{or_left, or_right, eq-eqb}
 use Rattle.std.proofs.lemmas.Option.{slice_get-get_or, same_Some}
 use Rattle.std.proofs.lemmas.List.{take_all}
 use Rattle.catalog.specs.kept.Catalog.{place_of}
 use Rattle.design.specs.Keys.{netlist}
 use Rattle.design.specs.kept.Keys.{net_by_key}
-use Rattle.scratch.proofs.Driven.{earlier}
 use Rattle.rundiff.specs.kept.Places.{blank_net, is_among, net_at}
 use Rattle.rundiff.proofs.Driven.{read_get}
 use Rattle.rundiff.proofs.ReaderKeys.{entry_at, keyed_at, reader_at}
-use Rattle.rundiff.proofs.Steps.{among_more, among_push}
+use Rattle.rundiff.proofs.Steps.{among_push, each_more}
 use Rattle.rundiff.proofs.spreading.add_readers.Goals as goal
-
-itself : (x y : ℕ) → x ≡ y → nat_eq x y ≡ true
-itself x y e = grind (arith, nat_tests)
 
 pub loop-reader-preserved : goal.loop-reader-preserved
 loop-reader-preserved c =
@@ -28,14 +23,11 @@ loop-reader-preserved c =
     record {
       more = λ q on. grown q ∙ or_left (is_among before q) (nat_eq gate q) (c.loop-reader.invariant.more q on);
       readers = λ key among q place.
-          elim (nat_eq x key) as (λ b. nat_eq x key ≡ b → is_among c.push.new.self.items q ≡ true) [
-            | true ↦ λ same.
-                let e : gate ≡ q = same_Some gate q (c.in-Some.ensures.place ∙ ap (place_of gates) (eqb-true x key same) ∙ place) in
-                grown q ∙ or_right (is_among before q) (nat_eq gate q) (itself gate q e)
-            | false ↦ λ apart.
-                grown q ∙ or_left (is_among before q) (nat_eq gate q)
-                (c.loop-reader.invariant.readers key (earlier (is_among (take i keys) key) (nat_eq x key) (sym (among_more keys i x key at) ∙ among) apart) q place)
-          ] refl;
+          each_more (λ k. place_of gates k ≡ Some q → is_among c.push.new.self.items q ≡ true) keys i x at
+          (λ k was apart place. grown q ∙ or_left (is_among before q) (nat_eq gate q) (c.loop-reader.invariant.readers k was q place))
+          (λ place.
+          let e : gate ≡ q = same_Some gate q (c.in-Some.ensures.place ∙ place) in
+          grown q ∙ or_right (is_among before q) (nat_eq gate q) (eq-eqb gate q e)) key among place;
     }
 
 pub returns-clause-readers : goal.returns-clause-readers

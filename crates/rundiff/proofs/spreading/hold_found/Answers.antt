@@ -1,4 +1,4 @@
-use Rattle.std.proofs.Common.{◌≡◌, ◌∙◌, ◌<◌, ap, sym, subst, refl, ℕ, List, ◌++◌, Bool, true, false, All, length, Result, Ok, Err, OnOk}
+use Rattle.std.proofs.Common.{◌≡◌, ◌∙◌, ◌<◌, ap, sym, subst, refl, ℕ, List, ◌++◌, Bool, true, false, All, length}
 use Rattle.std.specs.Prelude.{◌||◌, ◌&&◌, not}
 use Rattle.std.specs.BTreeSet.{contains}
 use Rattle.std.specs.List.{filter}
@@ -9,17 +9,10 @@ use Rattle.design.specs.Keys.{netlist}
 use Rattle.event_queue.proofs.Changes.{by_ok}
 use Rattle.scratch.specs.kept.Places.{has}
 use Rattle.scratch.proofs.Driven.{earlier}
+use Rattle.scratch.proofs.Lists.{on_ok, both_ok}
 use Rattle.rundiff.specs.kept.Places.{gate_at, is_among}
 use Rattle.rundiff.proofs.Among.{among_filter, among_has, either_among, live_gained}
 use Rattle.rundiff.proofs.spreading.hold_found.Goals as goal
-
-with_both : {A E P Q R : Type 0} (r : Result A E) → OnOk r P → OnOk r Q → (P → Q → R) → OnOk r R
-with_both (Ok x) p q follows = follows p q
-with_both (Err e) p q follows = tt
-
-on_ok : {A E P : Type 0} (r : Result A E) → P → OnOk r P
-on_ok (Ok x) p = p
-on_ok (Err e) p = tt
 
 either : (a b : Bool) → ((a && not b) || b) ≡ (a || b)
 either true true = refl
@@ -91,7 +84,7 @@ returns-clause-gates c =
     let live = contains nat_cmp c.args.live.now in
     let later = contains nat_cmp c.hold.new.live in
     let slice = c.as_slice-3.result.now in
-    with_both c.hold.result c.hold.ensures.live c.hold.ensures.drivers
+    both_ok c.hold.result c.hold.ensures.live c.hold.ensures.drivers
     (λ adds drivers q on off.
     let low = drivers.gates q on in
     let out = (gate_at d q).output in

@@ -82,49 +82,8 @@ index_mut-requires g c =
     let in_states : place < length c.loop-i.states.items = rw c.loop-i.invariant.as_many there in
     grind (arith, common_steps)
 
-pub push_known-requires-clause-there : goal.push_known-requires-clause-there
-push_known-requires-clause-there g c =
-    let answer = g.S.Stepper.answer in let d = netlist c.args.present.now.design.now in let t = c.args.present.now.t in let gates = c.args.gates.now in let i = c.loop-i.i in let place = slice_index_or gates i 0 in
-    let at = slice_get-get_or gates i 0 c.loop-i-test.true in
-    let is_open = g.B.Beside.is_open answer d c.args.beside.now in
-    let there : place < length d.gates = is_there is_open answer d t gates c.requires.gates i place at in
-    let in_traces : place < length c.loop-i.traces = rw c.loop-i.invariant.as_many_traces there in
-    in_traces
-
-pub push_known-requires-clause-later : goal.push_known-requires-clause-later
-push_known-requires-clause-later g c =
-    let answer = g.S.Stepper.answer in let d = netlist c.args.present.now.design.now in let t = c.args.present.now.t in let gates = c.args.gates.now in let i = c.loop-i.i in let place = slice_index_or gates i 0 in
-    let at = slice_get-get_or gates i 0 c.loop-i-test.true in
-    let is_open = g.B.Beside.is_open answer d c.args.beside.now in
-    let there : place < length d.gates = is_there is_open answer d t gates c.requires.gates i place at in
-    let in_traces : place < length c.loop-i.traces = rw c.loop-i.invariant.as_many_traces there in
-    let apart = once_apart gates i place c.requires.apart at in
-    let next_traces = map (λ gate. trace_below (state_after answer d gate) (t + 1)) d.gates in
-    let was : slice_get (map (λ gate. trace_below (state_after answer d gate) t) d.gates) place ≡ Some (slice_index_or c.loop-i.traces place []) =
-    ap (λ l. slice_get l place) (sym c.requires.traces)
-    ∙ sym (is_old (take i gates) (slice_get c.args.traces.now) (slice_get next_traces) (slice_get c.loop-i.traces) c.loop-i.invariant.traces place apart)
-    ∙ slice_get-get_or c.loop-i.traces place [] in_traces in
-    all_at (All (λ e. e.0 < t)) (map (λ gate. trace_below (state_after answer d gate) t) d.gates) place (slice_index_or c.loop-i.traces place []) (traces_early answer d c.changes_lie_before.ensures t) was
-
-pub push_known-requires-clause-can : goal.push_known-requires-clause-can
-push_known-requires-clause-can g c =
-    let law = g.met.S.Stepper in
-    let answer = g.S.Stepper.answer in let d = netlist c.args.present.now.design.now in let t = c.args.present.now.t in let gates = c.args.gates.now in let i = c.loop-i.i in let place = slice_index_or gates i 0 in
-    let at = slice_get-get_or gates i 0 c.loop-i-test.true in
-    let is_open = g.B.Beside.is_open answer d c.args.beside.now in
-    let there : place < length d.gates = is_there is_open answer d t gates c.requires.gates i place at in
-    let in_states : place < length c.loop-i.states.items = rw c.loop-i.invariant.as_many there in
-    let apart = once_apart gates i place c.requires.apart at in
-    let before : slice_get c.args.states.now.items place ≡ Some c.index-state.result.now =
-    sym (is_old (take i gates) (slice_get c.args.states.now.items) (slice_get (map (state_before answer d (t + 1)) d.gates)) (slice_get c.loop-i.states.items) c.loop-i.invariant.states place apart)
-    ∙ slice_get_read c.loop-i.states.items (length c.loop-i.states.items) place c.index-state.result.now refl in_states c.index-state.ensures in
-    let s = c.answer_of-answer.result in let next = map (state_before answer d (t + 1)) d.gates in
-    let here : slice_get next place ≡ Some s =
-    c.answer_of-answer.ensures.answer in
-    all_at (CanStore t) next place s (storable answer d law.answer_pending law.answer_near c.lawful.ensures.design.gates t (omega arith) next refl) here
-
-pub push_known-requires-clause-known : goal.push_known-requires-clause-known
-push_known-requires-clause-known g c =
+pub push_known-requires : goal.push_known-requires
+push_known-requires g c =
     let law = g.met.S.Stepper in
     let answer = g.S.Stepper.answer in let d = netlist c.args.present.now.design.now in let t = c.args.present.now.t in let gates = c.args.gates.now in let i = c.loop-i.i in let place = slice_index_or gates i 0 in
     let at = slice_get-get_or gates i 0 c.loop-i-test.true in
@@ -141,21 +100,22 @@ push_known-requires-clause-known g c =
     ap (λ l. slice_get l place) (sym c.requires.traces)
     ∙ sym (is_old (take i gates) (slice_get c.args.traces.now) (slice_get next_traces) (slice_get c.loop-i.traces) c.loop-i.invariant.traces place apart)
     ∙ slice_get-get_or c.loop-i.traces place [] in_traces in
-    known answer d law.answer_pending c.reached_by_changes.ensures c.lawful.ensures.design.gates t place c.requires.begun (slice_index_or c.loop-i.traces place []) c.index-state.result.now c.answer_of-answer.result was
-    (ap (λ l. slice_get l place) (sym c.requires.states) ∙ before)
-    ∙ ap (same_state c.answer_of-answer.result) (sym c.due.ensures)
+    let next = map (state_before answer d (t + 1)) d.gates in
+    record {
+      there = in_traces;
+      later = all_at (All (λ e. e.0 < t)) (map (λ gate. trace_below (state_after answer d gate) t) d.gates) place (slice_index_or c.loop-i.traces place []) (traces_early answer d c.changes_lie_before.ensures t) was;
+      can = all_at (CanStore t) next place c.answer_of-answer.result (storable answer d law.answer_pending law.answer_near c.lawful.ensures.design.gates t (omega arith) next refl) c.answer_of-answer.ensures.answer;
+      known =
+          known answer d law.answer_pending c.reached_by_changes.ensures c.lawful.ensures.design.gates t place c.requires.begun (slice_index_or c.loop-i.traces place []) c.index-state.result.now c.answer_of-answer.result was
+          (ap (λ l. slice_get l place) (sym c.requires.states) ∙ before)
+          ∙ ap (same_state c.answer_of-answer.result) (sym c.due.ensures);
+    }
 
 pub returns-in_err-push_known-clause-part : goal.returns-in_err-push_known-clause-part
 returns-in_err-push_known-clause-part g c =
     let answer = g.S.Stepper.answer in let d = netlist c.args.present.now.design.now in let t = c.args.present.now.t in let gates = c.args.gates.now in let i = c.loop-i.i in let place = slice_index_or gates i 0 in
     let at = slice_get-get_or gates i 0 c.loop-i-test.true in
     let is_open = g.B.Beside.is_open answer d c.args.beside.now in
-    let there : place < length d.gates = is_there is_open answer d t gates c.requires.gates i place at in
-    let in_states : place < length c.loop-i.states.items = rw c.loop-i.invariant.as_many there in
-    let apart = once_apart gates i place c.requires.apart at in
-    let before : slice_get c.args.states.now.items place ≡ Some c.index-state.result.now =
-    sym (is_old (take i gates) (slice_get c.args.states.now.items) (slice_get (map (state_before answer d (t + 1)) d.gates)) (slice_get c.loop-i.states.items) c.loop-i.invariant.states place apart)
-    ∙ slice_get_read c.loop-i.states.items (length c.loop-i.states.items) place c.index-state.result.now refl in_states c.index-state.ensures in
     let asked : g.S.Stepper.asked c.answer_of-answer.new.stepper ≡ g.S.Stepper.asked c.args.stepper.now ++ flat_map (asked_at is_open answer d t) (take (i + 1) gates) =
     asked_more is_open answer d t gates i place (g.S.Stepper.asked c.args.stepper.now) (g.S.Stepper.asked c.loop-i.stepper) (g.S.Stepper.asked c.answer_of-answer.new.stepper) at
     c.loop-i.invariant.asked (c.answer_of-answer.ensures.asked ∙ ap (λ o. g.S.Stepper.asked c.loop-i.stepper ++ asked_at o answer d t place) c.loop-i.invariant.same) in
@@ -167,12 +127,6 @@ returns-in_err-add-clause-part g c =
     let answer = g.S.Stepper.answer in let d = netlist c.args.present.now.design.now in let t = c.args.present.now.t in let gates = c.args.gates.now in let i = c.loop-i.i in let place = slice_index_or gates i 0 in
     let at = slice_get-get_or gates i 0 c.loop-i-test.true in
     let is_open = g.B.Beside.is_open answer d c.args.beside.now in
-    let there : place < length d.gates = is_there is_open answer d t gates c.requires.gates i place at in
-    let in_states : place < length c.loop-i.states.items = rw c.loop-i.invariant.as_many there in
-    let apart = once_apart gates i place c.requires.apart at in
-    let before : slice_get c.args.states.now.items place ≡ Some c.index-state.result.now =
-    sym (is_old (take i gates) (slice_get c.args.states.now.items) (slice_get (map (state_before answer d (t + 1)) d.gates)) (slice_get c.loop-i.states.items) c.loop-i.invariant.states place apart)
-    ∙ slice_get_read c.loop-i.states.items (length c.loop-i.states.items) place c.index-state.result.now refl in_states c.index-state.ensures in
     let asked : g.S.Stepper.asked c.answer_of-answer.new.stepper ≡ g.S.Stepper.asked c.args.stepper.now ++ flat_map (asked_at is_open answer d t) (take (i + 1) gates) =
     asked_more is_open answer d t gates i place (g.S.Stepper.asked c.args.stepper.now) (g.S.Stepper.asked c.loop-i.stepper) (g.S.Stepper.asked c.answer_of-answer.new.stepper) at
     c.loop-i.invariant.asked (c.answer_of-answer.ensures.asked ∙ ap (λ o. g.S.Stepper.asked c.loop-i.stepper ++ asked_at o answer d t place) c.loop-i.invariant.same) in
@@ -188,12 +142,8 @@ loop-i-preserved g c =
     let there : place < length d.gates = is_there is_open answer d t gates c.requires.gates i place at in
     let in_states : place < length c.loop-i.states.items = rw c.loop-i.invariant.as_many there in
     let apart = once_apart gates i place c.requires.apart at in
-    let before : slice_get c.args.states.now.items place ≡ Some c.index-state.result.now =
-    sym (is_old (take i gates) (slice_get c.args.states.now.items) (slice_get (map (state_before answer d (t + 1)) d.gates)) (slice_get c.loop-i.states.items) c.loop-i.invariant.states place apart)
-    ∙ slice_get_read c.loop-i.states.items (length c.loop-i.states.items) place c.index-state.result.now refl in_states c.index-state.ensures in
     let s = c.answer_of-answer.result in let next = map (state_before answer d (t + 1)) d.gates in
-    let here : slice_get next place ≡ Some s =
-    c.answer_of-answer.ensures.answer in
+    let here : slice_get next place ≡ Some s = c.answer_of-answer.ensures.answer in
     let asked : g.S.Stepper.asked c.answer_of-answer.new.stepper ≡ g.S.Stepper.asked c.args.stepper.now ++ flat_map (asked_at is_open answer d t) (take (i + 1) gates) =
     asked_more is_open answer d t gates i place (g.S.Stepper.asked c.args.stepper.now) (g.S.Stepper.asked c.loop-i.stepper) (g.S.Stepper.asked c.answer_of-answer.new.stepper) at
     c.loop-i.invariant.asked (c.answer_of-answer.ensures.asked ∙ ap (λ o. g.S.Stepper.asked c.loop-i.stepper ++ asked_at o answer d t place) c.loop-i.invariant.same) in

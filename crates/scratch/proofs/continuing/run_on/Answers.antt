@@ -1,11 +1,12 @@
 use Rattle.std.proofs.Common.{◌≡◌, ◌≤◌, ◌∙◌, sym, refl, [], append-nil, subst, suc, add-one, arith}
 use Rattle.std.proofs.lemmas.Grind.{common_steps}
 use Rattle.design.specs.Keys.{netlist}
+use Rattle.event_queue.proofs.Changes.{held_err}
 use Rattle.scratch.specs.Asked.{IsAskedInPart, IsAskedInSomeOrder}
 use Rattle.scratch.specs.kept.Grown.{all_is_part, grown_all, no_moment}
 use Rattle.scratch.specs.kept.Open.{all_from, open_work_at}
 use Rattle.scratch.specs.kept.Stands.{Stands}
-use Rattle.scratch.proofs.Asked.{held_err, one_more, part, unmoved}
+use Rattle.scratch.proofs.Asked.{one_more, part, unmoved}
 use Rattle.scratch.proofs.Tasks.{none_asked}
 use Rattle.scratch.proofs.continuing.run_on.Goals as goal
 

@@ -2,12 +2,12 @@ use Rattle.std.proofs.Common.{◌≡◌, ◌<◌, ◌∙◌, sym, ap, refl, ℕ,
 use Rattle.std.proofs.lemmas.Grind.{common_steps}
 use Rattle.std.proofs.lemmas.Option.{slice_get-get_or, slice_get_read}
 use Rattle.fourstate.specs.Values.{same_value}
+use Rattle.catalog.proofs.ListLemmas.{slice_get_some}
 use Rattle.design.specs.Keys.{netlist}
 use Rattle.scratch.specs.kept.Kept.{lone_driver, output_at}
 use Rattle.scratch.specs.kept.Nets.{waves_of}
 use Rattle.scratch.specs.kept.Places.{changes_at, has}
 use Rattle.scratch.proofs.Driven.{added, is_output}
-use Rattle.scratch.proofs.Lists.{some_at}
 use Rattle.scratch.proofs.NetSteps.{change_is, lone_there, went_alone}
 use Rattle.scratch.proofs.driving.drive_net.Goals as goal
 
@@ -25,7 +25,7 @@ returns-in_ok-insert_readers_of-clause-part g c =
     let vs = c.args.values.now.items in let cs = c.args.changed.now.items in let part = c.requires.part in let lone = c.args.setting.now.wiring.now.lone_drivers.items in
     let in_values : net < length vs = let low = c.if-net-len.false in let len = c.len.ensures in grind (arith, common_steps) in
     let in_nets : net < length d.nets = rw (← part.as_many) in_values in
-    let it = some_at d.nets net in_nets in let n = it.0 in
+    let it = slice_get_some d.nets net in_nets in let n = it.0 in
     let alone : lone_driver d n ≡ Some c.args.gate = lone_there d lone net n (Some c.args.gate) c.requires.wired.lone_drivers it.1 (c.is_alone.ensures c.if-not-is_alone.false) in
     let is = c.requires.gives n alone in
     let old : slice_get vs net ≡ Some c.index.result.now = slice_get_read vs (length vs) net c.index.result.now refl in_values c.index.ensures in
@@ -51,7 +51,7 @@ returns-else-is_other-clause-driven g c =
     let vs = c.args.values.now.items in let cs = c.args.changed.now.items in let part = c.requires.part in let lone = c.args.setting.now.wiring.now.lone_drivers.items in
     let in_values : net < length vs = let low = c.if-net-len.false in let len = c.len.ensures in grind (arith, common_steps) in
     let in_nets : net < length d.nets = rw (← part.as_many) in_values in
-    let it = some_at d.nets net in_nets in let n = it.0 in
+    let it = slice_get_some d.nets net in_nets in let n = it.0 in
     let alone : lone_driver d n ≡ Some c.args.gate = lone_there d lone net n (Some c.args.gate) c.requires.wired.lone_drivers it.1 (c.is_alone.ensures c.if-not-is_alone.false) in
     let is = c.requires.gives n alone in
     let old : slice_get vs net ≡ Some c.index.result.now = slice_get_read vs (length vs) net c.index.result.now refl in_values c.index.ensures in

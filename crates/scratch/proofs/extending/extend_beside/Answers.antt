@@ -1,11 +1,11 @@
 use Rattle.std.proofs.Common.{◌≡◌, ◌+◌, subst, suc, arith}
 use Rattle.std.proofs.lemmas.Result.{on_err_weaker, on_ok_weaker}
 use Rattle.design.specs.Keys.{netlist}
+use Rattle.event_queue.proofs.Changes.{held_err}
 use Rattle.scratch.specs.kept.Stands.{Stands}
 use Rattle.scratch.specs.kept.Open.{all_from, open_work_at}
 use Rattle.scratch.specs.Asked.{IsAskedInPart, IsAskedInSomeOrder}
 use Rattle.scratch.specs.kept.Grown.{grown_none}
-use Rattle.scratch.proofs.Asked.{held_err}
 use Rattle.scratch.proofs.extending.extend_beside.Goals as goal
 
 pub run_on-requires-clause-stands : goal.run_on-requires-clause-stands

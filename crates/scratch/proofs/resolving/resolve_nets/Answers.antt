@@ -4,6 +4,7 @@ use Rattle.std.specs.Option.{option_map_or}
 use Rattle.std.proofs.lemmas.List.{take_all}
 use Rattle.std.proofs.lemmas.Option.{slice_get-get_or, slice_get_read, slice_get_past}
 use Rattle.fourstate.specs.Values.{same_value}
+use Rattle.catalog.proofs.ListLemmas.{slice_get_some}
 use Rattle.design.specs.Keys.{netlist}
 use Rattle.design.specs.kept.Places.{driver_places}
 use Rattle.scratch.specs.kept.Places.{changes_at, has}
@@ -12,18 +13,18 @@ use Rattle.scratch.specs.Run.{value}
 use Rattle.scratch.specs.kept.Nets.{Part}
 use Rattle.scratch.proofs.Among.{in_neither}
 use Rattle.scratch.proofs.Between.{end, finish}
-use Rattle.scratch.proofs.Lists.{some_at, take_next}
+use Rattle.scratch.proofs.Lists.{take_next}
 use Rattle.scratch.proofs.NetSteps.{again, alone_there, resolved_is, same_value_at, same_wave_at, stayed, wave_early, wave_reached, went, went_alone, whole_there}
 use Rattle.scratch.proofs.resolving.resolve_nets.Goals as goal
 use Rattle.scratch.proofs.resolving.resolve_nets.Goals.{then-place-len+in_ok-value+then-is_other+in_ok-push, then-place-len+in_ok-value+else-is_other, else-place-len, then-is_none+in_ok-push_known, else-is_none}
 
-pub push_known-requires-clause-later : goal.push_known-requires-clause-later
-push_known-requires-clause-later g c =
+pub push_known-requires : goal.push_known-requires
+push_known-requires g c =
     let answer = g.S.Stepper.answer in let d = netlist c.args.setting.now.design.now in let t = c.args.setting.now.t in
     let part = c.loop-place.invariant.part in let done = c.args.changed.now.items ++ take c.loop-place.place-index c.args.nets.now in
     let place = slice_index_or c.args.nets.now c.loop-place.place-index 0 in
     let in_nets : place < length d.nets = let low = c.if-place-len.true in let many = part.as_many in grind (arith, common_steps) in
-    let it = some_at d.nets place in_nets in let n = it.0 in
+    let it = slice_get_some d.nets place in_nets in let n = it.0 in
     let v = c.in_ok-value.value in
     let is : v ≡ value answer d n t = resolved_is answer d t c.args.states.now n (driver_places d.gates n.name) v c.requires.states refl (rw it.1 at c.in_ok-value.ensures.value) in
     let in_values : place < length c.loop-place.values.items = rw part.as_many in_nets in
@@ -33,27 +34,16 @@ push_known-requires-clause-later g c =
     let wave = slice_get-get_or c.loop-place.waves place [] in_waves in
     let lone = c.args.setting.now.wiring.now.lone_drivers.items in
     let whole = whole_there d lone place n c.index.result.now c.requires.wired.lone_drivers it.1 in_nets c.index.ensures (c.is_none.ensures ∙ ap not c.if-is_none.true) in
-    wave_early answer d t c.requires.begun c.no_change.ensures place done c.loop-place.values.items c.loop-place.waves c.loop-place.changed.items part n it.1 v c.index-former.result.now is old other
-    whole (slice_index_or c.loop-place.waves place []) wave c.changes_lie_before.ensures
-
-pub push_known-requires-clause-known : goal.push_known-requires-clause-known
-push_known-requires-clause-known g c =
-    let answer = g.S.Stepper.answer in let d = netlist c.args.setting.now.design.now in let t = c.args.setting.now.t in
-    let part = c.loop-place.invariant.part in let done = c.args.changed.now.items ++ take c.loop-place.place-index c.args.nets.now in
-    let place = slice_index_or c.args.nets.now c.loop-place.place-index 0 in
-    let in_nets : place < length d.nets = let low = c.if-place-len.true in let many = part.as_many in grind (arith, common_steps) in
-    let it = some_at d.nets place in_nets in let n = it.0 in
-    let v = c.in_ok-value.value in
-    let is : v ≡ value answer d n t = resolved_is answer d t c.args.states.now n (driver_places d.gates n.name) v c.requires.states refl (rw it.1 at c.in_ok-value.ensures.value) in
-    let in_values : place < length c.loop-place.values.items = rw part.as_many in_nets in
-    let old = slice_get_read c.loop-place.values.items (length c.loop-place.values.items) place c.index-former.result.now refl in_values c.index-former.ensures in
-    let other : not (same_value v c.index-former.result.now) ≡ true = sym c.is_other.ensures ∙ c.if-is_other.true in
-    let in_waves : place < length c.loop-place.waves = rw part.as_many_waves in_nets in
-    let wave = slice_get-get_or c.loop-place.waves place [] in_waves in
-    let lone = c.args.setting.now.wiring.now.lone_drivers.items in
-    let whole = whole_there d lone place n c.index.result.now c.requires.wired.lone_drivers it.1 in_nets c.index.ensures (c.is_none.ensures ∙ ap not c.if-is_none.true) in
-    wave_reached answer d t c.requires.begun c.no_change.ensures place done c.loop-place.values.items c.loop-place.waves c.loop-place.changed.items part n it.1 v c.index-former.result.now is old other
-    whole (slice_index_or c.loop-place.waves place []) wave c.reached_by_changes.ensures
+    record {
+      there = in_waves;
+      later =
+          wave_early answer d t c.requires.begun c.no_change.ensures place done c.loop-place.values.items c.loop-place.waves c.loop-place.changed.items part n it.1 v c.index-former.result.now is old other
+          whole (slice_index_or c.loop-place.waves place []) wave c.changes_lie_before.ensures;
+      can = omega arith;
+      known =
+          wave_reached answer d t c.requires.begun c.no_change.ensures place done c.loop-place.values.items c.loop-place.waves c.loop-place.changed.items part n it.1 v c.index-former.result.now is old other
+          whole (slice_index_or c.loop-place.waves place []) wave c.reached_by_changes.ensures;
+    }
 
 pub loop-place-preserved : goal.loop-place-preserved
 loop-place-preserved g c =
@@ -69,7 +59,7 @@ loop-place-preserved g c =
           elim c.if-place-len.branch [
             | then-place-len+in_ok-value+then-is_other+in_ok-push w ↦
                 let in_nets : place < length d.nets = let low = w.if-place-len.true in let many = part.as_many in grind (arith, common_steps) in
-                let it = some_at d.nets place in_nets in let n = it.0 in
+                let it = slice_get_some d.nets place in_nets in let n = it.0 in
                 let v = w.in_ok-value.value in
                 let is : v ≡ value answer d n t = resolved_is answer d t c.args.states.now n (driver_places d.gates n.name) v c.requires.states refl (rw it.1 at w.in_ok-value.ensures.value) in
                 let in_values : place < length vs = rw part.as_many in_nets in
@@ -90,7 +80,7 @@ loop-place-preserved g c =
                 ]
             | then-place-len+in_ok-value+else-is_other w ↦
                 let in_nets : place < length d.nets = let low = w.if-place-len.true in let many = part.as_many in grind (arith, common_steps) in
-                let it = some_at d.nets place in_nets in let n = it.0 in
+                let it = slice_get_some d.nets place in_nets in let n = it.0 in
                 let v = w.in_ok-value.value in
                 let is : v ≡ value answer d n t = resolved_is answer d t c.args.states.now n (driver_places d.gates n.name) v c.requires.states refl (rw it.1 at w.in_ok-value.ensures.value) in
                 let in_values : place < length vs = rw part.as_many in_nets in

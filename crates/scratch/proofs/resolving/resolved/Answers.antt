@@ -2,19 +2,20 @@ use Rattle.std.proofs.Common.{◌≡◌, ◌<◌, ◌∙◌, sym, ap, refl, Some
 use Rattle.std.proofs.lemmas.List.{length-map}
 use Rattle.std.proofs.lemmas.Option.{slice_get_read, slice_get_within}
 use Rattle.fourstate.specs.Nets.{net_of}
+use Rattle.catalog.proofs.ListLemmas.{slice_get_some}
 use Rattle.design.specs.Keys.{netlist}
 use Rattle.design.specs.kept.Places.{driver_places}
 use Rattle.scratch.specs.kept.Kept.{currents_of, driven_kind, net_from, values_at}
 use Rattle.scratch.specs.kept.Tally.{tally_of}
 use Rattle.scratch.proofs.Counting.{counts_kept}
-use Rattle.scratch.proofs.Lists.{if_there, some_at}
+use Rattle.scratch.proofs.Lists.{if_there}
 use Rattle.scratch.proofs.NetSteps.{driven_is, drivers_at, kind_there, lone_gives, lone_there, stimulus_is}
 use Rattle.scratch.proofs.resolving.resolved.Goals as goal
 
 pub returns-in-Some-clause-value : goal.returns-in-Some-clause-value
 returns-in-Some-clause-value c =
     let d = netlist c.args.design.now in let place = c.args.place in
-    let it = some_at d.nets place c.requires.there in let n = it.0 in
+    let it = slice_get_some d.nets place c.requires.there in let n = it.0 in
     let lone = c.args.wiring.now.lone_drivers.items in
     let in_lone : place < length lone = (let as_many = simp length-map at (ap length c.requires.wired.lone_drivers) in let low = c.requires.there in omega arith) in
     let there = slice_get_read lone (length lone) place c.index.result.now refl in_lone c.index.ensures ∙ ap (λ o. Some o) c.in-Some.is in
@@ -36,7 +37,7 @@ returns-in-None-clause-value c =
 pub returns-in_ok-value-in-Some-index-clause-value : goal.returns-in_ok-value-in-Some-index-clause-value
 returns-in_ok-value-in-Some-index-clause-value c =
     let d = netlist c.args.design.now in let place = c.args.place in
-    let it = some_at d.nets place c.requires.there in let n = it.0 in
+    let it = slice_get_some d.nets place c.requires.there in let n = it.0 in
     let kinds = c.args.wiring.now.kinds.items in
     let below : place < length kinds = (let as_many = simp length-map at (ap length c.requires.wired.kinds) in let low = c.requires.there in omega arith) in
     let listed = slice_get_read kinds (length kinds) place c.index-2.result.now refl below c.index-2.ensures in
@@ -57,7 +58,7 @@ returns-in_ok-value-in-Some-index-clause-counts c =
 pub resolve_drivers-requires : goal.resolve_drivers-requires
 resolve_drivers-requires c =
     let d = netlist c.args.design.now in let place = c.args.place in
-    let it = some_at d.nets place c.requires.there in let n = it.0 in
+    let it = slice_get_some d.nets place c.requires.there in let n = it.0 in
     let drivers = c.args.wiring.now.drivers.items in
     let in_drivers : place < length drivers = (let as_many = simp length-map at (ap length c.requires.wired.drivers) in let low = c.requires.there in omega arith) in
     let beside = slice_get_read drivers (length drivers) place c.index-in-Some-index.result.now refl in_drivers c.index-in-Some-index.ensures in

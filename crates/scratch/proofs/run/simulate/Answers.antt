@@ -1,8 +1,8 @@
 use Rattle.std.proofs.Common.{suc}
 use Rattle.design.specs.Keys.{netlist}
+use Rattle.event_queue.proofs.Changes.{held_err}
 use Rattle.scratch.specs.Work.{work_below}
 use Rattle.scratch.specs.kept.Grown.{grown_none}
-use Rattle.scratch.proofs.Asked.{held_err}
 use Rattle.scratch.proofs.run.simulate.Goals as goal
 
 pub returns-in_err-wiring-clause-part : goal.returns-in_err-wiring-clause-part

@@ -1,9 +1,10 @@
 use Rattle.std.proofs.Common.{suc, subst, arith}
 use Rattle.std.proofs.lemmas.Result.{on_err_weaker, on_ok_weaker}
 use Rattle.design.specs.Keys.{netlist}
+use Rattle.event_queue.proofs.Changes.{held_err}
 use Rattle.scratch.specs.Asked.{IsAskedInPart, IsAskedInSomeOrder}
 use Rattle.scratch.specs.kept.Open.{all_from, open_work_at}
-use Rattle.scratch.proofs.Asked.{early_at_first, from_scratch, held_err, part_from_scratch}
+use Rattle.scratch.proofs.Asked.{early_at_first, from_scratch, part_from_scratch}
 use Rattle.scratch.proofs.run.simulate_beside.Goals as goal
 
 pub returns-clause-asked : goal.returns-clause-asked

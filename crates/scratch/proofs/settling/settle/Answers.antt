@@ -66,41 +66,8 @@ index_mut-requires g c =
     let in_states : place < length c.loop-i.states.items = rw (c.loop-i.invariant.as_many, ← length-map d.gates (state_before answer d (c.args.t + 1))) below in
     grind (arith, common_steps)
 
-pub push_known-requires-clause-there : goal.push_known-requires-clause-there
-push_known-requires-clause-there g c =
-    let answer = g.S.Stepper.answer in let d = netlist c.args.design.now in
-    let gates = c.args.gates.now in let place = slice_index_or gates c.loop-i.i 0 in
-    let within : c.loop-i.i < length gates = c.loop-i-test.true in
-    let beside : c.loop-i.i < length c.args.answers.now = rw c.requires.beside within in
-    let there = slice_get_read c.args.answers.now (length c.args.answers.now) c.loop-i.i c.index-answers-i.result refl beside c.index-answers-i.is in
-    let here = value_at_place (λ gate. is_stirred answer d gate c.args.t) (state_before answer d (c.args.t + 1)) d.gates gates c.args.answers.now c.requires.gates c.requires.answers
-    c.loop-i.i place c.index-answers-i.result (slice_get-get_or gates c.loop-i.i 0 within) there in
-    let below = slice_get_within (map (state_before answer d (c.args.t + 1)) d.gates) place c.index-answers-i.result here in
-    let in_traces : place < length c.loop-i.traces = rw (c.loop-i.invariant.as_many_traces, ← length-map d.gates (state_before answer d (c.args.t + 1))) below in
-    in_traces
-
-pub push_known-requires-clause-later : goal.push_known-requires-clause-later
-push_known-requires-clause-later g c =
-    let answer = g.S.Stepper.answer in let d = netlist c.args.design.now in
-    let gates = c.args.gates.now in let place = slice_index_or gates c.loop-i.i 0 in
-    let within : c.loop-i.i < length gates = c.loop-i-test.true in
-    let at = slice_get-get_or gates c.loop-i.i 0 within in
-    let stirred : GateEntry → Bool = λ gate. is_stirred answer d gate c.args.t in
-    let beside : c.loop-i.i < length c.args.answers.now = rw c.requires.beside within in
-    let there = slice_get_read c.args.answers.now (length c.args.answers.now) c.loop-i.i c.index-answers-i.result refl beside c.index-answers-i.is in
-    let here = value_at_place stirred (state_before answer d (c.args.t + 1)) d.gates gates c.args.answers.now c.requires.gates c.requires.answers c.loop-i.i place c.index-answers-i.result at there in
-    let below = slice_get_within (map (state_before answer d (c.args.t + 1)) d.gates) place c.index-answers-i.result here in
-    let in_traces : place < length c.loop-i.traces = rw (c.loop-i.invariant.as_many_traces, ← length-map d.gates (state_before answer d (c.args.t + 1))) below in
-    let trace = slice_get-get_or c.loop-i.traces place [] in_traces in
-    let rising : AreRising 0 gates = rw c.requires.gates (passing_rises stirred 0 d.gates) in
-    let apart = once 0 gates c.loop-i.i place rising at in
-    let was : slice_get (map (λ gate. trace_below (state_after answer d gate) c.args.t) d.gates) place ≡ Some (slice_index_or c.loop-i.traces place []) =
-    ap (λ l. slice_get l place) (sym c.requires.traces)
-    ∙ sym (is_old (take c.loop-i.i gates) (slice_get c.args.traces.now) (slice_get (map (λ gate. trace_below (state_after answer d gate) (c.args.t + 1)) d.gates)) (slice_get c.loop-i.traces) c.loop-i.invariant.traces place apart) ∙ trace in
-    all_at (All (λ e. e.0 < c.args.t)) (map (λ gate. trace_below (state_after answer d gate) c.args.t) d.gates) place (slice_index_or c.loop-i.traces place []) (traces_early answer d c.changes_lie_before.ensures c.args.t) was
-
-pub push_known-requires-clause-known : goal.push_known-requires-clause-known
-push_known-requires-clause-known g c =
+pub push_known-requires : goal.push_known-requires
+push_known-requires g c =
     let law = g.met.S.Stepper in let answer = g.S.Stepper.answer in let d = netlist c.args.design.now in
     let gates = c.args.gates.now in let place = slice_index_or gates c.loop-i.i 0 in
     let within : c.loop-i.i < length gates = c.loop-i-test.true in
@@ -122,20 +89,15 @@ push_known-requires-clause-known g c =
     ap (λ l. slice_get l place) (sym c.requires.states)
     ∙ sym (is_old (take c.loop-i.i gates) (slice_get c.args.states.now.items) (slice_get (map (state_before answer d (c.args.t + 1)) d.gates)) (slice_get c.loop-i.states.items) c.loop-i.invariant.states place apart)
     ∙ slice_get_read c.loop-i.states.items (length c.loop-i.states.items) place c.index.result.now refl in_states c.index.ensures in
-    known answer d law.answer_pending c.reached_by_changes.ensures c.lawful.ensures.design.gates c.args.t place c.requires.begun (slice_index_or c.loop-i.traces place []) c.index.result.now c.index-answers-i.result was before
-    ∙ ap (same_state c.index-answers-i.result) (sym c.due-known.ensures)
-
-pub push_known-requires-clause-can : goal.push_known-requires-clause-can
-push_known-requires-clause-can g c =
-    let law = g.met.S.Stepper in let answer = g.S.Stepper.answer in let d = netlist c.args.design.now in
-    let gates = c.args.gates.now in let place = slice_index_or gates c.loop-i.i 0 in
-    let within : c.loop-i.i < length gates = c.loop-i-test.true in
-    let beside : c.loop-i.i < length c.args.answers.now = rw c.requires.beside within in
-    let there = slice_get_read c.args.answers.now (length c.args.answers.now) c.loop-i.i c.index-answers-i.result refl beside c.index-answers-i.is in
-    let here = value_at_place (λ gate. is_stirred answer d gate c.args.t) (state_before answer d (c.args.t + 1)) d.gates gates c.args.answers.now c.requires.gates c.requires.answers
-    c.loop-i.i place c.index-answers-i.result (slice_get-get_or gates c.loop-i.i 0 within) there in
     let next = map (state_before answer d (c.args.t + 1)) d.gates in
-    all_at (CanStore c.args.t) next place c.index-answers-i.result (storable answer d law.answer_pending law.answer_near c.lawful.ensures.design.gates c.args.t (omega arith) next refl) here
+    record {
+      there = in_traces;
+      later = all_at (All (λ e. e.0 < c.args.t)) (map (λ gate. trace_below (state_after answer d gate) c.args.t) d.gates) place (slice_index_or c.loop-i.traces place []) (traces_early answer d c.changes_lie_before.ensures c.args.t) was;
+      can = all_at (CanStore c.args.t) next place c.index-answers-i.result (storable answer d law.answer_pending law.answer_near c.lawful.ensures.design.gates c.args.t (omega arith) next refl) here;
+      known =
+          known answer d law.answer_pending c.reached_by_changes.ensures c.lawful.ensures.design.gates c.args.t place c.requires.begun (slice_index_or c.loop-i.traces place []) c.index.result.now c.index-answers-i.result was before
+          ∙ ap (same_state c.index-answers-i.result) (sym c.due-known.ensures);
+    }
 
 pub loop-i-preserved : goal.loop-i-preserved
 loop-i-preserved g c =

@@ -1,28 +1,19 @@
-use Rattle.std.proofs.Common.{◌≡◌, ◌∙◌, ◌++◌, ap, Result, Ok, Err, OnOk, arith}
+use Rattle.std.proofs.Common.{◌≡◌, ◌∙◌, ◌++◌, ap, arith}
 use Rattle.std.proofs.lemmas.Result.{on_ok_weaker}
 use Rattle.event_queue.specs.kept.Noted.{noted}
 use Rattle.design.specs.Keys.{netlist}
 use Rattle.scratch.specs.kept.Places.{has, point_at}
 use Rattle.scratch.proofs.Notes.{announced, none_early}
+use Rattle.scratch.proofs.Lists.{on_ok, both_ok}
 use Rattle.scratch.proofs.stirring.find_points.Goals as goal
 
--- what holds anyway holds on an `Ok`
-held : {A E P : Type 0} (r : Result A E) → P → OnOk r P
-held (Ok x) p = p
-held (Err e) p = tt
-
--- what follows from what an `Ok` tells
-both : {A E P Q R : Type 0} (r : Result A E) → OnOk r P → OnOk r Q → (P → Q → R) → OnOk r R
-both (Ok x) p q follows = follows p q
-both (Err e) p q follows = tt
-
 pub returns-clause-nets : goal.returns-clause-nets
-returns-clause-nets c = held c.note_next_points.result (c.in_ok-take.ensures.taken ∙ ap (λ l. l ++ noted c.args.points.now c.args.t) c.clear.ensures.items)
+returns-clause-nets c = on_ok c.note_next_points.result (c.in_ok-take.ensures.taken ∙ ap (λ l. l ++ noted c.args.points.now c.args.t) c.clear.ensures.items)
 
 pub returns-clause-announces : goal.returns-clause-announces
 returns-clause-announces c =
     let taken : c.take.new.out.items ≡ noted c.args.points.now c.args.t = c.in_ok-take.ensures.taken ∙ ap (λ l. l ++ noted c.args.points.now c.args.t) c.clear.ensures.items in
-    both c.note_next_points.result c.note_next_points.ensures.kept c.note_next_points.ensures.next
+    both_ok c.note_next_points.result c.note_next_points.ensures.kept c.note_next_points.ensures.next
     (λ kept next.
     announced (point_at (netlist c.args.design.now).nets) c.args.t c.args.points.now c.take.new.self c.note_next_points.new.points c.in_ok-take.ensures.rest kept
     (λ m u among after h. next m u (ap (has m) (c.as_slice.ensures.value ∙ taken) ∙ among) after h) c.requires.announces)

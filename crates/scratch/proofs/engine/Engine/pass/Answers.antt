@@ -1,7 +1,8 @@
 use Rattle.design.specs.Keys.{netlist}
+use Rattle.event_queue.proofs.Changes.{held_err}
 use Rattle.scratch.specs.kept.Grown.{all_is_part, grown_all, grown_none}
 use Rattle.scratch.specs.kept.Open.{open_work_at}
-use Rattle.scratch.proofs.Asked.{held_err, part_or_none}
+use Rattle.scratch.proofs.Asked.{part_or_none}
 use Rattle.scratch.proofs.engine.Engine.pass.Goals as goal
 
 pub returns-in_err-stir-clause-part : goal.returns-in_err-stir-clause-part

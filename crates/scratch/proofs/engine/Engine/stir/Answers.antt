@@ -1,4 +1,4 @@
-use Rattle.std.proofs.Common.{◌≡◌, ◌∙◌, ◌++◌, ap, sym, subst, refl, length, take, drop, Bool, true, false, ℕ, arith}
+use Rattle.std.proofs.Common.{◌≡◌, ◌∙◌, ◌++◌, ap, sym, subst, refl, length, take, drop, Bool, false, ℕ, arith}
 use Rattle.std.specs.Prelude.{◌-◌, nat_eq, not, ◌&&◌, ◌||◌}
 use Rattle.std.specs.List.{filter, list_any}
 use Rattle.std.proofs.lemmas.Grind.{common_steps}
@@ -7,6 +7,7 @@ use Rattle.std.proofs.lemmas.List.Folds.{list_any-append}
 use Rattle.std.proofs.Math.Seq.{drop-append_seam}
 use Rattle.std.proofs.Math.Bool.{or_assoc}
 use Rattle.std.proofs.lemmas.Map.Keys.{any_passes_from_place}
+use Rattle.std.proofs.lemmas.Bool.{and_parts}
 use Rattle.event_queue.specs.kept.Noted.{noted}
 use Rattle.design.specs.Keys.{netlist}
 use Rattle.scratch.specs.kept.Kept.{currents_of, output_at, places_at}
@@ -19,14 +20,6 @@ use Rattle.scratch.proofs.Notes.{later_covered, none_early}
 use Rattle.scratch.proofs.Runs.{ready_all}
 use Rattle.scratch.proofs.Stirred.{due_is, looked, others}
 use Rattle.scratch.proofs.engine.Engine.stir.Goals as goal
-
-first : (a b : Bool) → (a && b) ≡ true → a ≡ true
-first true b h = refl
-first false b h = absurd (cc)
-
-second : (a b : Bool) → (a && b) ≡ true → b ≡ true
-second true b h = h
-second false b h = absurd (cc)
 
 pub follow-requires-clause-others : goal.follow-requires-clause-others
 follow-requires-clause-others g c =
@@ -54,8 +47,8 @@ resolve_nets-requires-clause-others g c =
     (λ some.
     let f = any_from (λ k. has m (output_at outputs k)) due_gates some in let k = f.1 in
     let both = sym (has_filter (λ k. is_due_at states k t) k here) ∙ any_passes_from_place (nat_eq k) due_gates f.0 k f.2 (nat_itself k) in
-    c.in_ok-drive_each.ensures.driven k m (ap (has k) listed ∙ first (has k here) (is_due_at states k t) both)
-    (ap (λ ss. is_due_at ss k t) c.as_slice.ensures.value ∙ second (has k here) (is_due_at states k t) both) f.3 apart unlisted)
+    c.in_ok-drive_each.ensures.driven k m (ap (has k) listed ∙ (and_parts (has k here) (is_due_at states k t) both).0)
+    (ap (λ ss. is_due_at ss k t) c.as_slice.ensures.value ∙ (and_parts (has k here) (is_due_at states k t) both).1) f.3 apart unlisted)
     (others answer d t stands.begun states stands.states law.answer_current (noted c.args.self.now.points) stands.points (λ k m. has m (output_at outputs k)) c.requires.wired.outputs due_gates due m undriven)
 
 pub returns : goal.returns
@@ -93,7 +86,7 @@ returns g c =
       gates = stirred;
       events = λ k u from h.
           later_covered (pends_at states) t c.args.self.now.events c.take.new.self c.in_ok-take.ensures.rest stands.events k u from
-          (second (not (has k c.insert_all_readers.new.gates)) (pends_at states k u) h);
+          ((and_parts (not (has k c.insert_all_readers.new.gates)) (pends_at states k u) h).1);
       points = c.in_ok-find_points.ensures.announces;
       no_early_event = none_early t c.args.self.now.events c.take.new.self c.in_ok-take.ensures.rest stands.no_early_event;
       no_early_point = c.in_ok-find_points.ensures.early;

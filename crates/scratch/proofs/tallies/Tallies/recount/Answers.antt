@@ -17,8 +17,8 @@ returns-in_default-clause-nets c =
     all_kept d outputs wired.outputs wired.driven nets values c.requires.nets gate next
     (λ m tally there. ap (λ w. has m (option_map_or (λ (o : ℕ). o ∷ []) w [])) none)
 
-pub remove-requires-clause-zeros : goal.remove-requires-clause-zeros
-remove-requires-clause-zeros c =
+pub remove-requires : goal.remove-requires
+remove-requires c =
     let d = netlist c.args.design.now in let outputs = c.args.wiring.now.outputs.items in let nets = c.args.self.now.nets.items in let values = c.args.self.now.counted.items in
     let gate = c.args.gate in let next = c.args.value in let former = c.index-former.result.now in let wired = c.requires.wired in
     let net = c.in-Some.net.now in let tally = c.in-Some-of_net.tally in
@@ -27,34 +27,14 @@ remove-requires-clause-zeros c =
     let output : slice_get outputs gate ≡ Some net =
     ap (λ l. slice_get l gate) (sym c.deref.ensures.value) ∙ slice_get-get_or c.deref.result.now gate net c.in-Some.ensures.lookup.3.0 ∙ ap (λ n. Some n) (sym c.in-Some.ensures.lookup.1) in
     let here : slice_get nets net ≡ Some (Some tally) = tally_there (slice_get nets net) tally (sym c.in-Some-of_net.ensures) in
-    zeros_low d outputs wired.outputs wired.driven nets values c.requires.nets gate next former was net output tally here
+    record {
+      zeros = zeros_low d outputs wired.outputs wired.driven nets values c.requires.nets gate next former was net output tally here;
+      ones = ones_low d outputs wired.outputs wired.driven nets values c.requires.nets gate next former was net output tally here;
+      unknowns = unknowns_low d outputs wired.outputs wired.driven nets values c.requires.nets gate next former was net output tally here;
+    }
 
-pub remove-requires-clause-ones : goal.remove-requires-clause-ones
-remove-requires-clause-ones c =
-    let d = netlist c.args.design.now in let outputs = c.args.wiring.now.outputs.items in let nets = c.args.self.now.nets.items in let values = c.args.self.now.counted.items in
-    let gate = c.args.gate in let next = c.args.value in let former = c.index-former.result.now in let wired = c.requires.wired in
-    let net = c.in-Some.net.now in let tally = c.in-Some-of_net.tally in
-    let within : gate < length values = let low = c.if-gate-len.false in let len = c.len.ensures in grind (arith, common_steps) in
-    let was : slice_get values gate ≡ Some former = slice_get_read values (length values) gate former refl within c.index-former.ensures in
-    let output : slice_get outputs gate ≡ Some net =
-    ap (λ l. slice_get l gate) (sym c.deref.ensures.value) ∙ slice_get-get_or c.deref.result.now gate net c.in-Some.ensures.lookup.3.0 ∙ ap (λ n. Some n) (sym c.in-Some.ensures.lookup.1) in
-    let here : slice_get nets net ≡ Some (Some tally) = tally_there (slice_get nets net) tally (sym c.in-Some-of_net.ensures) in
-    ones_low d outputs wired.outputs wired.driven nets values c.requires.nets gate next former was net output tally here
-
-pub remove-requires-clause-unknowns : goal.remove-requires-clause-unknowns
-remove-requires-clause-unknowns c =
-    let d = netlist c.args.design.now in let outputs = c.args.wiring.now.outputs.items in let nets = c.args.self.now.nets.items in let values = c.args.self.now.counted.items in
-    let gate = c.args.gate in let next = c.args.value in let former = c.index-former.result.now in let wired = c.requires.wired in
-    let net = c.in-Some.net.now in let tally = c.in-Some-of_net.tally in
-    let within : gate < length values = let low = c.if-gate-len.false in let len = c.len.ensures in grind (arith, common_steps) in
-    let was : slice_get values gate ≡ Some former = slice_get_read values (length values) gate former refl within c.index-former.ensures in
-    let output : slice_get outputs gate ≡ Some net =
-    ap (λ l. slice_get l gate) (sym c.deref.ensures.value) ∙ slice_get-get_or c.deref.result.now gate net c.in-Some.ensures.lookup.3.0 ∙ ap (λ n. Some n) (sym c.in-Some.ensures.lookup.1) in
-    let here : slice_get nets net ≡ Some (Some tally) = tally_there (slice_get nets net) tally (sym c.in-Some-of_net.ensures) in
-    unknowns_low d outputs wired.outputs wired.driven nets values c.requires.nets gate next former was net output tally here
-
-pub add-requires-clause-zeros : goal.add-requires-clause-zeros
-add-requires-clause-zeros c =
+pub add-requires : goal.add-requires
+add-requires c =
     let d = netlist c.args.design.now in let outputs = c.args.wiring.now.outputs.items in let nets = c.args.self.now.nets.items in let values = c.args.self.now.counted.items in
     let gate = c.args.gate in let next = c.args.value in let former = c.index-former.result.now in let wired = c.requires.wired in
     let net = c.in-Some.net.now in let tally = c.in-Some-of_net.tally in
@@ -64,33 +44,11 @@ add-requires-clause-zeros c =
     ap (λ l. slice_get l gate) (sym c.deref.ensures.value) ∙ slice_get-get_or c.deref.result.now gate net c.in-Some.ensures.lookup.3.0 ∙ ap (λ n. Some n) (sym c.in-Some.ensures.lookup.1) in
     let here : slice_get nets net ≡ Some (Some tally) = tally_there (slice_get nets net) tally (sym c.in-Some-of_net.ensures) in
     let fits : length d.gates < 2 ^ 64 = (let each = c.requires.each in let len = c.len.ensures in omega (arith, each, len)) in
-    rw c.remove.ensures.zeros (zeros_fit d outputs wired.outputs wired.driven nets values c.requires.nets gate next former was net output tally here fits)
-
-pub add-requires-clause-ones : goal.add-requires-clause-ones
-add-requires-clause-ones c =
-    let d = netlist c.args.design.now in let outputs = c.args.wiring.now.outputs.items in let nets = c.args.self.now.nets.items in let values = c.args.self.now.counted.items in
-    let gate = c.args.gate in let next = c.args.value in let former = c.index-former.result.now in let wired = c.requires.wired in
-    let net = c.in-Some.net.now in let tally = c.in-Some-of_net.tally in
-    let within : gate < length values = let low = c.if-gate-len.false in let len = c.len.ensures in grind (arith, common_steps) in
-    let was : slice_get values gate ≡ Some former = slice_get_read values (length values) gate former refl within c.index-former.ensures in
-    let output : slice_get outputs gate ≡ Some net =
-    ap (λ l. slice_get l gate) (sym c.deref.ensures.value) ∙ slice_get-get_or c.deref.result.now gate net c.in-Some.ensures.lookup.3.0 ∙ ap (λ n. Some n) (sym c.in-Some.ensures.lookup.1) in
-    let here : slice_get nets net ≡ Some (Some tally) = tally_there (slice_get nets net) tally (sym c.in-Some-of_net.ensures) in
-    let fits : length d.gates < 2 ^ 64 = (let each = c.requires.each in let len = c.len.ensures in omega (arith, each, len)) in
-    rw c.remove.ensures.ones (ones_fit d outputs wired.outputs wired.driven nets values c.requires.nets gate next former was net output tally here fits)
-
-pub add-requires-clause-unknowns : goal.add-requires-clause-unknowns
-add-requires-clause-unknowns c =
-    let d = netlist c.args.design.now in let outputs = c.args.wiring.now.outputs.items in let nets = c.args.self.now.nets.items in let values = c.args.self.now.counted.items in
-    let gate = c.args.gate in let next = c.args.value in let former = c.index-former.result.now in let wired = c.requires.wired in
-    let net = c.in-Some.net.now in let tally = c.in-Some-of_net.tally in
-    let within : gate < length values = let low = c.if-gate-len.false in let len = c.len.ensures in grind (arith, common_steps) in
-    let was : slice_get values gate ≡ Some former = slice_get_read values (length values) gate former refl within c.index-former.ensures in
-    let output : slice_get outputs gate ≡ Some net =
-    ap (λ l. slice_get l gate) (sym c.deref.ensures.value) ∙ slice_get-get_or c.deref.result.now gate net c.in-Some.ensures.lookup.3.0 ∙ ap (λ n. Some n) (sym c.in-Some.ensures.lookup.1) in
-    let here : slice_get nets net ≡ Some (Some tally) = tally_there (slice_get nets net) tally (sym c.in-Some-of_net.ensures) in
-    let fits : length d.gates < 2 ^ 64 = (let each = c.requires.each in let len = c.len.ensures in omega (arith, each, len)) in
-    rw c.remove.ensures.unknowns (unknowns_fit d outputs wired.outputs wired.driven nets values c.requires.nets gate next former was net output tally here fits)
+    record {
+      zeros = rw c.remove.ensures.zeros (zeros_fit d outputs wired.outputs wired.driven nets values c.requires.nets gate next former was net output tally here fits);
+      ones = rw c.remove.ensures.ones (ones_fit d outputs wired.outputs wired.driven nets values c.requires.nets gate next former was net output tally here fits);
+      unknowns = rw c.remove.ensures.unknowns (unknowns_fit d outputs wired.outputs wired.driven nets values c.requires.nets gate next former was net output tally here fits);
+    }
 
 pub index_mut-requires-in-Some-of_net : goal.index_mut-requires-in-Some-of_net
 index_mut-requires-in-Some-of_net c =
