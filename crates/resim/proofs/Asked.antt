@@ -1,7 +1,6 @@
 -- What a run beside an old one has asked of its stepper, and what it promises where it ends.
-use Rattle.std.proofs.Common.{◌≡◌, ◌<◌, ◌≤◌, ◌⊎◌, ◌∙◌, ap, sym, subst, refl, ℕ, zero, suc, List, [], ◌∷◌, ◌+◌, ◌++◌, append_assoc, append-nil, map, Result, Ok, Err, IfOk, OnErr, if◌then◌else◌, inl, inr, arith}
+use Rattle.std.proofs.Common.{◌≡◌, ◌≤◌, ◌∙◌, ap, sym, subst, refl, ℕ, suc, List, [], ◌∷◌, ◌+◌, ◌++◌, append_assoc, append-nil, map, Result, Ok, Err, IfOk, if◌then◌else◌, inl, inr, arith}
 use Rattle.std.specs.Result.{IsErrAnd}
-use Rattle.std.proofs.lemmas.Bool.{cases_lt}
 use Rattle.gatestep.specs.Step.{State, Evaluation}
 use Rattle.gatestep.specs.declared.fault.StepFault.{StepFault}
 use Rattle.gatestep.specs.declared.fault.StepFault.TheVariants.{OutOfMemory, WorkerLost}
@@ -14,11 +13,13 @@ use Rattle.scratch.specs.Asked.{IsAskedInPart}
 use Rattle.scratch.specs.Work.{task_at}
 use Rattle.scratch.specs.kept.Grown.{grown_first}
 use Rattle.scratch.specs.kept.Work.{HasGrownOrNot}
+use Rattle.scratch.specs.kept.Open.{all_from}
 use Rattle.rundiff.specs.Dirty.{rework_at, rework_below}
 use Rattle.rundiff.specs.kept.Fronts.{IsFront}
 use Rattle.rundiff.specs.declared.front.Front.{Front}
 use Rattle.resim.specs.Reruns.{HasGrownInPart}
 use Rattle.resim.specs.kept.Reruns.{Reruns}
+use Rattle.resim.proofs.Sweeps.{parted}
 
 module _ (answer : Evaluation → ℕ → State) (d : Netlist) (t : ℕ) where
   states_are : (gates : List GateEntry) → map (λ task. answer task t) (map (λ g. task_at answer d g t) gates) ≡ map (λ g. state_after answer d g t) gates
@@ -31,25 +32,11 @@ module _ (answer : Evaluation → ℕ → State) (d : Netlist) (t : ℕ) where
   answers_are gates tasks asked answers taken are all given same = same ∙ given ∙ ap (map (λ task. answer task t)) (all ∙ are) ∙ states_are gates
 
 module _ (answer : Evaluation → ℕ → State) (old new : Netlist) where
-  begins_by : (n m : ℕ) → ((n ≤ m) → (rest : List (Evaluation × ℕ)) × (rework_below answer old new m ≡ rework_below answer old new n ++ rest)) → (m < n) ⊎ (n ≤ m) → n ≤ suc m →
-      (rest : List (Evaluation × ℕ)) × (rework_below answer old new (suc m) ≡ rework_below answer old new n ++ rest)
-  begins_by n m before (inl high) le =
-      let same : suc m ≡ n = omega arith in
-      ([], ap (rework_below answer old new) same ∙ sym (append-nil (rework_below answer old new n)))
-  begins_by n m before (inr low) le =
-      let to = before low in
-      (to.0 ++ rework_at answer old new m, ap (λ l. l ++ rework_at answer old new m) to.1 ∙ append_assoc (rework_below answer old new n) to.0 (rework_at answer old new m))
-
-  -- the work of the moments below one begins that of the moments below a later one
-  begins : (n m : ℕ) → n ≤ m → (rest : List (Evaluation × ℕ)) × (rework_below answer old new m ≡ rework_below answer old new n ++ rest)
-  begins n zero le = let same : 0 ≡ n = omega arith in ([], ap (rework_below answer old new) same ∙ sym (append-nil (rework_below answer old new n)))
-  begins n (suc m) le = begins_by n m (begins n m) (cases_lt m n) le
-
   -- a fault came when the moments below n were done
   pub ended : (base now : List (Evaluation × ℕ)) (n : ℕ) → n ≤ suc new.horizon → now ≡ base ++ rework_below answer old new n → HasGrownInPart answer old new base now
   ended base now n low is =
-      let whole = begins n (suc new.horizon) low in
-      subst (IsAskedInPart base now) (sym whole.1) (grown_first base now (rework_below answer old new n) whole.0 is)
+      subst (IsAskedInPart base now) (sym (parted answer old new n (suc new.horizon) low))
+      (grown_first base now (rework_below answer old new n) (all_from (rework_at answer old new) n (suc new.horizon)) is)
 
 module _ (answer : Evaluation → ℕ → State) (old new : Netlist) (base before after : List (Evaluation × ℕ)) (t : ℕ) (was : before ≡ base ++ rework_below answer old new t) where
   -- the work of t more
@@ -60,10 +47,6 @@ module _ (answer : Evaluation → ℕ → State) (old new : Netlist) (base befor
   pub part : t ≤ new.horizon → HasGrownOrNot before after (rework_at answer old new t) → HasGrownInPart answer old new base after
   part within (inl same) = ended answer old new base after t (omega arith) (same ∙ was)
   part within (inr more) = ended answer old new base after (suc t) (omega arith) (one_more more)
-
-pub held_err : {A E P : Type 0} (r : Result A E) → P → OnErr r P
-held_err (Ok x) p = tt
-held_err (Err e) p = p
 
 -- a fault is lost or not whatever else there might have been
 lost_as : (A B : Type 0) (e f : StepFault) → f ≡ e → loses_a_worker {A = A} (Err e) ≡ loses_a_worker {A = B} (Err f)

@@ -6,7 +6,6 @@ use Rattle.gatestep.specs.declared.fault.StepFault.{StepFault}
 use Rattle.gatestep.specs.declared.fault.StepFault.TheVariants.{OutOfMemory}
 use Rattle.design.specs.Keys.{Keyed, netlist}
 use Rattle.design.specs.Netlist.{Netlist, with_horizon}
-use Rattle.edits.specs.kept.Touched.{IsTouched}
 use Rattle.rundiff.specs.kept.Fronts.{IsFront}
 use Rattle.rundiff.specs.declared.front.Front.{Front}
 use Rattle.waveform.specs.kept.Runs.{RunRecord}
@@ -27,22 +26,6 @@ module _ (d made : Keyed) (h : ℕ) (is : made ≡ record d { horizon = h }) whe
 
   pub horizon_of : (netlist made).horizon ≡ h
   horizon_of = ap (λ (n : Netlist). n.horizon) made_is
-
-  -- it is the same but for its own horizon
-  pub own_horizon : made ≡ record d { horizon = made.horizon }
-  own_horizon = is ∙ ap (λ (u : ℕ). record d { horizon = u }) (sym (ap (λ (k : Keyed). k.horizon) is))
-
-  -- edits touched the same where the new design has another horizon
-  pub touched_new : (old : Keyed) (nets gates : List ℕ) → IsTouched old d nets gates → IsTouched old made nets gates
-  touched_new old nets gates same =
-      subst (λ k. IsTouched old k nets gates) (sym is)
-      (record { nets_stay = same.nets_stay; drivers_stay = same.drivers_stay; gates_stay = same.gates_stay; names_stay = same.names_stay })
-
-  -- and where the old one has
-  pub touched_old : (new : Keyed) (nets gates : List ℕ) → IsTouched d new nets gates → IsTouched made new nets gates
-  touched_old new nets gates same =
-      subst (λ k. IsTouched k new nets gates) (sym is)
-      (record { nets_stay = same.nets_stay; drivers_stay = same.drivers_stay; gates_stay = same.gates_stay; names_stay = same.names_stay })
 
   -- what is promised behind the horizon of the one is promised behind that moment
   pub swept : (answer : Evaluation → ℕ → State) (old : Keyed) (asked now : List (Evaluation × ℕ)) (losses lost : ℕ) (r : Result RunRecord StepFault) →

@@ -13,8 +13,3 @@ all_changed answer old new = record { nets_stay = λ key no. absurd (cc); waves_
 pub no_value : {A E : Type 0} (P : Type 0) (r : Result A E) (Q : E → Type 0) → IsErrAnd r Q → OnOk r P
 no_value P (Ok x) Q is = absurd is
 no_value P (Err e) Q is = tt
-
--- what holds anyway holds wherever there is a value
-pub where_ok : {A E P : Type 0} (r : Result A E) → P → OnOk r P
-where_ok (Ok x) p = p
-where_ok (Err e) p = tt

@@ -6,7 +6,6 @@ use Rattle.std.specs.Option.{option_map}
 use Rattle.std.proofs.lemmas.Bool.{eq-eqb, both_ways}
 use Rattle.std.proofs.lemmas.Bool.Decides.{nat_tests}
 use Rattle.std.proofs.lemmas.List.Elements.{All-head, All-tail}
-use Rattle.std.proofs.lemmas.List.{length-map}
 use Rattle.gatestep.specs.Step.{Evaluation, State}
 use Rattle.fourstate.specs.Values.{same_value}
 use Rattle.gatestep.specs.Step.{due}
@@ -127,12 +126,3 @@ run_cut answer d h run short wave_law trace_law early waves traces ends is = rec
   traces = line_cut (λ g. trace_of answer (netlist d) (entry_in d.nets g)) (λ g. trace_of answer (netlist (record d { horizon = h })) (entry_in d.nets g)) h d.gates run.traces short.traces traces (λ g. trace_cut answer (netlist d) h early trace_law (entry_in d.nets g)) is.traces;
   horizon = ends;
 }
-
--- as many nets as entries, and as many gates
-pub nets_counted : (d : Keyed) → length (netlist d).nets ≡ length d.nets
-unfolding netlist
-nets_counted d = rw length-map refl
-
-pub gates_counted : (d : Keyed) → length (netlist d).gates ≡ length d.gates
-unfolding netlist
-gates_counted d = rw (length-map, length-map) refl

@@ -1,5 +1,6 @@
 -- Designs that differ in the horizon, and what a run of one beside another asks.
-use Rattle.std.proofs.Common.{◌≡◌, ◌≤◌, ◌∙◌, ap, sym, subst, refl, ℕ, suc, List, ◌+◌, ◌++◌, Option, Bor, Result, Ok, Err, IfOk, OnErr, OnOk, if◌then◌else◌, arith}
+use Rattle.std.proofs.Common.{◌≡◌, ◌≤◌, ◌∙◌, ap, sym, subst, refl, ℕ, suc, List, ◌+◌, ◌++◌, Option, Bor, Result, Ok, IfOk, OnErr, OnOk, if◌then◌else◌, arith}
+use Rattle.std.proofs.lemmas.Result.{on_ok_weaker, on_err_weaker}
 use Rattle.gatestep.specs.Step.{State, Evaluation}
 use Rattle.gatestep.specs.declared.fault.StepFault.{StepFault}
 use Rattle.design.specs.Keys.{Keyed, netlist}
@@ -16,14 +17,6 @@ use Rattle.rundiff.specs.Dirty.{rework_below}
 use Rattle.resim.specs.Reruns.{HasGrownInPart}
 use Rattle.resim.specs.kept.Reruns.{IsTouchedIfKnown, Reruns}
 use Rattle.resim.proofs.Reworks.{new_alike, old_alike, past}
-
-on_ok : {A E P Q : Type 0} (r : Result A E) → (P → Q) → OnOk r P → OnOk r Q
-on_ok (Ok x) f p = f p
-on_ok (Err e) f p = tt
-
-on_err : {A E P Q : Type 0} (r : Result A E) → (P → Q) → OnErr r P → OnErr r Q
-on_err (Ok x) f p = tt
-on_err (Err e) f p = f p
 
 horizon_is : (d : Keyed) → (netlist d).horizon ≡ d.horizon
 unfolding netlist
@@ -61,8 +54,8 @@ module _ (old new former : Keyed) (h : ℕ) (is : former ≡ record old { horizo
     pub cut_reruns : (before now : List (Evaluation × ℕ)) (losses lost : ℕ) (r : Result RunRecord StepFault) → Reruns answer former new before now losses lost r → Reruns answer old new before now losses lost r
     cut_reruns before now losses lost r made = record {
       run = made.run;
-      asked = on_ok r (subst (IsAskedInSomeOrder before now) (cut_alike (suc (netlist new).horizon) (omega arith))) made.asked;
-      part = on_err r (subst (IsAskedInPart before now) (cut_alike (suc (netlist new).horizon) (omega arith))) made.part;
+      asked = on_ok_weaker r (subst (IsAskedInSomeOrder before now) (cut_alike (suc (netlist new).horizon) (omega arith))) made.asked;
+      part = on_err_weaker r (subst (IsAskedInPart before now) (cut_alike (suc (netlist new).horizon) (omega arith))) made.part;
       lost = made.lost;
     }
 
@@ -131,7 +124,7 @@ module _ (old new level : Keyed) (is : level ≡ record new { horizon = (netlist
         lost ≡ between + (if loses_a_worker r then 1 else 0) → Reruns answer old new before now losses lost r
     extended made losses between up_to now lost r run asked part count = record {
       run = run;
-      asked = on_ok r (past_asked up_to.asked now) asked;
-      part = on_err r (past_part up_to.asked now) part;
+      asked = on_ok_weaker r (past_asked up_to.asked now) asked;
+      part = on_err_weaker r (past_part up_to.asked now) part;
       lost = let none = up_to.lost in omega arith;
     }

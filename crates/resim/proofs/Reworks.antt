@@ -1,5 +1,5 @@
 -- What is evaluated beside a former run, where a horizon is another.
-use Rattle.std.proofs.Common.{◌≡◌, ◌<◌, ◌≤◌, ◌∙◌, ap, sym, refl, Bool, true, false, ℕ, zero, suc, [], ◌++◌, append_assoc, append-nil, map, cond, arith}
+use Rattle.std.proofs.Common.{◌≡◌, ◌<◌, ◌≤◌, ◌∙◌, ap, refl, Bool, true, false, ℕ, zero, suc, [], ◌++◌, map, cond, arith}
 use Rattle.std.specs.Prelude.{◌&&◌, ◌||◌, nat_le, not}
 use Rattle.std.specs.List.{filter}
 use Rattle.std.proofs.lemmas.Bool.Decides.{nat_tests}
@@ -11,6 +11,8 @@ use Rattle.scratch.specs.Work.{is_due, is_stirred, same_values, task_at, work_at
 use Rattle.scratch.specs.kept.Work.{work_from}
 use Rattle.rundiff.specs.Dirty.{is_dirty, is_new, rework_at, rework_below, same_task}
 use Rattle.scratch.specs.kept.HorizonLaws.{before_same, task_same}
+use Rattle.scratch.specs.kept.Open.{all_from}
+use Rattle.resim.proofs.Sweeps.{parted}
 
 module _ (answer : Evaluation → ℕ → State) (d : Netlist) (h : ℕ) where
   states_alike : state_before answer (with_horizon d h) ≡ state_before answer d
@@ -62,16 +64,15 @@ module _ (answer : Evaluation → ℕ → State) (old new : Netlist) where
       let over : nat_le t old.horizon ≡ false = grind (arith, nat_tests) in
       rw over refl
 
-  below_by : (t : ℕ) (b : Bool) → nat_le (suc old.horizon) t ≡ b → (suc old.horizon ≤ t → rework_below answer old new t ≡ rework_below answer old new (suc old.horizon) ++ work_from answer new (suc old.horizon) t) → old.horizon ≤ t →
-      rework_below answer old new (suc t) ≡ rework_below answer old new (suc old.horizon) ++ (cond b (work_from answer new (suc old.horizon) t ++ work_at answer new t) [])
-  below_by t true past before low =
-      let le : suc old.horizon ≤ t = grind (arith, nat_tests) in
-      (λ i. before le i ++ past_at t le i) ∙ append_assoc (rework_below answer old new (suc old.horizon)) (work_from answer new (suc old.horizon) t) (work_at answer new t)
-  below_by t false last before low =
-      let same : t ≡ old.horizon = grind (arith, nat_tests) in
-      ap (λ n. rework_below answer old new (suc n)) same ∙ sym (append-nil (rework_below answer old new (suc old.horizon)))
+  later_by : (t : ℕ) (b : Bool) → nat_le (suc old.horizon) t ≡ b → all_from (rework_at answer old new) (suc old.horizon) t ≡ work_from answer new (suc old.horizon) t →
+      cond b (all_from (rework_at answer old new) (suc old.horizon) t ++ rework_at answer old new t) [] ≡ cond b (work_from answer new (suc old.horizon) t ++ work_at answer new t) []
+  later_by t true later before = let le : suc old.horizon ≤ t = grind (arith, nat_tests) in λ i. before i ++ past_at t le i
+  later_by t false soon before = refl
+
+  later : (n : ℕ) → all_from (rework_at answer old new) (suc old.horizon) n ≡ work_from answer new (suc old.horizon) n
+  later zero = refl
+  later (suc t) = later_by t (nat_le (suc old.horizon) t) refl (later t)
 
   -- after the old horizon each gate that is stirred is evaluated
   pub past : (n : ℕ) → suc old.horizon ≤ n → rework_below answer old new n ≡ rework_below answer old new (suc old.horizon) ++ work_from answer new (suc old.horizon) n
-  past zero low = absurd (omega arith)
-  past (suc t) low = below_by t (nat_le (suc old.horizon) t) refl (λ le. past t le) (omega arith)
+  past n low = parted answer old new (suc old.horizon) n low ∙ ap (λ l. rework_below answer old new (suc old.horizon) ++ l) (later n)

@@ -20,7 +20,8 @@ module _ (answer : Evaluation → ℕ → State) (old new : Netlist) where
   below_is zero = refl
   below_is (suc t) = ap (λ l. l ++ rework_at answer old new t) (below_is t)
 
-  parted : (a n : ℕ) → a ≤ n → rework_below answer old new n ≡ rework_below answer old new a ++ all_from (rework_at answer old new) a n
+  -- what is asked below a moment is what is asked below an earlier one, and from that one on
+  pub parted : (a n : ℕ) → a ≤ n → rework_below answer old new n ≡ rework_below answer old new a ++ all_from (rework_at answer old new) a n
   parted a n low = sym (below_is n) ∙ all_parts (rework_at answer old new) a n low ∙ ap (λ l. l ++ all_from (rework_at answer old new) a n) (below_is a)
 
 -- by lines of this design and what was asked where the answers of dirty gates are open

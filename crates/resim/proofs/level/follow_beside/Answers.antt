@@ -2,10 +2,11 @@ use Rattle.std.proofs.Common.{◌≡◌, ◌≤◌, ◌-◌, ◌++◌, ◌∙◌
 use Rattle.std.proofs.lemmas.Grind.{common_steps}
 use Rattle.design.specs.Keys.{netlist}
 use Rattle.scratch.specs.kept.Grown.{grown_all}
+use Rattle.scratch.proofs.Lists.{on_ok}
 use Rattle.rundiff.specs.Dirty.{rework_below}
 use Rattle.resim.specs.kept.Reruns.{Reruns}
 use Rattle.resim.proofs.Asked.{refused, stopped, unasked}
-use Rattle.resim.proofs.Changes.{all_changed, no_value, where_ok}
+use Rattle.resim.proofs.Changes.{all_changed, no_value}
 use Rattle.resim.proofs.level.follow_beside.Goals as goal
 
 pub returns-in_err-next : goal.returns-in_err-next
@@ -48,7 +49,7 @@ returns g c =
           subst (λ l. Reruns answer old new (asked c.args.stepper.now) (asked c.widen.new.stepper) l (losses c.widen.new.stepper) c.widen.result) same
           (c.widen.ensures.reruns (asked c.args.stepper.now)
           (c.in_ok-next.ensures.asked ∙ ap (λ n. asked c.args.stepper.now ++ rework_below answer (netlist old) (netlist new) n) at));
-      changed = where_ok c.widen.result (all_changed answer old new);
+      changed = on_ok c.widen.result (all_changed answer old new);
     }
 
 pub returns-in_err-front-clause-reruns : goal.returns-in_err-front-clause-reruns

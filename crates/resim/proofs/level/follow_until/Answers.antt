@@ -1,7 +1,8 @@
 use Rattle.std.proofs.Common.{◌≤◌, ◌++◌, ◌∙◌, ap, refl, sym, ℕ, append-nil, arith}
 use Rattle.std.proofs.lemmas.Grind.{common_steps}
+use Rattle.gatestep.proofs.Jobs.{on_err}
 use Rattle.design.specs.Keys.{netlist}
-use Rattle.resim.proofs.Asked.{held_err, lost_on, no_answer, one_more, part}
+use Rattle.resim.proofs.Asked.{lost_on, no_answer, one_more, part}
 use Rattle.resim.proofs.level.follow_until.Goals as goal
 
 pub loop-next-init : goal.loop-next-init
@@ -44,7 +45,7 @@ returns-in_err-pass g c =
       within = no_answer e r _ is;
       asked = no_answer e r _ is;
       part =
-          held_err r (part answer old new (asked c.args.stepper.now) (asked c.loop-next.stepper) (asked c.pass.new.stepper)
+          on_err r (part answer old new (asked c.args.stepper.now) (asked c.loop-next.stepper) (asked c.pass.new.stepper)
           c.loop-next.next c.loop-next.invariant.asked within c.in_err-pass.ensures.part);
       lost =
           lost_on (Unit {0}) ℕ e r (losses c.args.stepper.now) (losses c.loop-next.stepper) (losses c.pass.new.stepper) is
