@@ -1,7 +1,7 @@
 -- Nets and gates by their places.
-use Rattle.std.proofs.Common.{◌≡◌, ℕ, zero, suc, ◌+◌, ◌<◌, ◌∙◌, ap, refl, List, [], ◌∷◌, Bool, true, false, cond, map, length, Option, Some, arith}
-use Rattle.std.specs.Prelude.{slice_get, slice_index_or, ◌≢◌, AllPairs}
-use Rattle.std.specs.List.{enumerate_from, filter, position_from}
+use Rattle.std.proofs.Common.{◌≡◌, ℕ, zero, suc, ◌+◌, ◌<◌, ◌∙◌, ap, refl, List, [], ◌∷◌, Bool, false, map, length, Option, Some, arith}
+use Rattle.std.specs.Prelude.{slice_get, slice_index_or, ◌≢◌, AllPairs, unwrap_or}
+use Rattle.std.specs.List.{filter, position_from}
 use Rattle.std.specs.Option.{option_map_or}
 use Rattle.std.proofs.lemmas.Option.{slice_get-get_or}
 use Rattle.fourstate.specs.declared.value.Value.TheVariants.{Unknown}
@@ -14,6 +14,8 @@ use Rattle.design.specs.kept.Places.{driver_places}
 use Rattle.design.proofs.NameLemmas.{name_differs}
 use Rattle.scratch.specs.Run.{value}
 use Rattle.scratch.proofs.Stirred.{same_self_name}
+use Rattle.scratch.proofs.Lists.{map_alike}
+use Rattle.scratch.proofs.Places.{by_places}
 use Rattle.rundiff.specs.kept.Places.{blank_net, blank_gate, gate_at, is_live, net_at}
 use Rattle.rundiff.specs.kept.Kept.{read_at}
 use Rattle.rundiff.proofs.Lists.{pairs_head}
@@ -24,30 +26,18 @@ pub reads_place : (answer : Evaluation → ℕ → State) (d : Netlist) (name : 
 reads_place answer d name p m low found =
     ap (λ (o : Option NetEntry). option_map_or (λ x. value answer d x m) o Unknown) (found ∙ slice_get-get_or d.nets p blank_net low)
 
-shifted : {X : Type 0} (look : ℕ → X) (x : X) (xs : List X) (k : ℕ) (d : X) → ((i : ℕ) → i < length (x ∷ xs) → look (k + i) ≡ slice_index_or (x ∷ xs) i d) →
-    (i : ℕ) → i < length xs → look (k + 1 + i) ≡ slice_index_or xs i d
-shifted look x xs k d at i low = let e : k + 1 + i ≡ k + suc i = omega arith in ap look e ∙ at (suc i) (omega arith)
-
-first_of : {X : Type 0} (look : ℕ → X) (x : X) (xs : List X) (k : ℕ) (d : X) → ((i : ℕ) → i < length (x ∷ xs) → look (k + i) ≡ slice_index_or (x ∷ xs) i d) → look k ≡ x
-first_of look x xs k d at = let e : k ≡ k + 0 = omega arith in ap look e ∙ at 0 (omega arith)
-
--- what is looked up at the places of the elements that pass
-pub by_places : {X Y : Type 0} (look : ℕ → X) (f : X → Y) (test : X → Bool) (d : X) (k : ℕ) (xs : List X) → ((i : ℕ) → i < length xs → look (k + i) ≡ slice_index_or xs i d) →
-    map (λ p. f (look p)) (map (λ q. q.0) (filter (λ q. test q.1) (enumerate_from k xs))) ≡ map f (filter test xs)
-by_places look f test d k [] at = refl
-by_places {X} {Y} look f test d k (x ∷ xs) at =
-    let here : look k ≡ x = first_of look x xs k d at in
-    let rest = by_places look f test d (k + 1) xs (shifted look x xs k d at) in
-    let later : List (ℕ × X) = filter (λ q. test q.1) (enumerate_from (k + 1) xs) in
-    elim (test x) as (λ b. map (λ p. f (look p)) (map (λ q. q.0) (cond b ((k, x) ∷ later) later)) ≡ map f (cond b (x ∷ filter test xs) (filter test xs))) [
-      | true ↦ ap (λ (y : X). f y ∷ map (λ p. f (look p)) (map (λ q. q.0) later)) here ∙ ap (λ (ys : List Y). f x ∷ ys) rest
-      | false ↦ rest
-    ]
+-- what is made of the element at a place, or of what stands for none
+looked_up : {X Y : Type 0} (f : X → Y) (xs : List X) (d : X) (p : ℕ) → f (slice_index_or xs p d) ≡ unwrap_or (slice_get (map f xs) p) (f d)
+looked_up f [] d p = refl
+looked_up f (x ∷ xs) d zero = refl
+looked_up f (x ∷ xs) d (suc p) = looked_up f xs d p
 
 -- the drivers of a net, by their places
 pub drivers_at : {Y : Type 0} (d : Netlist) (f : GateEntry → Y) (name : List ℕ) →
     map (λ p. f (gate_at d p)) (driver_places d.gates name) ≡ map f (filter (λ g. same_name g.output name) d.gates)
-drivers_at d f name = by_places (gate_at d) f (λ g. same_name g.output name) blank_gate 0 d.gates (λ i low. let e : 0 + i ≡ i = omega arith in ap (gate_at d) e)
+drivers_at d f name =
+    map_alike (λ p. f (gate_at d p)) (λ p. unwrap_or (slice_get (map f d.gates) p) (f blank_gate)) (looked_up f d.gates blank_gate) (driver_places d.gates name)
+    ∙ by_places (λ g. same_name g.output name) f (f blank_gate) 0 d.gates (map f d.gates) refl
 
 -- the place of a net's name is its own
 pub position_at : (ns : List NetEntry) (start k : ℕ) (d : NetEntry) → AllPairs (λ n m. n.name ≢ m.name) ns → k < length ns →

@@ -1,31 +1,31 @@
 -- What stays at a moment: live nets and held gates that are not looked at.
 use Rattle.std.proofs.Common.{◌≡◌, ℕ, zero, suc, ◌-◌, ◌<◌, ◌≤◌, ◌∙◌, ap, sym, refl, subst, Bool, true, false, not, List, [], ◌∷◌, length, Option, Some, None, ◌⊎◌, inl, inr, arith, All}
-use Rattle.std.specs.Prelude.{slice_index_or, nat_eq, nat_le, ◌||◌, ◌==◌, ◌≢◌, AllPairs}
-use Rattle.std.specs.List.{find, list_any}
+use Rattle.std.specs.Prelude.{nat_eq, nat_le, ◌||◌, ◌==◌}
+use Rattle.std.specs.List.{list_any}
 use Rattle.std.specs.Option.{option_map_or, ForSome}
 use Rattle.std.proofs.lemmas.Bool.Decides.{nat_tests}
 use Rattle.std.proofs.lemmas.List.Elements.{All-head, All-tail}
 use Rattle.std.proofs.lemmas.Bool.{or_right, or_parts, and_from, le-leb, not-false}
 use Rattle.std.proofs.lemmas.List.{get_or_default}
+use Rattle.std.proofs.lemmas.Option.{slice_get-get_or}
 use Rattle.fourstate.specs.declared.value.Value.{Value}
 use Rattle.fourstate.specs.kept.ValueLaws.{is_same, same_self}
 use Rattle.fourstate.specs.Values.{same_value}
 use Rattle.gatestep.specs.Step.{State, Evaluation, due}
 use Rattle.gatestep.specs.Tasks.{PendingFrom}
 use Rattle.gatestep.specs.kept.Tasks.{IsTask, NothingDue}
-use Rattle.catalog.proofs.ListLemmas.{AllPairs-tail}
 use Rattle.design.specs.Connections.{Connection, to_net, to_constant}
 use Rattle.design.specs.kept.Lawful.{IsDesign}
 use Rattle.design.specs.Names.{same_name}
-use Rattle.design.specs.Netlist.{GateEntry, NetEntry, Netlist, has_point, is_at_net}
-use Rattle.design.proofs.NameLemmas.{name_is, name_differs}
+use Rattle.design.specs.Netlist.{GateEntry, Netlist, has_point, is_at_net}
+use Rattle.design.proofs.NameLemmas.{name_is}
 use Rattle.waveform.specs.Entries.{standing}
 use Rattle.waveform.specs.kept.Patches.{Keeps, PatchRecord}
 use Rattle.waveform.specs.Timelines.{is_change}
 use Rattle.scratch.specs.kept.Places.{has}
 use Rattle.scratch.specs.Run.{evaluation_at, state_before, value}
 use Rattle.scratch.specs.Work.{is_due}
-use Rattle.scratch.proofs.Stirred.{same_self_name}
+use Rattle.scratch.proofs.Stirred.{find_there}
 use Rattle.scratch.proofs.Still.{still_net}
 use Rattle.scratch.proofs.Runs.{is_task}
 use Rattle.rundiff.specs.kept.Fronts.{AreDrivers, GoesAlong, IsAlike, IsOwn}
@@ -33,7 +33,7 @@ use Rattle.rundiff.specs.kept.Kept.{Agrees, IsClosed, read_at}
 use Rattle.rundiff.specs.kept.Noting.{IsNoted, net_moves, old_moves, pends}
 use Rattle.rundiff.specs.kept.Places.{blank_gate, blank_net, gate_at, is_live, net_at}
 use Rattle.rundiff.proofs.ByPlace.{live_at}
-use Rattle.rundiff.proofs.Lists.{filter_where, not_so, off_by, pairs_head}
+use Rattle.rundiff.proofs.Lists.{filter_where, not_so, off_by}
 use Rattle.rundiff.proofs.NamedLines.{NoChange}
 use Rattle.rundiff.proofs.Resting.{along_free, along_last, free_more, own_more}
 use Rattle.rundiff.proofs.Wired.{reads_net}
@@ -54,14 +54,6 @@ read_of P name (c ∷ cs) all on = by c (All-head P c cs all) (read_of P name cs
           | true ↦ λ same any. subst (λ (m : List ℕ). P (to_net m)) (name_is read name same) one
           | false ↦ λ apart any. rest any
         ] refl on
-
--- a net is found by its name
-pub found_at_name : (ns : List NetEntry) (k : ℕ) (d : NetEntry) → AllPairs (λ n m. n.name ≢ m.name) ns → k < length ns → find (λ n. same_name n.name (slice_index_or ns k d).name) ns ≡ Some (slice_index_or ns k d)
-found_at_name [] k d apart low = absurd (omega arith)
-found_at_name (n ∷ ns) zero d apart low = let is = same_self_name n.name in rw is refl
-found_at_name (n ∷ ns) (suc k) d apart low =
-    let other = name_differs n.name (slice_index_or ns k d).name (pairs_head (λ n m. n.name ≢ m.name) n ns apart k d (omega arith)) in
-    rw other (found_at_name ns k d (AllPairs-tail (λ n m. n.name ≢ m.name) n ns apart) (omega arith))
 
 -- what is known when the nets to be looked at are known: all is right before t, and these are the live nets that are noted for
 -- t, and the outputs of the held gates that are
@@ -158,7 +150,7 @@ module _ (answer : Evaluation → ℕ → State) (old new : Netlist)
                 | true ↦ λ lives. refl
                 | false ↦ λ free.
                     let read = read_of (λ c. read_at answer old c r ≡ read_at answer new c r) n.name (gate_at new q).inputs (are.agrees.inputs q blank_gate low free) reading in
-                    let found = found_at_name new.nets p blank_net is.distinct_nets there in
+                    let found = find_there new.nets p (net_at new p) is.distinct_nets (slice_get-get_or new.nets p blank_net there) in
                     let same = read ∙ reads_net answer new n.name n r found in
                     let no : true ≡ false = sym (same_self (value answer new n r)) ∙ ap (λ (v : Value). same_value v (value answer new n r)) (sym same) ∙ apart in absurd (cc)
               ] refl)

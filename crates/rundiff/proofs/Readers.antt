@@ -1,83 +1,33 @@
 -- Readers and drivers of nets, by keys and by places.
-use Rattle.std.proofs.Common.{◌≡◌, ℕ, zero, suc, ◌+◌, ◌<◌, ◌≤◌, ◌∙◌, ap, sym, refl, List, [], ◌∷◌, Bool, true, false, cond, map, length, Option, Some, None, arith}
-use Rattle.std.specs.Prelude.{slice_index_or, nat_lt, ◌||◌, ◌==◌, ◌≢◌, AllPairs}
-use Rattle.std.specs.List.{enumerate_from, filter, position_from}
+use Rattle.std.proofs.Common.{◌≡◌, ℕ, ◌<◌, ◌∙◌, ap, sym, refl, List, Bool, true, false, length, Option, Some, None, arith}
+use Rattle.std.specs.Prelude.{◌||◌, ◌==◌, ◌≢◌, AllPairs}
+use Rattle.std.specs.List.{position_from}
 use Rattle.std.specs.Option.{option_map_or}
-use Rattle.std.proofs.lemmas.Bool.Decides.{nat_tests}
-use Rattle.std.proofs.lemmas.Bool.{eqb-true, or_from, or_left, ltb-true}
+use Rattle.std.proofs.lemmas.Bool.{eqb-true, or_left}
+use Rattle.std.proofs.lemmas.Option.{slice_get-get_or}
 use Rattle.catalog.proofs.ListLemmas.{position_find}
 use Rattle.design.specs.Names.{same_name}
-use Rattle.design.specs.Netlist.{Netlist}
+use Rattle.design.specs.Netlist.{Netlist, GateEntry}
 use Rattle.design.specs.kept.Places.{driver_places}
 use Rattle.design.proofs.NameLemmas.{name_is}
 use Rattle.scratch.proofs.Stirred.{same_self_name}
-use Rattle.scratch.proofs.Among.{nat_apart, nat_itself, nat_beyond}
+use Rattle.scratch.proofs.Among.{nat_itself}
+use Rattle.scratch.proofs.Passing.{has_place, in_list}
 use Rattle.rundiff.specs.kept.Fronts.{AreDrivers}
 use Rattle.rundiff.specs.kept.Places.{blank_gate, blank_net, gate_at, is_among, is_live, net_at}
 use Rattle.rundiff.proofs.ByPlace.{live_at}
-
--- the places of elements that pass: none before the first, and each by its element
-module _ {X : Type 0} (test : X → Bool) where
-  abbrev places_from : ℕ → List X → List ℕ
-  places_from k xs = map (λ q. q.0) (filter (λ q. test q.1) (enumerate_from k xs))
-
-  none_before : (k : ℕ) (xs : List X) (p : ℕ) → p < k → is_among (places_from k xs) p ≡ false
-  none_before k [] p low = refl
-  none_before k (x ∷ xs) p low =
-      let rest = none_before (k + 1) xs p (omega arith) in
-      elim (test x) as (λ b. is_among (map (λ q. q.0) (cond b ((k, x) ∷ filter (λ q. test q.1) (enumerate_from (k + 1) xs)) (filter (λ q. test q.1) (enumerate_from (k + 1) xs)))) p ≡ false) [
-        | true ↦ or_from (k == p) (is_among (places_from (k + 1) xs) p) (nat_beyond k p low) rest
-        | false ↦ rest
-      ]
-
-  at_index : (k : ℕ) (xs : List X) (i : ℕ) (d : X) → i < length xs → is_among (places_from k xs) (k + i) ≡ test (slice_index_or xs i d)
-  at_index k [] i d low = absurd (omega arith)
-  at_index k (x ∷ xs) zero d low =
-      let e : k + 0 ≡ k = omega arith in
-      let rest : is_among (places_from (k + 1) xs) k ≡ false = none_before (k + 1) xs k (omega arith) in
-      ap (λ (p : ℕ). is_among (places_from k (x ∷ xs)) p) e
-      ∙ elim (test x) as (λ b. is_among (map (λ q. q.0) (cond b ((k, x) ∷ filter (λ q. test q.1) (enumerate_from (k + 1) xs)) (filter (λ q. test q.1) (enumerate_from (k + 1) xs)))) k ≡ b) [
-        | true ↦ ap (λ (b : Bool). b || is_among (places_from (k + 1) xs) k) (nat_itself k)
-        | false ↦ rest
-      ]
-  at_index k (x ∷ xs) (suc i) d low =
-      let e : k + suc i ≡ k + 1 + i = omega arith in
-      let rest : is_among (places_from (k + 1) xs) (k + 1 + i) ≡ test (slice_index_or xs i d) = at_index (k + 1) xs i d (omega arith) in
-      let off : (k == k + 1 + i) ≡ false = nat_apart k (k + 1 + i) (omega arith) in
-      ap (λ (p : ℕ). is_among (places_from k (x ∷ xs)) p) e
-      ∙ elim (test x) as (λ b. is_among (map (λ q. q.0) (cond b ((k, x) ∷ filter (λ q. test q.1) (enumerate_from (k + 1) xs)) (filter (λ q. test q.1) (enumerate_from (k + 1) xs)))) (k + 1 + i) ≡ test (slice_index_or xs i d)) [
-        | true ↦ ap (λ (b : Bool). b || is_among (places_from (k + 1) xs) (k + 1 + i)) off ∙ rest
-        | false ↦ rest
-      ]
-
-  none_after : (k : ℕ) (xs : List X) (p : ℕ) → k + length xs ≤ p → is_among (places_from k xs) p ≡ false
-  none_after k [] p high = refl
-  none_after k (x ∷ xs) p high =
-      let rest = none_after (k + 1) xs p (omega arith) in
-      elim (test x) as (λ b. is_among (map (λ q. q.0) (cond b ((k, x) ∷ filter (λ q. test q.1) (enumerate_from (k + 1) xs)) (filter (λ q. test q.1) (enumerate_from (k + 1) xs)))) p ≡ false) [
-        | true ↦ or_from (k == p) (is_among (places_from (k + 1) xs) p) (nat_apart k p (omega arith)) rest
-        | false ↦ rest
-      ]
+use Rattle.rundiff.proofs.Among.{among_has}
 
 -- whether a gate is among the drivers of a net
 pub driver_at : (d : Netlist) (name : List ℕ) (p : ℕ) → p < length d.gates → is_among (driver_places d.gates name) p ≡ same_name (gate_at d p).output name
 driver_at d name p low =
-    let e : p ≡ 0 + p = omega arith in
-    ap (λ (q : ℕ). is_among (driver_places d.gates name) q) e ∙ at_index (λ g. same_name g.output name) 0 d.gates p blank_gate low
+    among_has (driver_places d.gates name) p ∙ has_place (λ g. same_name g.output name) d.gates p
+    ∙ ap (λ (o : Option GateEntry). option_map_or (λ g. same_name g.output name) o false) (slice_get-get_or d.gates p blank_gate low)
 
 pub driver_low : (d : Netlist) (name : List ℕ) (p : ℕ) → is_among (driver_places d.gates name) p ≡ true → p < length d.gates
 driver_low d name p on =
-    elim (nat_lt_test p (length d.gates)) as (λ b. nat_lt_test p (length d.gates) ≡ b → p < length d.gates) [
-      | true ↦ λ low. ltb-true p (length d.gates) low
-      | false ↦ λ high.
-          let no : false ≡ true = sym (none_after (λ g. same_name g.output name) 0 d.gates p (past p (length d.gates) high)) ∙ on in absurd (cc)
-    ] refl
-  where
-    nat_lt_test : ℕ → ℕ → Bool
-    nat_lt_test a b = nat_lt a b
-
-    past : (a b : ℕ) → nat_lt a b ≡ false → 0 + b ≤ a
-    past a b h = grind (arith, nat_tests)
+    in_list (λ g. same_name g.output name) d.gates p
+    (sym (has_place (λ g. same_name g.output name) d.gates p) ∙ sym (among_has (driver_places d.gates name) p) ∙ on)
 
 -- which names are live, one net more
 module _ (d : Netlist) (distinct : AllPairs (λ n m. n.name ≢ m.name) d.nets) (place : ℕ) (low : place < length d.nets) (live more : ℕ → Bool) (adds : (p : ℕ) → more p ≡ (p == place || live p)) where
