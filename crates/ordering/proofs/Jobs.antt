@@ -31,12 +31,6 @@ zip_at R (a ∷ xs) [] i x y h at also = absurd h
 zip_at R (a ∷ xs) (b ∷ ys) zero x y h at also = let same : a ≡ x = cc in let alike : b ≡ y = cc in subst (λ z. R z y) same (subst (λ z. R a z) alike h.0)
 zip_at R (a ∷ xs) (b ∷ ys) (suc i) x y h at also = zip_at R xs ys i x y h.1 at also
 
-pub zip_length : {A B : Type 0} (R : A → B → Type 0) (xs : List A) (ys : List B) → AllZip R xs ys → length xs ≡ length ys
-zip_length R [] [] h = refl
-zip_length R [] (b ∷ ys) h = absurd h
-zip_length R (a ∷ xs) [] h = absurd h
-zip_length R (a ∷ xs) (b ∷ ys) h = ap suc (zip_length R xs ys h.1)
-
 -- What is asked of one gate.
 module _ (answer : Evaluation → ℕ → State) (d : Netlist) (beside : Option (Bor OldRunRecord)) (k a n : ℕ) (within : k < length d.gates) (new : List (Evaluation × ℕ)) where
   abbrev gate_work : GateEntry → ℕ → List (Evaluation × ℕ)

@@ -8,7 +8,7 @@ use Rattle.std.proofs.lemmas.Bool.Decides.{nat_tests}
 use Rattle.std.proofs.lemmas.List.Folds.{list_all-append}
 use Rattle.std.proofs.lemmas.List.Sorted.{IsPermutation-trans}
 use Rattle.std.proofs.lemmas.Option.{slice_get_within}
-use Rattle.std.proofs.lemmas.Bool.{eqb-true, not-true, and_parts}
+use Rattle.std.proofs.lemmas.Bool.{eqb-true, not-true, and_parts, or_parts}
 use Rattle.std.proofs.Math.Bool.{or-true}
 use Rattle.gatestep.specs.Step.{State, Evaluation}
 use Rattle.design.specs.Netlist.{GateEntry, Netlist}
@@ -23,7 +23,7 @@ use Rattle.ordering.specs.kept.Gates.{IsBeginning, column_of, gate_work_from, ga
 use Rattle.ordering.specs.kept.Order.{each_in_order, is_order, is_ready, may_come, may_follow, order_work_from}
 use Rattle.ordering.proofs.Columns.{from_by_gates, rows_are_columns}
 use Rattle.scratch.proofs.Among.{has_more, nat_itself}
-use Rattle.scratch.proofs.Apart.{left_off, same_work}
+use Rattle.scratch.proofs.Apart.{same_work}
 use Rattle.scratch.specs.kept.Places.{AreApart}
 use Rattle.ordering.proofs.Places.{below, below_apart, by_places}
 
@@ -53,7 +53,7 @@ module _ (d : Netlist) where
       by true is rest = ap (λ z. has z done) (eqb-true k j is) ∙ comes_anew (λ p. has p done) j come
       by false is rest =
           let later = (and_parts (may_come d (λ p. has p done) j) (may_follow d (done ++ j ∷ []) ks) h).1 in
-          left_off (has k done) (nat_eq k j) (sym (has_more k j done) ∙ rest later (sym (ap (λ (b : Bool). b || has k ks) is) ∙ on))
+          (or_parts (has k done) (nat_eq k j) (sym (has_more k j done) ∙ rest later (sym (ap (λ (b : Bool). b || has k ks) is) ∙ on))).0
 
   follow_apart : (done ks : List ℕ) → may_follow d done ks ≡ true → AreApart ks
   follow_apart done [] h = tt

@@ -1,9 +1,8 @@
 -- Lines cut one after another, and the run that they make.
-use Rattle.std.proofs.Common.{◌≡◌, ◌<◌, ◌≤◌, ◌∙◌, ap, sym, refl, ℕ, suc, ◌+◌, Bool, true, false, cond, List, [], ◌∷◌, Option, Some, None, arith, eqb-true, inl, inr, length}
+use Rattle.std.proofs.Common.{◌≡◌, ◌<◌, ◌≤◌, ◌∙◌, ap, sym, refl, ℕ, suc, Bool, true, false, cond, List, [], ◌∷◌, Option, Some, None, arith, eqb-true, inl, inr, length}
 use Rattle.std.specs.Prelude.{◌⊎◌, ◌==◌, nat_le, slice_get, IsSome, All}
 use Rattle.std.specs.List.{find}
 use Rattle.std.specs.Option.{option_map}
-use Rattle.std.proofs.lemmas.Bool.{eq-eqb, both_ways}
 use Rattle.std.proofs.lemmas.Bool.Decides.{nat_tests}
 use Rattle.std.proofs.lemmas.List.Elements.{All-head, All-tail}
 use Rattle.gatestep.specs.Step.{Evaluation, State}
@@ -14,7 +13,7 @@ use Rattle.catalog.specs.kept.Catalog.{keys_of}
 use Rattle.design.specs.Keys.{Keyed, entry_in, netlist}
 use Rattle.waveform.specs.Entries.{same_state, standing}
 use Rattle.waveform.specs.kept.Runs.{RunRecord}
-use Rattle.waveform.specs.kept.Tables.{IsChangedAt, line_at}
+use Rattle.waveform.specs.kept.Tables.{line_at}
 use Rattle.waveform.specs.Timelines.{entries_until}
 use Rattle.scratch.specs.Run.{wave_of}
 use Rattle.scratch.specs.kept.Run.{IsRun, trace_of}
@@ -28,14 +27,6 @@ whole_until h last (x ∷ xs) le all =
     let low : x.0 ≤ last = All-head (λ e. e.0 ≤ last) x xs all in
     let kept : nat_le x.0 h ≡ true = grind (arith, nat_tests) in
     rw kept (ap (λ l. x ∷ l) (whole_until h last xs le (All-tail (λ e. e.0 ≤ last) x xs all)))
-
--- a place is before the last one or is it
-pub last_or_before : {P : Type 0} (i place : ℕ) → i < place + 1 → (i < place → P) → (i ≡ place → P) → P
-last_or_before {P} i place below before last = step (i == place) refl
-  where
-    step : (b : Bool) → (i == place) ≡ b → P
-    step true is = last (eqb-true i place is)
-    step false is = before (grind (arith, nat_tests))
 
 -- the place of a key
 pub key_at : {R P : Type 0} (entries : List (ℕ × R)) (key : ℕ) → IsSome (record_at entries key) → ((i : ℕ) → i < length entries → slice_get (keys_of entries) i ≡ Some key → P) → P
@@ -51,52 +42,6 @@ module _ {A : Type 0} (h : ℕ) (keys : List ℕ) where
   pub record AreCutBefore (place : ℕ) (old new : List (Option (List (ℕ × A)))) : Type 0 where
     pub done : (i key : ℕ) → i < place → slice_get keys i ≡ Some key → line_at new key ≡ cut_at old h key
     pub others : (key : ℕ) → (line_at new key ≡ line_at old key) ⊎ (line_at new key ≡ cut_at old h key)
-
-  pub none_cut : (old new : List (Option (List (ℕ × A)))) → new ≡ old → AreCutBefore 0 old new
-  none_cut old new same = record {
-    done = λ i key below at. absurd (omega arith);
-    others = λ key. inl (ap (λ (lines : List (Option (List (ℕ × A)))). line_at lines key) same);
-  }
-
-  module _ (old now new : List (Option (List (ℕ × A)))) (key : ℕ) (line : List (ℕ × A)) (is : Some line ≡ cut_at old h key) (changed : IsChangedAt key (Some line) now new) where
-    put_there : (k : ℕ) → (k == key) ≡ true → line_at new k ≡ cut_at old h k
-    put_there k same = changed k ∙ ap (λ (b : Bool). cond b (Some line) (line_at now k)) same ∙ is ∙ ap (cut_at old h) (sym (eqb-true k key same))
-
-    left_there : (k : ℕ) → (k == key) ≡ false → line_at new k ≡ line_at now k
-    left_there k other = changed k ∙ ap (λ (b : Bool). cond b (Some line) (line_at now k)) other
-
-    cut_by_test : (k : ℕ) (b : Bool) → (k == key) ≡ b → ((k == key) ≡ false → line_at now k ≡ cut_at old h k) → line_at new k ≡ cut_at old h k
-    cut_by_test k true same rest = put_there k same
-    cut_by_test k false other rest = left_there k other ∙ rest other
-
-    either_by_test : (k : ℕ) (b : Bool) → (k == key) ≡ b → (line_at now k ≡ line_at old k) ⊎ (line_at now k ≡ cut_at old h k) → (line_at new k ≡ line_at old k) ⊎ (line_at new k ≡ cut_at old h k)
-    either_by_test k true same before = inr (put_there k same)
-    either_by_test k false other (inl e) = inl (left_there k other ∙ e)
-    either_by_test k false other (inr e) = inr (left_there k other ∙ e)
-
-    -- the line of one key more is put in cut
-    pub put_cut : (place : ℕ) → slice_get keys place ≡ Some key → AreCutBefore place old now → AreCutBefore (place + 1) old new
-    put_cut place at before = record {
-      done = λ i k below there. cut_by_test k (k == key) refl (λ other. last_or_before i place below (λ low. before.done i k low there) (λ last. absurd (both_ways (k == key) other (eq-eqb k key (same_key i k last there)))));
-      others = λ k. either_by_test k (k == key) refl (before.others k);
-    }
-      where
-        same_key : (i k : ℕ) → i ≡ place → slice_get keys i ≡ Some k → k ≡ key
-        same_key i k last there = let both : Some k ≡ Some key = sym there ∙ ap (slice_get keys) last ∙ at in cc
-
-  -- the line of one key more stays
-  pub keep_cut : (old now : List (Option (List (ℕ × A)))) (place key : ℕ) → slice_get keys place ≡ Some key → line_at old key ≡ cut_at old h key → AreCutBefore place old now → AreCutBefore (place + 1) old now
-  keep_cut old now place key at whole before = record {
-    done = λ i k below there. last_or_before i place below (λ low. before.done i k low there) (λ last. stays i k last there (before.others k));
-    others = before.others;
-  }
-    where
-      stays : (i k : ℕ) → i ≡ place → slice_get keys i ≡ Some k → (line_at now k ≡ line_at old k) ⊎ (line_at now k ≡ cut_at old h k) → line_at now k ≡ cut_at old h k
-      stays i k last there (inl e) =
-          let both : Some k ≡ Some key = sym there ∙ ap (slice_get keys) last ∙ at in
-          let same : k ≡ key = cc in
-          e ∙ ap (line_at old) same ∙ whole ∙ ap (cut_at old h) (sym same)
-      stays i k last there (inr e) = e
 
 -- all lines are cut
 pub all_cut : {R A : Type 0} (h : ℕ) (entries : List (ℕ × R)) (old new : List (Option (List (ℕ × A)))) (place : ℕ) → length entries ≤ place → AreCutBefore h (keys_of entries) place old new → AreCut h entries old new

@@ -1,5 +1,5 @@
 -- A front does not depend on the horizons of the two designs, but for what the old run does behind an earlier one.
-use Rattle.std.proofs.Common.{◌≡◌, ◌≤◌, ◌∙◌, sym, subst, refl, Bool, true, false, ℕ, List, [], ◌∷◌, arith}
+use Rattle.std.proofs.Common.{◌≡◌, ◌≤◌, ◌∙◌, sym, subst, refl, Bool, true, false, ℕ, List, arith}
 use Rattle.std.specs.Prelude.{◌&&◌, ◌||◌, ◌==◌, ◌-◌, nat_le, not}
 use Rattle.std.specs.List.{All, list_any}
 use Rattle.std.specs.Option.{option_map_or}
@@ -23,6 +23,7 @@ use Rattle.rundiff.specs.kept.PlaceMaps.{kept_at}
 use Rattle.rundiff.specs.kept.Places.{gate_at, is_live, net_at}
 use Rattle.rundiff.specs.declared.front.Front.{Front}
 use Rattle.rundiff.specs.declared.place_map.PlaceMap.{PlaceMap}
+use Rattle.rundiff.proofs.Lists.{any_so}
 
 -- Functions of a design that does not depend on its horizon.
 module _ (answer : Evaluation → ℕ → State) (d : Netlist) (h : ℕ) where
@@ -49,18 +50,6 @@ and_more false b c d first second both = absurd (cc)
 or_more : (a b d : Bool) → (b ≡ true → d ≡ true) → (a || b) ≡ true → (a || d) ≡ true
 or_more true b d second either = refl
 or_more false b d second either = second either
-
-any_more : {X : Type 0} (p q : X → Bool) → ((x : X) → p x ≡ true → q x ≡ true) → (xs : List X) → list_any p xs ≡ true → list_any q xs ≡ true
-any_more p q more [] any = any
-any_more p q more (x ∷ xs) any = step (p x) (more x) (any_more p q more xs) any
-  where
-    later : (b : Bool) → list_any q xs ≡ true → (b || list_any q xs) ≡ true
-    later true on = refl
-    later false on = on
-
-    step : (b : Bool) → (b ≡ true → q x ≡ true) → (list_any p xs ≡ true → list_any q xs ≡ true) → (b || list_any p xs) ≡ true → (q x || list_any q xs) ≡ true
-    step true here rest any = rw (here refl) refl
-    step false here rest any = later (q x) (rest any)
 
 module _ (answer : Evaluation → ℕ → State) (old new : Netlist) (front : Front) (n : ℕ) where
   -- The new design with another horizon.
@@ -159,7 +148,7 @@ module _ (answer : Evaluation → ℕ → State) (old new : Netlist) (front : Fr
 
     inputs_more : (live : ℕ → Bool) (p t : ℕ) → input_moves answer (with_horizon old h) new live p t ≡ true → input_moves answer old new live p t ≡ true
     inputs_more live p t =
-        any_more (λ c. not (is_at_live new live c) && old_moves answer (with_horizon old h) new c t) (λ c. not (is_at_live new live c) && old_moves answer old new c t)
+        any_so (λ c. not (is_at_live new live c) && old_moves answer (with_horizon old h) new c t) (λ c. not (is_at_live new live c) && old_moves answer old new c t)
         (λ c. and_more (not (is_at_live new live c)) (old_moves answer (with_horizon old h) new c t) (not (is_at_live new live c)) (old_moves answer old new c t) (λ at. at) (moves_more c t))
         (gate_at new p).inputs
 

@@ -1,9 +1,8 @@
 -- What is noted once the nets of a moment are done.
-use Rattle.std.proofs.Common.{◌≡◌, ℕ, suc, ◌<◌, ◌≤◌, ◌∙◌, ap, sym, refl, Bool, true, false, not, cond, List, [], ◌∷◌, arith}
+use Rattle.std.proofs.Common.{◌≡◌, ℕ, suc, ◌<◌, ◌≤◌, ◌∙◌, ap, sym, refl, Bool, true, false, not, cond, List, [], arith}
 use Rattle.std.specs.Prelude.{nat_eq, ◌&&◌, ◌||◌, ◌==◌}
-use Rattle.std.specs.List.{list_any}
 use Rattle.std.proofs.lemmas.Bool.Decides.{nat_tests}
-use Rattle.std.proofs.lemmas.Bool.{or_right, and_from, eqb-true, and_parts, or_left}
+use Rattle.std.proofs.lemmas.Bool.{or_right, and_from, eqb-true, and_parts}
 use Rattle.gatestep.specs.Step.{State, Evaluation}
 use Rattle.event_queue.specs.kept.Noted.{IsTaken, noted}
 use Rattle.design.specs.Connections.{Connection, to_net, to_constant}
@@ -16,6 +15,7 @@ use Rattle.rundiff.specs.kept.Noting.{IsNoted, input_moves, is_at_live, net_move
 use Rattle.rundiff.specs.kept.Places.{gate_at}
 use Rattle.rundiff.proofs.Alike.{live_grows}
 use Rattle.rundiff.proofs.Noted.{not_first}
+use Rattle.rundiff.proofs.Lists.{any_so}
 
 abbrev Queue : Type 0
 Queue = List (ℕ × List ℕ)
@@ -39,14 +39,6 @@ module _ (t : ℕ) (old new : Queue) (taken : IsTaken t old new) where
           let later : suc t ≤ at.0 = after_this t at.0 apart from in
           let low : t < at.0 = omega arith in
           (at.0, later, at.2, stay k at.0 (ap (has k) (later_same at.0 low) ∙ at.3))
-
-any_moves : (test more : Connection → Bool) → ((c : Connection) → test c ≡ true → more c ≡ true) → (cs : List Connection) → list_any test cs ≡ true → list_any more cs ≡ true
-any_moves test more says [] on = on
-any_moves test more says (c ∷ cs) on = by (test c) refl on (any_moves test more says cs)
-  where
-    by : (b : Bool) → test c ≡ b → (b || list_any test cs) ≡ true → (list_any test cs ≡ true → list_any more cs ≡ true) → (more c || list_any more cs) ≡ true
-    by true here any rest = or_left (more c) (list_any more cs) (says c here)
-    by false off any rest = or_right (more c) (list_any more cs) (rest any)
 
 module _ (answer : Evaluation → ℕ → State) (old new : Netlist) (live later held passed : ℕ → Bool) (t : ℕ) (grows : (p : ℕ) → live p ≡ true → later p ≡ true)
     (held_before : (q : ℕ) → passed q ≡ true → held q ≡ true)
@@ -82,7 +74,7 @@ module _ (answer : Evaluation → ℕ → State) (old new : Netlist) (live later
 
   inputs_noted : (q u : ℕ) → suc t ≤ u → passed q ≡ true → input_moves answer old new later q u ≡ true → IsNotedWithin (noted inputs_now) q (suc t) u
   inputs_noted q u from on moves =
-      let before = any_moves (λ c. not (is_at_live new later c) && old_moves answer old new c u) (λ c. not (is_at_live new live c) && old_moves answer old new c u) (λ c. fewer_moves c u) (gate_at new q).inputs moves in
+      let before = any_so (λ c. not (is_at_live new later c) && old_moves answer old new c u) (λ c. not (is_at_live new live c) && old_moves answer old new c u) (λ c. fewer_moves c u) (gate_at new q).inputs moves in
       later_within t inputs inputs_now inputs_taken (noted inputs_now) (λ k v at. at) q u (λ here. let no : false ≡ true = not_noted q on here in absurd (cc))
       (awaits.inputs q u (omega arith) (and_from (held q) (u == 0 || input_moves answer old new live q u) (held_before q on) (or_right (u == 0) (input_moves answer old new live q u) before)))
 

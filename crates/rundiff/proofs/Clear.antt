@@ -1,11 +1,12 @@
 -- Where nothing is noted nothing happens to what is live.
-use Rattle.std.proofs.Common.{◌≡◌, ◌<◌, ◌≤◌, ◌∙◌, sym, ap, subst, refl, Bool, true, false, not, ℕ, zero, suc, ◌-◌, List, [], ◌∷◌, Option, Some, None, length, All, arith, ⊎_elim}
+use Rattle.std.proofs.Common.{◌≡◌, ◌<◌, ◌≤◌, ◌∙◌, sym, ap, subst, refl, Bool, true, false, not, ℕ, zero, suc, ◌-◌, List, Option, Some, None, length, All, arith, ⊎_elim}
 use Rattle.std.specs.Prelude.{nat_eq, nat_le, slice_index_or, ◌&&◌, ◌||◌, ◌==◌}
 use Rattle.std.specs.List.{list_any}
 use Rattle.std.specs.Option.{ForSome, option_map_or}
 use Rattle.std.proofs.lemmas.Bool.{cases_lt, or_parts, not-false}
 use Rattle.std.proofs.lemmas.Bool.Decides.{nat_tests}
 use Rattle.std.proofs.lemmas.List.Elements.{All-from_get_or}
+use Rattle.std.proofs.lemmas.List.Folds.{list_any_at}
 use Rattle.event_queue.specs.kept.Noted.{noted}
 use Rattle.fourstate.specs.declared.value.Value.{Value}
 use Rattle.fourstate.specs.kept.ValueLaws.{is_same}
@@ -28,12 +29,10 @@ use Rattle.rundiff.specs.kept.Places.{blank_gate, blank_net, gate_at, is_live, n
 use Rattle.rundiff.proofs.ByPlace.{live_at}
 use Rattle.rundiff.proofs.Noted.{NoneBefore, unannounced}
 use Rattle.rundiff.proofs.Wired.{IsThere, inputs_there, named_in}
-use Rattle.rundiff.proofs.Lists.{off_by}
+use Rattle.rundiff.proofs.Lists.{off_by, not_so}
 
 none_of : {X : Type 0} (test : X → Bool) (xs : List X) (k : ℕ) (d : X) → list_any test xs ≡ false → k < length xs → test (slice_index_or xs k d) ≡ false
-none_of test [] k d none low = absurd (omega arith)
-none_of test (x ∷ xs) zero d none low = (or_parts (test x) (list_any test xs) none).0
-none_of test (x ∷ xs) (suc k) d none low = none_of test xs k d (or_parts (test x) (list_any test xs) none).1 (omega arith)
+none_of test xs k d none low = not_so (test (slice_index_or xs k d)) (list_any test xs) (list_any_at test xs k d low) none
 
 due_by : (event : Value × ℕ) (n m : ℕ) → n ≤ event.1 → ((v : ℕ) → n ≤ v → v ≤ m → nat_eq event.1 v ≡ false) → (b : Bool) → nat_le event.1 m ≡ b → b ≡ false
 due_by event n m from off true is =

@@ -13,13 +13,14 @@ use Rattle.design.specs.Keys.{Keyed, KeyedGate, entry_in, name_of, netlist}
 use Rattle.design.specs.kept.Keys.{AreKeys, gate_by_key, net_by_key}
 use Rattle.design.specs.kept.Lawful.{IsDesign}
 use Rattle.design.specs.Names.{same_name}
-use Rattle.design.specs.Netlist.{GateEntry, NetEntry}
+use Rattle.design.specs.Netlist.{GateEntry, NetEntry, Netlist, net_named}
 use Rattle.edits.specs.kept.Touched.{IsTouched, is_touched}
 use Rattle.waveform.specs.Changes.{wave_changes_below}
 use Rattle.waveform.specs.kept.Changes.{trace_below}
 use Rattle.waveform.specs.Entries.{same_state, standing}
 use Rattle.waveform.specs.kept.Tables.{line_at}
 use Rattle.waveform.specs.Timelines.{changes_below}
+use Rattle.waveform.specs.kept.Patches.{Keeps, PatchRecord}
 use Rattle.scratch.specs.Run.{state_after, value, wave_of}
 use Rattle.scratch.specs.kept.Run.{trace_of}
 use Rattle.rundiff.specs.kept.Finishing.{AreCleared, ArePut, new_trace, new_wave}
@@ -39,6 +40,16 @@ use Rattle.rundiff.proofs.Lists.{not_so}
 -- `waveform::laws::same_changes`
 abbrev pub SameChanges : {A : Type 0} → (A → A → Bool) → (A → ℕ → A) → Type 0
 SameChanges {A} same drift = (f g : ℕ → A) (n : ℕ) → ((t : ℕ) → t < n → f t ≡ g t) → changes_below same drift f n ≡ changes_below same drift g n
+
+-- a net that both designs have, without a patch, has the wave of the old run
+pub unmoved_wave : (answer : Evaluation → ℕ → State) (old new : Netlist) → new.horizon ≡ old.horizon → SameChanges same_value standing → (x : NetEntry) (o : Option (PatchRecord Value)) → o ≡ None →
+    Keeps same_value standing (read_at answer old (to_net x.name)) (value answer new x) o (suc new.horizon) → net_named old x.name ≡ Some x → wave_of answer old x ≡ wave_of answer new x
+unmoved_wave answer old new same_end law x o none kept named =
+    ap (λ (h : ℕ). wave_changes_below (value answer old x) (suc h)) (sym same_end)
+    ∙ law (value answer old x) (value answer new x) (suc new.horizon)
+    (λ t within.
+    sym (keeps_none same_value standing (value answer new x) (read_at answer old (to_net x.name)) (suc new.horizon) o none kept t within
+    ∙ ap (λ (q : Option NetEntry). option_map_or (λ n. value answer old n t) q Unknown) named))
 
 -- what is under a key was put
 abbrev WasPut : (keys places : List ℕ) → ℕ → Type 0
@@ -83,16 +94,8 @@ module _ (answer : Evaluation → ℕ → State) (old new : Keyed) (old_is : IsD
   wave_same : SameChanges same_value standing → (p : ℕ) → p < length (netlist new).nets → live p ≡ false → wave_of answer (netlist old) (net_at (netlist new) p) ≡ wave_of answer (netlist new) (net_at (netlist new) p)
   wave_same law p low off =
       let x = net_at (netlist new) p in
-      let free = not_before p off in
-      let same : IsSameNet (netlist old) (netlist new) x = right.live.closed.nets p blank_net low (live_at (netlist new) (live_in front) p is.distinct_nets low ∙ free) in
-      let f : ℕ → Value = value answer (netlist new) x in
-      let g : ℕ → Value = read_at answer (netlist old) (to_net x.name) in
-      let end : ℕ = suc (netlist new).horizon in
-      ap (λ (h : ℕ). wave_changes_below (value answer (netlist old) x) (suc h)) (sym same_end)
-      ∙ law (value answer (netlist old) x) f end
-      (λ t within.
-      sym (keeps_none same_value standing f g end _ (no_waves p low off) (right.live.waves p low) t within
-      ∙ ap (λ (o : Option NetEntry). option_map_or (λ n. value answer (netlist old) n t) o Unknown) same.net))
+      let same : IsSameNet (netlist old) (netlist new) x = right.live.closed.nets p blank_net low (live_at (netlist new) (live_in front) p is.distinct_nets low ∙ not_before p off) in
+      unmoved_wave answer (netlist old) (netlist new) same_end law x (kept_at front.waves p) (no_waves p low off) (right.live.waves p low) same.net
 
   -- a gate that is not held has the trace of the old run
   trace_same : SameChanges same_state due → (p : ℕ) → p < length (netlist new).gates → held p ≡ false → trace_of answer (netlist old) (gate_at (netlist new) p) ≡ trace_of answer (netlist new) (gate_at (netlist new) p)

@@ -4,9 +4,9 @@ use Rattle.std.specs.Prelude.{slice_get, slice_index_or, ◌≢◌, ◌&&◌, �
 use Rattle.std.specs.Cmp.Lexicographic.{pointwise}
 use Rattle.std.specs.List.{find, list_any}
 use Rattle.std.specs.Option.{option_map}
-use Rattle.std.proofs.lemmas.List.Elements.{All-head, All-tail}
 use Rattle.std.proofs.Math.Bool.{or-false, and-false}
 use Rattle.std.proofs.lemmas.Bool.{and_parts, not-false, false_from_ne_true}
+use Rattle.std.proofs.lemmas.List.Folds.{list_any_none}
 use Rattle.fourstate.specs.kept.DelayLaws.{same_delays_equal}
 use Rattle.fourstate.specs.Delays.{same_delays}
 use Rattle.fourstate.specs.kept.GateLaws.{same_kind_equal}
@@ -20,7 +20,7 @@ use Rattle.design.specs.Netlist.{GateEntry, Netlist, gate_named, has_gate}
 use Rattle.design.proofs.NameLemmas.{name_is}
 use Rattle.scratch.proofs.Stirred.{same_self_name}
 use Rattle.rundiff.specs.Dirty.{is_new, same_connection, same_gate}
-use Rattle.rundiff.proofs.Lists.{found_any, found_in, not_so, pairs_head}
+use Rattle.rundiff.proofs.Lists.{found_any, found_in, not_so, pairs_head, any_so}
 
 same_connection_equal : (a b : Connection) → same_connection a b ≡ true → a ≡ b
 same_connection_equal (to_net a) (to_net b) is = ap to_net (name_is a b is)
@@ -51,17 +51,14 @@ same_gate_equal a b is =
 
 -- where one test finds nothing, a stronger one finds nothing
 none_passes : {X : Type 0} (p q : X → Bool) → ((x : X) → p x ≡ true → q x ≡ true) → (xs : List X) → find q xs ≡ None → list_any p xs ≡ false
-none_passes p q says [] none = refl
-none_passes {X} p q says (x ∷ xs) none =
-    elim (q x) as (λ b. q x ≡ b → cond {A = Option X} b (Some x) (find q xs) ≡ None → (p x || list_any p xs) ≡ false) [
-      | true ↦ λ on some. let no : ◌≡◌ {A = Option X} (Some x) None = some in absurd (cc)
-      | false ↦ λ off later. let here = not_so (p x) (q x) (says x) off in rw here (none_passes p q says xs later)
-    ] refl none
+none_passes {X} p q says xs none =
+    false_from_ne_true (list_any p xs) (λ on.
+    let some = found_any q xs (any_so p q says xs on) in
+    let no : ◌≡◌ {A = Option X} None (Some some.0) = sym none ∙ some.1 in cc)
 
 none_later : {X : Type 0} (p q : X → Bool) → ((x : X) → p x ≡ true → q x ≡ true) → (xs : List X) → All (λ x. q x ≡ false) xs → list_any p xs ≡ false
-none_later p q says [] off = refl
-none_later p q says (x ∷ xs) off =
-    let here = not_so (p x) (q x) (says x) (All-head (λ x. q x ≡ false) x xs off) in rw here (none_later p q says xs (All-tail (λ x. q x ≡ false) x xs off))
+none_later p q says xs off =
+    list_any_none p xs (λ k d low. not_so (p (slice_index_or xs k d)) (q (slice_index_or xs k d)) (says (slice_index_or xs k d)) (off k d low))
 
 -- where one test passes one element alone, a stronger one passes that or none
 any_is : {X : Type 0} (p q : X → Bool) → ((x : X) → p x ≡ true → q x ≡ true) → (xs : List X) (x : X) → AllPairs (λ a b. q a ≡ true → q b ≡ false) xs → find q xs ≡ Some x → list_any p xs ≡ p x

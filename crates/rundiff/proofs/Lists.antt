@@ -3,6 +3,8 @@ use Rattle.std.proofs.Common.{◌≡◌, List, [], ◌∷◌, Bool, true, false,
 use Rattle.std.specs.Prelude.{◌||◌, ◌&&◌, AllPairs}
 use Rattle.std.specs.List.{filter, find, list_any}
 use Rattle.std.proofs.lemmas.List.Elements.{All-cons, All-nil, All-head, All-tail}
+use Rattle.std.proofs.lemmas.Map.Keys.{any_passes_from_place}
+use Rattle.scratch.proofs.Among.{any_from}
 
 -- what is said of each element holds of the one that is found
 pub found_in : {X : Type 0} (P : X → Type 0) (q : X → Bool) (xs : List X) (x : X) → All P xs → find q xs ≡ Some x → P x × (q x ≡ true)
@@ -46,3 +48,7 @@ not_so false b says off = refl
 pub off_by : (a b : Bool) → a ≡ true → (a && b) ≡ false → b ≡ false
 off_by true b on off = off
 off_by false b on off = absurd (cc)
+
+-- where a test passes an element, so does one that passes more
+pub any_so : {X : Type 0} (p q : X → Bool) → ((x : X) → p x ≡ true → q x ≡ true) → (xs : List X) → list_any p xs ≡ true → list_any q xs ≡ true
+any_so p q more xs on = let f = any_from p xs on in any_passes_from_place q xs f.0 f.1 f.2 (more f.1 f.3)

@@ -1,6 +1,5 @@
 -- What the old run by the places of the new design says of its gates.
-use Rattle.std.proofs.Common.{◌≡◌, ◌∙◌, ◌<◌, ◌≤◌, ◌+◌, ap, sym, refl, ℕ, zero, suc, List, [], ◌∷◌, Bool, true, false, cond, map, length, Option, Some, None, arith, All}
-use Rattle.std.specs.Prelude.{◌||◌}
+use Rattle.std.proofs.Common.{◌≡◌, ◌∙◌, ◌<◌, ◌≤◌, ap, sym, refl, ℕ, zero, suc, List, [], ◌∷◌, Bool, true, false, map, length, Option, Some, None, arith, All, is_some}
 use Rattle.std.specs.List.{list_any, position_from, slice_index_or}
 use Rattle.std.specs.Option.{option_map_or}
 use Rattle.std.proofs.lemmas.List.Elements.{All-cons, All-nil, All-head, All-tail}
@@ -14,6 +13,7 @@ use Rattle.design.specs.kept.Lawful.{IsDesign}
 use Rattle.design.specs.Names.{same_name}
 use Rattle.design.specs.Netlist.{Netlist, is_readable}
 use Rattle.design.proofs.NameLemmas.{name_is}
+use Rattle.design.proofs.LookLemmas.{position_is_some}
 use Rattle.waveform.specs.Changes.{wave_at, wave_changes_below}
 use Rattle.waveform.specs.kept.Changes.{state_at, trace_below}
 use Rattle.waveform.specs.Entries.{standing}
@@ -32,12 +32,7 @@ use Rattle.rundiff.proofs.Known.{known_gate}
 use Rattle.rundiff.proofs.Tasks.{old_settled}
 
 no_position : {X : Type 0} (test : X → Bool) (start : ℕ) (xs : List X) → position_from test start xs ≡ None → list_any test xs ≡ false
-no_position test start [] none = refl
-no_position {X} test start (x ∷ xs) none =
-    elim (test x) as (λ b. test x ≡ b → cond {A = Option ℕ} b (Some start) (position_from test (start + 1) xs) ≡ None → (test x || list_any test xs) ≡ false) [
-      | true ↦ λ on some. let no : ◌≡◌ {A = Option ℕ} (Some start) None = some in absurd (cc)
-      | false ↦ λ off later. rw off (no_position test (start + 1) xs later)
-    ] refl none
+no_position test start xs none = sym (position_is_some test start xs) ∙ ap (λ o. is_some o) none
 
 module _ (answer : Evaluation → ℕ → State) (old new : Netlist) (run : OldRunRecord) (right : AreOldRun answer old new run) where
   -- what is so of the constants, and of each place that there is, is so of each input: one that reads a net reads one that

@@ -4,30 +4,25 @@ use Rattle.std.specs.Prelude.{nat_eq, slice_get}
 use Rattle.std.specs.Option.{option_map, option_map_or}
 use Rattle.std.proofs.lemmas.Bool.{or_right}
 use Rattle.fourstate.specs.declared.value.Value.{Value}
-use Rattle.fourstate.specs.declared.value.Value.TheVariants.{Unknown}
 use Rattle.fourstate.specs.Values.{same_value}
 use Rattle.gatestep.specs.Step.{State, Evaluation}
 use Rattle.catalog.specs.kept.Catalog.{keys_of}
-use Rattle.design.specs.Connections.{to_net}
 use Rattle.design.specs.Keys.{Keyed, name_of, netlist}
 use Rattle.design.specs.kept.Keys.{net_by_key}
 use Rattle.design.specs.Netlist.{NetEntry, net_named}
 use Rattle.edits.specs.kept.Touched.{IsTouched, is_touched}
-use Rattle.waveform.specs.Changes.{wave_changes_below}
 use Rattle.waveform.specs.Entries.{standing}
 use Rattle.waveform.specs.kept.Patches.{PatchRecord}
-use Rattle.scratch.specs.Run.{value, wave_of}
+use Rattle.scratch.specs.Run.{wave_of}
 use Rattle.scratch.proofs.Among.{nat_itself}
 use Rattle.rundiff.specs.kept.Changed.{AreChanged}
 use Rattle.rundiff.specs.kept.Finishing.{new_wave}
 use Rattle.rundiff.specs.kept.Fronts.{AreWaves}
-use Rattle.rundiff.specs.kept.Kept.{read_at}
 use Rattle.rundiff.specs.kept.PlaceMaps.{kept_at}
 use Rattle.rundiff.specs.kept.Places.{is_among, net_at}
 use Rattle.rundiff.specs.declared.place_map.PlaceMap.{PlaceMap}
 use Rattle.rundiff.proofs.ByKey.{IsNetAt, net_placed}
-use Rattle.rundiff.proofs.Finished.{SameChanges}
-use Rattle.rundiff.proofs.NamedLines.{keeps_none}
+use Rattle.rundiff.proofs.Finished.{SameChanges, unmoved_wave}
 use Rattle.rundiff.proofs.Steps.{among_push}
 use Rattle.rundiff.proofs.Lists.{not_so}
 
@@ -44,16 +39,8 @@ module _ (answer : Evaluation → ℕ → State) (old new : Keyed)
       wave_of answer (netlist old) (net_at (netlist new) p) ≡ wave_of answer (netlist new) (net_at (netlist new) p)
   wave_stays key p low found none =
       let x = net_at (netlist new) p in
-      let f : ℕ → Value = value answer (netlist new) x in
-      let g : ℕ → Value = read_at answer (netlist old) (to_net x.name) in
-      let end : ℕ = suc (netlist new).horizon in
       let is_name : name_of old.nets key ≡ x.name = ap (λ (o : Option NetEntry). option_map_or (λ n. n.name) o []) found in
-      let named : net_named (netlist old) x.name ≡ Some x = ap (net_named (netlist old)) (sym is_name) ∙ names key ∙ found in
-      ap (λ (h : ℕ). wave_changes_below (value answer (netlist old) x) (suc h)) (sym same_end)
-      ∙ law (value answer (netlist old) x) f end
-      (λ t within.
-      sym (keeps_none same_value standing f g end _ none (waves p low) t within
-      ∙ ap (λ (o : Option NetEntry). option_map_or (λ n. value answer (netlist old) n t) o Unknown) named))
+      unmoved_wave answer (netlist old) (netlist new) same_end law x (kept_at patches p) none (waves p low) (ap (net_named (netlist old)) (sym is_name) ∙ names key ∙ found)
 
   module _ (nets gates places keys : List ℕ) (touched : IsTouched old new nets gates)
       (no_waves : (p : ℕ) → p < length (netlist new).nets → is_among places p ≡ false → kept_at patches p ≡ None)

@@ -1,6 +1,9 @@
 -- Lines under the keys at their places.
-use Rattle.std.proofs.Common.{◌≡◌, ◌∙◌, ap, sym, subst, refl, ℕ, zero, suc, ◌+◌, Bool, true, false, cond, ◌==◌, eq-eqb, eqb-true, List, [], ◌∷◌, ◌++◌, append_assoc, length-append, map, drop, length, Option, Some, option_map, slice_get, add-one, arith}
+use Rattle.std.proofs.Common.{◌≡◌, ◌∙◌, ap, sym, subst, refl, ℕ, ◌+◌, Bool, true, false, cond, ◌==◌, List, [], ◌∷◌, ◌++◌, append_assoc, length-append, map, drop, length, Option, Some, option_map, slice_get, arith}
 use Rattle.std.specs.List.{find, zip}
+use Rattle.std.proofs.lemmas.Bool.Decides.{nat_tests}
+use Rattle.std.proofs.lemmas.List.{drop_more}
+use Rattle.std.proofs.lemmas.Option.{slice_get_within, get_or_from_slice_get}
 use Rattle.fourstate.specs.declared.value.Value.{Value}
 use Rattle.gatestep.specs.Step.{Evaluation, State}
 use Rattle.catalog.specs.Catalog.{record_at, records_of}
@@ -14,18 +17,10 @@ use Rattle.scratch.specs.kept.Run.{trace_of}
 
 -- what a drop leaves, where there is an element at its place
 pub drop_at : {A : Type 0} (xs : List A) (i : ℕ) (x : A) → slice_get xs i ≡ Some x → drop i xs ≡ x ∷ drop (i + 1) xs
-drop_at [] i x at = absurd (cc)
-drop_at (w ∷ xs) zero x at = cc
-drop_at (w ∷ xs) (suc i) x at = rw add-one (rw add-one at (drop_at xs i x at))
+drop_at xs i x at = drop_more xs i x (slice_get_within xs i x at) ∙ ap (λ y. y ∷ drop (i + 1) xs) (get_or_from_slice_get xs i x x at)
 
 pub same_test : (a b : ℕ) → (a == b) ≡ (b == a)
-same_test a b = step (a == b) (b == a) refl refl
-  where
-    step : (c d : Bool) → (a == b) ≡ c → (b == a) ≡ d → c ≡ d
-    step true true e g = refl
-    step false false e g = refl
-    step true false e g = sym (eq-eqb b a (sym (eqb-true a b e))) ∙ g
-    step false true e g = sym e ∙ eq-eqb a b (sym (eqb-true b a g))
+same_test a b = grind (arith, nat_tests)
 
 first_or_rest : {X : Type 0} (key k : ℕ) (line : X) (es : List (ℕ × X)) → record_at ((key, line) ∷ es) k ≡ cond (k == key) (Some line) (record_at es k)
 first_or_rest key k line es =

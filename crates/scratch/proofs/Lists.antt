@@ -1,6 +1,8 @@
 -- Lists: side by side, and as they grow; and answers of calls.
-use Rattle.std.proofs.Common.{◌≡◌, ◌<◌, ◌≤◌, ap, refl, ℕ, zero, suc, ◌+◌, List, [], ◌∷◌, ◌++◌, map, take, length, Option, Some, None, IfSome, subst, slice_get, add-one, arith, Result, Ok, Err, OnOk}
+use Rattle.std.proofs.Common.{◌≡◌, ◌<◌, ◌≤◌, ap, refl, ℕ, zero, suc, ◌+◌, List, [], ◌∷◌, ◌++◌, map, take, length, Option, Some, None, IfSome, subst, slice_get, add-one, arith, Result, Ok, Err, OnOk, ◌∙◌}
 use Rattle.std.specs.List.{zip}
+use Rattle.std.proofs.lemmas.List.{take_more}
+use Rattle.std.proofs.lemmas.Option.{slice_get_within, get_or_from_slice_get}
 
 pub zip_whole : {A B : Type 0} (xs : List A) (ys : List B) (i : ℕ) → length xs ≤ i → take i (zip xs ys) ≡ zip xs ys
 zip_whole [] ys zero past = refl
@@ -31,9 +33,7 @@ map_alike f g alike (x ∷ xs) = rw (alike x) (ap (λ l. g x ∷ l) (map_alike f
 
 -- one element more
 pub take_next : {A : Type 0} (xs : List A) (i : ℕ) (x : A) → slice_get xs i ≡ Some x → take (i + 1) xs ≡ take i xs ++ x ∷ []
-take_next [] i x at = absurd (cc)
-take_next (w ∷ xs) zero x at = cc
-take_next (w ∷ xs) (suc i) x at = rw add-one (ap (λ l. w ∷ l) (rw add-one at (take_next xs i x at)))
+take_next xs i x at = take_more xs i x (slice_get_within xs i x at) ∙ ap (λ y. take i xs ++ y ∷ []) (get_or_from_slice_get xs i x x at)
 
 -- a list for each element so far
 pub same_for_each : {A B : Type 0} (b : B) (xs : List A) (i : ℕ) → i < length xs → map (λ _. b) (take (i + 1) xs) ≡ map (λ _. b) (take i xs) ++ b ∷ []

@@ -3,17 +3,18 @@ use Rattle.std.proofs.lemmas.Bool.{cases_lt}
 use Rattle.std.proofs.lemmas.Grind.{common_steps}
 use Rattle.std.proofs.lemmas.Option.{get_or_from_slice_get, slice_get_read, slice_get_within}
 use Rattle.std.proofs.lemmas.List.{get_or_default}
+use Rattle.std.proofs.lemmas.Slice.Zip.{AllZip-long}
 use Rattle.design.specs.Keys.{netlist}
 use Rattle.gateline.specs.kept.Known.{IsTraced}
 use Rattle.scratch.proofs.Among.{has_at}
 use Rattle.ordering.specs.kept.Jobs.{IsFollowed}
-use Rattle.ordering.proofs.Jobs.{last_of_first, zip_at, zip_length}
+use Rattle.ordering.proofs.Jobs.{last_of_first, zip_at}
 use Rattle.ordering.proofs.dealing.put_all.Goals as goal
 
 pub loop-followed-init : goal.loop-followed-init
 loop-followed-init g c =
     let d = netlist c.args.design.now in let places = c.args.places.now in let found = c.args.all.items in
-    let long : length places ≡ length found = zip_length (IsFollowed g.S.Stepper.answer d) places found c.requires.followed in
+    let long : length places ≡ length found = sym (AllZip-long (IsFollowed g.S.Stepper.answer d) places found c.requires.followed) in
     record {
       split = ([], sym (append-nil found));
       fit = c.requires.fit;
@@ -25,7 +26,7 @@ loop-followed-init g c =
 pub bounds-places-len : goal.bounds-places-len
 bounds-places-len g c =
     let d = netlist c.args.design.now in let places = c.args.places.now in let found = c.args.all.items in let left = c.pop.new.self.items in
-    let long : length places ≡ length found = zip_length (IsFollowed g.S.Stepper.answer d) places found c.requires.followed in
+    let long : length places ≡ length found = sym (AllZip-long (IsFollowed g.S.Stepper.answer d) places found c.requires.followed) in
     let at = last_of_first found c.loop-followed.all.items left c.loop-followed.invariant.split.0 c.in-Some.followed c.loop-followed.invariant.split.1 c.in-Some.ensures.items in
     let within : length left < length found = slice_get_within found (length left) c.in-Some.followed at in
     let same : length left ≡ c.len.result = grind (arith, common_steps) in
@@ -34,7 +35,7 @@ bounds-places-len g c =
 pub put_one-requires-clause-there : goal.put_one-requires-clause-there
 put_one-requires-clause-there g c =
     let d = netlist c.args.design.now in let places = c.args.places.now in let found = c.args.all.items in let left = c.pop.new.self.items in
-    let long : length places ≡ length found = zip_length (IsFollowed g.S.Stepper.answer d) places found c.requires.followed in
+    let long : length places ≡ length found = sym (AllZip-long (IsFollowed g.S.Stepper.answer d) places found c.requires.followed) in
     let at = last_of_first found c.loop-followed.all.items left c.loop-followed.invariant.split.0 c.in-Some.followed c.loop-followed.invariant.split.1 c.in-Some.ensures.items in
     let within : length left < length found = slice_get_within found (length left) c.in-Some.followed at in
     let same : length left ≡ c.len.result = grind (arith, common_steps) in
@@ -45,7 +46,7 @@ pub put_one-requires-clause-followed : goal.put_one-requires-clause-followed
 put_one-requires-clause-followed g c =
     let answer = g.S.Stepper.answer in let d = netlist c.args.design.now in let places = c.args.places.now in let found = c.args.all.items in let left = c.pop.new.self.items in
     let n = c.len.result in let k = get_or places n 0 in let trace = c.in-Some.followed in
-    let long : length places ≡ length found = zip_length (IsFollowed answer d) places found c.requires.followed in
+    let long : length places ≡ length found = sym (AllZip-long (IsFollowed answer d) places found c.requires.followed) in
     let at = last_of_first found c.loop-followed.all.items left c.loop-followed.invariant.split.0 trace c.loop-followed.invariant.split.1 c.in-Some.ensures.items in
     let within : length left < length found = slice_get_within found (length left) trace at in
     let same : length left ≡ n = grind (arith, common_steps) in
