@@ -16,7 +16,7 @@ use Rattle.waveform.specs.Timelines.{moments}
 use Rattle.scratch.specs.Asked.{IsPart}
 use Rattle.scratch.specs.Work.{task_at}
 use Rattle.scratch.specs.kept.Kept.{input_of}
-use Rattle.scratch.specs.kept.Places.{has}
+use Rattle.scratch.specs.kept.Places.{has, AreApart}
 use Rattle.scratch.specs.kept.Work.{work_from}
 use Rattle.gateline.specs.kept.Line.{always_wanted}
 use Rattle.ordering.specs.kept.Gates.{IsBeginning, column_of, gate_work_from, gates_work_from, rows_of}
@@ -24,7 +24,6 @@ use Rattle.ordering.specs.kept.Order.{each_in_order, is_order, is_ready, may_com
 use Rattle.ordering.proofs.Columns.{from_by_gates, rows_are_columns}
 use Rattle.scratch.proofs.Among.{has_more, nat_itself}
 use Rattle.scratch.proofs.Apart.{same_work}
-use Rattle.scratch.specs.kept.Places.{AreApart}
 use Rattle.ordering.proofs.Places.{below, below_apart, by_places}
 
 is_there : {X : Type 0} (p : X → Bool) (o : Option X) → option_map_or p o false ≡ true → (x : X) × (o ≡ Some x)

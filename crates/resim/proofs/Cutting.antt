@@ -5,9 +5,8 @@ use Rattle.std.specs.List.{find}
 use Rattle.std.specs.Option.{option_map}
 use Rattle.std.proofs.lemmas.Bool.Decides.{nat_tests}
 use Rattle.std.proofs.lemmas.List.Elements.{All-head, All-tail}
-use Rattle.gatestep.specs.Step.{Evaluation, State}
+use Rattle.gatestep.specs.Step.{Evaluation, State, due}
 use Rattle.fourstate.specs.Values.{same_value}
-use Rattle.gatestep.specs.Step.{due}
 use Rattle.catalog.specs.Catalog.{record_at}
 use Rattle.catalog.specs.kept.Catalog.{keys_of}
 use Rattle.design.specs.Keys.{Keyed, entry_in, netlist}

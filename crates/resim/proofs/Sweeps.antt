@@ -7,11 +7,10 @@ use Rattle.design.specs.Keys.{Keyed, netlist}
 use Rattle.design.specs.Netlist.{Netlist}
 use Rattle.waveform.specs.kept.Runs.{RunRecord}
 use Rattle.scratch.specs.Asked.{IsAskedInPart, IsAskedInSomeOrder}
-use Rattle.scratch.specs.kept.Grown.{grown_all, grown_then, part_then}
+use Rattle.scratch.specs.kept.Grown.{grown_all, grown_then, part_then, all_parts}
 use Rattle.scratch.specs.kept.Lost.{CountsLoss}
 use Rattle.scratch.specs.kept.Open.{all_below, all_from, open_work_at}
 use Rattle.scratch.specs.kept.Run.{IsRun}
-use Rattle.scratch.specs.kept.Grown.{all_parts}
 use Rattle.rundiff.specs.Dirty.{is_dirty, rework_at, rework_below}
 use Rattle.resim.specs.kept.Reruns.{Reruns}
 

@@ -1,12 +1,12 @@
 -- The lines of a run, read in the order of its nets and gates.
-use Rattle.std.proofs.Common.{◌≡◌, ◌<◌, ◌∙◌, ap, sym, refl, Bool, ℕ, zero, suc, ◌+◌, ◌-◌, List, [], ◌∷◌, ◌++◌, map, take, Option, Some, None, All, option_map, slice_get, arith}
+use Rattle.std.proofs.Common.{◌≡◌, ◌<◌, ◌∙◌, ap, sym, refl, Bool, ℕ, suc, ◌+◌, ◌-◌, List, [], ◌∷◌, ◌++◌, map, take, Option, Some, None, All, option_map, slice_get, arith}
 use Rattle.std.proofs.lemmas.List.{map-append}
 use Rattle.fourstate.specs.declared.value.Value.TheVariants.{Unknown}
 use Rattle.fourstate.specs.Values.{same_value}
 use Rattle.gatestep.specs.Step.{State, Evaluation, due, initial}
 use Rattle.gatestep.specs.kept.Tasks.{IsTask, NothingDue}
 use Rattle.catalog.specs.Catalog.{records_of}
-use Rattle.design.specs.Keys.{Keyed, KeyedGate, entry_in, netlist}
+use Rattle.design.specs.Keys.{Keyed, entry_in, netlist}
 use Rattle.design.specs.kept.Keys.{gate_by_key}
 use Rattle.design.specs.kept.Lawful.{IsGate}
 use Rattle.design.specs.Netlist.{GateEntry, NetEntry, Netlist}

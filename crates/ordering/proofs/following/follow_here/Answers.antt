@@ -1,6 +1,6 @@
-use Rattle.std.proofs.Common.{◌≡◌, ◌<◌, ◌∙◌, sym, ap, suc, take, length, get_or}
+use Rattle.std.proofs.Common.{◌<◌, ◌∙◌, sym, ap, suc, take, length, get_or}
 use Rattle.design.specs.Keys.{netlist}
-use Rattle.gatestep.proofs.Jobs.{beginning_is_part}
+use Rattle.gatestep.proofs.Jobs.{beginning_is_part, on_err}
 use Rattle.scratch.specs.kept.Places.{has}
 use Rattle.ordering.specs.kept.Batches.{StayTraced}
 use Rattle.ordering.specs.kept.Earlier.{begin_after}
@@ -8,7 +8,6 @@ use Rattle.ordering.specs.kept.Order.{order_work_from}
 use Rattle.ordering.proofs.Batching.{all_stay_ready}
 use Rattle.ordering.proofs.Marks.{one_taken}
 use Rattle.ordering.proofs.Steps.{one_asked, part_asked}
-use Rattle.gatestep.proofs.Jobs.{on_err}
 use Rattle.ordering.proofs.Supplied.{one_traced, stay_traced}
 use Rattle.ordering.proofs.following.follow_here.Goals as goal
 

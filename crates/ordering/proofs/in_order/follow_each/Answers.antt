@@ -1,10 +1,7 @@
-use Rattle.std.proofs.Common.{◌≡◌, ◌<◌, ◌≤◌, ◌∙◌, sym, ap, subst, get_or, drop, replicate, true, false, ℕ, suc, length, append-nil, refl, arith, ⊎_elim}
-use Rattle.std.specs.Prelude.{All}
-use Rattle.std.specs.List.{slice_range}
+use Rattle.std.proofs.Common.{◌≡◌, ◌≤◌, ◌∙◌, sym, ap, subst, get_or, drop, replicate, true, false, suc, length, append-nil, refl, arith, ⊎_elim}
 use Rattle.std.proofs.lemmas.List.{length-replicate}
 use Rattle.design.specs.Keys.{netlist}
 use Rattle.scratch.specs.kept.Grown.{grown_none}
-use Rattle.ordering.specs.kept.Batches.{IsReady}
 use Rattle.ordering.specs.kept.Earlier.{begin_after}
 use Rattle.ordering.specs.kept.Order.{is_marked, may_come_by, order_work_from}
 use Rattle.ordering.proofs.Batching.{among, batch_ready, follow_far, some_asked, some_in_part, written_back}

@@ -1,6 +1,5 @@
 use Rattle.std.proofs.Common.{◌∙◌, ◌-◌, ap, sym, arith}
-use Rattle.waveform.specs.Timelines.{entries_until}
-use Rattle.waveform.specs.Timelines.{changes_below}
+use Rattle.waveform.specs.Timelines.{entries_until, changes_below}
 use Rattle.rundiff.proofs.NamedLines.{keeps_none}
 use Rattle.rundiff.proofs.Putting.{if_mapped}
 use Rattle.rundiff.proofs.Tasks.{next_one}
