@@ -56,7 +56,7 @@ module _ (answer : Evaluation → ℕ → State) (d : Netlist) (traces : List (L
       let at : slice_get cells k ≡ option_map (cell_of d) (slice_get d.gates k) = ap (λ l. slice_get l k) are ∙ slice_get-map (cell_of d) d.gates k in
       rw at (supplied_by (slice_get d.gates k) ((and_parts _ (option_map_or (λ g. list_all (λ c. is_ready d f (input_of d c)) g.inputs) (slice_get d.gates k) false) h).1))
 
--- Elements that are written.
+-- Traces that are written.
 
 module _ (answer : Evaluation → ℕ → State) (d : Netlist) (traces new : List (List (ℕ × State))) (k : ℕ) (many : length traces ≡ length d.gates) (within : k < length d.gates) where
   module _ (is : IfSome (slice_get d.gates k) (λ g. new ≡ set traces k (trace_of answer d g))) where
@@ -108,5 +108,3 @@ all_traced answer d traces order ordered many come = alike traces (map (trace_of
         let past : length traces ≤ k = rw many high in
         let beyond : length (map (trace_of answer d) d.gates) ≤ k = rw (length-map d.gates (trace_of answer d)) high in
         slice_get_past traces k past ∙ sym (slice_get_past (map (trace_of answer d) d.gates) k beyond)
-
--- What follows from the answer of a call.
