@@ -7,7 +7,7 @@ use Rattle.std.proofs.lemmas.Map.Keys.{any_passes_from_place}
 use Rattle.std.proofs.lemmas.List.Folds.{list_any-append}
 use Rattle.catalog.proofs.ListLemmas.{AllPairs-tail}
 use Rattle.design.proofs.ByNameLemmas.{all_at}
-use Rattle.scratch.proofs.Driven.{earlier}
+use Rattle.scratch.proofs.Driven.{earlier, either}
 use Rattle.scratch.proofs.Among.{any_more, nat_apart, nat_itself}
 use Rattle.rundiff.specs.kept.Places.{is_among}
 use Rattle.rundiff.proofs.Lists.{pairs_head}
@@ -47,6 +47,15 @@ module _ {A : Type 0} (P : ℕ → A → Type 0) (before now later : ℕ → A) 
   others_more so_far q off =
       let parts = or_parts (is_among (take i xs) q) (nat_eq x q) (sym (among_more xs i x q at) ∙ off) in
       others q parts.1 ∙ so_far q parts.0
+
+module _ {A : Type 0} (P : ℕ → A → Type 0) (was now : ℕ → A) where
+  -- what holds of places that pass, and of all others as they were
+  pub as_it_was : (test : ℕ → Bool) (p : ℕ) → ((q : ℕ) → test q ≡ false → now q ≡ was q) → (test p ≡ true → P p (now p)) → (test p ≡ false → P p (was p)) → P p (now p)
+  as_it_was test p others here there = either (test p) here (λ off. subst (P p) (sym (others p off)) (there off))
+
+  -- of one place, and of all others as they were
+  pub at_one : (x p : ℕ) → ((q : ℕ) → nat_eq x q ≡ false → now q ≡ was q) → (nat_eq x p ≡ true → P x (now x)) → (nat_eq x p ≡ false → P p (was p)) → P p (now p)
+  at_one x p others here = as_it_was (nat_eq x) p others (λ same. subst (λ q. P q (now q)) (eqb-true x p same) (here same))
 
 -- a place that is pushed
 pub among_push : (xs : List ℕ) (x q : ℕ) → is_among (xs ++ x ∷ []) q ≡ (is_among xs q || nat_eq x q)

@@ -1,4 +1,4 @@
-use Rattle.std.proofs.Common.{Some, ◌≡◌, ◌∙◌, ap, sym, subst, ℕ, List, Bool, true, false}
+use Rattle.std.proofs.Common.{Some, ◌≡◌, ◌∙◌, ap, sym, subst, ℕ, List, Bool, true}
 use Rattle.std.specs.Prelude.{◌||◌, nat_eq, slice_get, slice_index_or}
 use Rattle.std.proofs.lemmas.Option.{slice_get-get_or, same_Some}
 use Rattle.std.proofs.lemmas.List.{take_all}

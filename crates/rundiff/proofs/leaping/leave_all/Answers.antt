@@ -1,6 +1,6 @@
-use Rattle.std.proofs.Common.{◌≡◌, ◌∙◌, ap, sym, subst, refl, ℕ, List, true, false, Option}
+use Rattle.std.proofs.Common.{◌∙◌, ap, sym, subst, ℕ, List, Option}
 use Rattle.std.specs.Option.{ForSome}
-use Rattle.std.specs.Prelude.{◌≤◌, nat_eq, slice_index_or}
+use Rattle.std.specs.Prelude.{◌≤◌, slice_index_or}
 use Rattle.std.proofs.lemmas.Bool.{eqb-true}
 use Rattle.std.proofs.lemmas.Option.{slice_get-get_or}
 use Rattle.std.proofs.lemmas.List.{take_all}
@@ -12,17 +12,8 @@ use Rattle.waveform.specs.kept.Timelines.{end_of}
 use Rattle.rundiff.specs.kept.Fronts.{IsFree}
 use Rattle.rundiff.specs.kept.PlaceMaps.{kept_at}
 use Rattle.rundiff.specs.kept.Places.{is_among}
-use Rattle.rundiff.proofs.Steps.{each_more, others_more}
+use Rattle.rundiff.proofs.Steps.{at_one, each_more, others_more}
 use Rattle.rundiff.proofs.leaping.leave_all.Goals as goal
-
--- what holds of the patch of one place, and of all others as they were
-by_place : (P : Option (PatchRecord Value) → Type 0) (before now : ℕ → Option (PatchRecord Value)) (x p : ℕ) → ((q : ℕ) → nat_eq x q ≡ false → now q ≡ before q) →
-    (nat_eq x p ≡ true → P (now x)) → (nat_eq x p ≡ false → P (before p)) → P (now p)
-by_place P before now x p others here there =
-    elim (nat_eq x p) as (λ b. nat_eq x p ≡ b → P (now p)) [
-      | true ↦ λ same. subst (λ (q : ℕ). P (now q)) (eqb-true x p same) (here same)
-      | false ↦ λ apart. subst P (sym (others p apart)) (there apart)
-    ] refl
 
 pub leave-requires : goal.leave-requires
 leave-requires c = record { later = c.loop-place.invariant.ends (slice_index_or c.args.places.now c.loop-place.place-index 0) }
@@ -34,14 +25,13 @@ loop-place-preserved c =
     let before : ℕ → Option (PatchRecord Value) = kept_at c.loop-place.waves in
     let now : ℕ → Option (PatchRecord Value) = kept_at c.leave.new.patches in
     let done = c.in_ok-leave.ensures in
-    let End : Option (PatchRecord Value) → Type 0 = λ o. ForSome o (λ patch. end_of patch.line ≤ c.args.t) in
     record {
-      ends = λ p. by_place End before now x p done.others (λ same. done.end) (λ apart. c.loop-place.invariant.ends p);
+      ends = λ p. at_one (λ q o. ForSome o (λ patch. end_of patch.line ≤ c.args.t)) before now x p done.others (λ same. done.end) (λ apart. c.loop-place.invariant.ends p);
       free = each_more (λ p. IsFree (now p)) xs i x at (λ p was apart. subst IsFree (sym (done.others p apart)) (c.loop-place.invariant.free p was)) done.free;
       others = others_more (λ q o. Unit {0}) (kept_at c.args.waves.now) before now xs i x at done.others c.loop-place.invariant.others;
       made = λ p f g kept.
           let was = c.loop-place.invariant.made p f g kept in
-          by_place (λ o. Keeps same_value standing g f o c.args.t) before now x p done.others
+          at_one (λ q o. Keeps same_value standing g f o c.args.t) before now x p done.others
           (λ same. done.made f g (subst (λ (q : ℕ). Keeps same_value standing g f (before q) c.args.t) (sym (eqb-true x p same)) was)) (λ apart. was);
     }
 

@@ -1,4 +1,4 @@
-use Rattle.std.proofs.Common.{◌≡◌, ◌∙◌, ◌≤◌, ap, sym, subst, suc, refl, arith, ℕ, true, false, List, Option}
+use Rattle.std.proofs.Common.{◌∙◌, ◌≤◌, ap, sym, subst, suc, arith, ℕ, List, Option}
 use Rattle.std.specs.Prelude.{slice_index_or}
 use Rattle.std.specs.Option.{ForSome}
 use Rattle.std.proofs.lemmas.Option.{slice_get-get_or}
@@ -15,7 +15,7 @@ use Rattle.scratch.specs.Run.{value}
 use Rattle.rundiff.specs.kept.Fronts.{IsOwn}
 use Rattle.rundiff.specs.kept.Places.{is_among, net_at}
 use Rattle.rundiff.specs.kept.Kept.{read_at}
-use Rattle.rundiff.proofs.Steps.{is_one, not_yet, others_more, put_more}
+use Rattle.rundiff.proofs.Steps.{as_it_was, is_one, not_yet, others_more, put_more}
 use Rattle.rundiff.proofs.nets.put_values.Goals as goal
 
 pub put_value-requires-clause-there : goal.put_value-requires-clause-there
@@ -68,10 +68,7 @@ returns-clause-others g c = λ p off.
 pub returns-clause-ends : goal.returns-clause-ends
 returns-clause-ends g c = λ p.
     let xs = c.args.live.now in let whole = take_all c.loop-place.place-index xs c.loop-place-test.false in
-    let At : Option (PatchRecord Value) → Type 0 = λ o. ForSome o (λ patch. end_of patch.line ≤ suc c.args.t) in
-    elim (is_among xs p) as (λ b. is_among xs p ≡ b → At (kept_at c.loop-place.waves p)) [
-      | true ↦ λ among. (c.loop-place.invariant.put p (ap (λ (l : List ℕ). is_among l p) whole ∙ among)).2
-      | false ↦ λ off.
-          let same = c.loop-place.invariant.others p (ap (λ (l : List ℕ). is_among l p) whole ∙ off) in
-          subst At (sym same) (λ patch is. let low = c.requires.ends p patch is in omega arith)
-    ] refl
+    as_it_was (λ q o. ForSome o (λ patch. end_of patch.line ≤ suc c.args.t)) (kept_at c.args.waves.now) (kept_at c.loop-place.waves) (is_among xs) p
+    (λ q off. c.loop-place.invariant.others q (ap (λ (l : List ℕ). is_among l q) whole ∙ off))
+    (λ among. (c.loop-place.invariant.put p (ap (λ (l : List ℕ). is_among l p) whole ∙ among)).2)
+    (λ off patch is. let low = c.requires.ends p patch is in omega arith)

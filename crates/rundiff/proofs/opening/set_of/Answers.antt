@@ -1,4 +1,4 @@
-use Rattle.std.proofs.Common.{◌∙◌, ap, sym, ℕ, List, Bool, true, false, cond, take}
+use Rattle.std.proofs.Common.{◌∙◌, ap, sym, ℕ, List, Bool, true, cond, take}
 use Rattle.std.specs.Prelude.{slice_index_or, ◌||◌, ◌==◌}
 use Rattle.std.specs.BTreeSet.{contains}
 use Rattle.std.specs.Ordering.{nat_cmp}

@@ -1,9 +1,8 @@
-use Rattle.std.proofs.Common.{◌≡◌, ◌∙◌, ◌+◌, ◌≤◌, ap, sym, subst, refl, suc, ℕ, Bool, true, false, cond, Option, ◌⊎◌, arith}
-use Rattle.std.specs.Prelude.{nat_eq, ◌==◌}
+use Rattle.std.proofs.Common.{◌≡◌, ◌∙◌, ◌+◌, ◌≤◌, ap, sym, subst, suc, ℕ, Bool, true, false, cond, Option, ◌⊎◌, arith}
+use Rattle.std.specs.Prelude.{◌==◌}
 use Rattle.std.specs.BTreeSet.{contains}
 use Rattle.std.specs.Option.{ForSome}
 use Rattle.std.specs.Ordering.{nat_cmp}
-use Rattle.std.proofs.lemmas.Bool.{eqb-true}
 use Rattle.fourstate.specs.declared.value.Value.{Value}
 use Rattle.fourstate.specs.Values.{same_value}
 use Rattle.gatestep.specs.Step.{State, due}
@@ -20,6 +19,7 @@ use Rattle.rundiff.specs.kept.PlaceMaps.{kept_at}
 use Rattle.rundiff.specs.kept.Places.{gate_at, net_at}
 use Rattle.rundiff.proofs.Leaving.{left_now, noted_less, stays_off, taken_off}
 use Rattle.rundiff.proofs.Sets.{test_is}
+use Rattle.rundiff.proofs.Steps.{at_one}
 use Rattle.rundiff.proofs.front.Front.let_go_gate.Goals as goal
 
 pub returns-clause-front : goal.returns-clause-front
@@ -66,58 +66,32 @@ returns-clause-front g c =
         closed = after.closed;
         agrees = after.agrees;
         waves = λ r within.
-            elim (nat_eq p r) as (λ b. nat_eq p r ≡ b → Wave r (now r) (suc t)) [
-              | true ↦ λ same.
-                  subst (λ (k : ℕ). Wave k (now k) (suc t)) (eqb-true p r same)
-                  (subst (λ (n : ℕ). Wave p (now p) n) one (left.made (f p) (f_old p) (subst (λ (n : ℕ). Wave p (was p) n) (sym one) (right.live.waves p low))))
-              | false ↦ λ apart. subst (λ (o : Option (PatchRecord Value)). Wave r o (suc t)) (sym (left.others r apart)) (right.live.waves r within)
-            ] refl;
+            at_one (λ k o. Wave k o (suc t)) was now p r left.others
+            (λ same. subst (Wave p (now p)) one (left.made (f p) (f_old p) (subst (Wave p (was p)) (sym one) (right.live.waves p low))))
+            (λ apart. right.live.waves r within);
         wave_ends = λ r.
-            elim (nat_eq p r) as (λ b. nat_eq p r ≡ b → ForSome (now r) (λ patch. end_of patch.line ≤ suc t)) [
-              | true ↦ λ same.
-                  subst (λ (k : ℕ). ForSome (now k) (λ patch. end_of patch.line ≤ suc t)) (eqb-true p r same)
-                  (subst (λ (n : ℕ). ForSome (now p) (λ patch. end_of patch.line ≤ n)) one left.end)
-              | false ↦ λ apart. subst (λ (o : Option (PatchRecord Value)). ForSome o (λ patch. end_of patch.line ≤ suc t)) (sym (left.others r apart)) (right.live.wave_ends r)
-            ] refl;
+            at_one (λ k o. ForSome o (λ patch. end_of patch.line ≤ suc t)) was now p r left.others
+            (λ same. subst (λ (n : ℕ). ForSome (now p) (λ patch. end_of patch.line ≤ n)) one left.end)
+            (λ apart. right.live.wave_ends r);
         kept_waves = λ r on.
-            elim (nat_eq p r) as (λ b. nat_eq p r ≡ b → GoesAlong (now r) (suc t) ⊎ IsOwn (now r)) [
-              | true ↦ λ same. let no : true ≡ false = sym on ∙ taken_off p live later gone r same in absurd (cc)
-              | false ↦ λ apart.
-                  subst (λ (o : Option (PatchRecord Value)). GoesAlong o (suc t) ⊎ IsOwn o) (sym (left.others r apart))
-                  (right.live.kept_waves r (after.was_live r on))
-            ] refl;
-        other_waves = λ r off.
-            elim (nat_eq p r) as (λ b. nat_eq p r ≡ b → IsFree (now r)) [
-              | true ↦ λ same. subst (λ (k : ℕ). IsFree (now k)) (eqb-true p r same) left.free
-              | false ↦ λ apart. subst (λ (o : Option (PatchRecord Value)). IsFree o) (sym (left.others r apart)) (right.live.other_waves r (stays_off p live later gone r apart off))
-            ] refl;
+            at_one (λ k o. GoesAlong o (suc t) ⊎ IsOwn o) was now p r left.others
+            (λ same. let no : true ≡ false = sym on ∙ taken_off p live later gone r same in absurd (cc))
+            (λ apart. right.live.kept_waves r (after.was_live r on));
+        other_waves = λ r off. at_one (λ k o. IsFree o) was now p r left.others (λ same. left.free) (λ apart. right.live.other_waves r (stays_off p live later gone r apart off));
       };
       traces = λ r within.
-          elim (nat_eq q r) as (λ b. nat_eq q r ≡ b → Trace r (has_now r) (suc t)) [
-            | true ↦ λ same.
-                subst (λ (k : ℕ). Trace k (has_now k) (suc t)) (eqb-true q r same)
-                (subst (λ (n : ℕ). Trace q (has_now q) n) one (quit.made (s q) (s_old q) (subst (λ (n : ℕ). Trace q (had q) n) (sym one) (right.traces q there))))
-            | false ↦ λ apart. subst (λ (o : Option (PatchRecord State)). Trace r o (suc t)) (sym (quit.others r apart)) (right.traces r within)
-          ] refl;
+          at_one (λ k o. Trace k o (suc t)) had has_now q r quit.others
+          (λ same. subst (Trace q (has_now q)) one (quit.made (s q) (s_old q) (subst (Trace q (had q)) (sym one) (right.traces q there))))
+          (λ apart. right.traces r within);
       trace_ends = λ r.
-          elim (nat_eq q r) as (λ b. nat_eq q r ≡ b → ForSome (has_now r) (λ patch. end_of patch.line ≤ suc t)) [
-            | true ↦ λ same.
-                subst (λ (k : ℕ). ForSome (has_now k) (λ patch. end_of patch.line ≤ suc t)) (eqb-true q r same)
-                (subst (λ (n : ℕ). ForSome (has_now q) (λ patch. end_of patch.line ≤ n)) one quit.end)
-            | false ↦ λ apart. subst (λ (o : Option (PatchRecord State)). ForSome o (λ patch. end_of patch.line ≤ suc t)) (sym (quit.others r apart)) (right.trace_ends r)
-          ] refl;
+          at_one (λ k o. ForSome o (λ patch. end_of patch.line ≤ suc t)) had has_now q r quit.others
+          (λ same. subst (λ (n : ℕ). ForSome (has_now q) (λ patch. end_of patch.line ≤ n)) one quit.end)
+          (λ apart. right.trace_ends r);
       own_traces = λ r on.
-          elim (nat_eq q r) as (λ b. nat_eq q r ≡ b → (suc t ≡ 0) ⊎ IsOwn (has_now r)) [
-            | true ↦ λ same. let no : true ≡ false = sym on ∙ taken_off q held kept freed r same in absurd (cc)
-            | false ↦ λ apart.
-                subst (λ (o : Option (PatchRecord State)). (suc t ≡ 0) ⊎ IsOwn o) (sym (quit.others r apart))
-                (right.own_traces r (after.was_held r on))
-          ] refl;
-      other_traces = λ r off.
-          elim (nat_eq q r) as (λ b. nat_eq q r ≡ b → IsFree (has_now r)) [
-            | true ↦ λ same. subst (λ (k : ℕ). IsFree (has_now k)) (eqb-true q r same) quit.free
-            | false ↦ λ apart. subst (λ (o : Option (PatchRecord State)). IsFree o) (sym (quit.others r apart)) (right.other_traces r (stays_off q held kept freed r apart off))
-          ] refl;
+          at_one (λ k o. (suc t ≡ 0) ⊎ IsOwn o) had has_now q r quit.others
+          (λ same. let no : true ≡ false = sym on ∙ taken_off q held kept freed r same in absurd (cc))
+          (λ apart. right.own_traces r (after.was_held r on));
+      other_traces = λ r off. at_one (λ k o. IsFree o) had has_now q r quit.others (λ same. quit.free) (λ apart. right.other_traces r (stays_off q held kept freed r apart off));
       awaits =
           noted_less answer old new is t p q low there clean output alone live later held kept fixed gone freed lives unfixed front.waves right.live
           (noted front.events) (noted front.inputs) (noted front.nets) (noted c.note_readers.new.queue) c.in_ok-note_readers.ensures.kept c.in_ok-note_readers.ensures.early c.in_ok-note_readers.ensures.next right.awaits;

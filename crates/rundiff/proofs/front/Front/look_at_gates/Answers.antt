@@ -1,4 +1,4 @@
-use Rattle.std.proofs.Common.{◌≡◌, ◌∙◌, ◌≤◌, ap, sym, subst, refl, suc, ℕ, List, All, Bool, true, false, not, map, length, Option, arith}
+use Rattle.std.proofs.Common.{◌≡◌, ◌∙◌, ◌≤◌, ap, sym, subst, suc, ℕ, List, All, Bool, true, false, not, map, length, Option, arith}
 use Rattle.std.specs.Prelude.{◌&&◌}
 use Rattle.rundiff.specs.kept.PlaceMaps.{kept_at}
 use Rattle.std.specs.BTreeSet.{contains}
@@ -25,6 +25,7 @@ use Rattle.rundiff.proofs.Awaited.{looked_noted}
 use Rattle.rundiff.proofs.Chosen.{calm, calm_state, chosen_all, chosen_working, not_chosen, still_trace}
 use Rattle.rundiff.proofs.Filtering.{filter_places}
 use Rattle.rundiff.proofs.Resting.{free_more, free_state, not_resting, resting_held, resting_off, rests_on, stored_later}
+use Rattle.rundiff.proofs.Steps.{as_it_was}
 use Rattle.rundiff.proofs.front.Front.look_at_gates.Goals as goal
 
 pub look_at-requires-clause-there : goal.look_at-requires-clause-there
@@ -116,36 +117,24 @@ returns-clause-front g c =
     record {
       live = before.live;
       rested = λ p low off.
-          elim (held p) as (λ b. held p ≡ b → Keep p (now p) (suc t)) [
-            | true ↦ λ on.
-                elim (is_among chosen p) as (λ b. is_among chosen p ≡ b → Keep p (now p) (suc t)) [
-                  | true ↦ λ among. done.put p (resting.all p ∙ rests_on (is_among chosen p) (test p) among off)
-                  | false ↦ λ past.
-                      subst (λ (o : Option (PatchRecord State)). Keep p o (suc t)) (sym (passed p past))
-                      (still_trace answer old new laws.answer_stays c.no_change_by_drift.ensures p t (was p) (quiet p on past) (before.own_traces p (rests_on (held p) (is_among chosen p) on past)) (before.traces p low))
-                ] refl
-            | false ↦ λ free.
-                subst (λ (o : Option (PatchRecord State)). Keep p o (suc t)) (sym (untouched p free))
-                (free_more same_state due (state_after answer new (gate_at new p)) (named_state answer old (gate_at new p).name) t (was p) (before.other_traces p free) (before.traces p low)
-                (free_state answer old new (is_live new (contains nat_cmp c.args.self.now.live)) t c.lawful.ensures.design before.live.closed before.live.agrees p low (sym (before.live.drivers.drivers p low) ∙ free)))
-          ] refl;
+          as_it_was (λ q o. Keep q o (suc t)) was now held p untouched
+          (λ on.
+          as_it_was (λ q o. Keep q o (suc t)) was now (is_among chosen) p passed
+          (λ among. done.put p (resting.all p ∙ rests_on (is_among chosen p) (test p) among off))
+          (λ past. still_trace answer old new laws.answer_stays c.no_change_by_drift.ensures p t (was p) (quiet p on past) (before.own_traces p (rests_on (held p) (is_among chosen p) on past)) (before.traces p low)))
+          (λ free.
+          free_more same_state due (state_after answer new (gate_at new p)) (named_state answer old (gate_at new p).name) t (was p) (before.other_traces p free) (before.traces p low)
+          (free_state answer old new (is_live new (contains nat_cmp c.args.self.now.live)) t c.lawful.ensures.design before.live.closed before.live.agrees p low (sym (before.live.drivers.drivers p low) ∙ free)));
       working = λ p low on. subst (λ (o : Option (PatchRecord State)). Keep p o t) (sym (done.others p (resting.all p ∙ not_resting (is_among chosen p) (test p) on))) (before.traces p low);
       clean = λ p low free. ap (λ (b : Bool). b && is_stirred answer new (gate_at new p) t) (before.clean p low free);
       trace_ends = λ p.
-          elim (is_among c.as_slice-2.result.now p) as (λ b. is_among c.as_slice-2.result.now p ≡ b → ForSome (now p) (λ patch. (end_of patch.line ≤ suc t) × (test p ≡ true → end_of patch.line ≤ t))) [
-            | true ↦ λ among patch is. (
-              done.ends p among patch is,
-              λ on. let no : true ≡ false = sym among ∙ resting.all p ∙ not_resting (is_among chosen p) (test p) on in absurd (cc),
-            )
-            | false ↦ λ off.
-                subst (λ (o : Option (PatchRecord State)). ForSome o (λ patch. (end_of patch.line ≤ suc t) × (test p ≡ true → end_of patch.line ≤ t))) (sym (done.others p off))
-                (λ patch is. let low = before.trace_ends p patch is in let high : end_of patch.line ≤ suc t = omega arith in (high, λ on. low))
-          ] refl;
+          as_it_was (λ q o. ForSome o (λ patch. (end_of patch.line ≤ suc t) × (test q ≡ true → end_of patch.line ≤ t))) was now (is_among c.as_slice-2.result.now) p done.others
+          (λ among patch is. (done.ends p among patch is, λ on. let no : true ≡ false = sym among ∙ resting.all p ∙ not_resting (is_among chosen p) (test p) on in absurd (cc)))
+          (λ off patch is. let low = before.trace_ends p patch is in let high : end_of patch.line ≤ suc t = omega arith in (high, λ on. low));
       own_traces = λ p on off.
-          elim (is_among chosen p) as (λ b. is_among chosen p ≡ b → IsOwn (now p)) [
-            | true ↦ λ among. done.own p (resting.all p ∙ rests_on (is_among chosen p) (test p) among off)
-            | false ↦ λ past. subst (λ (o : Option (PatchRecord State)). IsOwn o) (sym (passed p past)) (before.own_traces p (rests_on (held p) (is_among chosen p) on past))
-          ] refl;
+          as_it_was (λ q o. IsOwn o) was now (is_among chosen) p passed
+          (λ among. done.own p (resting.all p ∙ rests_on (is_among chosen p) (test p) among off))
+          (λ past. before.own_traces p (rests_on (held p) (is_among chosen p) on past));
       other_traces = λ p free. subst (λ (o : Option (PatchRecord State)). IsFree o) (sym (untouched p free)) (before.other_traces p free);
       places =
           let those = filter_places chosen (is_among chosen) test before.chosen in

@@ -1,4 +1,4 @@
-use Rattle.std.proofs.Common.{◌≡◌, ◌∙◌, ◌<◌, ap, sym, subst, refl, suc, ℕ, List, true, false, length, not, Option, ◌⊎◌, inl, inr, ⊎_elim, arith}
+use Rattle.std.proofs.Common.{◌≡◌, ◌∙◌, ◌<◌, ap, sym, subst, suc, ℕ, List, true, false, not, Option, ◌⊎◌, inl, inr, ⊎_elim, arith}
 use Rattle.std.specs.Prelude.{◌&&◌, ◌||◌, AllPairs}
 use Rattle.rundiff.specs.kept.PlaceMaps.{kept_at}
 use Rattle.std.specs.BTreeSet.{contains}
@@ -12,6 +12,7 @@ use Rattle.event_queue.specs.kept.Noted.{noted}
 use Rattle.waveform.specs.Entries.{standing}
 use Rattle.waveform.specs.kept.Patches.{Keeps, PatchRecord}
 use Rattle.scratch.specs.Run.{value}
+use Rattle.scratch.proofs.Driven.{either}
 use Rattle.rundiff.specs.kept.Fronts.{GoesAlong, IsAlike, IsFree, IsOwn}
 use Rattle.rundiff.specs.kept.Places.{is_among, net_at}
 use Rattle.rundiff.specs.kept.Kept.{read_at}
@@ -23,6 +24,7 @@ use Rattle.rundiff.proofs.NetsDone.{agrees_now, clean_now, closed_now, free_befo
 use Rattle.rundiff.proofs.Quiet.{AreLookedAt}
 use Rattle.rundiff.proofs.Resting.{along_more, free_along}
 use Rattle.rundiff.proofs.Lists.{not_so}
+use Rattle.rundiff.proofs.Steps.{as_it_was}
 use Rattle.rundiff.proofs.front.Front.look_at_nets.Goals as goal
 
 pub choose_nets-requires-clause-there : goal.choose_nets-requires-clause-there
@@ -66,10 +68,7 @@ note_nets-requires-clause-there g c = λ p among.
     let added = ap (λ (l : List ℕ). is_among l p) (sym c.as_slice-5.ensures.value) ∙ among in
     let nets = c.choose_nets.new.nets.items in
     let holds = c.in_ok-hold_found.ensures in
-    elim (is_among nets p) as (λ b. is_among nets p ≡ b → p < length (netlist c.args.former.now.new.now).nets) [
-      | true ↦ λ on. c.requires.front.live.drivers.nets p (c.in_ok-choose_nets.ensures.live p on)
-      | false ↦ λ off. holds.drivers.nets p (holds.nets_live p off added)
-    ] refl
+    either (is_among nets p) (λ on. c.requires.front.live.drivers.nets p (c.in_ok-choose_nets.ensures.live p on)) (λ off. holds.drivers.nets p (holds.nets_live p off added))
 
 pub returns : goal.returns
 returns g c =
@@ -118,27 +117,20 @@ returns g c =
         closed = closed_now answer old new is t c.requires.within live later grows before.live.closed before.live.agrees alike;
         agrees = agrees_now answer old new is t c.requires.within live later grows before.live.closed before.live.agrees alike;
         waves = λ p low.
-            elim (looked p) as (λ b. looked p ≡ b → Keep p (now p) (suc t)) [
-              | true ↦ λ at. put.put p (ap (λ (l : List ℕ). is_among l p) c.as_slice-2.ensures.value ∙ at)
-              | false ↦ λ off.
-                  subst (λ (o : Option (PatchRecord Value)). Keep p o (suc t)) (sym (others p off))
-                  (elim (live p) as (λ b. live p ≡ b → Keep p (was p) (suc t)) [
-                    | true ↦ λ on. wave_all answer old new current pending is live held events_at inputs_at nets_at looked c.no_change.ensures t are p on off (was p) (before.live.kept_waves p on) (before.live.waves p low)
-                    | false ↦ λ free. free_wave answer old new is t c.requires.within live later grows before.live.closed before.live.agrees alike p (was p) low free (before.live.other_waves p free) (before.live.waves p low)
-                  ] refl)
-            ] refl;
+            as_it_was (λ q o. Keep q o (suc t)) was now looked p others
+            (λ at. put.put p (ap (λ (l : List ℕ). is_among l p) c.as_slice-2.ensures.value ∙ at))
+            (λ off.
+            either (live p)
+            (λ on. wave_all answer old new current pending is live held events_at inputs_at nets_at looked c.no_change.ensures t are p on off (was p) (before.live.kept_waves p on) (before.live.waves p low))
+            (λ free. free_wave answer old new is t c.requires.within live later grows before.live.closed before.live.agrees alike p (was p) low free (before.live.other_waves p free) (before.live.waves p low)));
         wave_ends = put.ends;
         kept_waves = λ p lives.
-            elim (looked p) as (λ b. looked p ≡ b → GoesAlong (now p) (suc t) ⊎ IsOwn (now p)) [
-              | true ↦ λ at. inr (put.own p (ap (λ (l : List ℕ). is_among l p) c.as_slice-2.ensures.value ∙ at))
-              | false ↦ λ off.
-                  subst (λ (o : Option (PatchRecord Value)). GoesAlong o (suc t) ⊎ IsOwn o) (sym (others p off))
-                  (elim (live p) as (λ b. live p ≡ b → GoesAlong (was p) (suc t) ⊎ IsOwn (was p)) [
-                    | true ↦ λ on. ⊎_elim (λ along. inl (along_more (was p) t (suc t) (omega arith) along)) (λ own. inr own) (before.live.kept_waves p on)
-                    | false ↦ λ free.
-                        inl (free_along same_value standing (value answer new (net_at new p)) (read_at answer old (to_net (net_at new p).name)) t (was p) (before.live.other_waves p free) (before.live.waves p (holds.drivers.nets p lives)))
-                  ] refl)
-            ] refl;
+            as_it_was (λ q o. GoesAlong o (suc t) ⊎ IsOwn o) was now looked p others
+            (λ at. inr (put.own p (ap (λ (l : List ℕ). is_among l p) c.as_slice-2.ensures.value ∙ at)))
+            (λ off.
+            either (live p)
+            (λ on. ⊎_elim (λ along. inl (along_more (was p) t (suc t) (omega arith) along)) (λ own. inr own) (before.live.kept_waves p on))
+            (λ free. inl (free_along same_value standing (value answer new (net_at new p)) (read_at answer old (to_net (net_at new p).name)) t (was p) (before.live.other_waves p free) (before.live.waves p (holds.drivers.nets p lives)))));
         other_waves = λ p off.
             let free = (or_parts (found p) (live p) (sym (holds.live p) ∙ off)).1 in
             subst (λ (o : Option (PatchRecord Value)). IsFree o) (sym (others p (unlooked p free))) (before.live.other_waves p free);
@@ -162,9 +154,5 @@ returns g c =
           before.awaits first.queue gates.queue chose.queue (λ q on there. sym (passed q on).no_input ∙ there) notes.kept notes.early
           (λ p u on there after moves.
           notes.next p u
-          (ap (λ (l : List ℕ). is_among l p) c.as_slice-5.ensures.value
-          ∙ elim (live p) as (λ b. live p ≡ b → is_among c.hold_found.new.nets.items p ≡ true) [
-            | true ↦ λ lives. holds.nets_more p (chose.noted p lives (there lives))
-            | false ↦ λ free. holds.nets p on free
-          ] refl) after moves);
+          (ap (λ (l : List ℕ). is_among l p) c.as_slice-5.ensures.value ∙ either (live p) (λ lives. holds.nets_more p (chose.noted p lives (there lives))) (λ free. holds.nets p on free)) after moves);
     }

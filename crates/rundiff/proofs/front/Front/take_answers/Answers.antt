@@ -1,4 +1,4 @@
-use Rattle.std.proofs.Common.{◌≡◌, ◌∙◌, ◌<◌, ◌≤◌, ap, sym, subst, refl, suc, ℕ, List, Bool, true, false, length, map, Option, arith, inr}
+use Rattle.std.proofs.Common.{◌≡◌, ◌∙◌, ◌<◌, ◌≤◌, ap, sym, subst, refl, suc, ℕ, List, Bool, false, length, map, Option, arith, inr}
 use Rattle.std.specs.Prelude.{◌&&◌, AllPairs}
 use Rattle.rundiff.specs.kept.PlaceMaps.{kept_at}
 use Rattle.std.specs.BTreeSet.{contains}
@@ -6,7 +6,7 @@ use Rattle.std.specs.Option.{ForSome}
 use Rattle.std.specs.Ordering.{nat_cmp}
 use Rattle.std.proofs.lemmas.List.{length-map}
 use Rattle.std.proofs.Math.Bool.{and-false}
-use Rattle.std.proofs.lemmas.Bool.{and_parts}
+use Rattle.std.proofs.lemmas.Bool.{and_from, and_parts}
 use Rattle.gatestep.specs.Step.{State, due}
 use Rattle.event_queue.specs.kept.Noted.{noted}
 use Rattle.design.specs.Keys.{netlist}
@@ -15,11 +15,13 @@ use Rattle.waveform.specs.declared.times.TheConstants.{TIME_END}
 use Rattle.waveform.specs.kept.Patches.{Keeps, PatchRecord}
 use Rattle.waveform.specs.kept.Timelines.{end_of}
 use Rattle.scratch.specs.Run.{state_after}
+use Rattle.scratch.proofs.Driven.{either}
 use Rattle.scratch.proofs.Moments.{map_twice}
 use Rattle.rundiff.specs.kept.Fronts.{IsFree, IsOwn, is_working, named_state}
 use Rattle.rundiff.specs.kept.Places.{gate_at, is_among}
 use Rattle.rundiff.proofs.Awaited.{settled_noted}
 use Rattle.rundiff.proofs.Resting.{idle, stored_each, stored_later}
+use Rattle.rundiff.proofs.Steps.{as_it_was}
 use Rattle.rundiff.proofs.front.Front.take_answers.Goals as goal
 
 pub put_states-requires-clause-there : goal.put_states-requires-clause-there
@@ -99,29 +101,18 @@ returns-clause-front g c =
     let now : ℕ → Option (PatchRecord State) = kept_at c.put_states.new.traces in
     let Keep : ℕ → Option (PatchRecord State) → ℕ → Type 0 = λ p o n. Keeps same_state due (named_state answer old (gate_at new p).name) (state_after answer new (gate_at new p)) o n in
     let among : (p : ℕ) → is_among slice p ≡ (held p && test p) = λ p. ap (λ (l : List ℕ). is_among l p) c.as_slice.ensures.value ∙ before.places.all p in
-    let on_true : (a b : Bool) → a ≡ true → b ≡ true → (a && b) ≡ true = λ a b h k. rw (h, k) refl in
     let off_left : (a b : Bool) → a ≡ false → (a && b) ≡ false = λ a b h. rw h refl in
     let off_right : (a b : Bool) → b ≡ false → (a && b) ≡ false = λ a b h. ap (λ (x : Bool). a && x) h ∙ and-false a in
     record {
       live = before.live;
       traces = λ p low.
-          elim (is_among slice p) as (λ b. is_among slice p ≡ b → Keep p (now p) (suc t)) [
-            | true ↦ λ on. done.put p on
-            | false ↦ λ off.
-                subst (λ (o : Option (PatchRecord State)). Keep p o (suc t)) (sym (done.others p off))
-                (before.rested p low (idle (held p) (test p) (before.clean p low) (sym (among p) ∙ off)))
-          ] refl;
-      trace_ends = λ p.
-          elim (is_among slice p) as (λ b. is_among slice p ≡ b → ForSome (now p) (λ patch. end_of patch.line ≤ suc t)) [
-            | true ↦ λ on. done.ends p on
-            | false ↦ λ off.
-                subst (λ (o : Option (PatchRecord State)). ForSome o (λ patch. end_of patch.line ≤ suc t)) (sym (done.others p off)) (λ patch is. (before.trace_ends p patch is).0)
-          ] refl;
+          as_it_was (λ q o. Keep q o (suc t)) was now (is_among slice) p done.others (done.put p)
+          (λ off. before.rested p low (idle (held p) (test p) (before.clean p low) (sym (among p) ∙ off)));
+      trace_ends = λ p. as_it_was (λ q o. ForSome o (λ patch. end_of patch.line ≤ suc t)) was now (is_among slice) p done.others (done.ends p) (λ off patch is. (before.trace_ends p patch is).0);
       own_traces = λ p on.
-          inr (elim (test p) as (λ b. test p ≡ b → IsOwn (now p)) [
-            | true ↦ λ yes. done.own p (among p ∙ on_true (held p) (test p) on yes)
-            | false ↦ λ no. subst (λ (o : Option (PatchRecord State)). IsOwn o) (sym (done.others p (among p ∙ off_right (held p) (test p) no))) (before.own_traces p on no)
-          ] refl);
+          inr (either (test p)
+          (λ yes. done.own p (among p ∙ and_from (held p) (test p) on yes))
+          (λ no. subst (λ (o : Option (PatchRecord State)). IsOwn o) (sym (done.others p (among p ∙ off_right (held p) (test p) no))) (before.own_traces p on no)));
       other_traces = λ p free. subst (λ (o : Option (PatchRecord State)). IsFree o) (sym (done.others p (among p ∙ off_left (held p) (test p) free))) (before.other_traces p free);
       awaits =
           settled_noted answer old new t (contains nat_cmp c.args.self.now.live) held (noted c.args.self.now.events) (noted c.args.self.now.inputs) (noted c.args.self.now.nets) (noted c.note_events.new.queue)
