@@ -17,25 +17,20 @@ use Rattle.rundiff.proofs.Putting.{all_put, none_put, put_next}
 use Rattle.rundiff.proofs.Steps.{is_one, not_yet, others_more}
 use Rattle.rundiff.proofs.finishing.put_traces.Goals as goal
 
-pub put_trace-requires-clause-there : goal.put_trace-requires-clause-there
-put_trace-requires-clause-there g c =
-    let xs = c.args.held.now in let i = c.loop-place.place-index in
-    c.requires.there (slice_index_or xs i 0) (is_one xs i (slice_index_or xs i 0) (slice_get-get_or xs i 0 c.loop-place-test.true))
-
-pub put_trace-requires-clause-trace : goal.put_trace-requires-clause-trace
-put_trace-requires-clause-trace g c =
+pub put_trace-requires : goal.put_trace-requires
+put_trace-requires g c =
     let xs = c.args.held.now in let i = c.loop-place.place-index in let x = slice_index_or xs i 0 in
     let at = slice_get-get_or xs i 0 c.loop-place-test.true in
+    let there = c.requires.there x (is_one xs i x at) in
     let old = netlist c.args.former.now.old.now in let new = netlist c.args.former.now.new.now in
     let same = c.loop-place.invariant.patches x (not_yet xs i x c.requires.rising at) in
-    let there = c.requires.there x (is_one xs i x at) in
-    subst (λ (o : Option (PatchRecord State)). Keeps same_state due (named_state g.S.Stepper.answer old (gate_at new x).name) (state_after g.S.Stepper.answer new (gate_at new x)) o (suc new.horizon)) (sym same) (c.requires.traces x there)
-
-pub put_trace-requires-clause-end : goal.put_trace-requires-clause-end
-put_trace-requires-clause-end g c =
-    let xs = c.args.held.now in let i = c.loop-place.place-index in let x = slice_index_or xs i 0 in
-    let same = c.loop-place.invariant.patches x (not_yet xs i x c.requires.rising (slice_get-get_or xs i 0 c.loop-place-test.true)) in
-    subst (λ (o : Option (PatchRecord State)). ForSome o (λ patch. end_of patch.line ≤ suc (netlist c.args.former.now.new.now).horizon)) (sym same) (c.requires.ends x)
+    record {
+      there = there;
+      horizon = c.requires.horizon;
+      run = c.requires.run;
+      trace = subst (λ (o : Option (PatchRecord State)). Keeps same_state due (named_state g.S.Stepper.answer old (gate_at new x).name) (state_after g.S.Stepper.answer new (gate_at new x)) o (suc new.horizon)) (sym same) (c.requires.traces x there);
+      end = subst (λ (o : Option (PatchRecord State)). ForSome o (λ patch. end_of patch.line ≤ suc new.horizon)) (sym same) (c.requires.ends x);
+    }
 
 pub loop-place-init : goal.loop-place-init
 loop-place-init g c =

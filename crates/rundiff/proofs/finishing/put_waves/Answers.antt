@@ -19,25 +19,20 @@ use Rattle.rundiff.proofs.Putting.{all_put, none_put, put_next}
 use Rattle.rundiff.proofs.Steps.{is_one, not_yet, others_more}
 use Rattle.rundiff.proofs.finishing.put_waves.Goals as goal
 
-pub put_wave-requires-clause-there : goal.put_wave-requires-clause-there
-put_wave-requires-clause-there g c =
-    let xs = c.args.live.now in let i = c.loop-place.place-index in
-    c.requires.there (slice_index_or xs i 0) (is_one xs i (slice_index_or xs i 0) (slice_get-get_or xs i 0 c.loop-place-test.true))
-
-pub put_wave-requires-clause-wave : goal.put_wave-requires-clause-wave
-put_wave-requires-clause-wave g c =
+pub put_wave-requires : goal.put_wave-requires
+put_wave-requires g c =
     let xs = c.args.live.now in let i = c.loop-place.place-index in let x = slice_index_or xs i 0 in
     let at = slice_get-get_or xs i 0 c.loop-place-test.true in
+    let there = c.requires.there x (is_one xs i x at) in
     let old = netlist c.args.former.now.old.now in let new = netlist c.args.former.now.new.now in
     let same = c.loop-place.invariant.patches x (not_yet xs i x c.requires.rising at) in
-    let there = c.requires.there x (is_one xs i x at) in
-    subst (λ (o : Option (PatchRecord Value)). Keeps same_value standing (read_at g.S.Stepper.answer old (to_net (net_at new x).name)) (value g.S.Stepper.answer new (net_at new x)) o (suc new.horizon)) (sym same) (c.requires.waves x there)
-
-pub put_wave-requires-clause-end : goal.put_wave-requires-clause-end
-put_wave-requires-clause-end g c =
-    let xs = c.args.live.now in let i = c.loop-place.place-index in let x = slice_index_or xs i 0 in
-    let same = c.loop-place.invariant.patches x (not_yet xs i x c.requires.rising (slice_get-get_or xs i 0 c.loop-place-test.true)) in
-    subst (λ (o : Option (PatchRecord Value)). ForSome o (λ patch. end_of patch.line ≤ suc (netlist c.args.former.now.new.now).horizon)) (sym same) (c.requires.ends x)
+    record {
+      there = there;
+      horizon = c.requires.horizon;
+      run = c.requires.run;
+      wave = subst (λ (o : Option (PatchRecord Value)). Keeps same_value standing (read_at g.S.Stepper.answer old (to_net (net_at new x).name)) (value g.S.Stepper.answer new (net_at new x)) o (suc new.horizon)) (sym same) (c.requires.waves x there);
+      end = subst (λ (o : Option (PatchRecord Value)). ForSome o (λ patch. end_of patch.line ≤ suc new.horizon)) (sym same) (c.requires.ends x);
+    }
 
 pub loop-place-init : goal.loop-place-init
 loop-place-init g c =

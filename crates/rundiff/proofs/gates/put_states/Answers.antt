@@ -1,9 +1,9 @@
-use Rattle.std.proofs.Common.{◌≡◌, ◌∙◌, ◌<◌, ◌≤◌, ap, sym, subst, suc, arith, ℕ, List, length, Option}
-use Rattle.std.specs.Prelude.{slice_index_or}
-use Rattle.std.specs.Option.{ForSome}
+use Rattle.std.proofs.Common.{◌≡◌, ◌∙◌, ◌<◌, ◌≤◌, ap, sym, subst, suc, arith, ℕ, List, length, take, Option}
+use Rattle.std.specs.Prelude.{slice_get, slice_index_or}
+use Rattle.std.specs.Option.{ForSome, option_map}
 use Rattle.rundiff.specs.kept.PlaceMaps.{kept_at}
 use Rattle.std.proofs.lemmas.List.{length-map, take_all}
-use Rattle.std.proofs.lemmas.Option.{slice_get-get_or, get_or_from_slice_get}
+use Rattle.std.proofs.lemmas.Option.{same_Some, slice_get-get_or, slice_get-map, get_or_from_slice_get}
 use Rattle.gatestep.specs.Step.{State, due}
 use Rattle.design.specs.Keys.{netlist}
 use Rattle.waveform.specs.Entries.{same_state}
@@ -17,33 +17,27 @@ use Rattle.rundiff.proofs.Driven.{read_get}
 use Rattle.rundiff.proofs.Steps.{is_one, not_yet, others_more, put_more}
 use Rattle.rundiff.proofs.gates.put_states.Goals as goal
 
-pub put_state-requires-clause-there : goal.put_state-requires-clause-there
-put_state-requires-clause-there g c =
-    let xs = c.args.places.now in let i = c.loop-i.i in
-    c.requires.there (slice_index_or xs i 0) (is_one xs i (slice_index_or xs i 0) (slice_get-get_or xs i 0 c.loop-i-test.true))
-
-pub put_state-requires-clause-trace : goal.put_state-requires-clause-trace
-put_state-requires-clause-trace g c =
+pub put_state-requires : goal.put_state-requires
+put_state-requires g c =
     let xs = c.args.places.now in let i = c.loop-i.i in let x = slice_index_or xs i 0 in
     let at = slice_get-get_or xs i 0 c.loop-i-test.true in
+    let there = is_one xs i x at in
     let old = netlist c.args.former.now.old.now in let new = netlist c.args.former.now.new.now in
     let same = c.loop-i.invariant.others x (not_yet xs i x c.requires.rising at) in
-    subst (λ (o : Option (PatchRecord State)). Keeps same_state due (named_state g.S.Stepper.answer old (gate_at new x).name) (state_after g.S.Stepper.answer new (gate_at new x)) o c.args.t) (sym same) (c.requires.traces x (is_one xs i x at))
-
-pub put_state-requires-clause-end : goal.put_state-requires-clause-end
-put_state-requires-clause-end g c =
-    let xs = c.args.places.now in let i = c.loop-i.i in let x = slice_index_or xs i 0 in
-    let at = slice_get-get_or xs i 0 c.loop-i-test.true in
-    let same = c.loop-i.invariant.others x (not_yet xs i x c.requires.rising at) in
-    subst (λ (o : Option (PatchRecord State)). ForSome o (λ patch. end_of patch.line ≤ c.args.t)) (sym same) (c.requires.ends x (is_one xs i x at))
-
-pub put_state-requires-clause-can : goal.put_state-requires-clause-can
-put_state-requires-clause-can g c =
-    let xs = c.args.places.now in let i = c.loop-i.i in
-    let many : length c.args.states.now ≡ length xs = ap (λ (l : List State). length l) c.requires.states ∙ length-map xs (λ p. state_after g.S.Stepper.answer (netlist c.args.former.now.new.now) (gate_at (netlist c.args.former.now.new.now) p) c.args.t) in
+    let after : ℕ → State = λ p. state_after g.S.Stepper.answer new (gate_at new p) c.args.t in
+    let many : length c.args.states.now ≡ length xs = ap (λ (l : List State). length l) c.requires.states ∙ length-map xs after in
     let low : i < length c.args.states.now = let h = c.loop-i-test.true in omega arith in
     let y = c.index-states-i.result in
-    subst (CanStore c.args.t) (get_or_from_slice_get c.args.states.now i y y (read_get c.args.states.now i y low c.index-states-i.is)) (c.requires.can i y low)
+    let read = read_get c.args.states.now i y low c.index-states-i.is in
+    record {
+      there = c.requires.there x there;
+      within = c.requires.within;
+      run = c.requires.run;
+      trace = subst (λ (o : Option (PatchRecord State)). Keeps same_state due (named_state g.S.Stepper.answer old (gate_at new x).name) (state_after g.S.Stepper.answer new (gate_at new x)) o c.args.t) (sym same) (c.requires.traces x there);
+      end = subst (λ (o : Option (PatchRecord State)). ForSome o (λ patch. end_of patch.line ≤ c.args.t)) (sym same) (c.requires.ends x there);
+      state = same_Some y (after x) (sym read ∙ ap (λ (l : List State). slice_get l i) c.requires.states ∙ slice_get-map after xs i ∙ ap (option_map after) at);
+      can = subst (CanStore c.args.t) (get_or_from_slice_get c.args.states.now i y y read) (c.requires.can i y low);
+    }
 
 pub loop-i-preserved : goal.loop-i-preserved
 loop-i-preserved g c =
@@ -57,22 +51,13 @@ loop-i-preserved g c =
       others = others_more P (kept_at c.args.traces.now) (kept_at c.loop-i.traces) (kept_at c.put_state.new.traces) xs i x at done.others c.loop-i.invariant.others;
     }
 
-pub returns-clause-put : goal.returns-clause-put
-returns-clause-put g c = λ p among.
-    let xs = c.args.places.now in let whole = take_all c.loop-i.i xs c.loop-i-test.false in
-    (c.loop-i.invariant.put p (ap (λ (l : List ℕ). is_among l p) whole ∙ among)).0
-
-pub returns-clause-own : goal.returns-clause-own
-returns-clause-own g c = λ p among.
-    let xs = c.args.places.now in let whole = take_all c.loop-i.i xs c.loop-i-test.false in
-    (c.loop-i.invariant.put p (ap (λ (l : List ℕ). is_among l p) whole ∙ among)).1
-
-pub returns-clause-ends : goal.returns-clause-ends
-returns-clause-ends g c = λ p among.
-    let xs = c.args.places.now in let whole = take_all c.loop-i.i xs c.loop-i-test.false in
-    (c.loop-i.invariant.put p (ap (λ (l : List ℕ). is_among l p) whole ∙ among)).2
-
-pub returns-clause-others : goal.returns-clause-others
-returns-clause-others g c = λ p off.
-    let xs = c.args.places.now in let whole = take_all c.loop-i.i xs c.loop-i-test.false in
-    c.loop-i.invariant.others p (ap (λ (l : List ℕ). is_among l p) whole ∙ off)
+pub returns : goal.returns
+returns g c =
+    let xs = c.args.places.now in
+    let among : (p : ℕ) → is_among (take c.loop-i.i xs) p ≡ is_among xs p = λ p. ap (λ (l : List ℕ). is_among l p) (take_all c.loop-i.i xs c.loop-i-test.false) in
+    record {
+      put = λ p on. (c.loop-i.invariant.put p (among p ∙ on)).0;
+      own = λ p on. (c.loop-i.invariant.put p (among p ∙ on)).1;
+      ends = λ p on. (c.loop-i.invariant.put p (among p ∙ on)).2;
+      others = λ p off. c.loop-i.invariant.others p (among p ∙ off);
+    }
