@@ -1,4 +1,4 @@
-use Rattle.std.proofs.Common.{◌≡◌, ◌∙◌, ◌≤◌, ap, sym, subst, suc, ℕ, List, All, Bool, true, false, not, map, length, Option, arith}
+use Rattle.std.proofs.Common.{◌≡◌, ◌<◌, ◌∙◌, ◌≤◌, ap, sym, subst, suc, ℕ, List, All, Bool, true, false, not, map, length, Option, arith}
 use Rattle.std.specs.Prelude.{◌&&◌}
 use Rattle.rundiff.specs.kept.PlaceMaps.{kept_at}
 use Rattle.std.specs.BTreeSet.{contains}
@@ -32,46 +32,36 @@ pub look_at-requires-clause-there : goal.look_at-requires-clause-there
 look_at-requires-clause-there g c = λ p among.
     c.requires.front.live.drivers.gates p (c.requires.front.chosen_held p (ap (λ (l : List ℕ). is_among l p) (sym c.as_slice.ensures.value) ∙ among))
 
-pub put_states-requires-clause-there : goal.put_states-requires-clause-there
-put_states-requires-clause-there g c = λ p among.
-    let test = is_working g.S.Stepper.answer (netlist c.args.former.now.old.now) (netlist c.args.former.now.new.now) c.args.t in
+pub put_states-requires : goal.put_states-requires
+put_states-requires g c =
+    let old = netlist c.args.former.now.old.now in let new = netlist c.args.former.now.new.now in
+    let front = c.requires.front in
+    let test = is_working g.S.Stepper.answer old new c.args.t in
     let chosen = c.args.self.now.gates.items in
-    let are = resting_held c.as_slice.result.now chosen c.as_slice-2.result.now c.look_at.new.out.resting.items (is_among chosen) test c.as_slice.ensures.value c.as_slice-2.ensures.value c.requires.front.chosen c.in_ok-look_at.ensures.resting in
-    c.requires.front.live.drivers.gates p (c.requires.front.chosen_held p (and_parts (is_among chosen p) (not (test p)) (sym (are.all p) ∙ among)).0)
+    let out = c.in_ok-look_at.ensures in
+    let are = resting_held c.as_slice.result.now chosen c.as_slice-2.result.now c.look_at.new.out.resting.items (is_among chosen) test c.as_slice.ensures.value c.as_slice-2.ensures.value front.chosen out.resting in
+    let there : (p : ℕ) → is_among c.as_slice-2.result.now p ≡ true → p < length new.gates = λ p among.
+    front.live.drivers.gates p (front.chosen_held p (and_parts (is_among chosen p) (not (test p)) (sym (are.all p) ∙ among)).0) in
+    record {
+      there = there;
+      rising = are.rising;
+      within = c.requires.within;
+      run = c.requires.run;
+      traces = λ p among. front.traces p (there p among);
+      ends = λ p among. front.trace_ends p;
+      states = c.as_slice-3.ensures.value ∙ out.states ∙ ap (map (λ p. state_after g.S.Stepper.answer new (gate_at new p) c.args.t)) (sym c.as_slice-2.ensures.value);
+      can = subst (All (CanStore c.args.t)) (sym c.as_slice-3.ensures.value) out.can;
+    }
 
-pub put_states-requires-clause-rising : goal.put_states-requires-clause-rising
-put_states-requires-clause-rising g c =
-    let test = is_working g.S.Stepper.answer (netlist c.args.former.now.old.now) (netlist c.args.former.now.new.now) c.args.t in
-    let chosen = c.args.self.now.gates.items in
-    (resting_held c.as_slice.result.now chosen c.as_slice-2.result.now c.look_at.new.out.resting.items (is_among chosen) test c.as_slice.ensures.value c.as_slice-2.ensures.value c.requires.front.chosen c.in_ok-look_at.ensures.resting).rising
-
-pub put_states-requires-clause-traces : goal.put_states-requires-clause-traces
-put_states-requires-clause-traces g c = λ p among.
-    let test = is_working g.S.Stepper.answer (netlist c.args.former.now.old.now) (netlist c.args.former.now.new.now) c.args.t in
-    let chosen = c.args.self.now.gates.items in
-    let are = resting_held c.as_slice.result.now chosen c.as_slice-2.result.now c.look_at.new.out.resting.items (is_among chosen) test c.as_slice.ensures.value c.as_slice-2.ensures.value c.requires.front.chosen c.in_ok-look_at.ensures.resting in
-    c.requires.front.traces p (c.requires.front.live.drivers.gates p (c.requires.front.chosen_held p (and_parts (is_among chosen p) (not (test p)) (sym (are.all p) ∙ among)).0))
-
-pub put_states-requires-clause-ends : goal.put_states-requires-clause-ends
-put_states-requires-clause-ends g c = λ p among. c.requires.front.trace_ends p
-
-pub put_states-requires-clause-states : goal.put_states-requires-clause-states
-put_states-requires-clause-states g c =
-    c.as_slice-3.ensures.value ∙ c.in_ok-look_at.ensures.states
-    ∙ ap (map (λ p. state_after g.S.Stepper.answer (netlist c.args.former.now.new.now) (gate_at (netlist c.args.former.now.new.now) p) c.args.t)) (sym c.as_slice-2.ensures.value)
-
-pub put_states-requires-clause-can : goal.put_states-requires-clause-can
-put_states-requires-clause-can g c = subst (All (CanStore c.args.t)) (sym c.as_slice-3.ensures.value) c.in_ok-look_at.ensures.can
-
-pub note_events-requires-clause-many : goal.note_events-requires-clause-many
-note_events-requires-clause-many g c =
+pub note_events-requires : goal.note_events-requires
+note_events-requires g c =
     let new = netlist c.args.former.now.new.now in
-    let gates = c.look_at.new.out.resting.items in
-    ap (λ (l : List State). length l) (c.as_slice-5.ensures.value ∙ c.in_ok-look_at.ensures.states)
-    ∙ length-map gates (λ p. state_after g.S.Stepper.answer new (gate_at new p) c.args.t) ∙ ap (λ (l : List ℕ). length l) (sym c.as_slice-4.ensures.value)
-
-pub note_events-requires-clause-later : goal.note_events-requires-clause-later
-note_events-requires-clause-later g c = subst (All (PendingFrom (suc c.args.t))) (sym c.as_slice-5.ensures.value) (stored_later c.args.t c.look_at.new.out.states.items c.in_ok-look_at.ensures.can)
+    let out = c.in_ok-look_at.ensures in
+    record {
+      many = ap (λ (l : List State). length l) (c.as_slice-5.ensures.value ∙ out.states)
+          ∙ length-map c.look_at.new.out.resting.items (λ p. state_after g.S.Stepper.answer new (gate_at new p) c.args.t) ∙ ap (λ (l : List ℕ). length l) (sym c.as_slice-4.ensures.value);
+      later = subst (All (PendingFrom (suc c.args.t))) (sym c.as_slice-5.ensures.value) (stored_later c.args.t c.look_at.new.out.states.items out.can);
+    }
 
 pub note_all_inputs-requires-clause-there : goal.note_all_inputs-requires-clause-there
 note_all_inputs-requires-clause-there g c = λ p among.

@@ -1,4 +1,4 @@
-use Rattle.std.proofs.Common.{◌≡◌, ◌∙◌, ◌<◌, ◌≤◌, ap, sym, subst, refl, suc, ℕ, List, Bool, false, length, map, Option, arith, inr}
+use Rattle.std.proofs.Common.{true, ◌≡◌, ◌∙◌, ◌<◌, ◌≤◌, ap, sym, subst, refl, suc, ℕ, List, Bool, false, length, map, Option, arith, inr}
 use Rattle.std.specs.Prelude.{◌&&◌, AllPairs}
 use Rattle.rundiff.specs.kept.PlaceMaps.{kept_at}
 use Rattle.std.specs.BTreeSet.{contains}
@@ -24,63 +24,46 @@ use Rattle.rundiff.proofs.Resting.{idle, stored_each, stored_later}
 use Rattle.rundiff.proofs.Steps.{as_it_was}
 use Rattle.rundiff.proofs.front.Front.take_answers.Goals as goal
 
-pub put_states-requires-clause-there : goal.put_states-requires-clause-there
-put_states-requires-clause-there g c = λ p among.
-    let test = is_working g.S.Stepper.answer (netlist c.args.former.now.old.now) (netlist c.args.former.now.new.now) c.args.t in
-    let held = contains nat_cmp c.args.self.now.held in
-    c.requires.front.live.drivers.gates p (and_parts (held p) (test p) (sym (c.requires.front.places.all p) ∙ ap (λ (l : List ℕ). is_among l p) (sym c.as_slice.ensures.value) ∙ among)).0
-
-pub put_states-requires-clause-rising : goal.put_states-requires-clause-rising
-put_states-requires-clause-rising g c = subst (AllPairs (λ p q. p < q)) (sym c.as_slice.ensures.value) c.requires.front.places.rising
-
-pub put_states-requires-clause-traces : goal.put_states-requires-clause-traces
-put_states-requires-clause-traces g c = λ p among.
-    let test = is_working g.S.Stepper.answer (netlist c.args.former.now.old.now) (netlist c.args.former.now.new.now) c.args.t in
-    let held = contains nat_cmp c.args.self.now.held in
-    let parts = and_parts (held p) (test p) (sym (c.requires.front.places.all p) ∙ ap (λ (l : List ℕ). is_among l p) (sym c.as_slice.ensures.value) ∙ among) in
-    c.requires.front.working p (c.requires.front.live.drivers.gates p parts.0) parts.1
-
-pub put_states-requires-clause-ends : goal.put_states-requires-clause-ends
-put_states-requires-clause-ends g c = λ p among.
-    let test = is_working g.S.Stepper.answer (netlist c.args.former.now.old.now) (netlist c.args.former.now.new.now) c.args.t in
-    let held = contains nat_cmp c.args.self.now.held in
-    let parts = and_parts (held p) (test p) (sym (c.requires.front.places.all p) ∙ ap (λ (l : List ℕ). is_among l p) (sym c.as_slice.ensures.value) ∙ among) in
-    λ patch is. (c.requires.front.trace_ends p patch is).1 parts.1
-
-pub put_states-requires-clause-states : goal.put_states-requires-clause-states
-put_states-requires-clause-states g c =
-    let answer = g.S.Stepper.answer in let new = netlist c.args.former.now.new.now in let t = c.args.t in
-    c.requires.answers ∙ ap (map (λ h. state_after answer new h t)) c.requires.front.tasks
-    ∙ map_twice (gate_at new) (λ h. state_after answer new h t) c.args.self.now.outcomes.working.items
-    ∙ ap (map (λ p. state_after answer new (gate_at new p) t)) (sym c.as_slice.ensures.value)
-
-pub put_states-requires-clause-can : goal.put_states-requires-clause-can
-put_states-requires-clause-can g c =
-    let answer = g.S.Stepper.answer in let laws = g.met.S.Stepper in let new = netlist c.args.former.now.new.now in let t = c.args.t in
+pub put_states-requires : goal.put_states-requires
+put_states-requires g c =
+    let answer = g.S.Stepper.answer in let laws = g.met.S.Stepper in
+    let new = netlist c.args.former.now.new.now in let t = c.args.t in
+    let front = c.requires.front in let drivers = front.live.drivers in
     let test = is_working answer (netlist c.args.former.now.old.now) new t in
     let held = contains nat_cmp c.args.self.now.held in
-    let those = c.requires.answers ∙ ap (map (λ h. state_after answer new h t)) c.requires.front.tasks ∙ map_twice (gate_at new) (λ h. state_after answer new h t) c.args.self.now.outcomes.working.items in
+    let working = c.args.self.now.outcomes.working.items in
+    let parts = λ (p : ℕ) (among : is_among working p ≡ true). and_parts (held p) (test p) (sym (front.places.all p) ∙ among) in
+    let listed = λ (p : ℕ) (among : is_among c.as_slice.result.now p ≡ true). parts p (ap (λ (l : List ℕ). is_among l p) (sym c.as_slice.ensures.value) ∙ among) in
+    let those = c.requires.answers ∙ ap (map (λ h. state_after answer new h t)) front.tasks ∙ map_twice (gate_at new) (λ h. state_after answer new h t) working in
     let low : t < TIME_END = let h = c.requires.within in let end = c.lawful.ensures.design.horizon in omega arith in
-    stored_each answer new laws.answer_pending laws.answer_near c.lawful-2.ensures.design t low c.args.self.now.outcomes.working.items
-    (λ p among. c.requires.front.live.drivers.gates p (and_parts (held p) (test p) (sym (c.requires.front.places.all p) ∙ among)).0) c.args.answers.now those
+    record {
+      there = λ p among. drivers.gates p (listed p among).0;
+      rising = subst (AllPairs (λ p q. p < q)) (sym c.as_slice.ensures.value) front.places.rising;
+      within = c.requires.within;
+      run = c.requires.run;
+      traces = λ p among. let both = listed p among in front.working p (drivers.gates p both.0) both.1;
+      ends = λ p among patch is. (front.trace_ends p patch is).1 (listed p among).1;
+      states = those ∙ ap (map (λ p. state_after answer new (gate_at new p) t)) (sym c.as_slice.ensures.value);
+      can = stored_each answer new laws.answer_pending laws.answer_near c.lawful-2.ensures.design t low working (λ p among. drivers.gates p (parts p among).0) c.args.answers.now those;
+    }
 
-pub note_events-requires-clause-many : goal.note_events-requires-clause-many
-note_events-requires-clause-many g c =
-    let answer = g.S.Stepper.answer in let new = netlist c.args.former.now.new.now in let t = c.args.t in
-    let gates = c.args.self.now.outcomes.working.items in
-    let those = c.requires.answers ∙ ap (map (λ h. state_after answer new h t)) c.requires.front.tasks ∙ map_twice (gate_at new) (λ h. state_after answer new h t) gates in
-    ap (λ (l : List State). length l) those ∙ length-map gates (λ p. state_after answer new (gate_at new p) t) ∙ ap (λ (l : List ℕ). length l) (sym c.as_slice-2.ensures.value)
-
-pub note_events-requires-clause-later : goal.note_events-requires-clause-later
-note_events-requires-clause-later g c =
-    let answer = g.S.Stepper.answer in let laws = g.met.S.Stepper in let new = netlist c.args.former.now.new.now in let t = c.args.t in
+pub note_events-requires : goal.note_events-requires
+note_events-requires g c =
+    let answer = g.S.Stepper.answer in let laws = g.met.S.Stepper in
+    let new = netlist c.args.former.now.new.now in let t = c.args.t in
+    let front = c.requires.front in
     let test = is_working answer (netlist c.args.former.now.old.now) new t in
     let held = contains nat_cmp c.args.self.now.held in
-    let those = c.requires.answers ∙ ap (map (λ h. state_after answer new h t)) c.requires.front.tasks ∙ map_twice (gate_at new) (λ h. state_after answer new h t) c.args.self.now.outcomes.working.items in
+    let working = c.args.self.now.outcomes.working.items in
+    let those = c.requires.answers ∙ ap (map (λ h. state_after answer new h t)) front.tasks ∙ map_twice (gate_at new) (λ h. state_after answer new h t) working in
     let low : t < TIME_END = let h = c.requires.within in let end = c.lawful.ensures.design.horizon in omega arith in
-    stored_later t c.args.answers.now
-    (stored_each answer new laws.answer_pending laws.answer_near c.lawful-2.ensures.design t low c.args.self.now.outcomes.working.items
-    (λ p among. c.requires.front.live.drivers.gates p (and_parts (held p) (test p) (sym (c.requires.front.places.all p) ∙ among)).0) c.args.answers.now those)
+    record {
+      many = ap (λ (l : List State). length l) those ∙ length-map working (λ p. state_after answer new (gate_at new p) t) ∙ ap (λ (l : List ℕ). length l) (sym c.as_slice-2.ensures.value);
+      later =
+          stored_later t c.args.answers.now
+          (stored_each answer new laws.answer_pending laws.answer_near c.lawful-2.ensures.design t low working
+          (λ p among. front.live.drivers.gates p (and_parts (held p) (test p) (sym (front.places.all p) ∙ among)).0) c.args.answers.now those);
+    }
 
 pub overflow_add-self : goal.overflow_add-self
 overflow_add-self g c = let most = c.lawful.ensures.design.horizon in let h = c.requires.within in omega arith
