@@ -1,5 +1,5 @@
 -- What is noted for moments to come.
-use Rattle.std.proofs.Common.{◌≡◌, ◌<◌, ◌≤◌, ◌∙◌, sym, ap, subst, refl, Bool, true, false, not, cond, ℕ, zero, suc, ◌+◌, nat_lt, List, [], ◌∷◌, ◌++◌, Option, Some, None, slice_get, arith}
+use Rattle.std.proofs.Common.{◌≡◌, ◌<◌, ◌≤◌, ◌∙◌, sym, ap, subst, refl, Bool, true, false, not, cond, ℕ, zero, suc, ◌+◌, nat_lt, List, [], ◌∷◌, ◌++◌, Option, Some, None, slice_get, ◌⊎◌, inl, inr, arith}
 use Rattle.std.specs.Prelude.{nat_eq, ◌&&◌, ◌||◌, ◌==◌}
 use Rattle.std.specs.List.{find}
 use Rattle.std.specs.Option.{option_map, option_map_or}
@@ -15,7 +15,7 @@ use Rattle.design.specs.Netlist.{has_point}
 use Rattle.design.specs.kept.Netlist.{next_point}
 use Rattle.design.proofs.PointLemmas.{rising_tail}
 use Rattle.scratch.specs.kept.Places.{Announces, Covers, IsNotedWithin, Keeps, has, pends_at}
-use Rattle.scratch.proofs.Among.{any_from, has_more, nat_apart, nat_itself}
+use Rattle.scratch.proofs.Among.{any_from, has_more, nat_apart, nat_beyond, nat_itself}
 
 abbrev Queue : Type 0
 Queue = List (ℕ × List ℕ)
@@ -44,6 +44,10 @@ within_on old new k n t keeps at = (at.0, at.1, at.2, keeps k at.0 at.3)
 
 -- Events.
 
+-- the event of a state, if there is one, was added
+abbrev pub IsNoting : ℕ → State → Queue → Queue → Type 0
+IsNoting p s old new = ((event : Value × ℕ) × (s.pending ≡ Some event) × IsAdded event.1 p old new) ⊎ ((s.pending ≡ None) × (new ≡ old))
+
 module _ (states : List State) (p : ℕ) (s : State) (is : slice_get states p ≡ Some s) where
   pends_here : (u : ℕ) → pends_at states p u ≡ true → option_map_or (λ event. nat_eq event.1 u) s.pending false ≡ true
   pends_here u h = ap (λ o. option_map_or (λ x. option_map_or (λ event. nat_eq event.1 u) x.pending false) o false) (sym is) ∙ h
@@ -71,6 +75,18 @@ module _ (states : List State) (p : ℕ) (s : State) (is : slice_get states p �
     pub one_more : Keeps (noted old) (noted new) → ((u : ℕ) → pends_at states p u ≡ true → has p (noted new u) ≡ true) → Covers (λ k u. has k (done ++ p ∷ []) && pends_at states k u) (noted new) n
     one_more stay here k u from h =
         both_by stay here k u from (nat_eq k p) refl (ap (λ (b : Bool). b && pends_at states k u) (sym (has_more k p done)) ∙ h)
+
+    -- so they are where the place's event was added, if it has one
+    pub noted_more : IsNoting p s old new → Covers (λ k u. has k (done ++ p ∷ []) && pends_at states k u) (noted new) n × Keeps (noted old) (noted new)
+    noted_more (inl w) = let stay = keeps w.0.1 p old new w.2 in (one_more stay (event_noted w.0 w.1 old new w.2), stay)
+    noted_more (inr w) =
+        let stay : Keeps (noted old) (noted new) = λ k u h. ap (λ q. has k (noted q u)) w.1 ∙ h in
+        (one_more stay (λ u h. absurd (none_here w.0 u h)), stay)
+
+-- and nothing is noted before the event
+pub early_more : (t p : ℕ) (s : State) (old new : Queue) → IsNoting p s old new → ((event : Value × ℕ) → s.pending ≡ Some event → t < event.1) → ((u : ℕ) → u < t + 1 → noted old u ≡ []) → (u : ℕ) → u < t + 1 → noted new u ≡ []
+early_more t p s old new (inl w) later early u low = let after : t < w.0.1 = later w.0 w.1 in elsewhere w.0.1 p old new w.2 u (nat_beyond w.0.1 u (omega arith)) ∙ early u low
+early_more t p s old new (inr w) later early u low = ap (λ q. noted q u) w.1 ∙ early u low
 
 -- where the events of all places that are looked at are noted, and those of all others were, all are
 pub whole : (states : List State) (gates : List ℕ) (n : ℕ) (events : ℕ → List ℕ) → Covers (λ k u. has k gates && pends_at states k u) events n → Covers (λ k u. not (has k gates) && pends_at states k u) events n →

@@ -1,4 +1,4 @@
-use Rattle.std.proofs.Common.{◌≡◌, ◌<◌, ◌+◌, ◌++◌, ◌∙◌, sym, ap, subst, refl, ℕ, [], ◌∷◌, Some, None, map, All, take, length, slice_get, slice_index_or, append-nil, false, arith}
+use Rattle.std.proofs.Common.{◌≡◌, ◌<◌, ◌+◌, ◌++◌, ◌∙◌, sym, ap, subst, refl, ℕ, [], ◌∷◌, Some, map, All, take, length, slice_get, slice_index_or, inl, inr, append-nil, false, arith}
 use Rattle.std.proofs.lemmas.Grind.{common_steps}
 use Rattle.std.proofs.lemmas.List.{length-map, take_all, length-set}
 use Rattle.std.proofs.lemmas.Option.{slice_get-get_or, slice_get_read}
@@ -7,7 +7,6 @@ use Rattle.std.specs.Prelude.{◌&&◌}
 use Rattle.std.specs.List.{flat_map}
 use Rattle.event_queue.specs.kept.Noted.{noted}
 use Rattle.event_queue.proofs.Changes.{held_err}
-use Rattle.fourstate.specs.declared.value.Value.{Value}
 use Rattle.gatestep.specs.Step.{due}
 use Rattle.gatestep.specs.Tasks.{PendingFrom}
 use Rattle.waveform.specs.kept.Changes.{trace_below}
@@ -18,14 +17,13 @@ use Rattle.design.specs.Keys.{netlist}
 use Rattle.design.proofs.ByNameLemmas.{all_at}
 use Rattle.scratch.specs.kept.Places.{Covers, has, pends_at}
 use Rattle.scratch.specs.Run.{state_after, state_before}
-use Rattle.scratch.proofs.Among.{nat_beyond}
 use Rattle.scratch.specs.kept.Open.{asked_at}
 use Rattle.scratch.proofs.Answered.{asked_all, asked_more, asked_some, is_there}
 use Rattle.scratch.proofs.Apart.{once_apart}
 use Rattle.scratch.proofs.Between.{Between, finish, is_old, write}
 use Rattle.scratch.proofs.GateSteps.{known, next_trace, other_states, other_traces}
 use Rattle.scratch.proofs.Lists.{take_next}
-use Rattle.scratch.proofs.Notes.{elsewhere, event_noted, keeps, none_here, one_more, others_on, whole}
+use Rattle.scratch.proofs.Notes.{IsNoting, early_more, noted_more, others_on, whole}
 use Rattle.scratch.proofs.Runs.{storable, traces_early}
 use Rattle.scratch.proofs.answering.answer_each.Goals as goal
 use Rattle.scratch.proofs.answering.answer_each.Goals.{in-Some+in_ok-add, in_default}
@@ -159,6 +157,11 @@ loop-i-preserved g c =
     let grows : slice_get next_traces place ≡ Some line =
     next_trace answer d law.answer_pending c.push_to_changes.ensures are t place (slice_index_or c.loop-i.traces place []) s was here in
     let grown : c.push_known.new.self ≡ set c.loop-i.traces place line = c.in_ok-push_known.ensures in
+    let noting : IsNoting place s c.loop-i.events c.match-pending.events = elim c.match-pending.branch [
+      | in-Some+in_ok-add w ↦ inl ((w.in-Some.field-0-0, w.in-Some.time), sym c.pending.ensures ∙ w.in-Some.is, λ u. rw w.events-is (w.in_ok-add.ensures.ok u))
+      | in_default w ↦ inr (sym c.pending.ensures ∙ w.in_default.is, w.events-is)
+    ] in
+    let after = noted_more next place s here done (t + 1) c.loop-i.events c.match-pending.events c.loop-i.invariant.events noting in
     record {
       asked = asked;
       losses = c.answer_of-answer.ensures.lost ∙ c.loop-i.invariant.losses;
@@ -169,30 +172,11 @@ loop-i-preserved g c =
       traces = subst (λ l. Between l (slice_get c.args.traces.now) (slice_get next_traces) (slice_get c.push_known.new.self)) (sym more)
           (subst (λ ts. Between (done ++ place ∷ []) (slice_get c.args.traces.now) (slice_get next_traces) (slice_get ts)) (sym grown)
           (write done c.args.traces.now next_traces c.loop-i.traces c.loop-i.invariant.traces place line grows in_traces));
-      events = elim c.match-pending.branch [
-        | in-Some+in_ok-add w ↦
-            let event : Value × ℕ = (w.in-Some.field-0-0, w.in-Some.time) in
-            let pending : s.pending ≡ Some event = sym c.pending.ensures ∙ w.in-Some.is in
-            let old = c.loop-i.events in let new = w.add.new.self in let added = w.in_ok-add.ensures.ok in
-            rw (w.events-is, more) (one_more next place s here done (t + 1) old new c.loop-i.invariant.events (keeps event.1 place old new added) (event_noted next place s here event pending old new added))
-        | in_default w ↦
-            let pending : s.pending ≡ None = sym c.pending.ensures ∙ w.in_default.is in
-            let old = c.loop-i.events in
-            rw (w.events-is, more) (one_more next place s here done (t + 1) old old c.loop-i.invariant.events (λ k u h. h) (λ u h. absurd (none_here next place s here pending u h)))
-      ];
-      kept = elim c.match-pending.branch [
-        | in-Some+in_ok-add w ↦ λ k u h. ap (λ q. has k (noted q u)) w.events-is ∙ keeps w.in-Some.time place c.loop-i.events w.add.new.self w.in_ok-add.ensures.ok k u (c.loop-i.invariant.kept k u h)
-        | in_default w ↦ λ k u h. ap (λ q. has k (noted q u)) w.events-is ∙ c.loop-i.invariant.kept k u h
-      ];
-      early = elim c.match-pending.branch [
-        | in-Some+in_ok-add w ↦ λ u low.
-            let event : Value × ℕ = (w.in-Some.field-0-0, w.in-Some.time) in
-            let pending : s.pending ≡ Some event = sym c.pending.ensures ∙ w.in-Some.is in
-            let can = all_at (CanStore t) next place s (storable answer d law.answer_pending law.answer_near are t (omega arith) next refl) here in
-            let later : t < event.1 = (can.1 event pending).0 in
-            ap (λ q. noted q u) w.events-is ∙ elsewhere event.1 place c.loop-i.events w.add.new.self w.in_ok-add.ensures.ok u (nat_beyond event.1 u (omega arith)) ∙ c.loop-i.invariant.early u low
-        | in_default w ↦ λ u low. ap (λ q. noted q u) w.events-is ∙ c.loop-i.invariant.early u low
-      ];
+      events = rw more after.0;
+      kept = λ k u h. after.1 k u (c.loop-i.invariant.kept k u h);
+      early =
+          early_more t place s c.loop-i.events c.match-pending.events noting
+          (λ event pending. ((all_at (CanStore t) next place s (storable answer d law.answer_pending law.answer_near are t (omega arith) next refl) here).1 event pending).0) c.loop-i.invariant.early;
       as_many = length-set c.loop-i.states.items place _ ∙ c.loop-i.invariant.as_many;
       as_many_traces = ap length grown ∙ length-set c.loop-i.traces place line ∙ c.loop-i.invariant.as_many_traces;
     }
