@@ -7,6 +7,7 @@ use Rattle.design.specs.Netlist.{Netlist}
 use Rattle.scratch.specs.kept.Places.{Announces, Covers, IsNotedWithin, Keeps, has}
 use Rattle.scratch.specs.Run.{state_after, state_before}
 use Rattle.scratch.proofs.Notes.{within_on}
+use Rattle.scratch.proofs.Driven.{either}
 use Rattle.rundiff.specs.kept.Fronts.{is_working}
 use Rattle.rundiff.specs.kept.Noting.{IsNoted, input_moves, net_moves, pends, wants_event, wants_gate}
 use Rattle.rundiff.specs.kept.Places.{gate_at, is_among}
@@ -40,23 +41,21 @@ module _ (answer : Evaluation → ℕ → State) (old new : Netlist) (t : ℕ) (
         let working = is_working answer old new t p in
         let parts = and_parts (held p && not working) (pends (state_after answer new (gate_at new p) t) u) h in
         let rest = and_parts (held p) (not working) parts.0 in
-        elim (is_among chosen p) as (λ b. is_among chosen p ≡ b → has p (after u) ≡ true) [
-          | true ↦ λ among. those p u (are p ∙ and_from (is_among chosen p) (not working) among rest.1) parts.1
-          | false ↦ λ off.
-              let was : pends (state_before answer new t (gate_at new p)) u ≡ true = ap (λ (s : State). pends s u) (stays p rest.0 off) ∙ parts.1 in
-              keeps p u (before.events p u late (and_from (held p && not (is_among chosen p)) (pends (state_before answer new t (gate_at new p)) u) (rests_on (held p) (is_among chosen p) rest.0 off) was))
-        ] refl
+        either (is_among chosen p)
+        (λ among. those p u (are p ∙ and_from (is_among chosen p) (not working) among rest.1) parts.1)
+        (λ off.
+        let was : pends (state_before answer new t (gate_at new p)) u ≡ true = ap (λ (s : State). pends s u) (stays p rest.0 off) ∙ parts.1 in
+        keeps p u (before.events p u late (and_from (held p && not (is_among chosen p)) (pends (state_before answer new t (gate_at new p)) u) (rests_on (held p) (is_among chosen p) rest.0 off) was)))
 
     looked_inputs : Announces (wants_gate answer old new live held) later (suc t)
     looked_inputs p u late h =
         let moves = input_moves answer old new live p u in
         let parts = and_parts (held p) (u == 0 || moves) h in
-        elim (is_among chosen p) as (λ b. is_among chosen p ≡ b → IsNotedWithin later p (suc t) u) [
-          | true ↦ λ among. next p u among late (not_first t u moves late parts.1)
-          | false ↦ λ off.
-              within_on inputs later p (suc t) u kept
-              (before.inputs p u late (and_from (held p && not (is_among chosen p)) (u == 0 || moves) (rests_on (held p) (is_among chosen p) parts.0 off) parts.1))
-        ] refl
+        either (is_among chosen p)
+        (λ among. next p u among late (not_first t u moves late parts.1))
+        (λ off.
+        within_on inputs later p (suc t) u kept
+        (before.inputs p u late (and_from (held p && not (is_among chosen p)) (u == 0 || moves) (rests_on (held p) (is_among chosen p) parts.0 off) parts.1)))
 
     -- once the gates are looked at that are chosen
     pub looked_noted : IsNoted answer old new live (λ p. held p && not (is_working answer old new t p)) held (suc t) after later nets (suc t)

@@ -11,6 +11,7 @@ use Rattle.scratch.specs.kept.Places.{IsNotedWithin, Keeps, has}
 use Rattle.scratch.specs.Run.{state_before}
 use Rattle.scratch.proofs.Among.{nat_apart}
 use Rattle.scratch.proofs.Notes.{none_early}
+use Rattle.scratch.proofs.Driven.{either}
 use Rattle.rundiff.specs.kept.Noting.{IsNoted, input_moves, is_at_live, net_moves, old_moves, pends}
 use Rattle.rundiff.specs.kept.Places.{gate_at}
 use Rattle.rundiff.proofs.Alike.{live_grows}
@@ -65,12 +66,11 @@ module _ (answer : Evaluation → ℕ → State) (old new : Netlist) (live later
 
   nets_noted : (p u : ℕ) → suc t ≤ u → later p ≡ true → net_moves answer old new p u ≡ true → IsNotedWithin (noted nets_now) p (suc t) u
   nets_noted p u from on moves =
-      elim (live p) as (λ b. live p ≡ b → IsNotedWithin (noted nets_now) p (suc t) u) [
-        | true ↦ λ lives.
-            later_within t nets nets_left nets_taken (noted nets_now) kept p u (λ here. next p u on (λ again. here) (omega arith) moves)
-            (awaits.nets p u (omega arith) (and_from (live p) (u == 0 || net_moves answer old new p u) lives (or_right (u == 0) (net_moves answer old new p u) moves)))
-        | false ↦ λ free. next p u on (λ lives. let no : false ≡ true = sym free ∙ lives in absurd (cc)) (omega arith) moves
-      ] refl
+      either (live p)
+      (λ lives.
+      later_within t nets nets_left nets_taken (noted nets_now) kept p u (λ here. next p u on (λ again. here) (omega arith) moves)
+      (awaits.nets p u (omega arith) (and_from (live p) (u == 0 || net_moves answer old new p u) lives (or_right (u == 0) (net_moves answer old new p u) moves))))
+      (λ free. next p u on (λ lives. let no : false ≡ true = sym free ∙ lives in absurd (cc)) (omega arith) moves)
 
   inputs_noted : (q u : ℕ) → suc t ≤ u → passed q ≡ true → input_moves answer old new later q u ≡ true → IsNotedWithin (noted inputs_now) q (suc t) u
   inputs_noted q u from on moves =

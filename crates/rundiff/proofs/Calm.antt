@@ -16,6 +16,7 @@ use Rattle.scratch.specs.Work.{is_stirred}
 use Rattle.scratch.proofs.Stirred.{same_self_name}
 use Rattle.scratch.proofs.Runs.{map_where}
 use Rattle.scratch.proofs.Still.{is_still}
+use Rattle.scratch.proofs.Driven.{either}
 use Rattle.rundiff.specs.kept.Kept.{read_at}
 use Rattle.rundiff.specs.kept.Noting.{input_moves, is_at_live, old_moves}
 use Rattle.rundiff.specs.kept.Places.{blank_gate, blank_net, gate_at, is_live, net_at}
@@ -64,18 +65,16 @@ module _ (answer : Evaluation → ℕ → State) (old new : Netlist)
   fact_at : (p : ℕ) → p < length new.nets → Fact (net_at new p)
   fact_at p there reading free_moves =
       let n = net_at new p in
-      elim (live p) as (λ b. live p ≡ b → value answer new n now ≡ value answer new n r) [
-        | true ↦ λ lives.
-            elim (looked p) as (λ b. looked p ≡ b → value answer new n now ≡ value answer new n r) [
-              | true ↦ λ at. by_steady p (steady p at) reading
-              | false ↦ λ quiet. quiet_value answer old new current pending is live held events_at inputs_at nets_at r looked are p lives quiet
-            ] refl
-        | false ↦ λ free.
-            let out : is_live new live n.name ≡ false = live_at new live p is.distinct_nets there ∙ free in
-            sym (untouched_same answer old new (is_live new live) now are.agrees.states n out (are.closed.nets p blank_net there out))
-            ∙ stays_in_old answer old new current pending is live held events_at inputs_at nets_at r looked are (to_net n.name) (free_moves out)
-            ∙ are.agrees.nets p blank_net there out
-      ] refl
+      either (live p)
+      (λ lives.
+      either (looked p)
+      (λ at. by_steady p (steady p at) reading)
+      (λ quiet. quiet_value answer old new current pending is live held events_at inputs_at nets_at r looked are p lives quiet))
+      (λ free.
+      let out : is_live new live n.name ≡ false = live_at new live p is.distinct_nets there ∙ free in
+      sym (untouched_same answer old new (is_live new live) now are.agrees.states n out (are.closed.nets p blank_net there out))
+      ∙ stays_in_old answer old new current pending is live held events_at inputs_at nets_at r looked are (to_net n.name) (free_moves out)
+      ∙ are.agrees.nets p blank_net there out)
 
   facts : All Fact new.nets
   facts = λ k d there. subst Fact (get_or_default new.nets k blank_net d there) (fact_at k there)

@@ -12,6 +12,7 @@ use Rattle.waveform.specs.Timelines.{changes_below}
 use Rattle.scratch.specs.Run.{state_after, state_before}
 use Rattle.scratch.specs.Work.{is_stirred}
 use Rattle.scratch.proofs.Still.{none_due, still_due, still_after}
+use Rattle.scratch.proofs.Driven.{either}
 use Rattle.rundiff.specs.Dirty.{is_dirty, working_at}
 use Rattle.rundiff.specs.kept.Fronts.{IsOwn, is_working, named_state}
 use Rattle.rundiff.specs.kept.Places.{blank_gate, gate_at, is_among}
@@ -57,10 +58,9 @@ module _ (answer : Evaluation → ℕ → State) (old new : Netlist) (t : ℕ) (
   pub unchosen : (p : ℕ) → p < length new.gates → is_among chosen p ≡ false → is_working answer old new t p ≡ false
   unchosen p low off =
       let dirty = is_dirty answer old new (gate_at new p) t in let stirred = is_stirred answer new (gate_at new p) t in
-      elim (held p) as (λ b. held p ≡ b → (dirty && stirred) ≡ false) [
-        | true ↦ λ on. ap (λ (b : Bool). dirty && b) (calm p on off) ∙ and-false dirty
-        | false ↦ λ free. ap (λ (b : Bool). b && stirred) (clean p low free)
-      ] refl
+      either (held p)
+      (λ on. ap (λ (b : Bool). dirty && b) (calm p on off) ∙ and-false dirty)
+      (λ free. ap (λ (b : Bool). b && stirred) (clean p low free))
 
   -- the held gates that are evaluated are chosen
   pub chosen_working : (p : ℕ) → (is_among chosen p && is_working answer old new t p) ≡ (held p && is_working answer old new t p)

@@ -21,6 +21,7 @@ use Rattle.scratch.specs.Run.{evaluation_at, state_before}
 use Rattle.scratch.specs.Work.{is_due}
 use Rattle.scratch.proofs.Skips.{unwanted}
 use Rattle.scratch.proofs.Runs.{is_task}
+use Rattle.scratch.proofs.Driven.{either}
 use Rattle.rundiff.specs.declared.front.Front.{Front}
 use Rattle.rundiff.specs.kept.Fronts.{IsFront, held_in, live_in}
 use Rattle.rundiff.specs.kept.Kept.{Between, IsClear, read_at}
@@ -140,10 +141,9 @@ module _ (answer : Evaluation → ℕ → State) (old new : Netlist) (pending : 
   reads_at : (p : ℕ) → p < length new.gates → live (gate_at new p).output ≡ true → All Stands (gate_at new p).inputs
   reads_at p there on = λ i d within.
       let connection = slice_index_or (gate_at new p).inputs i d in
-      elim (is_at_live new (live_in front) connection) as (λ b. is_at_live new (live_in front) connection ≡ b → Stands connection) [
-        | true ↦ at_live connection (inputs_there new is p blank_gate there i d within)
-        | false ↦ elsewhere p there on i d within
-      ] refl
+      either (is_at_live new (live_in front) connection)
+      (at_live connection (inputs_there new is p blank_gate there i d within))
+      (elsewhere p there on i d within)
 
   -- after r and before u nothing happens to what is live
   pub is_clear : u ≤ suc old.horizon → IsClear answer old new live r u

@@ -6,6 +6,7 @@ use Rattle.std.proofs.lemmas.List.Elements.{All-head, All-tail}
 use Rattle.std.proofs.lemmas.Option.{slice_get_within}
 use Rattle.std.proofs.lemmas.Bool.{eqb-true}
 use Rattle.scratch.proofs.Among.{nat_itself}
+use Rattle.scratch.proofs.Driven.{either}
 use Rattle.rundiff.specs.kept.PlaceMaps.{item_at, owned}
 use Rattle.rundiff.specs.kept.Places.{is_among}
 
@@ -87,10 +88,9 @@ module _ {X : Type 0} where
       → IfSome (slice_get items i) (λ item. item.0 < count → is_among more item.0 ≡ true)
       → (k : ℕ) → k < i + 1 → IfSome (slice_get items k) (λ item. item.0 < count → is_among more item.0 ≡ true)
   one_more items count found more i grows before here k less =
-      elim (nat_eq k i) as (λ b. nat_eq k i ≡ b → IfSome (slice_get items k) (λ item. item.0 < count → is_among more item.0 ≡ true)) [
-        | true ↦ λ same. subst (λ (j : ℕ). IfSome (slice_get items j) (λ item. item.0 < count → is_among more item.0 ≡ true)) (sym (eqb-true k i same)) here
-        | false ↦ λ apart. some_grows found more count (slice_get items k) grows (before k (smaller k i apart less))
-      ] refl
+      either (nat_eq k i)
+      (λ same. subst (λ (j : ℕ). IfSome (slice_get items j) (λ item. item.0 < count → is_among more item.0 ≡ true)) (sym (eqb-true k i same)) here)
+      (λ apart. some_grows found more count (slice_get items k) grows (before k (smaller k i apart less)))
 
   pub some_item : (o : Option (ℕ × Option X)) (e : ℕ × Option X) (found : List ℕ) (count : ℕ) → o ≡ Some e → (e.0 < count → is_among found e.0 ≡ true) → IfSome o (λ item. item.0 < count → is_among found item.0 ≡ true)
   some_item o e found count is holds = subst (λ (o : Option (ℕ × Option X)). IfSome o (λ item. item.0 < count → is_among found item.0 ≡ true)) (sym is) holds

@@ -1,5 +1,6 @@
 -- What a front keeps is right as it is after moments at which nothing happens to what is live.
 use Rattle.std.proofs.Common.{◌≡◌, ℕ, zero, suc, ◌<◌, ◌≤◌, ◌∙◌, ap, sym, refl, Bool, true, false, not, length, Option, inl, inr, arith, ⊎_elim}
+use Rattle.scratch.proofs.Driven.{either}
 use Rattle.rundiff.specs.kept.PlaceMaps.{kept_at}
 use Rattle.std.specs.Option.{option_map_or}
 use Rattle.std.specs.Prelude.{◌&&◌}
@@ -70,19 +71,18 @@ module _ (answer : Evaluation → ℕ → State) (old new : Netlist)
       let g : ℕ → Value = read_at answer old (to_net (net_at new p).name) in
       let o : Option (PatchRecord Value) = kept_at front.waves p in
       let at = live_at new (live_in front) p is.distinct_nets there in
-      elim (live_in front p) as (λ b. live_in front p ≡ b → Keeps same_value standing g f o (suc l)) [
-        | true ↦ λ on.
-            ⊎_elim
-            (λ along. free_on same_value standing f g r l o (along_free o (suc r) along) (right.live.waves p there) order
-            (λ m from until.
-            let had : f r ≡ g r = along_last same_value standing f g r o along (right.live.waves p there) in
-            jumped.values p blank_net there (at ∙ on) m (omega arith) until ∙ had ∙ sym (clear.waves p blank_net there (at ∙ on) m from (omega arith) (omega arith))))
-            (λ own. own_more same_value standing f g (suc r) (suc l) o own (right.live.waves p there) (wave_still p there on))
-            (right.live.kept_waves p on)
-        | false ↦ λ free.
-            free_on same_value standing f g r l o (right.live.other_waves p free) (right.live.waves p there) order
-            (λ m from until. sym (jumped.free_values p blank_net there (at ∙ free) m (omega arith) until))
-      ] refl
+      either (live_in front p)
+      (λ on.
+      ⊎_elim
+      (λ along. free_on same_value standing f g r l o (along_free o (suc r) along) (right.live.waves p there) order
+      (λ m from until.
+      let had : f r ≡ g r = along_last same_value standing f g r o along (right.live.waves p there) in
+      jumped.values p blank_net there (at ∙ on) m (omega arith) until ∙ had ∙ sym (clear.waves p blank_net there (at ∙ on) m from (omega arith) (omega arith))))
+      (λ own. own_more same_value standing f g (suc r) (suc l) o own (right.live.waves p there) (wave_still p there on))
+      (right.live.kept_waves p on))
+      (λ free.
+      free_on same_value standing f g r l o (right.live.other_waves p free) (right.live.waves p there) order
+      (λ m from until. sym (jumped.free_values p blank_net there (at ∙ free) m (omega arith) until)))
 
   trace_still : (p : ℕ) → p < length new.gates → held_in front p ≡ true → trace_below (state_after answer new (gate_at new p)) (suc l) ≡ trace_below (state_after answer new (gate_at new p)) (suc r)
   trace_still p there on = trace_law f (suc r) (suc l) (omega arith) step

@@ -1,5 +1,5 @@
 -- What a front keeps is right as it is after moments at which the live nets are inputs with the same stimulus as in the old design.
-use Rattle.std.proofs.Common.{◌≡◌, ℕ, zero, suc, ◌+◌, ◌-◌, ◌<◌, ◌≤◌, ◌++◌, ◌∙◌, ap, sym, refl, subst, Bool, true, false, cond, List, [], map, length, All, append-nil, ◌⊎◌, inl, arith, Option}
+use Rattle.std.proofs.Common.{◌≡◌, ℕ, zero, suc, ◌+◌, ◌-◌, ◌<◌, ◌≤◌, ◌++◌, ◌∙◌, ap, sym, subst, Bool, true, false, cond, List, [], map, length, All, append-nil, ◌⊎◌, inl, arith, Option}
 use Rattle.std.specs.Prelude.{◌&&◌, ◌||◌, ◌==◌, slice_index_or}
 use Rattle.std.proofs.lemmas.List.{get_or_default}
 use Rattle.std.proofs.lemmas.Bool.{and_parts}
@@ -17,6 +17,7 @@ use Rattle.waveform.proofs.Lists.{filter-none}
 use Rattle.scratch.specs.kept.Places.{has}
 use Rattle.scratch.specs.Run.{state_after, state_before, value}
 use Rattle.scratch.specs.Work.{is_stirred, task_at}
+use Rattle.scratch.proofs.Driven.{either}
 use Rattle.rundiff.specs.Dirty.{is_dirty, rework_below, working_at}
 use Rattle.rundiff.specs.kept.Fronts.{GoesAlong, IsFree, IsFront, IsTrace, IsWave, held_in, live_in, named_state}
 use Rattle.rundiff.specs.kept.Inputs.{IsSameInput}
@@ -101,10 +102,9 @@ module _ (answer : Evaluation → ℕ → State) (old new : Netlist) (is_old : I
 
   net_same : (p : ℕ) → p < length new.nets → (m : ℕ) → n ≤ m → m < u → value answer new (net_at new p) m ≡ read_at answer old (to_net (net_at new p).name) m
   net_same p low m from until =
-      elim (live_in front p) as (λ b. live_in front p ≡ b → value answer new (net_at new p) m ≡ read_at answer old (to_net (net_at new p).name) m) [
-        | true ↦ λ on. sym (live_same p on m from until)
-        | false ↦ λ off. sym ((agrees_at (suc m) (omega arith) (omega arith)).nets p blank_net low (live_at new (live_in front) p is.distinct_nets low ∙ off))
-      ] refl
+      either (live_in front p)
+      (λ on. sym (live_same p on m from until))
+      (λ off. sym ((agrees_at (suc m) (omega arith) (omega arith)).nets p blank_net low (live_at new (live_in front) p is.distinct_nets low ∙ off)))
 
   pub leap_trace : (p : ℕ) → p < length new.gates → IsTrace answer old new front.traces p u
   leap_trace p low =
@@ -117,10 +117,9 @@ module _ (answer : Evaluation → ℕ → State) (old new : Netlist) (is_old : I
       (made : (p : ℕ) → (f g : ℕ → Value) → Keeps same_value standing g f (kept_at front.waves p) n → Keeps same_value standing g f (kept_at waves p) n) where
     pub leap_free : (p : ℕ) → IsFree (kept_at waves p)
     leap_free p =
-        elim (live_in front p) as (λ b. live_in front p ≡ b → IsFree (kept_at waves p)) [
-          | true ↦ λ on. left p on
-          | false ↦ λ off. subst (λ (o : Option (PatchRecord Value)). IsFree o) (sym (others p off)) (right.live.other_waves p off)
-        ] refl
+        either (live_in front p)
+        (λ on. left p on)
+        (λ off. subst (λ (o : Option (PatchRecord Value)). IsFree o) (sym (others p off)) (right.live.other_waves p off))
 
     kept_now : (p : ℕ) → p < length new.nets → IsWave answer old new waves p n
     kept_now p low = made p (value answer new (net_at new p)) (read_at answer old (to_net (net_at new p).name)) (right.live.waves p low)

@@ -21,6 +21,7 @@ use Rattle.scratch.specs.Run.{state_before, value}
 use Rattle.scratch.proofs.Stirred.{same_self_name}
 use Rattle.scratch.proofs.Among.{nat_itself}
 use Rattle.scratch.proofs.Notes.{within_on}
+use Rattle.scratch.proofs.Driven.{either}
 use Rattle.rundiff.specs.Dirty.{is_dirty}
 use Rattle.rundiff.specs.kept.Fronts.{AreDrivers, AreLive}
 use Rattle.rundiff.specs.kept.Kept.{Agrees, IsClosed, IsSameNet, read_at}
@@ -106,10 +107,9 @@ module _ (answer : Evaluation → ℕ → State) (old new : Netlist) (is : IsDes
   -- a net that is not live now was not live before, or it is the one that left
   off_or : (out : List ℕ) → is_live new later out ≡ false → (is_live new live out ≡ false) ⊎ (out ≡ name)
   off_or out off =
-      elim (same_name out name) as (λ b. same_name out name ≡ b → (is_live new live out ≡ false) ⊎ (out ≡ name)) [
-        | true ↦ λ same. inr (name_is out name same)
-        | false ↦ λ apart. inl (names out ∙ ap (λ (b : Bool). b || is_live new later out) apart ∙ off)
-      ] refl
+      either (same_name out name)
+      (λ same. inr (name_is out name same))
+      (λ apart. inl (names out ∙ ap (λ (b : Bool). b || is_live new later out) apart ∙ off))
 
   -- the net has no other driver
   only : (r : ℕ) → r < length new.gates → (gate_at new r).output ≡ name → r ≡ q
@@ -130,14 +130,13 @@ module _ (answer : Evaluation → ℕ → State) (old new : Netlist) (is : IsDes
         nets = λ r on. right.drivers.nets r (was_live r on);
         gates = λ r on. right.drivers.gates r (was_held r on);
         drivers = λ r within.
-            elim (r == q) as (λ b. (r == q) ≡ b → kept r ≡ is_live new later (gate_at new r).output) [
-              | true ↦ λ same.
-                  let e = eqb-true r q same in
-                  freed r ∙ ap (λ (b : Bool). cond b false (held r)) same ∙ sym (ap (λ (k : ℕ). is_live new later (gate_at new k).output) e ∙ ap (is_live new later) output ∙ p_off)
-              | false ↦ λ apart.
-                  freed r ∙ ap (λ (b : Bool). cond b false (held r)) apart ∙ right.drivers.drivers r within ∙ names (gate_at new r).output
-                  ∙ ap (λ (b : Bool). b || is_live new later (gate_at new r).output) (other_output r within apart)
-            ] refl;
+            either (r == q)
+            (λ same.
+            let e = eqb-true r q same in
+            freed r ∙ ap (λ (b : Bool). cond b false (held r)) same ∙ sym (ap (λ (k : ℕ). is_live new later (gate_at new k).output) e ∙ ap (is_live new later) output ∙ p_off))
+            (λ apart.
+            freed r ∙ ap (λ (b : Bool). cond b false (held r)) apart ∙ right.drivers.drivers r within ∙ names (gate_at new r).output
+            ∙ ap (λ (b : Bool). b || is_live new later (gate_at new r).output) (other_output r within apart));
       }
 
   fixed_later : (r : ℕ) → fixed r ≡ true → later r ≡ true
@@ -193,14 +192,13 @@ module _ (answer : Evaluation → ℕ → State) (old new : Netlist) (is : IsDes
         nets = λ k d within off.
             let same : slice_index_or new.nets k d ≡ net_at new k = get_or_default new.nets k d blank_net within in
             let P : NetEntry → Type 0 = λ x. read_at answer old (to_net x.name) t ≡ value answer new x t in
-            elim (k == p) as (λ b. (k == p) ≡ b → P (slice_index_or new.nets k d)) [
-              | true ↦ λ here. subst P (sym (same ∙ ap (net_at new) (eqb-true k p here))) same_value_now
-              | false ↦ λ apart.
-                  let named = ap (λ (x : NetEntry). is_live new live x.name) same ∙ live_at new live k is.distinct_nets within in
-                  let named_later = ap (λ (x : NetEntry). is_live new later x.name) same ∙ live_at new later k is.distinct_nets within in
-                  let stays : later k ≡ live k = gone k ∙ ap (λ (b : Bool). cond b false (live k)) apart in
-                  right.agrees.nets k d within (named ∙ sym stays ∙ sym named_later ∙ off)
-            ] refl;
+            either (k == p)
+            (λ here. subst P (sym (same ∙ ap (net_at new) (eqb-true k p here))) same_value_now)
+            (λ apart.
+            let named = ap (λ (x : NetEntry). is_live new live x.name) same ∙ live_at new live k is.distinct_nets within in
+            let named_later = ap (λ (x : NetEntry). is_live new later x.name) same ∙ live_at new later k is.distinct_nets within in
+            let stays : later k ≡ live k = gone k ∙ ap (λ (b : Bool). cond b false (live k)) apart in
+            right.agrees.nets k d within (named ∙ sym stays ∙ sym named_later ∙ off));
       }
 
   pub left_now : AreLeft answer old new live later held kept fixed (suc t)
@@ -218,12 +216,11 @@ module _ (answer : Evaluation → ℕ → State) (old new : Netlist) (is : IsDes
     one : (u : ℕ) (c : Connection) → test later u c ≡ true → (test live u c ≡ true) ⊎ ((is_at_net name c ≡ true) × (old_moves answer old new (to_net name) u ≡ true))
     one u (to_constant v) h = inl h
     one u (to_net m) h =
-        elim (same_name m name) as (λ b. same_name m name ≡ b → (test live u (to_net m) ≡ true) ⊎ ((same_name m name ≡ true) × (old_moves answer old new (to_net name) u ≡ true))) [
-          | true ↦ λ same.
-              inr (same, ap (λ (k : List ℕ). old_moves answer old new (to_net k) u) (sym (name_is m name same)) ∙ (and_parts (not (is_live new later m)) (old_moves answer old new (to_net m) u) h).1)
-          | false ↦ λ apart.
-              inl (ap (λ (b : Bool). not b && old_moves answer old new (to_net m) u) (names m ∙ ap (λ (b : Bool). b || is_live new later m) apart) ∙ h)
-        ] refl
+        either (same_name m name)
+        (λ same.
+        inr (same, ap (λ (k : List ℕ). old_moves answer old new (to_net k) u) (sym (name_is m name same)) ∙ (and_parts (not (is_live new later m)) (old_moves answer old new (to_net m) u) h).1))
+        (λ apart.
+        inl (ap (λ (b : Bool). not b && old_moves answer old new (to_net m) u) (names m ∙ ap (λ (b : Bool). b || is_live new later m) apart) ∙ h))
 
     split : (u : ℕ) (cs : List Connection) → list_any (test later u) cs ≡ true → (list_any (test live u) cs ≡ true) ⊎ ((list_any (is_at_net name) cs ≡ true) × (old_moves answer old new (to_net name) u ≡ true))
     split u [] on = absurd (cc)

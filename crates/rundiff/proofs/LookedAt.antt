@@ -14,6 +14,7 @@ use Rattle.waveform.specs.kept.Patches.{Keeps, PatchRecord}
 use Rattle.scratch.specs.kept.Places.{has}
 use Rattle.scratch.specs.Run.{value}
 use Rattle.scratch.specs.Work.{is_stirred}
+use Rattle.scratch.proofs.Driven.{either}
 use Rattle.rundiff.specs.kept.Fronts.{GoesAlong, IsAlike, IsOwn}
 use Rattle.rundiff.specs.kept.Kept.{read_at}
 use Rattle.rundiff.specs.kept.Places.{gate_at, net_at}
@@ -32,10 +33,9 @@ module _ (answer : Evaluation → ℕ → State) (old new : Netlist)
       ((p : ℕ) → looked p ≡ true → IsAlike answer old new later t p) → (p : ℕ) → live p ≡ true → IsAlike answer old new later t p
   alike_all zero are later grows found p on = found p (all_looked answer old new live held events_at inputs_at nets_at looked are p on)
   alike_all (suc r) are later grows found p on =
-      elim (looked p) as (λ b. looked p ≡ b → IsAlike answer old new later (suc r) p) [
-        | true ↦ λ at. found p at
-        | false ↦ λ off. alike_grows answer old new live later (suc r) p grows (quiet_alike answer old new current pending is live held events_at inputs_at nets_at r looked are p on off)
-      ] refl
+      either (looked p)
+      (λ at. found p at)
+      (λ off. alike_grows answer old new live later (suc r) p grows (quiet_alike answer old new current pending is live held events_at inputs_at nets_at r looked are p on off))
 
   -- the wave of a live net that is not looked at goes on
   pub wave_all : NoChange same_value standing → (t : ℕ) → AreLookedAt answer old new live held events_at inputs_at nets_at t looked → (p : ℕ) → live p ≡ true → looked p ≡ false →

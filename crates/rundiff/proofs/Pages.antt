@@ -1,11 +1,12 @@
 -- Numbers of places, which stand page by page.
-use Rattle.std.proofs.Common.{◌≡◌, ◌≢◌, ◌∙◌, ◌<◌, ◌≤◌, ◌++◌, ◌∷◌, ◌/◌, ◌%◌, ap, sym, refl, ℕ, zero, suc, inl, inr, true, false, List, [], map, length, arith}
+use Rattle.std.proofs.Common.{◌≡◌, ◌≢◌, ◌∙◌, ◌<◌, ◌≤◌, ◌++◌, ◌∷◌, ◌/◌, ◌%◌, ap, sym, refl, ℕ, zero, suc, inl, inr, false, List, [], map, length, arith}
 use Rattle.std.proofs.Math.ListN.{get_or, get_or-eq_default, set}
 use Rattle.std.proofs.lemmas.Bool.{cases_lt, eqb-true}
 use Rattle.std.proofs.lemmas.List.{get_or-set_same, get_or-set_other, length-map, map-set}
 use Rattle.std.specs.Prelude.{nat_eq, Vec}
 use Rattle.std.specs.Global.{Global}
 use Rattle.scratch.proofs.Among.{nat_itself}
+use Rattle.scratch.proofs.Driven.{either}
 use Rattle.rundiff.specs.kept.PlaceMaps.{number_at, page_at}
 use Rattle.rundiff.specs.declared.place_map.TheConstants.{PAGE}
 
@@ -45,13 +46,12 @@ pub other_numbers : (pages : List (Vec ℕ Global)) (i q : ℕ) (page : Vec ℕ 
     (i ≡ q / PAGE → get_or page.items (q % PAGE) 0 ≡ get_or (page_at pages i) (q % PAGE) 0) → number_at (set pages i page) q ≡ number_at pages q
 other_numbers pages i q page there as_before =
     let in_page : get_or (page_at (set pages i page) (q / PAGE)) (q % PAGE) 0 ≡ get_or (page_at pages (q / PAGE)) (q % PAGE) 0 =
-    elim (nat_eq i (q / PAGE)) as (λ b. nat_eq i (q / PAGE) ≡ b → get_or (page_at (set pages i page) (q / PAGE)) (q % PAGE) 0 ≡ get_or (page_at pages (q / PAGE)) (q % PAGE) 0) [
-      | true ↦ λ same.
-          let is : i ≡ q / PAGE = eqb-true i (q / PAGE) same in
-          ap (λ k. get_or (page_at (set pages i page) k) (q % PAGE) 0) (sym is) ∙ ap (λ row. get_or row (q % PAGE) 0) (page_here pages i page there)
-          ∙ as_before is ∙ ap (λ k. get_or (page_at pages k) (q % PAGE) 0) is
-      | false ↦ λ off. ap (λ row. get_or row (q % PAGE) 0) (page_apart pages i (q / PAGE) page off)
-    ] refl in
+    either (nat_eq i (q / PAGE))
+    (λ same.
+    let is : i ≡ q / PAGE = eqb-true i (q / PAGE) same in
+    ap (λ k. get_or (page_at (set pages i page) k) (q % PAGE) 0) (sym is) ∙ ap (λ row. get_or row (q % PAGE) 0) (page_here pages i page there)
+    ∙ as_before is ∙ ap (λ k. get_or (page_at pages k) (q % PAGE) 0) is)
+    (λ off. ap (λ row. get_or row (q % PAGE) 0) (page_apart pages i (q / PAGE) page off)) in
     number_is (set pages i page) q ∙ in_page ∙ sym (number_is pages q)
 
 -- a page without a number more is none
