@@ -6,7 +6,7 @@ ghost use Rattle.gatestep.specs.Step.{Evaluation};
 ghost use Rattle.gatestep.specs.Record.{at_moment};
 
 use crate::task::Task;
-use std::marker::{Model, Send};
+use std::marker::{Model, Send, Sync};
 use std::mem::size_of;
 use std::slice;
 
@@ -24,6 +24,8 @@ pub struct Record {
 
 impl Model for Record {
     ghost also_owns = { λ _. ftrue };
+
+    ghost also_shares = { λ _ _ _. ftrue };
 }
 
 impl Record {
@@ -58,3 +60,6 @@ impl Record {
 
 // It owns nothing.
 unsafe impl Send for Record {}
+
+// A `&` to it holds nothing.
+unsafe impl Sync for Record {}

@@ -1,0 +1,7 @@
+-- A `&` to a record holds nothing, so threads may share one.
+use denote.Param.Send.{IsSync, struct_sync, sendable}
+use denote.Struct.Owning.{shape, to}
+use Rattle.gatestep.specs.contracts.record.Record.{the_row, the_type}
+
+pub sync : IsSync the_row
+sync = record { shared = λ d b o κ. ((struct_sync (shape the_type) (search sendable, tt)).shared (to the_type d) b o κ, tt) }
