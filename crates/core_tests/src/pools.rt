@@ -1,7 +1,7 @@
 //! Steppers in several threads, beside the one on the caller's thread.
 
+mod ahead;
 mod asking;
-mod batches;
 mod dumps;
 mod jobs;
 mod lost;

@@ -6,6 +6,7 @@ pub mod Copied
 pub mod Goes
 pub mod InDesign
 pub mod Inputs
+pub mod Knowing
 pub mod Lists
 pub mod Lone
 pub mod Marks

@@ -2,10 +2,12 @@ pub mod Ahead
 pub mod Codes
 pub mod Gates
 pub mod Known
+pub mod KnownLines
 pub mod Line
 pub mod Met
 pub mod OldLines
 pub mod Readers
+pub mod Reads
 pub mod Starts
 pub mod Walks
 pub mod Waves

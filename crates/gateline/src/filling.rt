@@ -9,6 +9,7 @@ ghost use Rattle.scratch.specs.kept.Kept.{IsWiring};
 ghost use Rattle.scratch.specs.kept.Run.{trace_of};
 
 use crate::finding::find_wave;
+use chunked::Shared;
 use design::Design;
 use gatestep::Stepper;
 use scratch::{Cell, Input, Wiring};
@@ -21,10 +22,10 @@ pub fn find_net<S: Stepper>(
     alloc: Global,
     design: &Design,
     wiring: &Wiring,
-    traces: &[Trace],
+    traces: &[Shared<Trace>],
     place: usize,
     found: &mut [bool],
-    waves: &mut [Wave],
+    waves: &mut [Shared<Wave>],
 ) -> Result<(), AllocError>
     requires wired { IsWiring (netlist design.now) wiring.now }
     requires there { place < length (netlist design.now).nets }
@@ -42,7 +43,7 @@ pub fn find_net<S: Stepper>(
         return Ok(());
     }
     let wave = find_wave::<S>(alloc, design, wiring, traces, place)?;
-    waves[place] = wave;
+    waves[place] = wave.shared(alloc)?;
     found[place] = true;
     Ok(())
 }
@@ -53,10 +54,10 @@ pub fn find_input<S: Stepper>(
     alloc: Global,
     design: &Design,
     wiring: &Wiring,
-    traces: &[Trace],
+    traces: &[Shared<Trace>],
     input: Input,
     found: &mut [bool],
-    waves: &mut [Wave],
+    waves: &mut [Shared<Wave>],
 ) -> Result<(), AllocError>
     requires wired { IsWiring (netlist design.now) wiring.now }
     requires supplied { AreSupplied S.answer (netlist design.now) traces.now (input ∷ []) }
@@ -89,10 +90,10 @@ pub fn find_inputs<S: Stepper>(
     alloc: Global,
     design: &Design,
     wiring: &Wiring,
-    traces: &[Trace],
+    traces: &[Shared<Trace>],
     cell: &Cell,
     found: &mut [bool],
-    waves: &mut [Wave],
+    waves: &mut [Shared<Wave>],
 ) -> Result<(), AllocError>
     requires wired { IsWiring (netlist design.now) wiring.now }
     requires supplied { AreSupplied S.answer (netlist design.now) traces.now cell.now.inputs }
@@ -115,9 +116,9 @@ pub fn find_rest<S: Stepper>(
     alloc: Global,
     design: &Design,
     wiring: &Wiring,
-    traces: &[Trace],
+    traces: &[Shared<Trace>],
     found: &mut [bool],
-    waves: &mut [Wave],
+    waves: &mut [Shared<Wave>],
 ) -> Result<(), AllocError>
     requires wired { IsWiring (netlist design.now) wiring.now }
     requires traced { traces.now ≡ map (trace_of S.answer (netlist design.now)) (netlist design.now).gates }

@@ -1,6 +1,6 @@
 //! The wave of a net, found from what gives it its value.
 
-ghost use Rattle.std.specs.Prelude.{◌≡◌, ◌+◌, ◌<◌, ◌≤◌, All, length, map, slice_get, IfOk, IfSome, Some};
+ghost use Rattle.std.specs.Prelude.{◌≡◌, ◌+◌, ◌<◌, ◌≤◌, All, length, map, suc, slice_get, IfOk, IfSome, Some};
 ghost use Rattle.design.specs.Keys.{netlist};
 ghost use Rattle.design.specs.Netlist.{stimulus};
 ghost use Rattle.design.specs.kept.Places.{driver_places};
@@ -13,6 +13,7 @@ ghost use Rattle.waveform.specs.Changes.{wave_changes_below};
 ghost use Rattle.waveform.specs.kept.Currents.{currents};
 
 use crate::merge::merge_waves;
+use chunked::Shared;
 use design::{Design, Net};
 use fourstate::Value;
 use gatestep::{Driver, Stepper};
@@ -58,7 +59,7 @@ fn driver_wave(alloc: Global, trace: &Trace, end: u64) -> Result<Wave, AllocErro
 /// The wave of what the driver at a place gives before the moment `end`, in time units; x where there is no trace of it.
 fn wave_at_place(
     alloc: Global,
-    traces: &[Trace],
+    traces: &[Shared<Trace>],
     place: usize,
     end: u64,
 ) -> Result<Wave, AllocError>
@@ -70,7 +71,7 @@ fn wave_at_place(
     laws::no_change::<Value>();
     laws::same_changes::<Value>();
     match traces.get(place) {
-        Some(trace) => driver_wave(alloc, trace, end),
+        Some(trace) => driver_wave(alloc, trace.value(), end),
         None => Wave::open(alloc, Value::Unknown),
     }
 }
@@ -78,7 +79,7 @@ fn wave_at_place(
 /// The waves of what the drivers at some places give before the moment `end`, in time units.
 fn driver_waves(
     alloc: Global,
-    traces: &[Trace],
+    traces: &[Shared<Trace>],
     places: &[u32],
     end: u64,
 ) -> Result<Vec<Wave>, AllocError>
@@ -109,7 +110,8 @@ pub fn find_lone_wave<S: Stepper>(
     requires lone { slice_get wiring.now.lone_drivers.items place ≡ Some (Some driver) }
     requires driver { driver < length (netlist design.now).gates }
     requires trace { IfSome (slice_get (netlist design.now).gates driver) (λ g. trace.now ≡ trace_of S.answer (netlist design.now) g) }
-    ensures { IfOk result (λ wave. Some wave ≡ slice_get (map (wave_of S.answer (netlist design.now)) (netlist design.now).nets) place) }
+    ensures wave { IfOk result (λ wave. Some wave ≡ slice_get (map (wave_of S.answer (netlist design.now)) (netlist design.now).nets) place) }
+    ensures driven { IfOk result (λ wave. wave ≡ wave_changes_below (currents trace.now) (suc (netlist design.now).horizon)) }
 {
     let _wiring = wiring;
     let _net = design.net_at(place);
@@ -122,13 +124,42 @@ pub fn find_lone_wave<S: Stepper>(
     driver_wave(alloc, trace, design.horizon() + 1)
 }
 
+/// What the driver of this trace gives is the wave of the net at a place in the order of the design's nets that its gate drives alone.
+/// Nothing runs but what the design says of itself.
+pub fn is_lone_wave<S: Stepper>(
+    design: &Design,
+    wiring: &Wiring,
+    place: usize,
+    driver: usize,
+    trace: &Trace,
+    wave: &Wave,
+)
+    requires wired { IsWiring (netlist design.now) wiring.now }
+    requires there { place < length (netlist design.now).nets }
+    requires lone { slice_get wiring.now.lone_drivers.items place ≡ Some (Some driver) }
+    requires driver { driver < length (netlist design.now).gates }
+    requires trace { IfSome (slice_get (netlist design.now).gates driver) (λ g. trace.now ≡ trace_of S.answer (netlist design.now) g) }
+    requires driven { wave.now ≡ wave_changes_below (currents trace.now) (suc (netlist design.now).horizon) }
+    ensures { Some wave.now ≡ slice_get (map (wave_of S.answer (netlist design.now)) (netlist design.now).nets) place }
+{
+    let _wiring = wiring;
+    let _net = design.net_at(place);
+    let _driver = driver;
+    let _trace = trace;
+    let _wave = wave;
+    design.lawful();
+    crate::laws::net_by_places();
+    laws::value_of_changes::<Driver>();
+    laws::same_changes::<Value>();
+}
+
 /// The wave of the net at a place in the order of the design's nets, where the traces of all its drivers are found. It fails where
 /// memory runs out.
 pub fn find_wave<S: Stepper>(
     alloc: Global,
     design: &Design,
     wiring: &Wiring,
-    traces: &[Trace],
+    traces: &[Shared<Trace>],
     place: usize,
 ) -> Result<Wave, AllocError>
     requires wired { IsWiring (netlist design.now) wiring.now }
@@ -148,7 +179,7 @@ pub fn find_wave<S: Stepper>(
     }
     if let Some(driver) = wiring.lone_drivers[place] {
         if let Some(trace) = traces.get(driver as usize) {
-            return driver_wave(alloc, trace, design.horizon() + 1);
+            return driver_wave(alloc, trace.value(), design.horizon() + 1);
         }
     }
     let end = design.horizon() + 1;

@@ -12,6 +12,7 @@ ghost use Rattle.scratch.specs.Work.{same_values};
 ghost use Rattle.waveform.specs.kept.Changes.{state_at};
 
 use crate::readers::NEAR_READERS;
+use chunked::Shared;
 use fourstate::{Inputs, Value};
 use gatestep::{Driver, Stepper, Task};
 use scratch::{Cell, Input};
@@ -116,7 +117,7 @@ impl<'b, 'c> OldLine<'b, 'c> {
 
     /// The first moment, in time units, at which an input of the gate has another value than in the old run; none where there is no
     /// such moment. It is 0 where the old design has no such gate.
-    pub fn parting(self, cell: &Cell, waves: &[Wave]) -> Option<u64>
+    pub fn parting(self, cell: &Cell, waves: &[Shared<Wave>]) -> Option<u64>
         ensures there { IfSome result (λ m. 0 < m) → self.entry.is_other ≡ false }
         ensures inputs { (t : ℕ) → IfSome result (λ m. t < m) → old_inputs (line_seen self.entry) cell.now.inputs t ≡ inputs_by waves.now cell.now.inputs t }
     {
@@ -131,7 +132,7 @@ impl<'b, 'c> OldLine<'b, 'c> {
     }
 
     /// A moment, in time units, from which on the inputs of the gate have the values that they had in the old run, if one is found.
-    pub fn meeting(self, cell: &Cell, waves: &[Wave]) -> Option<u64>
+    pub fn meeting(self, cell: &Cell, waves: &[Shared<Wave>]) -> Option<u64>
         ensures { IfSome result (λ m. (t : ℕ) → m ≤ t → old_inputs (line_seen self.entry) cell.now.inputs t ≡ inputs_by waves.now cell.now.inputs t) }
     {
         let mut last = 0u64;
@@ -159,7 +160,7 @@ fn earlier(first: Option<u64>, second: Option<u64>) -> Option<u64>
 }
 
 /// The first moment, in time units, at which an input reads other values in the two runs.
-fn parting(input: Input, olds: &[&Wave], waves: &[Wave]) -> Option<u64>
+fn parting(input: Input, olds: &[&Wave], waves: &[Shared<Wave>]) -> Option<u64>
     ensures { (t : ℕ) → IfSome result (λ m. t < m) → input_at (map (λ wave. wave.now) olds.now) input t ≡ input_at waves.now input t }
 {
     let Input::At(place) = input else {
@@ -171,11 +172,11 @@ fn parting(input: Input, olds: &[&Wave], waves: &[Wave]) -> Option<u64>
     let Some(wave) = waves.get(place as usize) else {
         return Some(0);
     };
-    old.parting(wave)
+    old.parting(wave.value())
 }
 
 /// A moment, in time units, from which on an input reads the same values in both runs, if one is found.
-fn meeting(input: Input, olds: &[&Wave], waves: &[Wave]) -> Option<u64>
+fn meeting(input: Input, olds: &[&Wave], waves: &[Shared<Wave>]) -> Option<u64>
     ensures { IfSome result (λ m. (t : ℕ) → m ≤ t → input_at (map (λ wave. wave.now) olds.now) input t ≡ input_at waves.now input t) }
 {
     let Input::At(place) = input else {
@@ -187,7 +188,7 @@ fn meeting(input: Input, olds: &[&Wave], waves: &[Wave]) -> Option<u64>
     let Some(wave) = waves.get(place as usize) else {
         return None;
     };
-    old.meeting(wave)
+    old.meeting(wave.value())
 }
 
 /// The trace of the old run, where a gate in this state after the moment `t` had that state there too, and `meeting` is no later than

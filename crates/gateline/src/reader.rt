@@ -9,6 +9,7 @@ ghost use Rattle.waveform.specs.Changes.{wave_at};
 ghost use Rattle.waveform.specs.Entries.{standing};
 ghost use Rattle.waveform.specs.kept.Timelines.{IsTimeline};
 
+use chunked::Shared;
 use fourstate::Value;
 use scratch::Input;
 use waveform::{Change, TIME_END, Wave};
@@ -66,12 +67,12 @@ impl<'a> Reader<'a> {
     }
 
     /// An input from the moment `t` on, in time units.
-    pub fn of(input: Input, waves: &'a [Wave], t: u64) -> Reader<'a>
+    pub fn of(input: Input, waves: &'a [Shared<Wave>], t: u64) -> Reader<'a>
         ensures { GoesOn (input_at waves.now input) result.value result.rest.now t }
     {
         match input {
             Input::At(place) => match waves.get(place as usize) {
-                Some(wave) => return Reader::open(wave, t),
+                Some(wave) => return Reader::open(wave.value(), t),
                 None => return Reader::steady(Value::Unknown),
             },
             Input::Fixed(value) => return Reader::steady(value),

@@ -8,6 +8,7 @@ ghost use Rattle.gateline.specs.kept.Waves.{input_functions};
 
 use crate::inputs_table::{FEW_INPUTS, InputsTable};
 use crate::reader::Reader;
+use chunked::Shared;
 use fourstate::Inputs;
 use scratch::Cell;
 use smallvec::SmallVec;
@@ -24,7 +25,7 @@ pub type Readers<'a> = SmallVec<Reader<'a>, NEAR_READERS>;
 pub fn open_readers<'a>(
     alloc: Global,
     cell: &Cell,
-    waves: &'a [Wave],
+    waves: &'a [Shared<Wave>],
     t: u64,
 ) -> Result<Readers<'a>, AllocError>
     ensures { IfOk result (λ readers. StandAt (input_functions waves.now cell.now.inputs) readers.items t) }

@@ -18,6 +18,7 @@ ghost use Rattle.waveform.specs.kept.Timelines.{IsAlwaysSettled};
 use crate::inputs_table::InputsTable;
 use crate::old_line::{Near, OldLine, met, next_state};
 use crate::readers::{Readers, open_readers, read, read_on};
+use chunked::Shared;
 use fourstate::Inputs;
 use gatestep::{Driver, Stepper};
 use scratch::Cell;
@@ -31,7 +32,7 @@ const ROOM: usize = 8;
 #[derive(Clone, Copy)]
 pub struct Along<'a> {
     /// The waves of the nets, by their places.
-    pub waves: &'a [Wave],
+    pub waves: &'a [Shared<Wave>],
     /// The values of a few inputs, all that there are.
     pub table: &'a InputsTable,
 }
@@ -122,7 +123,7 @@ impl<'a, 'b, 'c> Course<'a, 'b, 'c> {
         &self,
         situation: Situation,
         cell: &Cell,
-        waves: &[Wave],
+        waves: &[Shared<Wave>],
         done: u64,
         last: u64,
     ) -> u64
@@ -152,7 +153,7 @@ impl<'a, 'b, 'c> Course<'a, 'b, 'c> {
         &mut self,
         situation: &mut Situation,
         cell: &Cell,
-        waves: &[Wave],
+        waves: &[Shared<Wave>],
         stepper: &mut S,
         done: u64,
     ) -> Result<(), AllocError>
@@ -307,7 +308,7 @@ impl<'a, 'b, 'c> Walk<'a, 'b, 'c> {
     pub fn go_on<S: Stepper>(
         self,
         cell: &Cell,
-        waves: &[Wave],
+        waves: &[Shared<Wave>],
         stepper: &mut S,
         meeting: u64,
         begin: u64,

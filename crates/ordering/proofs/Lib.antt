@@ -1,11 +1,11 @@
 pub mod Asked
-pub mod Batching
 pub mod Besides
 pub mod Columns
+pub mod Coming
 pub mod Counts
 pub mod EarlierTraces
-pub mod Jobs
 pub mod Marks
+pub mod NoneAsked
 pub mod Orders
 pub mod Places
 pub mod Steps

@@ -1,5 +1,5 @@
 -- Marks for the places that have come, and the connections in place of the gates.
-use Rattle.std.proofs.Common.{◌≡◌, ◌<◌, ◌≤◌, ◌∙◌, sym, ap, refl, Bool, true, false, not, ℕ, zero, suc, ◌+◌, List, [], ◌∷◌, ◌++◌, length, get_or, take, drop, replicate, Option, Some, None, slice_get, unwrap_or, add-one, arith}
+use Rattle.std.proofs.Common.{◌≡◌, ◌<◌, ◌≤◌, ◌∙◌, sym, ap, refl, Bool, true, false, not, ℕ, zero, suc, ◌+◌, List, [], ◌∷◌, ◌++◌, length, get_or, take, drop, Option, Some, None, slice_get, unwrap_or, add-one, arith}
 use Rattle.std.specs.Prelude.{nat_eq, ◌||◌, ◌&&◌}
 use Rattle.std.specs.List.{list_all}
 use Rattle.std.specs.Option.{option_map, option_map_or}
@@ -43,11 +43,6 @@ follow_step may order i f b low marked is =
     ∙ ap (λ l. b && follow may l (drop (i + 1) order)) (sym (one_taken order i low))
 
 -- Marks.
-
-pub none_marked : (n p : ℕ) → is_marked (replicate n false) p ≡ false
-none_marked zero p = refl
-none_marked (suc n) zero = refl
-none_marked (suc n) (suc p) = none_marked n p
 
 eq_suc : (p k : ℕ) → nat_eq p k ≡ nat_eq (suc p) (suc k)
 eq_suc p k = by (nat_eq p k) refl

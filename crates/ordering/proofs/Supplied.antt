@@ -20,7 +20,7 @@ use Rattle.scratch.specs.kept.Places.{has}
 use Rattle.scratch.specs.kept.Run.{trace_of}
 use Rattle.gateline.specs.kept.Known.{AreSupplied, AreTraced, IsTraced}
 use Rattle.waveform.specs.Timelines.{moments}
-use Rattle.ordering.specs.kept.Batches.{StayTraced}
+use Rattle.ordering.specs.kept.Come.{StayTraced}
 use Rattle.ordering.specs.kept.Order.{is_order, is_ready, may_come, may_follow}
 use Rattle.ordering.proofs.Orders.{all_below}
 use Rattle.scratch.proofs.Among.{has_more}

@@ -1,8 +1,8 @@
-pub mod Batches
 pub mod Begins
+pub mod Come
 pub mod Earlier
 pub mod Gates
-pub mod Jobs
+pub mod Helpers
 pub mod Lines
 pub mod OldRuns
 pub mod Order

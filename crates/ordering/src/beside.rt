@@ -76,6 +76,7 @@ fn go_beside<S: Stepper>(
     let begin = Begin {
         earlier,
         old: Some(old),
+        ahead: None,
     };
     run_in_order(alloc, former.new, wiring, begin, order, stepper)
 }

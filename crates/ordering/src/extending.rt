@@ -88,6 +88,7 @@ fn extend_by_gates<S: Stepper>(
     let begin = Begin {
         earlier: Some(earlier),
         old: None,
+        ahead: None,
     };
     Ok(run_in_order(alloc, design, wiring, begin, order, stepper)?)
 }

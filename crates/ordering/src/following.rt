@@ -1,13 +1,17 @@
 //! Gates at some places, followed one after another.
 
-ghost use Rattle.std.specs.Prelude.{◌≡◌, ◌<◌, ◌≤◌, ◌++◌, ℕ, true, suc, All, length, slice_get, slice_set, IfOk, IfSome, OnOk, OnErr};
+ghost use Rattle.std.specs.Option.{ForSome};
+ghost use Rattle.waveform.specs.Changes.{wave_changes_below};
+ghost use Rattle.waveform.specs.kept.Currents.{currents};
+ghost use Rattle.std.specs.Prelude.{◌≡◌, ◌<◌, ◌++◌, ℕ, true, suc, All, length, slice_get, slice_set, IfOk, IfSome, OnOk, OnErr};
 ghost use Rattle.design.specs.Keys.{netlist};
 ghost use Rattle.gateline.specs.kept.Known.{AreFound, AreKnown, AreMarked, AreSupplied, IsTraced, KeepsMarks};
 ghost use Rattle.scratch.specs.Asked.{IsAskedInPart};
 ghost use Rattle.scratch.specs.kept.Kept.{IsWiring};
 ghost use Rattle.scratch.specs.kept.Places.{has};
 ghost use Rattle.scratch.specs.kept.Run.{trace_of};
-ghost use Rattle.ordering.specs.kept.Batches.{IsFed, IsReady, StayTraced};
+ghost use Rattle.gatestep.specs.Step.{advance};
+ghost use Rattle.ordering.specs.kept.Come.{IsReady, IsWaveAt, StayTraced};
 ghost use Rattle.ordering.specs.kept.Begins.{IsBegin};
 ghost use Rattle.ordering.specs.kept.Earlier.{begin_after};
 ghost use Rattle.ordering.specs.kept.Gates.{gate_work_from};
@@ -15,16 +19,20 @@ ghost use Rattle.ordering.specs.kept.Lines.{Fit};
 ghost use Rattle.ordering.specs.kept.OldRuns.{wanted_at};
 ghost use Rattle.ordering.specs.kept.Order.{order_work_from};
 
+use crate::ahead::{Ahead, known_at};
 use crate::earlier::{EarlierRun, former_of};
 use crate::lines::Lines;
 use crate::old_run::line_of;
+use chunked::Shared;
 use design::Design;
-use gateline::{Along, Start, find_inputs, follow_gate};
-use gatestep::Stepper;
+use gateline::{
+    Along, KnownLine, Line, Start, find_inputs, find_known, follow_gate, is_lone_wave, lone_net,
+};
+use gatestep::{Serial, Stepper};
 use rundiff::OldRun;
 use scratch::{Cell, Wiring};
 use std::alloc::{AllocError, Global};
-use waveform::Trace;
+use waveform::{Trace, Wave};
 
 /// From where on a design is run, and beside what.
 #[derive(Clone, Copy)]
@@ -33,6 +41,8 @@ pub struct Begin<'a, 'b, 'c> {
     pub earlier: Option<EarlierRun<'a>>,
     /// The run of an old design, if it is run beside one.
     pub old: Option<&'b OldRun<'c>>,
+    /// What threads share that follow its gates ahead, if there are such.
+    pub ahead: Option<&'a Ahead>,
 }
 
 /// Finds the waves that a gate reads, those that are not found yet, where the traces of all that drives their nets are found. It
@@ -66,9 +76,9 @@ fn find_read<S: Stepper>(
     )
 }
 
-/// The trace of the gate at a place in the order of the gates, where the waves that it reads are found. It fails where memory runs
-/// out; then what was asked is what is asked of the gate up to some moment.
-pub fn follow_known<S: Stepper>(
+/// The line of the gate at a place in the order of the gates, where the waves that it reads are found. It fails where memory runs
+/// out; then what was asked is a part of what is asked of the gate.
+fn follow_known<S: Stepper>(
     alloc: Global,
     design: &Design,
     wiring: &Wiring,
@@ -76,17 +86,18 @@ pub fn follow_known<S: Stepper>(
     place: usize,
     lines: &Lines,
     stepper: &mut S,
-) -> Result<Trace, AllocError>
+) -> Result<Line, AllocError>
     requires none_lost { S.losses stepper.old ≡ 0 }
     requires wired { IsWiring (netlist design.now) wiring.now }
     requires begin { IsBegin S.answer design.now begin }
     requires there { place < length (netlist design.now).gates }
     requires known { IfSome (slice_get wiring.now.cells.items place) (λ cell. AreKnown S.answer (netlist design.now) lines.now.waves.items cell.inputs) }
-    ensures trace { IfOk result (λ trace. IfSome (slice_get (netlist design.now).gates place) (λ g. trace ≡ trace_of S.answer (netlist design.now) g)) }
+    ensures trace { IfOk result (λ line. IfSome (slice_get (netlist design.now).gates place) (λ g. line.trace ≡ trace_of S.answer (netlist design.now) g)) }
+    ensures wave { IfOk result (λ line. ForSome line.wave (λ wave. wave ≡ wave_changes_below (currents line.trace) (suc (netlist design.now).horizon))) }
     ensures asked { OnOk result (IfSome (slice_get (netlist design.now).gates place) (λ g. S.asked stepper.new ≡ S.asked stepper.old
         ++ gate_work_from S.answer (netlist design.now) (wanted_at begin.entry.old (netlist design.now) place g) g (begin_after begin.entry.earlier) (suc (netlist design.now).horizon))) }
-    ensures part { OnErr result (IfSome (slice_get (netlist design.now).gates place) (λ g. (n : ℕ) × (n ≤ suc (netlist design.now).horizon)
-        × (S.asked stepper.new ≡ S.asked stepper.old ++ gate_work_from S.answer (netlist design.now) (wanted_at begin.entry.old (netlist design.now) place g) g (begin_after begin.entry.earlier) n))) }
+    ensures part { OnErr result (IfSome (slice_get (netlist design.now).gates place) (λ g. IsAskedInPart (S.asked stepper.old) (S.asked stepper.new)
+        (gate_work_from S.answer (netlist design.now) (wanted_at begin.entry.old (netlist design.now) place g) g (begin_after begin.entry.earlier) (suc (netlist design.now).horizon)))) }
     ensures lost { S.losses stepper.new ≡ S.losses stepper.old }
 {
     let along = Along {
@@ -96,13 +107,95 @@ pub fn follow_known<S: Stepper>(
     let start = Start {
         former: former_of::<S>(design, begin.earlier, place),
         beside: line_of(begin.old, place),
+        known: known_at(begin.ahead, place),
     };
     follow_gate(alloc, design, wiring, along, place, start, stepper)
 }
 
-/// Follows the gate at a place in the order of the gates, and finds before each wave that it reads and that is not found yet. It
-/// fails where memory runs out; then what was asked is what is asked of the gate up to some moment.
-fn follow_one<S: Stepper>(
+/// Puts the wave of the net that the gate at a place drives alone, if there is such a net and a wave comes with the line, and gives the
+/// line's trace.
+fn put_driven<S: Stepper>(
+    design: &Design,
+    wiring: &Wiring,
+    place: usize,
+    line: Line,
+    lines: &mut Lines,
+) -> Shared<Trace>
+    requires wired { IsWiring (netlist design.now) wiring.now }
+    requires there { place < length (netlist design.now).gates }
+    requires trace { IfSome (slice_get (netlist design.now).gates place) (λ g. line.trace ≡ trace_of S.answer (netlist design.now) g) }
+    requires wave { ForSome line.wave (λ wave. wave ≡ wave_changes_below (currents line.trace) (suc (netlist design.now).horizon)) }
+    requires fit { Fit (netlist design.now) lines.old }
+    requires found { AreFound S.answer (netlist design.now) lines.old.found.items lines.old.waves.items }
+    ensures trace { result ≡ line.trace }
+    ensures fit { Fit (netlist design.now) lines.new }
+    ensures found { AreFound S.answer (netlist design.now) lines.new.found.items lines.new.waves.items }
+    ensures traces { lines.new.traces ≡ lines.old.traces }
+{
+    let Line { trace, wave } = line;
+    let Some(wave) = wave else {
+        return trace;
+    };
+    let Some(net) = lone_net(wiring, place) else {
+        return trace;
+    };
+    is_lone_wave::<S>(
+        design,
+        wiring,
+        net as usize,
+        place,
+        trace.value(),
+        wave.value(),
+    );
+    put_wave::<S>(design, net, wave, lines);
+    trace
+}
+
+/// Puts the wave of the net at a place where it belongs.
+fn put_wave<S: Stepper>(design: &Design, net: u32, wave: Shared<Wave>, lines: &mut Lines)
+    requires wave { IsWaveAt S.answer (netlist design.now) (net, wave) }
+    requires fit { Fit (netlist design.now) lines.old }
+    requires found { AreFound S.answer (netlist design.now) lines.old.found.items lines.old.waves.items }
+    ensures fit { Fit (netlist design.now) lines.new }
+    ensures found { AreFound S.answer (netlist design.now) lines.new.found.items lines.new.waves.items }
+    ensures traces { lines.new.traces ≡ lines.old.traces }
+{
+    let _design = design;
+    lines.waves[net as usize] = wave;
+    lines.found[net as usize] = true;
+}
+
+/// The line of the gate at a place in the order of the gates, for other threads, where the traces of all that drive what it reads are
+/// found. It fails where memory runs out.
+pub fn find_ahead(
+    alloc: Global,
+    design: &Design,
+    wiring: &Wiring,
+    begin: Begin,
+    place: usize,
+    lines: &mut Lines,
+) -> Result<KnownLine, AllocError>
+    requires wired { IsWiring (netlist design.now) wiring.now }
+    requires begin { IsBegin advance design.now begin }
+    requires ready { IsReady advance (netlist design.now) wiring.now lines.old.traces.items place }
+    requires fit { Fit (netlist design.now) lines.old }
+    requires found { AreFound advance (netlist design.now) lines.old.found.items lines.old.waves.items }
+    ensures fit { Fit (netlist design.now) lines.new }
+    ensures found { AreFound advance (netlist design.now) lines.new.found.items lines.new.waves.items }
+    ensures traces { lines.new.traces ≡ lines.old.traces }
+{
+    find_read::<Serial>(alloc, design, wiring, &wiring.cells[place], lines)?;
+    let along = Along {
+        waves: lines.waves.as_slice(),
+        table: &lines.table,
+    };
+    let former = former_of::<Serial>(design, begin.earlier, place);
+    find_known(alloc, design, wiring, along, place, former)
+}
+
+/// Follows the gate at a place in the order of the gates, or takes its line from who followed it ahead, and finds before each wave that
+/// it reads and that is not found yet. It fails where memory runs out; then what was asked is a part of what is asked of the gate.
+pub fn follow_one<S: Stepper>(
     alloc: Global,
     design: &Design,
     wiring: &Wiring,
@@ -123,37 +216,14 @@ fn follow_one<S: Stepper>(
     ensures trace { OnOk result (IfSome (slice_get (netlist design.now).gates place) (λ g. lines.new.traces.items ≡ slice_set lines.old.traces.items place (trace_of S.answer (netlist design.now) g))) }
     ensures asked { OnOk result (IfSome (slice_get (netlist design.now).gates place) (λ g. S.asked stepper.new ≡ S.asked stepper.old
         ++ gate_work_from S.answer (netlist design.now) (wanted_at begin.entry.old (netlist design.now) place g) g (begin_after begin.entry.earlier) (suc (netlist design.now).horizon))) }
-    ensures part { OnErr result (IfSome (slice_get (netlist design.now).gates place) (λ g. (n : ℕ) × (n ≤ suc (netlist design.now).horizon)
-        × (S.asked stepper.new ≡ S.asked stepper.old ++ gate_work_from S.answer (netlist design.now) (wanted_at begin.entry.old (netlist design.now) place g) g (begin_after begin.entry.earlier) n))) }
+    ensures part { OnErr result (IfSome (slice_get (netlist design.now).gates place) (λ g. IsAskedInPart (S.asked stepper.old) (S.asked stepper.new)
+        (gate_work_from S.answer (netlist design.now) (wanted_at begin.entry.old (netlist design.now) place g) g (begin_after begin.entry.earlier) (suc (netlist design.now).horizon)))) }
     ensures lost { S.losses stepper.new ≡ S.losses stepper.old }
 {
     find_read::<S>(alloc, design, wiring, &wiring.cells[place], lines)?;
-    let trace = follow_known(alloc, design, wiring, begin, place, lines, stepper)?;
+    let line = follow_known(alloc, design, wiring, begin, place, lines, stepper)?;
+    let trace = put_driven::<S>(design, wiring, place, line, lines);
     lines.traces[place] = trace;
-    Ok(())
-}
-
-/// Finds the waves that the gates at these places read, those that are not found yet, where the traces of all that drives their nets
-/// are found. It fails where memory runs out; the waves that were found by then stay.
-pub fn find_each<S: Stepper>(
-    alloc: Global,
-    design: &Design,
-    wiring: &Wiring,
-    places: &[u32],
-    lines: &mut Lines,
-) -> Result<(), AllocError>
-    requires wired { IsWiring (netlist design.now) wiring.now }
-    requires ready { All (IsReady S.answer (netlist design.now) wiring.now lines.old.traces.items) places.now }
-    requires fit { Fit (netlist design.now) lines.old }
-    requires found { AreFound S.answer (netlist design.now) lines.old.found.items lines.old.waves.items }
-    ensures fit { Fit (netlist design.now) lines.new }
-    ensures found { AreFound S.answer (netlist design.now) lines.new.found.items lines.new.waves.items }
-    ensures fed { OnOk result (All (IsFed S.answer (netlist design.now) wiring.now lines.new.waves.items) places.now) }
-    ensures traces { lines.new.traces ≡ lines.old.traces }
-{
-    for place in places {
-        find_read::<S>(alloc, design, wiring, &wiring.cells[*place as usize], lines)?;
-    }
     Ok(())
 }
 

@@ -1,4 +1,4 @@
-//! The gates of an order, followed batch after batch.
+//! The gates of an order, followed one after another.
 
 ghost use Rattle.std.specs.Prelude.{◌≡◌, ◌≢◌, ◌++◌, ℕ, [], true, suc, All, Some, map, slice_get, IfOk, OnOk, OnErr};
 ghost use Rattle.design.specs.Keys.{netlist};
@@ -8,15 +8,15 @@ ghost use Rattle.scratch.specs.Run.{wave_of};
 ghost use Rattle.scratch.specs.kept.Kept.{IsWiring};
 ghost use Rattle.scratch.specs.kept.Places.{has};
 ghost use Rattle.scratch.specs.kept.Run.{IsRun, trace_of};
-ghost use Rattle.ordering.specs.kept.Batches.{IsReady, StayTraced};
+ghost use Rattle.ordering.specs.kept.Come.{IsReady, StayTraced};
 ghost use Rattle.ordering.specs.kept.Begins.{IsBegin};
 ghost use Rattle.ordering.specs.kept.Earlier.{begin_after};
 ghost use Rattle.ordering.specs.kept.Lines.{Fit};
 ghost use Rattle.ordering.specs.kept.Order.{is_order, may_follow, order_work_from};
 
-use crate::batches::{batch_end, mark_places};
-use crate::dealing::{deal_each, is_worth_dealing};
-use crate::following::{Begin, find_each, follow_here};
+use crate::ahead::Ahead;
+use crate::following::{Begin, follow_here};
+use crate::helping::let_help;
 use crate::lines::{Lines, open_lines};
 use design::Design;
 use gateline::find_rest;
@@ -25,44 +25,8 @@ use scratch::{Wiring, run_of_lines};
 use std::alloc::{AllocError, Global};
 use waveform::Run;
 
-/// Follows the gates at these places, which wait for none of each other: each by itself where the stepper takes jobs and they have
-/// much to do, else one after another. It fails where memory runs out; then what was asked is a part of what is asked of these gates.
-fn follow_batch<S: Stepper>(
-    alloc: Global,
-    design: &Design,
-    wiring: &Wiring,
-    begin: Begin,
-    places: &[u32],
-    lines: &mut Lines,
-    stepper: &mut S,
-) -> Result<(), AllocError>
-    requires none_lost { S.losses stepper.old ≡ 0 }
-    requires wired { IsWiring (netlist design.now) wiring.now }
-    requires begin { IsBegin S.answer design.now begin }
-    requires ready { All (IsReady S.answer (netlist design.now) wiring.now lines.old.traces.items) places.now }
-    requires fit { Fit (netlist design.now) lines.old }
-    requires found { AreFound S.answer (netlist design.now) lines.old.found.items lines.old.waves.items }
-    ensures fit { OnOk result (Fit (netlist design.now) lines.new) }
-    ensures found { OnOk result (AreFound S.answer (netlist design.now) lines.new.found.items lines.new.waves.items) }
-    ensures traced { OnOk result ((p : ℕ) → has p places.now ≡ true → IsTraced S.answer (netlist design.now) lines.new.traces.items p) }
-    ensures kept { OnOk result (StayTraced S.answer (netlist design.now) lines.old.traces.items lines.new.traces.items) }
-    ensures asked { OnOk result (S.asked stepper.new ≡ S.asked stepper.old ++ order_work_from S.answer (netlist design.now) begin.entry.old (begin_after begin.entry.earlier) (suc (netlist design.now).horizon) places.now) }
-    ensures part { OnErr result (IsAskedInPart (S.asked stepper.old) (S.asked stepper.new) (order_work_from S.answer (netlist design.now) begin.entry.old (begin_after begin.entry.earlier) (suc (netlist design.now).horizon) places.now)) }
-    ensures lost { S.losses stepper.new ≡ S.losses stepper.old }
-{
-    if !stepper.takes_jobs() || places.len() < 2 {
-        return follow_here(alloc, design, wiring, begin, places, lines, stepper);
-    }
-    find_each::<S>(alloc, design, wiring, places, lines)?;
-    if !is_worth_dealing(wiring, places, lines) {
-        return follow_here(alloc, design, wiring, begin, places, lines, stepper);
-    }
-    deal_each(alloc, design, wiring, begin, places, lines, stepper)
-}
-
-/// Follows the gates of an order, and finds each wave when it is first read: where the stepper takes jobs batch after batch, each of
-/// gates that wait for none of each other, else one after another. It fails where memory runs out; then what was asked is a part of
-/// what is asked of these gates.
+/// Follows the gates of an order one after another, and finds each wave when it is first read. It fails where memory runs out; then
+/// what was asked is a part of what is asked of these gates.
 fn follow_each<S: Stepper>(
     alloc: Global,
     design: &Design,
@@ -85,13 +49,11 @@ fn follow_each<S: Stepper>(
     ensures part { OnErr result (IsAskedInPart (S.asked stepper.old) (S.asked stepper.new) (order_work_from S.answer (netlist design.now) begin.entry.old (begin_after begin.entry.earlier) (suc (netlist design.now).horizon) order.now)) }
     ensures lost { S.losses stepper.new ≡ S.losses stepper.old }
 {
-    let mut come = vec![in alloc; false; design.gate_count()]?;
     let mut first = 0usize;
     while first < order.len() {
-        let end = batch_end(wiring, come.as_slice(), order, first, stepper.takes_jobs());
+        let end = first + 1;
         let places = &order[first..end];
-        follow_batch(alloc, design, wiring, begin, places, lines, stepper)?;
-        mark_places(come.as_mut_slice(), places);
+        follow_here(alloc, design, wiring, begin, places, lines, stepper)?;
         first = end;
     }
     Ok(())
@@ -131,10 +93,9 @@ fn fill_lines<S: Stepper>(
     )
 }
 
-/// The run of the design by this stepper, gate after gate in this order, from moment 0 on or from the end of an earlier run; beside
-/// an old run each gate is asked only where it had another task there. It fails where memory runs out; then what was asked is a
-/// part of what is asked of the gates in this order.
-pub fn run_in_order<S: Stepper>(
+/// The run of the design by this stepper, gate after gate in this order, by this beginning. It fails where memory runs out; then what was
+/// asked is a part of what is asked of the gates in this order.
+fn run_along<S: Stepper>(
     alloc: Global,
     design: &Design,
     wiring: &Wiring,
@@ -155,4 +116,59 @@ pub fn run_in_order<S: Stepper>(
     fill_lines(alloc, design, wiring, begin, order, &mut lines, stepper)?;
     let Lines { waves, traces, .. } = lines;
     run_of_lines::<S>(alloc, design, waves, traces)
+}
+
+/// So many points an input has at least, on average, where threads are started for a run (own): where gates are asked less often, to take
+/// over what a thread found costs about as much as to follow the gate.
+const LEAST_POINTS: usize = 64;
+
+/// So many evaluations a run has at least, where threads are started for it (own). A gate has about as many as an input has points.
+const LEAST_EVALUATIONS: usize = 262_144;
+
+/// Whether gates are asked so often in a run of the design that threads that follow them ahead are worth it.
+fn is_long(design: &Design) -> bool {
+    let mut inputs = 0usize;
+    let mut points = 0usize;
+    for place in 0..design.net_count() {
+        let net = design.net_at(place);
+        if net.is_input() {
+            inputs = inputs.saturating_add(1);
+            points = points.saturating_add(net.point_count());
+        }
+    }
+    let each = points / inputs.max(1);
+    each >= LEAST_POINTS && design.gate_count().saturating_mul(each) >= LEAST_EVALUATIONS
+}
+
+/// The run of the design by this stepper, gate after gate in this order, from moment 0 on or from the end of an earlier run; beside
+/// an old run each gate is asked only where it had another task there. Where the stepper does jobs in threads, these follow gates
+/// ahead. It fails where memory runs out; then what was asked is a part of what is asked of the gates in this order.
+pub fn run_in_order<S: Stepper>(
+    alloc: Global,
+    design: &Design,
+    wiring: &Wiring,
+    begin: Begin,
+    order: &[u32],
+    stepper: &mut S,
+) -> Result<Run, AllocError>
+    requires none_lost { S.losses stepper.old ≡ 0 }
+    requires wired { IsWiring (netlist design.now) wiring.now }
+    requires begin { IsBegin S.answer design.now begin }
+    requires order { is_order (netlist design.now) order.now ≡ true }
+    ensures run { IfOk result (IsRun S.answer design.now) }
+    ensures asked { OnOk result (S.asked stepper.new ≡ S.asked stepper.old ++ order_work_from S.answer (netlist design.now) begin.entry.old (begin_after begin.entry.earlier) (suc (netlist design.now).horizon) order.now) }
+    ensures part { OnErr result (IsAskedInPart (S.asked stepper.old) (S.asked stepper.new) (order_work_from S.answer (netlist design.now) begin.entry.old (begin_after begin.entry.earlier) (suc (netlist design.now).horizon) order.now)) }
+    ensures lost { S.losses stepper.new ≡ S.losses stepper.old }
+{
+    if begin.old.is_some() || !stepper.takes_jobs() || !is_long(design) {
+        return run_along(alloc, design, wiring, begin, order, stepper);
+    }
+    let ahead = Ahead::open(alloc, design.gate_count())?;
+    let begin = Begin {
+        earlier: begin.earlier,
+        old: begin.old,
+        ahead: Some(&ahead),
+    };
+    let_help(alloc, design, wiring, begin, order, stepper)?;
+    run_along(alloc, design, wiring, begin, order, stepper)
 }

@@ -1,18 +1,20 @@
 //! The gates of a design one after another, each after all that drive what it reads.
 #![tactic(auto)]
 
-mod batches;
+mod ahead;
 mod beside;
 mod checking;
-mod dealing;
 mod earlier;
 mod extending;
 mod finding;
 mod following;
+mod helping;
 mod in_order;
 pub mod laws;
 mod lines;
+mod looking;
 mod old_run;
+mod progress;
 mod run;
 
 pub use beside::run_beside;

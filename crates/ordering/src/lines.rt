@@ -4,6 +4,7 @@ ghost use Rattle.std.specs.Prelude.{◌≡◌, ◌≢◌, ℕ, true, Some, lengt
 ghost use Rattle.design.specs.Keys.{netlist};
 ghost use Rattle.ordering.specs.kept.Lines.{Fit};
 
+use chunked::Shared;
 use design::Design;
 use fourstate::Value;
 use gateline::InputsTable;
@@ -17,25 +18,26 @@ pub struct Lines {
     /// Whether the wave of each net is found, in the order of the nets.
     pub found: Vec<bool>,
     /// The waves of the nets; of one that is not found, any wave.
-    pub waves: Vec<Wave>,
+    pub waves: Vec<Shared<Wave>>,
     /// The traces of the gates, in their order; of one that has not come, any trace.
-    pub traces: Vec<Trace>,
+    pub traces: Vec<Shared<Trace>>,
     /// The values of a few inputs, all that there are.
     pub table: InputsTable,
 }
 
-/// So many lines that stand for none.
+/// So many times one line, which stands for none.
 fn blank_lines<V: Sample>(
     alloc: Global,
     count: usize,
     value: V,
-) -> Result<Vec<Timeline<V>>, AllocError>
+) -> Result<Vec<Shared<Timeline<V>>>, AllocError>
     requires { V.can_store 0 value }
     ensures { IfOk result (λ lines. length lines.items ≡ count) }
 {
+    let blank = Shared::new(alloc, Timeline::open(alloc, value)?)?;
     let mut lines = Vec::with_capacity(alloc, count)?;
     for _ in 0..count {
-        lines.push(Timeline::open(alloc, value)?)?;
+        lines.push(blank.clone()?)?;
     }
     Ok(lines)
 }

@@ -66,6 +66,7 @@ fn simulate_by_gates<S: Stepper>(
     let begin = Begin {
         earlier: None,
         old: None,
+        ahead: None,
     };
     Ok(run_in_order(alloc, design, wiring, begin, order, stepper)?)
 }

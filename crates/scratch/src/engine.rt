@@ -19,7 +19,7 @@ use crate::asking::{Asking, ask};
 use crate::beside::Beside;
 use crate::completing::complete_waves;
 use crate::driving::drive_each;
-use crate::finishing::run_of_lines;
+use crate::finishing::{run_of_lines, share_traces, share_waves};
 use crate::opening::Opening;
 use crate::present::Present;
 use crate::recording::Recording;
@@ -388,6 +388,8 @@ impl Engine {
         let mut waves = self.waves.finish()?;
         let traces = self.traces.finish()?;
         complete_waves::<S>(design, wiring, traces.as_slice(), &mut waves)?;
+        let waves = share_waves(alloc, waves)?;
+        let traces = share_traces(alloc, traces)?;
         run_of_lines::<S>(alloc, design, waves, traces)
     }
 }

@@ -6,6 +6,7 @@ ghost use Rattle.catalog.specs.kept.Catalog.{keys_of};
 ghost use Rattle.design.specs.Keys.{netlist};
 ghost use Rattle.scratch.specs.kept.Recordings.{AreUnder};
 
+use chunked::Shared;
 use design::Design;
 use fourstate::Value;
 use gatestep::Driver;
@@ -32,7 +33,18 @@ impl Recording {
         let traces = open_each(alloc, states)?;
         Ok(Recording { waves, traces })
     }
+}
 
+/// What a run leaves, to be shared with others: the wave of each net and the trace of each gate's driver.
+#[derive(Drop)]
+pub struct SharedRecording {
+    /// The waves, in the order of the nets.
+    pub waves: Vec<Shared<Wave>>,
+    /// The traces, in the order of the gates.
+    pub traces: Vec<Shared<Trace>>,
+}
+
+impl SharedRecording {
     /// The run of this design: the waves under the keys of its nets, the traces under the keys of its gates.
     pub fn finish(self, alloc: Global, design: &Design) -> Result<Run, AllocError>
         requires nets { length self.waves.items ≡ length (netlist design.now).nets }
@@ -41,7 +53,7 @@ impl Recording {
         ensures traces { IfOk result (λ run. AreUnder (keys_of design.now.gates) self.traces.items run.traces) }
         ensures horizon { IfOk result (λ run. run.horizon ≡ (netlist design.now).horizon) }
     {
-        let Recording { waves, traces } = self;
+        let SharedRecording { waves, traces } = self;
         let mut run = Run::new(alloc, design.horizon());
         put_waves(&mut run, design, waves)?;
         put_traces(&mut run, design, traces)?;
@@ -51,7 +63,7 @@ impl Recording {
 
 /// Puts each wave under the key of the net at its place, from the last one on. Where an allocation was refused, which waves
 /// the run has is not known.
-fn put_waves(run: &mut Run, design: &Design, waves: Vec<Wave>) -> Result<(), AllocError>
+fn put_waves(run: &mut Run, design: &Design, waves: Vec<Shared<Wave>>) -> Result<(), AllocError>
     requires nets { length waves.items ≡ length (netlist design.now).nets }
     requires none { run.old.waves ≡ [] }
     ensures waves { OnOk result (AreUnder (keys_of design.now.nets) waves.items run.new.waves) }
@@ -61,14 +73,14 @@ fn put_waves(run: &mut Run, design: &Design, waves: Vec<Wave>) -> Result<(), All
     let mut waves = waves;
     while let Some(wave) = waves.pop() {
         let net = design.net_key_at(waves.len());
-        run.put_wave(net.number(), wave)?;
+        run.share_wave(net.number(), wave)?;
     }
     Ok(())
 }
 
 /// Puts each trace under the key of the gate at its place, from the last one on. Where an allocation was refused, which traces
 /// the run has is not known.
-fn put_traces(run: &mut Run, design: &Design, traces: Vec<Trace>) -> Result<(), AllocError>
+fn put_traces(run: &mut Run, design: &Design, traces: Vec<Shared<Trace>>) -> Result<(), AllocError>
     requires gates { length traces.items ≡ length (netlist design.now).gates }
     requires none { run.old.traces ≡ [] }
     ensures traces { OnOk result (AreUnder (keys_of design.now.gates) traces.items run.new.traces) }
@@ -78,7 +90,7 @@ fn put_traces(run: &mut Run, design: &Design, traces: Vec<Trace>) -> Result<(), 
     let mut traces = traces;
     while let Some(trace) = traces.pop() {
         let gate = design.gate_key_at(traces.len());
-        run.put_trace(gate.number(), trace)?;
+        run.share_trace(gate.number(), trace)?;
     }
     Ok(())
 }

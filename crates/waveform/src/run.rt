@@ -7,6 +7,7 @@ ghost use Rattle.waveform.specs.kept.Tables.{IsChangedAt, IsUnchanged, line_at};
 use crate::table::Table;
 use crate::trace::Trace;
 use crate::wave::Wave;
+use chunked::Shared;
 use fourstate::Value;
 use gatestep::Driver;
 use std::alloc::{AllocError, Global};
@@ -96,6 +97,26 @@ impl Run {
         ensures horizon { self.new.horizon ≡ self.old.horizon }
     {
         self.traces.put(key, trace)
+    }
+
+    /// Puts a wave under a net's key that others may have too. It fails where memory runs out, and then each key has what it had.
+    pub fn share_wave(&mut self, key: usize, wave: Shared<Wave>) -> Result<(), AllocError>
+        ensures ok { OnOk result (IsChangedAt key (Some wave) self.old.waves self.new.waves) }
+        ensures err { OnErr result (IsUnchanged self.old.waves self.new.waves) }
+        ensures traces { self.new.traces ≡ self.old.traces }
+        ensures horizon { self.new.horizon ≡ self.old.horizon }
+    {
+        self.waves.share(key, wave)
+    }
+
+    /// Puts a trace under a gate's key that others may have too. It fails where memory runs out, and then each key has what it had.
+    pub fn share_trace(&mut self, key: usize, trace: Shared<Trace>) -> Result<(), AllocError>
+        ensures ok { OnOk result (IsChangedAt key (Some trace) self.old.traces self.new.traces) }
+        ensures err { OnErr result (IsUnchanged self.old.traces self.new.traces) }
+        ensures waves { self.new.waves ≡ self.old.waves }
+        ensures horizon { self.new.horizon ≡ self.old.horizon }
+    {
+        self.traces.share(key, trace)
     }
 
     /// Takes the wave under a net's key away. It fails where memory runs out, and then each key has what it had.

@@ -57,6 +57,14 @@ impl<V: Sample> Table<V> {
         ensures err { OnErr result (IsUnchanged self.old self.new) }
     {
         let line = Shared::new(self.lines.allocator(), line)?;
+        self.share(key, line)
+    }
+
+    /// Puts a timeline under a key that others may have too. It fails where memory runs out, and then each key has what it had.
+    pub fn share(&mut self, key: usize, line: Shared<Timeline<V>>) -> Result<(), AllocError>
+        ensures ok { OnOk result (IsChangedAt key (Some line) self.old self.new) }
+        ensures err { OnErr result (IsUnchanged self.old self.new) }
+    {
         grow(&mut self.lines, key)?;
         self.lines.set(key, Some(line))?;
         Ok(())

@@ -1,6 +1,6 @@
 //! Waves: what a net has at each moment.
 
-ghost use Rattle.std.specs.Prelude.{◌≡◌, ◌<◌, refl};
+ghost use Rattle.std.specs.Prelude.{◌≡◌, ◌<◌, IfOk, refl};
 ghost use Rattle.fourstate.specs.kept.ValueLaws.{is_same, same_self};
 ghost use Rattle.fourstate.specs.Values.{same_value};
 ghost use Rattle.fourstate.specs.declared.value.Value.TheVariants.{Unknown};
@@ -11,7 +11,9 @@ ghost use Rattle.waveform.specs.declared.times.TheConstants.{TIME_END};
 use crate::change::Change;
 use crate::sample::Sample;
 use crate::timeline::Timeline;
+use chunked::Shared;
 use fourstate::Value;
+use std::alloc::{AllocError, Global};
 
 /// What a net has at each moment, kept as its changes.
 pub type Wave = Timeline<Value>;
@@ -83,5 +85,15 @@ impl Timeline<Value> {
         ensures { result.now ≡ self.now }
     {
         self.stored()
+    }
+
+    /// The wave as a run keeps it, which marks what values a long one has, to be shared. It fails where memory runs out, and then
+    /// the wave is gone.
+    pub fn shared(self, alloc: Global) -> Result<Shared<Wave>, AllocError>
+        ensures { IfOk result (λ shared. shared ≡ self) }
+    {
+        let mut wave = self;
+        wave.mark()?;
+        Shared::new(alloc, wave)
     }
 }

@@ -1,5 +1,5 @@
 -- What a run asks, gate after gate.
-use Rattle.std.specs.Prelude.{◌≡◌, ◌&&◌, Bool, ℕ, List, ◌++◌, map, sum_by, count_by}
+use Rattle.std.specs.Prelude.{◌&&◌, Bool, ℕ, List, map, sum_by, count_by}
 use Rattle.std.specs.List.{filter, flat_map}
 pub use Rattle.gatestep.specs.Jobs.{IsBeginning}
 use Rattle.gatestep.specs.Step.{State, Evaluation}

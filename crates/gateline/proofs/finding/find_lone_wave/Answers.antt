@@ -29,8 +29,8 @@ driver_wave-requires-clause-trace g c =
     subst (λ m. IsTraceBelow m line) end
     (found_below answer d are law.answer_pending law.answer_current c.value_of_changes.ensures c.changes_lie_before.ensures traces k line refl here)
 
-pub returns : goal.returns
-returns g c =
+pub returns-clause-wave : goal.returns-clause-wave
+returns-clause-wave g c =
     let answer = g.S.Stepper.answer in let law = g.met.S.Stepper in let d = netlist c.args.design.now in let n = c.net_at-net.result.now in let k = c.args.driver in let line = c.args.trace.now in
     let there : slice_get d.nets c.args.place ≡ Some n = c.net_at-net.ensures in
     let traces : List (List (ℕ × State)) = map (trace_of answer d) d.gates in
@@ -47,3 +47,8 @@ returns g c =
     ∙ lone_wave answer d are law.answer_pending law.answer_current c.value_of_changes.ensures c.same_changes.ensures (c.net_by_places.ensures d) traces n k line lone traced here)
     ∙ sym (slice_get-map (wave_of answer d) d.nets c.args.place ∙ ap (option_map (wave_of answer d)) there))
     c.driver_wave.ensures
+
+pub returns-clause-driven : goal.returns-clause-driven
+returns-clause-driven g c =
+    let end : suc (netlist c.args.design.now).horizon ≡ c.horizon.result + 1 = (let is = c.horizon.ensures.horizon in omega arith) in
+    if_ok_then c.driver_wave.result (λ wave is. is ∙ ap (wave_changes_below (currents c.args.trace.now)) (sym end)) c.driver_wave.ensures

@@ -25,8 +25,8 @@ driver_wave-requires-clause-trace g c =
     let lone = lone_at d c.args.wiring.now.lone_drivers.items c.args.place n k c.index.result.now c.requires.wired.lone_drivers there c.index.ensures c.in-Some.is in
     let here : slice_get traces k ≡ Some line = found_at traces k line c.in-Some-get.ensures.lookup.0 c.in-Some-get.ensures.lookup.1 in
     let end : suc d.horizon ≡ c.horizon-in-Some-get.result + 1 = (let is = c.horizon-in-Some-get.ensures.horizon in omega arith) in
-    subst (λ m. IsTraceBelow m line) end
-    (found_below answer d are law.answer_pending law.answer_current c.value_of_changes.ensures c.changes_lie_before.ensures traces k line (lone_traced answer d are traces n k lone traced) here)
+    subst (IsTraceBelow (c.horizon-in-Some-get.result + 1)) (sym c.value.ensures) (subst (λ m. IsTraceBelow m line) end
+    (found_below answer d are law.answer_pending law.answer_current c.value_of_changes.ensures c.changes_lie_before.ensures traces k line (lone_traced answer d are traces n k lone traced) here))
 
 pub returns-in-Some-get : goal.returns-in-Some-get
 returns-in-Some-get g c =
@@ -38,7 +38,7 @@ returns-in-Some-get g c =
     let here : slice_get traces k ≡ Some line = found_at traces k line c.in-Some-get.ensures.lookup.0 c.in-Some-get.ensures.lookup.1 in
     let end : suc d.horizon ≡ c.horizon-in-Some-get.result + 1 = (let is = c.horizon-in-Some-get.ensures.horizon in omega arith) in
     if_ok_then c.driver_wave.result
-    (λ wave is. ap (λ w. Some w) (is ∙ ap (wave_changes_below (currents line)) (sym end)
+    (λ wave is. ap (λ w. Some w) (is ∙ ap (λ w. wave_changes_below (currents w) (c.horizon-in-Some-get.result + 1)) c.value.ensures ∙ ap (wave_changes_below (currents line)) (sym end)
     ∙ lone_wave answer d are law.answer_pending law.answer_current c.value_of_changes.ensures c.same_changes.ensures (c.net_by_places.ensures d) traces n k line lone traced here)
     ∙ sym (slice_get-map (wave_of answer d) d.nets c.args.place ∙ ap (option_map (wave_of answer d)) there))
     c.driver_wave.ensures

@@ -11,11 +11,14 @@ use Rattle.gateline.specs.kept.OldLines.{IsOldLine, line_seen, line_if, wanted_b
 use Rattle.gateline.specs.kept.Starts.{begin_of}
 use Rattle.gateline.specs.kept.Waves.{inputs_by}
 use Rattle.scratch.proofs.Lists.{if_there, of_there}
+use Rattle.scratch.specs.Asked.{IsAskedInPart}
 use Rattle.scratch.specs.Run.{state_after}
 use Rattle.scratch.specs.kept.Cells.{CellRecord}
 use Rattle.scratch.specs.kept.Kept.{cell_of}
 use Rattle.scratch.specs.kept.Run.{trace_of}
+use Rattle.waveform.specs.Changes.{wave_changes_below}
 use Rattle.waveform.specs.kept.Changes.{trace_below}
+use Rattle.waveform.specs.kept.Currents.{currents}
 
 pub follow_line-requires : goal.follow_line-requires
 follow_line-requires g c =
@@ -48,21 +51,21 @@ returns g c =
     let old = g.S.Stepper.asked c.args.stepper.now in let now = g.S.Stepper.asked c.follow_line.new.stepper in
     let beside = line_if c.args.start.beside in let begin = begin_of c.args.start.former in
     let works : (n : ℕ) → n ≤ suc d.horizon →
-    old ++ line_work_from answer cell.kind cell.delays inputs (wanted_by beside cell.inputs) begin n ≡ old ++ gate_work_from answer d (wanted_by beside (cell_of d it.gate).inputs) it.gate begin n
-    = λ n low. ap (λ l. old ++ l) (work_is answer d waves c.value_of_changes.ensures (c.input_by_place.ensures d) it.gate cell it.is known (wanted_by beside cell.inputs) begin n low)
-    ∙ ap (λ (w : CellRecord). old ++ gate_work_from answer d (wanted_by beside w.inputs) it.gate begin n) it.is in
+    line_work_from answer cell.kind cell.delays inputs (wanted_by beside cell.inputs) begin n ≡ gate_work_from answer d (wanted_by beside (cell_of d it.gate).inputs) it.gate begin n
+    = λ n low. work_is answer d waves c.value_of_changes.ensures (c.input_by_place.ensures d) it.gate cell it.is known (wanted_by beside cell.inputs) begin n low
+    ∙ ap (λ (w : CellRecord). gate_work_from answer d (wanted_by beside w.inputs) it.gate begin n) it.is in
     record {
       trace = if_ok_then c.follow_line.result
-          (λ trace traced. if_there (slice_get d.gates place) it.gate (λ g. trace ≡ trace_of answer d g) it.gate_there
+          (λ line traced. if_there (slice_get d.gates place) it.gate (λ g. line.trace ≡ trace_of answer d g) it.gate_there
           (traced ∙ ap (λ n. line_trace answer cell.kind cell.delays inputs (suc n)) end ∙ whole))
           c.follow_line.ensures.trace;
+      wave = if_ok_then c.follow_line.result (λ line found wave some. found wave some ∙ ap (λ n. wave_changes_below (currents line.trace) (suc n)) end) c.follow_line.ensures.wave;
       asked = on_ok_so c.follow_line.result c.follow_line.ensures.asked
           (λ asked. if_there (slice_get d.gates place) it.gate (λ x. now ≡ old ++ gate_work_from answer d (wanted_by beside (cell_of d x).inputs) x begin (suc d.horizon)) it.gate_there
-          (asked ∙ ap (λ n. old ++ line_work_from answer cell.kind cell.delays inputs (wanted_by beside cell.inputs) begin (suc n)) end ∙ works (suc d.horizon) (omega arith)));
+          (asked ∙ ap (λ n. old ++ line_work_from answer cell.kind cell.delays inputs (wanted_by beside cell.inputs) begin (suc n)) end ∙ ap (λ l. old ++ l) (works (suc d.horizon) (omega arith))));
       part = on_err_so c.follow_line.result c.follow_line.ensures.part
-          (λ part. let low : part.0 ≤ suc d.horizon = (let before = part.1 in omega arith) in
-          if_there (slice_get d.gates place) it.gate
-          (λ x. (n : ℕ) × (n ≤ suc d.horizon) × (now ≡ old ++ gate_work_from answer d (wanted_by beside (cell_of d x).inputs) x begin n)) it.gate_there
-          (part.0, low, part.2 ∙ works part.0 low));
+          (λ part. if_there (slice_get d.gates place) it.gate
+          (λ x. IsAskedInPart old now (gate_work_from answer d (wanted_by beside (cell_of d x).inputs) x begin (suc d.horizon))) it.gate_there
+          (subst (λ l. IsAskedInPart old now l) (ap (λ n. line_work_from answer cell.kind cell.delays inputs (wanted_by beside cell.inputs) begin (suc n)) end ∙ works (suc d.horizon) (omega arith)) part));
       lost = c.follow_line.ensures.lost;
     }

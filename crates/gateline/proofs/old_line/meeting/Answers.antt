@@ -1,8 +1,9 @@
-use Rattle.std.proofs.Common.{◌∙◌, sym, Some, map}
+use Rattle.std.proofs.Common.{◌∙◌, ap, sym, Some, map}
 use Rattle.std.proofs.lemmas.Option.{IfSome_then}
 use Rattle.gateline.proofs.Lists.{found_at}
 use Rattle.gateline.proofs.OldReads.{lent_at, reads}
 use Rattle.gateline.proofs.old_line.meeting.Goals as goal
+use Rattle.waveform.specs.Changes.{wave_at}
 
 pub returns : goal.returns
 returns c =
@@ -11,5 +12,5 @@ returns c =
     let there = found_at waves place wave c.in-Some-get.ensures.lookup.0 c.in-Some-get.ensures.lookup.1 in
     IfSome_then c.meeting.result c.meeting.ensures
     (λ m same t late. reads (map (λ w. w.now) lent) c.args.input place (Some old.now) t c.in-At.is (lent_at lent place (Some old) old_there)
-    ∙ same t late
+    ∙ same t late ∙ ap (λ w. wave_at w t) c.value.ensures
     ∙ sym (reads waves c.args.input place (Some wave) t c.in-At.is there))

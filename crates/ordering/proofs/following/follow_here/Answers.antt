@@ -1,11 +1,10 @@
 use Rattle.std.proofs.Common.{◌<◌, ◌∙◌, sym, ap, suc, take, length, get_or}
 use Rattle.design.specs.Keys.{netlist}
-use Rattle.gatestep.proofs.Jobs.{beginning_is_part, on_err}
+use Rattle.gatestep.proofs.Jobs.{on_err}
 use Rattle.scratch.specs.kept.Places.{has}
-use Rattle.ordering.specs.kept.Batches.{StayTraced}
+use Rattle.ordering.specs.kept.Come.{StayTraced}
 use Rattle.ordering.specs.kept.Earlier.{begin_after}
-use Rattle.ordering.specs.kept.Order.{order_work_from}
-use Rattle.ordering.proofs.Batching.{all_stay_ready}
+use Rattle.ordering.proofs.Coming.{all_stay_ready}
 use Rattle.ordering.proofs.Marks.{one_taken}
 use Rattle.ordering.proofs.Steps.{one_asked, part_asked}
 use Rattle.ordering.proofs.Supplied.{one_traced, stay_traced}
@@ -21,10 +20,9 @@ pub returns-in_err-follow_one-clause-part : goal.returns-in_err-follow_one-claus
 returns-in_err-follow_one-clause-part g c =
     let d = netlist c.args.design.now in let places = c.args.places.now in let i = c.loop-place.place-index in
     let asked = g.S.Stepper.asked in let a = begin_after c.args.begin.earlier in
-    let some =
-    part_asked g.S.Stepper.answer d c.args.begin.old a (suc d.horizon) places i c.loop-place-test.true (asked c.args.stepper.now) (asked c.loop-place.stepper) (asked c.follow_one.new.stepper) c.loop-place.invariant.asked
-    (c.loop-place.invariant.ready i 0 c.loop-place-test.true).there c.in_err-follow_one.ensures.part in
-    on_err c.from_residual.result (some.0, beginning_is_part some.0 (order_work_from g.S.Stepper.answer d c.args.begin.old a (suc d.horizon) places) some.1, some.2)
+    on_err c.from_residual.result
+    (part_asked g.S.Stepper.answer d c.args.begin.old a (suc d.horizon) places i c.loop-place-test.true (asked c.args.stepper.now) (asked c.loop-place.stepper) (asked c.follow_one.new.stepper) c.loop-place.invariant.asked
+    (c.loop-place.invariant.ready i 0 c.loop-place-test.true).there c.in_err-follow_one.ensures.part)
 
 pub loop-place-preserved : goal.loop-place-preserved
 loop-place-preserved g c =

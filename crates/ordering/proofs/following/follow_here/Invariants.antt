@@ -3,7 +3,7 @@ use Rattle.std.specs.Prelude.{All}
 use Rattle.design.specs.Keys.{netlist}
 use Rattle.gateline.specs.kept.Known.{AreFound, IsTraced}
 use Rattle.scratch.specs.kept.Places.{has}
-use Rattle.ordering.specs.kept.Batches.{IsReady, StayTraced}
+use Rattle.ordering.specs.kept.Come.{IsReady, StayTraced}
 use Rattle.ordering.specs.kept.Earlier.{begin_after}
 use Rattle.ordering.specs.kept.Lines.{Fit}
 use Rattle.ordering.specs.kept.Order.{order_work_from}

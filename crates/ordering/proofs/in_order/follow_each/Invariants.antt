@@ -2,13 +2,12 @@ use Rattle.std.proofs.Common.{◌≡◌, ◌≤◌, ◌-◌, ℕ, true, suc, tak
 use Rattle.design.specs.Keys.{netlist}
 use Rattle.gateline.specs.kept.Known.{AreFound, IsTraced}
 use Rattle.scratch.specs.kept.Places.{has}
-use Rattle.ordering.specs.kept.Batches.{HaveCome}
 use Rattle.ordering.specs.kept.Earlier.{begin_after}
 use Rattle.ordering.specs.kept.Lines.{Fit}
 use Rattle.ordering.specs.kept.Order.{may_follow, order_work_from}
 use Rattle.ordering.proofs.in_order.follow_each.Given as goal
 
--- the gates so far have their traces and were asked, those that are marked have their traces, and the others may follow
+-- the gates so far have their traces and were asked, and the others may follow
 abbrev pub invariant-loop-first : goal.invariant-loop-first
 invariant-loop-first g l =
     record {
@@ -17,8 +16,6 @@ invariant-loop-first g l =
       fit : Fit (netlist l.design) l.lines;
       found : AreFound g.S.Stepper.answer (netlist l.design) l.lines.found.items l.lines.waves.items;
       traced : (p : ℕ) → has p (take l.first l.order) ≡ true → IsTraced g.S.Stepper.answer (netlist l.design) l.lines.traces.items p;
-      come : HaveCome g.S.Stepper.answer (netlist l.design) l.come.items l.lines.traces.items;
-      marks : length l.come.items ≡ length (netlist l.design).gates;
       asked : g.S.Stepper.asked l.stepper
           ≡ g.S.Stepper.asked l.fn.stepper ++ order_work_from g.S.Stepper.answer (netlist l.design) l.begin.old (begin_after l.begin.earlier) (suc (netlist l.design).horizon) (take l.first l.order);
       lost : g.S.Stepper.losses l.stepper ≡ g.S.Stepper.losses l.fn.stepper;

@@ -20,7 +20,7 @@ loop-trace-preserved c =
     let at : slice_get keys (length left) ≡ Some c.number.result =
     (let last : length left ≡ c.len.result = grind (arith, common_steps) in ap (λ p. slice_get keys p) last) ∙ c.gate_key_at-gate.ensures.key ∙ ap Some (sym c.number.ensures) in
     record {
-      done = put_last keys c.args.traces.items c.loop-trace.traces.items left done.0 c.loop-trace.run.traces c.put_trace.new.self.traces c.number.result c.in-Some.trace done.1 c.in-Some.ensures.items done.2 at c.in_ok-put_trace.ensures.ok;
+      done = put_last keys c.args.traces.items c.loop-trace.traces.items left done.0 c.loop-trace.run.traces c.share_trace.new.self.traces c.number.result c.in-Some.trace done.1 c.in-Some.ensures.items done.2 at c.in_ok-share_trace.ensures.ok;
       waves = grind (arith, common_steps);
       horizon = grind (arith, common_steps);
     }

@@ -20,7 +20,7 @@ loop-wave-preserved c =
     let at : slice_get keys (length left) ≡ Some c.number.result =
     (let last : length left ≡ c.len.result = grind (arith, common_steps) in ap (λ p. slice_get keys p) last) ∙ c.net_key_at-net.ensures.key ∙ ap Some (sym c.number.ensures) in
     record {
-      done = put_last keys c.args.waves.items c.loop-wave.waves.items left done.0 c.loop-wave.run.waves c.put_wave.new.self.waves c.number.result c.in-Some.wave done.1 c.in-Some.ensures.items done.2 at c.in_ok-put_wave.ensures.ok;
+      done = put_last keys c.args.waves.items c.loop-wave.waves.items left done.0 c.loop-wave.run.waves c.share_wave.new.self.waves c.number.result c.in-Some.wave done.1 c.in-Some.ensures.items done.2 at c.in_ok-share_wave.ensures.ok;
       traces = grind (arith, common_steps);
       horizon = grind (arith, common_steps);
     }

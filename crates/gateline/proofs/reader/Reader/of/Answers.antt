@@ -12,7 +12,8 @@ returns-in-Some c =
     let waves = c.args.waves.now in let place = c.in-At.place in let wave = c.in-Some.wave.now in
     let there = found_at waves place wave c.in-Some.ensures.lookup.0 c.in-Some.ensures.lookup.1 in
     goes_same (input_at waves c.args.input) (wave_at wave) c.open.result.value c.open.result.rest.now c.args.t
-    (λ u high. reads waves c.args.input place (Some wave) u c.in-At.is there) c.open.ensures
+    (λ u high. reads waves c.args.input place (Some wave) u c.in-At.is there)
+    (subst (λ w. GoesOn (wave_at w) c.open.result.value c.open.result.rest.now c.args.t) c.value.ensures c.open.ensures)
 
 pub returns-in-None : goal.returns-in-None
 returns-in-None c =
