@@ -77,7 +77,7 @@ line_right {L} due keys gone places run copy made cleared put key on off = by_te
     by_test true same = right true same (turn (on same))
     by_test false same = right false same (off same)
 
-map_both : {X Y Z : Type 0} (f : X → Y) (h : Y → Z) (o : Option X) → option_map (λ x. h (f x)) o ≡ option_map h (option_map f o)
+pub map_both : {X Y Z : Type 0} (f : X → Y) (h : Y → Z) (o : Option X) → option_map (λ x. h (f x)) o ≡ option_map h (option_map f o)
 map_both f h None = refl
 map_both f h (Some x) = refl
 

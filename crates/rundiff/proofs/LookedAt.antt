@@ -15,13 +15,13 @@ use Rattle.scratch.specs.kept.Places.{has}
 use Rattle.scratch.specs.Run.{value}
 use Rattle.scratch.specs.Work.{is_stirred}
 use Rattle.scratch.proofs.Driven.{either}
+use Rattle.scratch.proofs.Still.{Stays}
 use Rattle.rundiff.specs.kept.Fronts.{GoesAlong, IsAlike, IsOwn}
 use Rattle.rundiff.specs.kept.Kept.{read_at}
 use Rattle.rundiff.specs.kept.Places.{gate_at, net_at}
 use Rattle.rundiff.specs.kept.Steady.{IsSteady}
 use Rattle.rundiff.proofs.Alike.{alike_grows}
 use Rattle.rundiff.proofs.Calm.{all_noted, calm}
-use Rattle.rundiff.proofs.NamedLines.{NoChange}
 use Rattle.rundiff.proofs.Quiet.{AreLookedAt, all_looked, quiet_alike, quiet_wave}
 use Rattle.rundiff.proofs.Lists.{not_so}
 
@@ -38,7 +38,7 @@ module _ (answer : Evaluation → ℕ → State) (old new : Netlist)
       (λ off. alike_grows answer old new live later (suc r) p grows (quiet_alike answer old new current pending is live held events_at inputs_at nets_at r looked are p on off))
 
   -- the wave of a live net that is not looked at goes on
-  pub wave_all : NoChange same_value standing → (t : ℕ) → AreLookedAt answer old new live held events_at inputs_at nets_at t looked → (p : ℕ) → live p ≡ true → looked p ≡ false →
+  pub wave_all : Stays same_value standing → (t : ℕ) → AreLookedAt answer old new live held events_at inputs_at nets_at t looked → (p : ℕ) → live p ≡ true → looked p ≡ false →
       (o : Option (PatchRecord Value)) → GoesAlong o t ⊎ IsOwn o →
       Keeps same_value standing (read_at answer old (to_net (net_at new p).name)) (value answer new (net_at new p)) o t →
       Keeps same_value standing (read_at answer old (to_net (net_at new p).name)) (value answer new (net_at new p)) o (suc t)

@@ -1,5 +1,5 @@
 -- What stays at a moment: live nets and held gates that are not looked at.
-use Rattle.std.proofs.Common.{◌≡◌, ℕ, zero, suc, ◌-◌, ◌<◌, ◌≤◌, ◌∙◌, ap, sym, refl, subst, Bool, true, false, not, List, [], ◌∷◌, length, Option, Some, None, ◌⊎◌, inl, inr, arith, All}
+use Rattle.std.proofs.Common.{◌≡◌, ℕ, zero, suc, ◌-◌, ◌<◌, ◌≤◌, ◌∙◌, ap, sym, refl, subst, Bool, true, false, not, List, [], ◌∷◌, length, Option, Some, None, ◌⊎◌, ⊎_elim, inl, inr, arith, All}
 use Rattle.std.specs.Prelude.{nat_eq, nat_le, ◌||◌, ◌==◌}
 use Rattle.std.specs.List.{list_any}
 use Rattle.std.specs.Option.{option_map_or, ForSome}
@@ -26,7 +26,7 @@ use Rattle.scratch.specs.kept.Places.{has}
 use Rattle.scratch.specs.Run.{evaluation_at, state_before, value}
 use Rattle.scratch.specs.Work.{is_due}
 use Rattle.scratch.proofs.Stirred.{find_there}
-use Rattle.scratch.proofs.Still.{still_net}
+use Rattle.scratch.proofs.Still.{Stays, still_net, wave_stays}
 use Rattle.scratch.proofs.Runs.{is_task}
 use Rattle.rundiff.specs.kept.Fronts.{AreDrivers, GoesAlong, IsAlike, IsOwn}
 use Rattle.rundiff.specs.kept.Kept.{Agrees, IsClosed, read_at}
@@ -34,26 +34,12 @@ use Rattle.rundiff.specs.kept.Noting.{IsNoted, net_moves, old_moves, pends}
 use Rattle.rundiff.specs.kept.Places.{blank_gate, blank_net, gate_at, is_live, net_at}
 use Rattle.rundiff.proofs.ByPlace.{live_at}
 use Rattle.rundiff.proofs.Lists.{filter_where, not_so, off_by}
-use Rattle.rundiff.proofs.NamedLines.{NoChange}
 use Rattle.rundiff.proofs.Resting.{along_free, along_last, free_more, own_more}
-use Rattle.rundiff.proofs.Wired.{reads_net}
+use Rattle.rundiff.proofs.Settling.{still_alike}
 
 due_now : (p : Option (Value × ℕ)) (t : ℕ) → ForSome p (λ event. t ≤ event.1) → option_map_or (λ event. nat_le event.1 t) p false ≡ true → option_map_or (λ event. nat_eq event.1 t) p false ≡ true
 due_now None t later on = absurd (cc)
 due_now (Some event) t later on = let after = later event refl in grind (arith, nat_tests)
-
--- what is said of each connection holds of the one to a net that is read
-read_of : (P : Connection → Type 0) (name : List ℕ) (cs : List Connection) → All P cs → list_any (is_at_net name) cs ≡ true → P (to_net name)
-read_of P name [] all on = absurd (cc)
-read_of P name (c ∷ cs) all on = by c (All-head P c cs all) (read_of P name cs (All-tail P c cs all)) on
-  where
-    by : (c : Connection) → P c → (list_any (is_at_net name) cs ≡ true → P (to_net name)) → (is_at_net name c || list_any (is_at_net name) cs) ≡ true → P (to_net name)
-    by (to_constant v) one rest on = rest on
-    by (to_net read) one rest on =
-        elim (same_name read name) as (λ b. same_name read name ≡ b → (b || list_any (is_at_net name) cs) ≡ true → P (to_net name)) [
-          | true ↦ λ same any. subst (λ (m : List ℕ). P (to_net m)) (name_is read name same) one
-          | false ↦ λ apart any. rest any
-        ] refl on
 
 -- what is known when the nets to be looked at are known: all is right before t, and these are the live nets that are noted for
 -- t, and the outputs of the held gates that are
@@ -140,24 +126,11 @@ module _ (answer : Evaluation → ℕ → State) (old new : Netlist)
     -- it is alike in both runs, or its readers are held already
     pub quiet_alike : IsAlike answer old new live now p
     quiet_alike =
-        let n = net_at new p in
-        let theirs = read_at answer old (to_net n.name) in
-        elim (same_value (theirs r) (value answer new n r)) as (λ b. same_value (theirs r) (value answer new n r) ≡ b → IsAlike answer old new live now p) [
-          | true ↦ λ same. inl (quiet_old ∙ is_same (theirs r) (value answer new n r) same ∙ sym quiet_value)
-          | false ↦ λ apart.
-              inr (λ q low reading.
-              elim (is_live new live (gate_at new q).output) as (λ b. is_live new live (gate_at new q).output ≡ b → b ≡ true) [
-                | true ↦ λ lives. refl
-                | false ↦ λ free.
-                    let read = read_of (λ c. read_at answer old c r ≡ read_at answer new c r) n.name (gate_at new q).inputs (are.agrees.inputs q blank_gate low free) reading in
-                    let found = find_there new.nets p (net_at new p) is.distinct_nets (slice_get-get_or new.nets p blank_net there) in
-                    let same = read ∙ reads_net answer new n.name n r found in
-                    let no : true ≡ false = sym (same_self (value answer new n r)) ∙ ap (λ (v : Value). same_value v (value answer new n r)) (sym same) ∙ apart in absurd (cc)
-              ] refl)
-        ] refl
+        ⊎_elim inl (λ all. inr (λ q low. all q blank_gate low))
+        (still_alike answer old new (is_live new live) r (λ name out. are.within) are.agrees (net_at new p) (find_there new.nets p (net_at new p) is.distinct_nets (slice_get-get_or new.nets p blank_net there)) quiet_value (λ late. quiet_old))
 
     -- and its wave goes on
-    pub quiet_wave : NoChange same_value standing → (o : Option (PatchRecord Value)) → GoesAlong o now ⊎ IsOwn o →
+    pub quiet_wave : Stays same_value standing → (o : Option (PatchRecord Value)) → GoesAlong o now ⊎ IsOwn o →
         Keeps same_value standing (read_at answer old (to_net (net_at new p).name)) (value answer new (net_at new p)) o now →
         Keeps same_value standing (read_at answer old (to_net (net_at new p).name)) (value answer new (net_at new p)) o (suc now)
     quiet_wave law o kind kept = by kind
@@ -168,15 +141,8 @@ module _ (answer : Evaluation → ℕ → State) (old new : Netlist)
         g : ℕ → Value
         g = read_at answer old (to_net (net_at new p).name)
 
-        step : (k : ℕ) → now ≤ k → k < suc now → is_change same_value standing f k ≡ false
-        step zero from until = absurd (omega arith)
-        step (suc k) from until =
-            let e : k ≡ r = omega arith in
-            let same : f (suc k) ≡ f k = ap (λ (m : ℕ). f (suc m)) e ∙ quiet_value ∙ ap f (sym e) in
-            ap (λ (v : Value). not (same_value v (f k))) same ∙ ap not (same_self (f k))
-
         by : GoesAlong o now ⊎ IsOwn o → Keeps same_value standing g f o (suc now)
         by (inl along) =
             let had : f r ≡ g r = along_last same_value standing f g r o along kept in
             free_more same_value standing f g now o (along_free o now along) kept (quiet_value ∙ had ∙ sym quiet_old)
-        by (inr own) = own_more same_value standing f g now (suc now) o own kept (law f now (suc now) (omega arith) step)
+        by (inr own) = own_more same_value standing f g now (suc now) o own kept (wave_stays law answer new (net_at new p) r quiet_value)

@@ -7,19 +7,19 @@ use Rattle.gatestep.specs.kept.Tasks.{IsTask, NothingDue, again}
 use Rattle.design.specs.kept.Lawful.{IsDesign}
 use Rattle.design.specs.Netlist.{Netlist}
 use Rattle.waveform.specs.Entries.{same_state, standing}
+use Rattle.scratch.proofs.Still.{Stays}
 use Rattle.rundiff.specs.declared.front.Front.{Front}
 use Rattle.rundiff.specs.Dirty.{rework_below}
 use Rattle.rundiff.specs.kept.Fronts.{IsFront}
 use Rattle.rundiff.proofs.Clear.{is_clear}
 use Rattle.rundiff.proofs.Jumping.{front_on, idle_on}
 use Rattle.rundiff.proofs.Noted.{IsFirst, NoneBefore, first_late}
-use Rattle.rundiff.proofs.NamedLines.{NoChange}
 
 module _ (answer : Evaluation → ℕ → State) (old new : Netlist)
     (current : (e : Evaluation) (t : ℕ) → (answer e t).current ≡ (due e.state t).current)
     (pending : (e : Evaluation) (t : ℕ) → IsTask e → NothingDue t (answer e t))
     (stays : (e : Evaluation) (t u : ℕ) → t < u → NothingDue u (answer e t) → answer (again e (answer e t)) u ≡ answer e t)
-    (wave_law : NoChange same_value standing) (trace_law : NoChange same_state due) (is_old : IsDesign old) (is : IsDesign new) (front : Front) where
+    (wave_law : Stays same_value standing) (trace_law : Stays same_state due) (is_old : IsDesign old) (is : IsDesign new) (front : Front) where
   -- where nothing is noted before u all moments before it are done
   pub reach : (n u : ℕ) → IsFront answer old new front n → 0 < n → NoneBefore front u → n ≤ u → u ≤ suc old.horizon → IsFront answer old new front u × (rework_below answer old new u ≡ rework_below answer old new n)
   reach zero u right some none order within = absurd (omega arith)

@@ -1,20 +1,25 @@
 -- What a moment changes of what is live.
-use Rattle.std.proofs.Common.{◌≡◌, ℕ, suc, ◌<◌, ◌≤◌, List, Bool, true, false, Some, length, refl, ap, sym, ◌∙◌, All, ◌⊎◌, inl, inr}
-use Rattle.std.specs.Prelude.{slice_index_or}
+use Rattle.std.proofs.Common.{◌≡◌, ℕ, suc, ◌<◌, ◌≤◌, List, Bool, true, false, Some, length, refl, ap, sym, ◌∙◌, All, ◌⊎◌, inl, inr, arith}
+use Rattle.std.specs.Prelude.{nat_le, slice_index_or, ◌&&◌}
+use Rattle.std.proofs.lemmas.Bool.{and_parts, le-leb}
+use Rattle.std.proofs.lemmas.Bool.Decides.{nat_tests}
 use Rattle.std.proofs.lemmas.List.Folds.{list_any_at}
+use Rattle.fourstate.specs.kept.ValueLaws.{is_same, same_self}
+use Rattle.fourstate.specs.Values.{same_value}
 use Rattle.gatestep.specs.Step.{State, Evaluation}
 use Rattle.design.specs.Connections.{Connection, to_net, to_constant}
 use Rattle.design.specs.Names.{same_name}
 use Rattle.design.specs.Netlist.{GateEntry, NetEntry, Netlist, is_at_net, net_named, reads}
 use Rattle.design.proofs.NameLemmas.{name_is}
 use Rattle.scratch.specs.Run.{state_before, value}
+use Rattle.scratch.proofs.Driven.{either}
 use Rattle.scratch.proofs.Stirred.{same_self_name}
 use Rattle.scratch.proofs.Runs.{map_where}
 use Rattle.rundiff.specs.Dirty.{is_dirty}
 use Rattle.rundiff.specs.kept.Kept.{Agrees, IsClosed, IsSameNet, read_at}
 use Rattle.rundiff.proofs.Clean.{clean_after, is_clean, same_net}
 use Rattle.rundiff.proofs.Lists.{filter_where}
-use Rattle.rundiff.proofs.Wired.{IsThere, named_in, reads_net}
+use Rattle.rundiff.proofs.Wired.{IsThere, named_in, read_of, reads_net}
 
 module _ (answer : Evaluation → ℕ → State) (old new : Netlist) where
   -- what holds before t of a gate of which the output is not live
@@ -28,6 +33,25 @@ module _ (answer : Evaluation → ℕ → State) (old new : Netlist) where
       let drivers = filter_where (λ g. same_name g.output n.name) (λ g. state_before answer old t g ≡ state_before answer new t g) new.gates
       (λ k d within at. states k d within (ap live (name_is (slice_index_or new.gates k d).output n.name at) ∙ off)) in
       reads_net answer old n.name n t same.net ∙ same_net answer old new n t same.drivers drivers
+
+  -- a net that keeps its value in both runs has the same in both, or the outputs of its readers are live
+  pub still_alike : (live : List ℕ → Bool) (r : ℕ) → ((name : List ℕ) → live name ≡ false → suc r ≤ old.horizon) → Agrees answer old new live (suc r) → (n : NetEntry) → net_named new n.name ≡ Some n →
+      value answer new n (suc r) ≡ value answer new n r → (suc r ≤ old.horizon → read_at answer old (to_net n.name) (suc r) ≡ read_at answer old (to_net n.name) r) →
+      (read_at answer old (to_net n.name) (suc r) ≡ value answer new n (suc r)) ⊎ All (λ g. reads g n.name ≡ true → live g.output ≡ true) new.gates
+  still_alike live r within agrees n found mine theirs =
+      let was = read_at answer old (to_net n.name) r in let v = value answer new n r in
+      either (nat_le (suc r) old.horizon && same_value was v)
+      (λ on.
+      let parts = and_parts (nat_le (suc r) old.horizon) (same_value was v) on in
+      let low : suc r ≤ old.horizon = let h = parts.0 in grind (arith, nat_tests) in
+      inl (theirs low ∙ is_same was v parts.1 ∙ sym mine))
+      (λ off.
+      inr (λ k d there reading.
+      let g = slice_index_or new.gates k d in
+      either (live g.output) (λ on. on)
+      (λ free.
+      let same : was ≡ v = read_of (λ c. read_at answer old c r ≡ read_at answer new c r) n.name g.inputs (agrees.inputs k d there free) reading ∙ reads_net answer new n.name n r found in
+      let yes : (nat_le (suc r) old.horizon && same_value was v) ≡ true = rw (le-leb (suc r) old.horizon (within g.output free), same) (same_self v) in cc)))
 
   module _ (there : All (λ g. All (IsThere new) g.inputs) new.gates) (t : ℕ) (live later : List ℕ → Bool)
       (states : All (SameState live t) new.gates) (closed : IsClosed old new live)

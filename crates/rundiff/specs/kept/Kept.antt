@@ -36,15 +36,6 @@ pub record Agrees (answer : Evaluation → ℕ → State) (old new : Netlist) (l
   pub inputs : All (λ g. live g.output ≡ false → All (λ connection. SameBefore (read_at answer old connection) (read_at answer new connection) n) g.inputs) new.gates
   pub nets : All (λ x. live x.name ≡ false → SameBefore (read_at answer old (to_net x.name)) (value answer new x) n) new.nets
 
--- at the moment r + 1 nothing happens to what is live: nothing is due, there is no point, and neither a live net nor what a
--- driver of a live net reads changes in the old run; where a net is not live the old run has not ended
-pub record IsStill (answer : Evaluation → ℕ → State) (old new : Netlist) (live : List ℕ → Bool) (r : ℕ) : Type 0 where
-  pub within : (name : List ℕ) → live name ≡ false → suc r ≤ old.horizon
-  pub due : All (λ g. live g.output ≡ true → is_due (state_before answer new (suc r) g) (suc r) ≡ false) new.gates
-  pub points : All (λ x. live x.name ≡ true → has_point x.points (suc r) ≡ false) new.nets
-  pub waves : All (λ x. live x.name ≡ true → suc r ≤ old.horizon → read_at answer old (to_net x.name) (suc r) ≡ read_at answer old (to_net x.name) r) new.nets
-  pub reads : All (λ g. live g.output ≡ true → All (λ connection. suc r ≤ old.horizon → read_at answer old connection (suc r) ≡ read_at answer old connection r) g.inputs) new.gates
-
 -- at each moment after r and before u
 abbrev pub Between : (r u : ℕ) → (ℕ → Type 0) → Type 0
 Between r u P = (m : ℕ) → r < m → m < u → P m
