@@ -1,5 +1,5 @@
 -- The value of a net from the states of its drivers, which are found by their keys.
-use Rattle.std.proofs.Common.{◌≡◌, ℕ, ◌+◌, ◌-◌, ◌<◌, ◌≤◌, ◌∙◌, ap, sym, refl, subst, List, [], ◌∷◌, Bool, false, cond, map, drop, length, get_or, Option, Some, arith}
+use Rattle.std.proofs.Common.{◌≡◌, ℕ, ◌+◌, ◌-◌, ◌<◌, ◌≤◌, ◌∙◌, ap, sym, List, [], ◌∷◌, Bool, false, cond, map, drop, length, get_or, Option, Some, arith, is_some}
 use Rattle.std.proofs.lemmas.List.{drop_more}
 use Rattle.std.specs.Prelude.{slice_get, IsSome}
 use Rattle.std.specs.Option.{option_map, option_map_or}
@@ -31,9 +31,6 @@ map_before {X} {Y} f xs i x y ys some within at same so_far =
     let others : ys ≡ map f (drop (i - 1 + 1) xs) = so_far ∙ ap (λ (k : ℕ). map f (drop k xs)) back in
     (λ j. first j ∷ others j) ∙ ap (map f) (sym rest)
 
-pub is_there : {X : Type 0} (o : Option X) (x : X) → o ≡ Some x → IsSome o
-is_there {X} o x is = subst (λ (o : Option X). IsSome o) (sym is) refl
-
 pub driven_is : (answer : Evaluation → ℕ → State) (keyed : Keyed) (key place t : ℕ) (n : NetEntry) (values : List Value) (v : Value) →
     slice_get (netlist keyed).nets place ≡ Some n → net_by_key keyed key ≡ Some n → n.is_input ≡ false →
     (IsSome (net_by_key keyed key) → map (λ gate. place_of keyed.gates gate) (driver_keys keyed key) ≡ map (λ place. Some place) (driver_places (netlist keyed).gates (name_of keyed.nets key))) →
@@ -48,7 +45,7 @@ driven_is answer keyed key place t n values v at found driven law so_far is =
     let those : map (λ v. Some v) values ≡ map (λ v. Some v) (map look places) =
     so_far
     ∙ sym (map_twice (λ gate. place_of keyed.gates gate) (λ o. option_map look o) (driver_keys keyed key))
-    ∙ ap (map (λ (o : Option ℕ). option_map look o)) (law (is_there (net_by_key keyed key) n found))
+    ∙ ap (map (λ (o : Option ℕ). option_map look o)) (law (ap (λ (o : Option NetEntry). is_some o) found))
     ∙ map_twice (λ place. Some place) (λ o. option_map look o) (driver_places d.gates (name_of keyed.nets key))
     ∙ sym (map_twice look (λ v. Some v) (driver_places d.gates (name_of keyed.nets key)))
     ∙ ap (λ (name : List ℕ). map (λ v. Some v) (map look (driver_places d.gates name))) named in

@@ -1,8 +1,9 @@
 -- The lines of the new run, once the run was cleared of what edits touched, and what is live was put.
-use Rattle.std.proofs.Common.{◌≡◌, ℕ, suc, ◌<◌, ◌∙◌, ap, sym, refl, List, Bool, true, false, cond, length, Option, Some, None, inl, inr}
-use Rattle.std.specs.Prelude.{◌==◌, ◌⊎◌, IsSome, slice_get}
+use Rattle.std.proofs.Common.{◌≡◌, ℕ, suc, ◌<◌, ◌∙◌, ap, sym, refl, List, Bool, true, false, cond, length, Option, Some, None, subst, ⊎_elim}
+use Rattle.std.specs.Prelude.{IsSome, slice_get}
 use Rattle.std.specs.List.{position_from}
 use Rattle.std.specs.Option.{option_map, option_map_or}
+use Rattle.std.proofs.lemmas.Bool.{false_from_ne_true}
 use Rattle.fourstate.specs.declared.value.Value.{Value}
 use Rattle.fourstate.specs.declared.value.Value.TheVariants.{Unknown}
 use Rattle.fourstate.specs.Values.{same_value}
@@ -23,6 +24,7 @@ use Rattle.waveform.specs.Timelines.{changes_below}
 use Rattle.waveform.specs.kept.Patches.{Keeps, PatchRecord}
 use Rattle.scratch.specs.Run.{state_after, value, wave_of}
 use Rattle.scratch.specs.kept.Run.{trace_of}
+use Rattle.scratch.proofs.Driven.{either}
 use Rattle.rundiff.specs.kept.Finishing.{AreCleared, ArePut, new_trace, new_wave}
 use Rattle.rundiff.specs.kept.Fronts.{AreDrivers, AreTouched, IsFront, live_in, named_state}
 use Rattle.rundiff.specs.kept.PlaceMaps.{kept_at}
@@ -30,7 +32,7 @@ use Rattle.rundiff.specs.kept.Kept.{IsSameNet, read_at}
 use Rattle.rundiff.specs.kept.Places.{blank_gate, blank_net, gate_at, is_among, is_live, net_at}
 use Rattle.rundiff.specs.declared.front.Front.{Front}
 use Rattle.rundiff.proofs.Alike.{off_shrinks}
-use Rattle.rundiff.proofs.ByKey.{IsGateAt, IsNetAt, gate_placed, net_placed}
+use Rattle.rundiff.proofs.ByKey.{IsGateAt, gate_placed, net_placed, some_mapped}
 use Rattle.rundiff.proofs.ByPlace.{live_at}
 use Rattle.rundiff.proofs.Known.{known_gate}
 use Rattle.rundiff.proofs.NamedLines.{keeps_none}
@@ -51,35 +53,35 @@ unmoved_wave answer old new same_end law x o none kept named =
     sym (keeps_none same_value standing (value answer new x) (read_at answer old (to_net x.name)) (suc new.horizon) o none kept t within
     ∙ ap (λ (q : Option NetEntry). option_map_or (λ n. value answer old n t) q Unknown) named))
 
--- what is under a key was put
-abbrev WasPut : (keys places : List ℕ) → ℕ → Type 0
-WasPut keys places key = (p : ℕ) × (is_among places p ≡ true) × (slice_get keys p ≡ Some key)
-
-line_right : {L : Type 0} (due : ℕ → Option L) (keys gone places : List ℕ) (run copy made : List (Option L)) → AreCleared gone run copy → ArePut due keys places copy made → (key : ℕ) →
-    (is_touched gone key ≡ true → (due key ≡ None) ⊎ WasPut keys places key) →
-    (is_touched gone key ≡ false → (line_at run key ≡ due key) ⊎ WasPut keys places key) →
-    line_at made key ≡ due key
-line_right {L} due keys gone places run copy made cleared put key on off = by_test (is_touched gone key) refl
-  where
-    right : (b : Bool) → is_touched gone key ≡ b → (cond b None (line_at run key) ≡ due key) ⊎ WasPut keys places key → line_at made key ≡ due key
-    right b same (inr was) = put.put was.0 key was.1 was.2
-    right b same (inl is) = by_other (put.others key)
-      where
-        by_other : (line_at made key ≡ due key) ⊎ (line_at made key ≡ line_at copy key) → line_at made key ≡ due key
-        by_other (inl done) = done
-        by_other (inr kept) = kept ∙ cleared key ∙ ap (λ (c : Bool). cond c None (line_at run key)) same ∙ is
-
-    turn : (due key ≡ None) ⊎ WasPut keys places key → (None ≡ due key) ⊎ WasPut keys places key
-    turn (inl none) = inl (sym none)
-    turn (inr was) = inr was
-
-    by_test : (b : Bool) → is_touched gone key ≡ b → line_at made key ≡ due key
-    by_test true same = right true same (turn (on same))
-    by_test false same = right false same (off same)
-
 pub map_both : {X Y Z : Type 0} (f : X → Y) (h : Y → Z) (o : Option X) → option_map (λ x. h (f x)) o ≡ option_map h (option_map f o)
 map_both f h None = refl
 map_both f h (Some x) = refl
+
+-- what stands under keys, where it is at a place that was put, or was not touched and has the line that it had
+module _ {E L : Type 0} (line_before line_now : E → L) (before now : ℕ → Option E) (due : ℕ → Option L) (due_is : (key : ℕ) → due key ≡ option_map line_now (now key))
+    (keys gone shown : List ℕ) (on : ℕ → Bool) (all : (p : ℕ) → is_among shown p ≡ on p) (stays : (key : ℕ) → is_touched gone key ≡ false → now key ≡ before key)
+    (run copy made : List (Option L)) (stored : (key : ℕ) → line_at run key ≡ option_map line_before (before key)) (cleared : AreCleared gone run copy) (put : ArePut due keys shown copy made)
+    (at_place : (key : ℕ) (x : E) → now key ≡ Some x → (p : ℕ) × (slice_get keys p ≡ Some key) × (is_touched gone key ≡ true → on p ≡ true) × (on p ≡ false → line_before x ≡ line_now x)) where
+  kept : (key : ℕ) → line_at copy key ≡ due key → line_at made key ≡ due key
+  kept key same = ⊎_elim (λ done. done) (λ stood. stood ∙ same) (put.others key)
+
+  untouched : (key : ℕ) → is_touched gone key ≡ false → line_at copy key ≡ option_map line_before (now key)
+  untouched key off = cleared key ∙ ap (λ (b : Bool). cond b None (line_at run key)) off ∙ stored key ∙ ap (option_map line_before) (sym (stays key off))
+
+  by_entry : (key : ℕ) (o : Option E) → now key ≡ o → line_at made key ≡ due key
+  by_entry key None found =
+      kept key (either (is_touched gone key) (λ touched. cleared key ∙ ap (λ (b : Bool). cond b None (line_at run key)) touched) (λ off. untouched key off ∙ ap (option_map line_before) found)
+      ∙ sym (due_is key ∙ ap (option_map line_now) found))
+  by_entry key (Some x) found =
+      let at = at_place key x found in
+      either (on at.0)
+      (λ yes. put.put at.0 key (all at.0 ∙ yes) at.1)
+      (λ no.
+      let off = false_from_ne_true (is_touched gone key) (λ touched. let yes = at.2 touched in cc) in
+      kept key (untouched key off ∙ ap (option_map line_before) found ∙ ap (λ (w : L). Some w) (at.3 no) ∙ sym (due_is key ∙ ap (option_map line_now) found)))
+
+  lines_right : (key : ℕ) → line_at made key ≡ due key
+  lines_right key = by_entry key (now key) refl
 
 module _ (answer : Evaluation → ℕ → State) (old new : Keyed) (old_is : IsDesign (netlist old)) (is : IsDesign (netlist new)) (keys : AreKeys new)
     (places_law : (key : ℕ) → IsSome (net_by_key new key) → position_from (λ n. same_name n.name (name_of new.nets key)) 0 (netlist new).nets ≡ place_of new.nets key)
@@ -113,46 +115,20 @@ module _ (answer : Evaluation → ℕ → State) (old new : Keyed) (old_is : IsD
 
   module _ (law : SameChanges same_value standing) (run copy made : List (Option (List (ℕ × Value)))) (stored : (key : ℕ) → line_at run key ≡ option_map (wave_of answer (netlist old)) (net_by_key old key))
       (cleared : AreCleared nets run copy) (shown : List ℕ) (all : (p : ℕ) → is_among shown p ≡ live p) (put : ArePut (new_wave answer new) (keys_of new.nets) shown copy made) where
-    abbrev NetPut : ℕ → Type 0
-    NetPut key = WasPut (keys_of new.nets) shown key
-
-    net_touched : (key : ℕ) → is_touched nets key ≡ true → (o : Option NetEntry) → net_by_key new key ≡ o → (option_map (wave_of answer (netlist new)) o ≡ None) ⊎ NetPut key
-    net_touched key on None found = inl refl
-    net_touched key on (Some n) found =
-        let one = net_placed new key n found in let p : ℕ = one.0 in
-        inr (p, all p ∙ covers p (are.of_nets key on p one.1.place), one.1.under)
-
-    net_kept : (key : ℕ) (n : NetEntry) → net_by_key new key ≡ Some n → net_by_key new key ≡ net_by_key old key → (p : ℕ) → IsNetAt new key p n → (b : Bool) → live p ≡ b → (line_at run key ≡ Some (wave_of answer (netlist new) n)) ⊎ NetPut key
-    net_kept key n found stays p at true on = inr (p, all p ∙ on, at.under)
-    net_kept key n found stays p at false off =
-        inl (stored key
-        ∙ ap (option_map (wave_of answer (netlist old))) (sym stays ∙ found)
-        ∙ ap (λ (x : NetEntry). Some (wave_of answer (netlist old) x)) (sym at.net)
-        ∙ ap (λ (w : List (ℕ × Value)). Some w) (wave_same law p at.low off)
-        ∙ ap (λ (x : NetEntry). Some (wave_of answer (netlist new) x)) at.net)
-
-    net_untouched : (key : ℕ) → is_touched nets key ≡ false → (o : Option NetEntry) → net_by_key new key ≡ o → (line_at run key ≡ option_map (wave_of answer (netlist new)) o) ⊎ NetPut key
-    net_untouched key off None found = inl (stored key ∙ ap (option_map (wave_of answer (netlist old))) (sym (touched.nets_stay key off) ∙ found))
-    net_untouched key off (Some n) found = let one = net_placed new key n found in net_kept key n found (touched.nets_stay key off) one.0 one.1 (live one.0) refl
-
     pub waves_right : (key : ℕ) → line_at made key ≡ new_wave answer new key
-    waves_right key =
-        line_right (new_wave answer new) (keys_of new.nets) nets shown run copy made cleared put key
-        (λ on. net_touched key on (net_by_key new key) refl)
-        (λ off. net_untouched key off (net_by_key new key) refl)
+    waves_right =
+        lines_right (wave_of answer (netlist old)) (wave_of answer (netlist new)) (net_by_key old) (net_by_key new) (new_wave answer new) (λ key. refl) (keys_of new.nets) nets shown live all
+        touched.nets_stay run copy made stored cleared put
+        (λ key n found.
+        let one = net_placed new key n found in let p : ℕ = one.0 in
+        (p, one.1.under, (λ on. covers p (are.of_nets key on p one.1.place)), λ off. subst (λ (x : NetEntry). wave_of answer (netlist old) x ≡ wave_of answer (netlist new) x) one.1.net (wave_same law p one.1.low off)))
 
   module _ (law : SameChanges same_state due) (run copy made : List (Option (List (ℕ × State)))) (stored : (key : ℕ) → line_at run key ≡ option_map (λ g. trace_of answer (netlist old) (entry_in old.nets g)) (gate_by_key old key))
       (cleared : AreCleared gates run copy) (shown : List ℕ) (all : (p : ℕ) → is_among shown p ≡ held p) (put : ArePut (new_trace answer new) (keys_of new.gates) shown copy made) where
-    abbrev GatePut : ℕ → Type 0
-    GatePut key = WasPut (keys_of new.gates) shown key
-
-    abbrev the_trace : KeyedGate → List (ℕ × State)
-    the_trace g = trace_of answer (netlist new) (entry_in new.nets g)
-
     -- a touched gate drives a net that is live
     held_at : (key : ℕ) (g : KeyedGate) (p : ℕ) → is_touched gates key ≡ true → gate_by_key new key ≡ Some g → IsGateAt new key p g → held p ≡ true
     held_at key g p on found at =
-        let driven = placed (λ e. e.0 == g.output) new.nets 0 at.output in
+        let driven = placed new.nets g.output at.output in
         let q : ℕ = driven.0 in
         let place : place_of new.nets g.output ≡ Some q = driven.1 in
         drivers.drivers p at.low
@@ -160,29 +136,16 @@ module _ (answer : Evaluation → ℕ → State) (old new : Keyed) (old_is : IsD
         ∙ ap (λ (o : Option ℕ). option_map_or live o false) (places_law g.output at.output ∙ place)
         ∙ covers q (are.of_gates key on g found q place)
 
-    gate_touched : (key : ℕ) → is_touched gates key ≡ true → (o : Option KeyedGate) → gate_by_key new key ≡ o → (option_map the_trace o ≡ None) ⊎ GatePut key
-    gate_touched key on None found = inl refl
-    gate_touched key on (Some g) found =
-        let one = gate_placed new keys key g found in let p : ℕ = one.0 in
-        inr (p, all p ∙ held_at key g p on found one.1, one.1.under)
-
-    gate_kept : (key : ℕ) (g : KeyedGate) → gate_by_key new key ≡ Some g → is_touched gates key ≡ false → (p : ℕ) → IsGateAt new key p g → (b : Bool) → held p ≡ b → (line_at run key ≡ Some (the_trace g)) ⊎ GatePut key
-    gate_kept key g found free p at true on = inr (p, all p ∙ on, at.under)
-    gate_kept key g found free p at false off =
-        inl (stored key
-        ∙ map_both (entry_in old.nets) (trace_of answer (netlist old)) (gate_by_key old key)
-        ∙ ap (option_map (trace_of answer (netlist old))) (sym (touched.names_stay key free) ∙ ap (option_map (entry_in new.nets)) found)
-        ∙ ap (λ (x : GateEntry). Some (trace_of answer (netlist old) x)) (sym at.gate)
-        ∙ ap (λ (w : List (ℕ × State)). Some w) (trace_same law p at.low off)
-        ∙ ap (λ (x : GateEntry). Some (trace_of answer (netlist new) x)) at.gate)
-
-    gate_untouched : (key : ℕ) → is_touched gates key ≡ false → (o : Option KeyedGate) → gate_by_key new key ≡ o → (line_at run key ≡ option_map the_trace o) ⊎ GatePut key
-    gate_untouched key off None found =
-        inl (stored key ∙ ap (option_map (λ (g : KeyedGate). trace_of answer (netlist old) (entry_in old.nets g))) (sym (touched.gates_stay key off) ∙ found))
-    gate_untouched key off (Some g) found = let one = gate_placed new keys key g found in gate_kept key g found off one.0 one.1 (held one.0) refl
-
     pub traces_right : (key : ℕ) → line_at made key ≡ new_trace answer new key
-    traces_right key =
-        line_right (new_trace answer new) (keys_of new.gates) gates shown run copy made cleared put key
-        (λ on. gate_touched key on (gate_by_key new key) refl)
-        (λ off. gate_untouched key off (gate_by_key new key) refl)
+    traces_right =
+        lines_right (trace_of answer (netlist old)) (trace_of answer (netlist new)) (λ key. option_map (entry_in old.nets) (gate_by_key old key)) (λ key. option_map (entry_in new.nets) (gate_by_key new key))
+        (new_trace answer new) (λ key. map_both (entry_in new.nets) (trace_of answer (netlist new)) (gate_by_key new key)) (keys_of new.gates) gates shown held all touched.names_stay run copy made
+        (λ key. stored key ∙ map_both (entry_in old.nets) (trace_of answer (netlist old)) (gate_by_key old key)) cleared put
+        (λ key x named.
+        let was = some_mapped (entry_in new.nets) (gate_by_key new key) x (sym named) in
+        let one = gate_placed new keys key was.0 was.1 in let p : ℕ = one.0 in (
+          p,
+          one.1.under,
+          (λ on. held_at key was.0 p on was.1 one.1),
+          (λ off. subst (λ (y : GateEntry). trace_of answer (netlist old) y ≡ trace_of answer (netlist new) y) (one.1.gate ∙ sym was.2) (trace_same law p one.1.low off)),
+        ))

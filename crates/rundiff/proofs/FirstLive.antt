@@ -1,18 +1,18 @@
 -- Before moment 0: outside of what edits touched both designs are the same.
-use Rattle.std.proofs.Common.{◌≡◌, ℕ, ◌+◌, ◌<◌, ◌∙◌, ap, sym, refl, subst, List, [], ◌∷◌, Bool, true, false, cond, not, map, length, Option, Some, None, arith, All}
-use Rattle.std.specs.Prelude.{◌||◌, ◌==◌, ◌≢◌, AllPairs, IsSome}
+use Rattle.std.proofs.Common.{◌≡◌, ℕ, ◌+◌, ◌<◌, ◌∙◌, ap, sym, refl, List, [], ◌∷◌, Bool, true, false, not, map, length, Option, Some, arith, All}
+use Rattle.std.specs.Prelude.{◌≢◌, AllPairs, IsSome, is_some}
 use Rattle.std.specs.Cmp.Lexicographic.{pointwise}
-use Rattle.std.specs.List.{filter, find, list_any, position_from}
+use Rattle.std.specs.List.{filter, position_from}
 use Rattle.std.specs.Option.{option_map, option_map_or}
-use Rattle.std.proofs.lemmas.List.Elements.{All-filter}
-use Rattle.std.proofs.lemmas.Bool.{eqb-true, or_right, or_left, false_from_ne_true}
-use Rattle.std.proofs.lemmas.List.{get_or_default}
-use Rattle.std.proofs.lemmas.Option.{same_Some}
+use Rattle.std.proofs.lemmas.List.Elements.{All-filter, All-from_get_or}
+use Rattle.std.proofs.lemmas.List.Folds.{list_any_at}
+use Rattle.std.proofs.lemmas.Bool.{eqb-true, false_from_ne_true}
 use Rattle.fourstate.specs.kept.DelayLaws.{delays_itself}
 use Rattle.fourstate.specs.kept.GateLaws.{kind_itself}
 use Rattle.fourstate.specs.kept.ValueLaws.{same_self}
 use Rattle.catalog.specs.Catalog.{record_at, records_of}
-use Rattle.catalog.specs.kept.Catalog.{keys_of, place_of}
+use Rattle.catalog.specs.kept.Catalog.{place_of}
+use Rattle.catalog.proofs.EntryLemmas.{record_at_place}
 use Rattle.design.specs.Connections.{Connection, to_net, to_constant}
 use Rattle.design.specs.Keys.{Keyed, KeyedGate, entry_in, name_of, netlist}
 use Rattle.design.specs.kept.Keys.{AreKeys, driver_keys, drives_key, gate_by_key, net_by_key}
@@ -28,9 +28,10 @@ use Rattle.rundiff.specs.Dirty.{is_new, same_connection, same_gate}
 use Rattle.rundiff.specs.kept.Fronts.{AreTouched}
 use Rattle.rundiff.specs.kept.Places.{blank_gate, blank_net, is_among, is_live, net_at}
 use Rattle.rundiff.specs.kept.Kept.{IsClosed, IsSameNet}
+use Rattle.rundiff.proofs.ByKey.{gate_placed, some_mapped}
 use Rattle.rundiff.proofs.ByPlace.{live_at, position_at}
 use Rattle.rundiff.proofs.Lists.{filter_where}
-use Rattle.rundiff.proofs.ReaderKeys.{entry_at, found_at, keyed_at, net_entry_at, placed}
+use Rattle.rundiff.proofs.ReaderKeys.{entry_at, keyed_at, net_entry_at, placed}
 
 connection_itself : (c : Connection) → same_connection c c ≡ true
 connection_itself (to_net name) = same_self_name name
@@ -43,26 +44,11 @@ inputs_itself (c ∷ cs) = let one = connection_itself c in rw one (inputs_itsel
 gate_itself : (g : GateEntry) → same_gate g g ≡ true
 gate_itself g = rw (same_self_name g.name, kind_itself g.kind, delays_itself g.delays, same_self_name g.output, inputs_itself g.inputs) refl
 
-some_mapped : {X Y : Type 0} (f : X → Y) (o : Option X) (y : Y) → Some y ≡ option_map f o → (x : X) × (o ≡ Some x) × (y ≡ f x)
-some_mapped f None y is = absurd (let no : ◌≡◌ {A = Option _} (Some y) None = is in cc)
-some_mapped f (Some x) y is = (x, refl, same_Some y (f x) is)
-
--- a record under a key is one of the records
-any_record : {X Y : Type 0} (f : X → Y) (test : Y → Bool) (es : List (ℕ × X)) (key : ℕ) (x : X) → record_at es key ≡ Some x → test (f x) ≡ true → list_any test (map (λ (p : ℕ × Y). p.1) (map (λ e. (e.0, f e.1)) es)) ≡ true
-any_record f test [] key x is on = absurd (cc)
-any_record {X} {Y} f test (e ∷ es) key x is on =
-    elim (e.0 == key) as (λ b. option_map (λ (p : ℕ × X). p.1) (cond {A = Option (ℕ × X)} b (Some e) (find (λ p. p.0 == key) es)) ≡ Some x → (test (f e.1) || list_any test (map (λ (p : ℕ × Y). p.1) (map (λ e. (e.0, f e.1)) es))) ≡ true) [
-      | true ↦ λ here. let same : e.1 ≡ x = cc in or_left (test (f e.1)) _ (ap (λ (z : X). test (f z)) same ∙ on)
-      | false ↦ λ later. or_right (test (f e.1)) _ (any_record f test es key x later on)
-    ] is
-
-pub known_by_key : (d : Keyed) (key : ℕ) (g : KeyedGate) → gate_by_key d key ≡ Some g → is_new (netlist d) (entry_in d.nets g) ≡ false
-unfolding netlist
-known_by_key d key g found = ap not (any_record (entry_in d.nets) (same_gate (entry_in d.nets g)) d.gates key g found (gate_itself (entry_in d.nets g)))
-
--- each entry is under its key
-entries_found : {X : Type 0} (es : List (ℕ × X)) → AllPairs (λ a b. a ≢ b) (keys_of es) → All (λ e. record_at es e.0 ≡ Some e.1) es
-entries_found es apart = λ q d low. found_at es q d apart low
+-- the design has each of its gates
+known_by_key : (d : Keyed) → AreKeys d → (key : ℕ) (g : KeyedGate) → gate_by_key d key ≡ Some g → is_new (netlist d) (entry_in d.nets g) ≡ false
+known_by_key d keys key g found =
+    let e = entry_in d.nets g in let one = gate_placed d keys key g found in
+    ap not (list_any_at (same_gate e) (netlist d).gates one.0 blank_gate one.1.low (ap (same_gate e) one.1.gate ∙ gate_itself e))
 
 -- the drivers of the net of a key, each with its key
 abbrev drivers_in : Keyed → ℕ → List (ℕ × KeyedGate)
@@ -75,7 +61,7 @@ named_at d k = option_map (entry_in d.nets) (gate_by_key d k)
 by_keys : (d : Keyed) → AreKeys d → (key : ℕ) → map (named_at d) (driver_keys d key) ≡ map (λ g. Some g) (map (entry_in d.nets) (filter (λ g. drives_key g key) (records_of d.gates)))
 by_keys d keys key =
     let here : All (λ e. record_at d.gates e.0 ≡ Some e.1) (drivers_in d key) =
-    All-filter (λ e. drives_key e.1 key) (λ e. record_at d.gates e.0 ≡ Some e.1) d.gates (entries_found d.gates keys.distinct_gates) in
+    All-filter (λ e. drives_key e.1 key) (λ e. record_at d.gates e.0 ≡ Some e.1) d.gates (record_at_place d.gates keys.distinct_gates) in
     map_twice (λ (e : ℕ × KeyedGate). e.0) (named_at d) (drivers_in d key)
     ∙ map_where (λ (e : ℕ × KeyedGate). record_at d.gates e.0 ≡ Some e.1) (λ e. named_at d e.0) (λ e. Some (entry_in d.nets e.1)) (λ e found. ap (option_map (entry_in d.nets)) found) (drivers_in d key) here
     ∙ sym (map_twice (λ (e : ℕ × KeyedGate). e.1) (λ g. Some (entry_in d.nets g)) (drivers_in d key))
@@ -94,8 +80,7 @@ module _ (old new : Keyed) (old_keys : AreKeys old) (keys : AreKeys new) (distin
   -- a gate with an output that is not live was not touched
   gate_untouched : (k : ℕ) (g : KeyedGate) → gate_by_key new k ≡ Some g → IsSome (net_by_key new g.output) → is_live (netlist new) live (name_of new.nets g.output) ≡ false → is_touched gates k ≡ false
   gate_untouched k g found there off =
-      let place = placed (λ e. e.0 == g.output) new.nets 0 there in
-      let p : ℕ = place.0 in
+      let place = placed new.nets g.output there in let p : ℕ = place.0 in
       let at : place_of new.nets g.output ≡ Some p = place.1 in
       let lives : live p ≡ false = sym (ap (λ (o : Option ℕ). option_map_or live o false) (places_law g.output there ∙ at)) ∙ off in
       false_from_ne_true (is_touched gates k) (λ on. never (live p) (covers p (are.of_gates k on g found p at)) lives)
@@ -110,7 +95,7 @@ module _ (old new : Keyed) (old_keys : AreKeys old) (keys : AreKeys new) (distin
 
     module _ (key : ℕ) (found : net_by_key new key ≡ Some x) where
       there : IsSome (net_by_key new key)
-      there = subst (λ (o : Option NetEntry). IsSome o) (sym found) refl
+      there = ap (λ (o : Option NetEntry). is_some o) found
 
       named : name_of new.nets key ≡ x.name
       named = ap (λ (o : Option NetEntry). option_map_or (λ m. m.name) o []) found
@@ -128,7 +113,7 @@ module _ (old new : Keyed) (old_keys : AreKeys old) (keys : AreKeys new) (distin
       same = sym (touched.nets_stay key free) ∙ found
 
       old_there : IsSome (net_by_key old key)
-      old_there = subst (λ (o : Option NetEntry). IsSome o) (sym same) refl
+      old_there = ap (λ (o : Option NetEntry). is_some o) same
 
       old_named : name_of old.nets key ≡ x.name
       old_named = ap (λ (o : Option NetEntry). option_map_or (λ m. m.name) o []) same
@@ -142,7 +127,7 @@ module _ (old new : Keyed) (old_keys : AreKeys old) (keys : AreKeys new) (distin
       drivers_same : map (named_at new) (driver_keys new key) ≡ map (named_at old) (driver_keys old key)
       drivers_same =
           let P : ℕ × KeyedGate → Type 0 = λ e. (record_at new.gates e.0 ≡ Some e.1) × (drives_key e.1 key ≡ true) in
-          let all : All P (drivers_in new key) = filter_where (λ e. drives_key e.1 key) P new.gates (λ q d within on. (entries_found new.gates keys.distinct_gates q d within, on)) in
+          let all : All P (drivers_in new key) = filter_where (λ e. drives_key e.1 key) P new.gates (λ q d within on. (record_at_place new.gates keys.distinct_gates q d within, on)) in
           map_twice (λ (e : ℕ × KeyedGate). e.0) (named_at new) (drivers_in new key)
           ∙ map_where P (λ e. named_at new e.0) (λ e. named_at old e.0) driver_stays (drivers_in new key) all
           ∙ sym (map_twice (λ (e : ℕ × KeyedGate). e.0) (named_at old) (drivers_in new key))
@@ -162,17 +147,12 @@ module _ (old new : Keyed) (old_keys : AreKeys old) (keys : AreKeys new) (distin
   pub first_closed : IsClosed (netlist old) (netlist new) (is_live (netlist new) live)
   first_closed =
       record {
-        gates = λ k d low off.
-            let at = get_or_default (netlist new).gates k d blank_gate low in
-            let key = (keyed_at new k).0 in
-            let g = (keyed_at new k).1 in
+        gates = All-from_get_or (λ g. is_live (netlist new) live g.output ≡ false → is_new (netlist old) g ≡ false) (netlist new).gates blank_gate (λ k low off.
+            let key = (keyed_at new k).0 in let g = (keyed_at new k).1 in
             let facts = entry_at new keys k low in
-            let entry = at ∙ facts.entry in
-            let free = gate_untouched key g facts.found facts.there (sym (ap (λ (h : GateEntry). is_live (netlist new) live h.output) entry) ∙ off) in
+            let free = gate_untouched key g facts.found facts.there (ap (λ (h : GateEntry). is_live (netlist new) live h.output) (sym facts.entry) ∙ off) in
             let was = some_mapped (entry_in old.nets) (gate_by_key old key) (entry_in new.nets g) (sym (ap (option_map (entry_in new.nets)) facts.found) ∙ touched.names_stay key free) in
-            ap (is_new (netlist old)) (entry ∙ was.2) ∙ known_by_key old key was.0 was.1;
-        nets = λ k d low off.
-            let at = get_or_default (netlist new).nets k d blank_net low in
-            let one = net_entry_at new keys k low in
-            subst (IsSameNet (netlist old) (netlist new)) (sym at) (same_net k low (sym (ap (λ (n : NetEntry). is_live (netlist new) live n.name) at) ∙ off) one.0 one.1);
+            ap (is_new (netlist old)) (facts.entry ∙ was.2) ∙ known_by_key old old_keys key was.0 was.1);
+        nets = All-from_get_or (λ n. is_live (netlist new) live n.name ≡ false → IsSameNet (netlist old) (netlist new) n) (netlist new).nets blank_net (λ k low off.
+            let one = net_entry_at new keys k low in same_net k low off one.0 one.1);
       }

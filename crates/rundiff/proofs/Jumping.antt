@@ -1,5 +1,5 @@
 -- What a front keeps is right as it is after moments at which nothing happens to what is live.
-use Rattle.std.proofs.Common.{◌≡◌, ℕ, zero, suc, ◌<◌, ◌≤◌, ◌∙◌, ap, sym, refl, Bool, true, false, not, length, Option, inl, inr, arith, ⊎_elim}
+use Rattle.std.proofs.Common.{◌≡◌, ℕ, suc, ◌<◌, ◌≤◌, ◌∙◌, ap, sym, refl, Bool, true, false, length, Option, inl, inr, arith, ⊎_elim}
 use Rattle.scratch.proofs.Driven.{either}
 use Rattle.rundiff.specs.kept.PlaceMaps.{kept_at}
 use Rattle.std.specs.Option.{option_map_or}

@@ -1,5 +1,5 @@
 -- Sets of places, and lists in their order.
-use Rattle.std.proofs.Common.{◌≡◌, ℕ, ◌∙◌, ap, sym, refl, subst, List, [], ◌∷◌, Bool, true, false, cond, length, map, arith, ⊎_elim, nat_cmp}
+use Rattle.std.proofs.Common.{◌≡◌, ℕ, ◌∙◌, ap, sym, refl, subst, List, [], ◌∷◌, Bool, true, false, cond, length, arith, ⊎_elim, nat_cmp}
 use Rattle.std.specs.Prelude.{◌||◌, ◌==◌}
 use Rattle.std.specs.BTreeSet.{BTreeSet, contains}
 use Rattle.std.specs.Cmp.{nat_cmp_is}
@@ -41,10 +41,6 @@ set_places s places same sorted =
 -- no place is in a set that has no key
 pub none_in : (s : BTreeSet ℕ) → length s.keys ≡ 0 → (p : ℕ) → contains nat_cmp s p ≡ false
 none_in s none p = sym (among_keys s.keys p) ∙ ap (λ (keys : List ℕ). is_among keys p) (nil_from_length s.keys none)
-
-pub any_map : {X Y : Type 0} (test : Y → Bool) (f : X → Y) (xs : List X) → list_any (λ x. test (f x)) xs ≡ list_any test (map f xs)
-any_map test f [] = refl
-any_map test f (x ∷ xs) = ap (λ (b : Bool). test (f x) || b) (any_map test f xs)
 
 -- a place more in a set
 pub held_more : (a b c : Bool) → cond b true (a || c) ≡ ((a || b) || c)

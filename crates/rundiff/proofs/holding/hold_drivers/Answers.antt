@@ -1,4 +1,4 @@
-use Rattle.std.proofs.Common.{◌≡◌, ◌∙◌, ap, sym, ℕ, take, true, false, cond, Bool, List, [], Option, Some}
+use Rattle.std.proofs.Common.{◌≡◌, ◌∙◌, ap, sym, ℕ, take, true, false, cond, Bool, List, [], Option, Some, is_some}
 use Rattle.std.specs.Prelude.{◌||◌, ◌==◌}
 use Rattle.std.specs.BTreeSet.{contains}
 use Rattle.std.specs.List.{list_any}
@@ -11,11 +11,12 @@ use Rattle.design.specs.Keys.{name_of, netlist}
 use Rattle.design.specs.kept.Keys.{driver_keys, net_by_key}
 use Rattle.design.specs.Netlist.{NetEntry}
 use Rattle.design.specs.kept.Places.{driver_places}
+use Rattle.design.proofs.EntryLemmas.{any_map}
 use Rattle.scratch.proofs.Among.{any_more}
 use Rattle.scratch.proofs.Keyed.{same_test}
 use Rattle.rundiff.specs.kept.Places.{blank_net, is_among, net_at}
-use Rattle.rundiff.proofs.Driven.{is_there, read_get}
-use Rattle.rundiff.proofs.Sets.{any_map, held_more, test_is}
+use Rattle.rundiff.proofs.Driven.{read_get}
+use Rattle.rundiff.proofs.Sets.{held_more, test_is}
 use Rattle.rundiff.proofs.holding.hold_drivers.Goals as goal
 
 pub loop-driver-preserved : goal.loop-driver-preserved
@@ -46,7 +47,7 @@ returns c = λ p.
     c.loop-driver.invariant p
     ∙ ap (λ (b : Bool). b || held)
     (ap (list_any (λ key. test (place_of keyed.gates key))) (take_all c.loop-driver.driver-index c.drivers-drivers.result.now c.loop-driver-test.false ∙ c.drivers-drivers.ensures.drivers)
-    ∙ any_map test (λ gate. place_of keyed.gates gate) (driver_keys keyed key)
-    ∙ ap (list_any test) (c.places_are_keys.ensures.drivers key (is_there (net_by_key keyed key) n there))
-    ∙ sym (any_map test (λ place. Some place) (driver_places d.gates (name_of keyed.nets key)))
+    ∙ sym (any_map test (λ gate. place_of keyed.gates gate) (driver_keys keyed key))
+    ∙ ap (list_any test) (c.places_are_keys.ensures.drivers key (ap (λ (o : Option NetEntry). is_some o) there))
+    ∙ any_map test (λ place. Some place) (driver_places d.gates (name_of keyed.nets key))
     ∙ ap (λ (name : List ℕ). is_among (driver_places d.gates name) p) named)

@@ -3,9 +3,8 @@ use Rattle.std.specs.Prelude.{IfSome, IsSome, is_some}
 use Rattle.design.specs.Keys.{Keyed, name_of, netlist}
 use Rattle.design.specs.kept.Keys.{net_by_key}
 use Rattle.design.specs.Names.{same_name}
-use Rattle.design.specs.Netlist.{has_net, net_named}
+use Rattle.design.specs.Netlist.{has_net, net_named, NetEntry}
 use Rattle.design.proofs.NameLemmas.{name_is}
-use Rattle.rundiff.proofs.Driven.{is_there}
 use Rattle.rundiff.proofs.Lists.{found_any}
 use Rattle.rundiff.proofs.old.old_net.Goals as goal
 
@@ -14,7 +13,7 @@ net_there : (d : Keyed) (name : List ℕ) (o : Option ℕ) → IfSome o (λ key.
 net_there d name None is there = tt
 net_there d name (Some key) is there =
     let n = found_any (λ n. same_name n.name name) (netlist d).nets (sym there) in
-    is_there (net_by_key d key) n.0 (is ∙ n.1)
+    ap (λ (o : Option NetEntry). is_some o) (is ∙ n.1)
 
 pub returns-then-eq-clause-net : goal.returns-then-eq-clause-net
 returns-then-eq-clause-net c =

@@ -1,4 +1,4 @@
-use Rattle.std.proofs.Common.{◌≡◌, ◌∙◌, ap, sym, ℕ, take, false, Bool, List, [], Option, Some}
+use Rattle.std.proofs.Common.{◌≡◌, ◌∙◌, ap, sym, ℕ, take, false, Bool, List, [], Option, Some, is_some}
 use Rattle.std.specs.Prelude.{◌||◌, ◌==◌, nat_eq}
 use Rattle.std.specs.List.{list_any}
 use Rattle.std.specs.Option.{option_map_or}
@@ -9,11 +9,11 @@ use Rattle.design.specs.Keys.{name_of, netlist}
 use Rattle.design.specs.kept.Keys.{driver_keys, net_by_key}
 use Rattle.design.specs.Netlist.{NetEntry}
 use Rattle.design.specs.kept.Places.{driver_places}
+use Rattle.design.proofs.EntryLemmas.{any_map}
 use Rattle.scratch.proofs.Driven.{or_moved}
 use Rattle.scratch.proofs.Among.{any_more}
 use Rattle.rundiff.specs.kept.Places.{blank_net, is_among, net_at}
-use Rattle.rundiff.proofs.Driven.{is_there, read_get}
-use Rattle.rundiff.proofs.Sets.{any_map}
+use Rattle.rundiff.proofs.Driven.{read_get}
 use Rattle.rundiff.proofs.Steps.{among_push}
 use Rattle.rundiff.proofs.spreading.add_drivers_of.Goals as goal
 
@@ -46,7 +46,7 @@ returns c = λ q.
     c.loop-driver.invariant q
     ∙ ap (λ (b : Bool). b || was)
     (ap (list_any (λ key. test (place_of keyed.gates key))) (take_all c.loop-driver.driver-index c.drivers-drivers.result.now c.loop-driver-test.false ∙ c.drivers-drivers.ensures.drivers)
-    ∙ any_map test (λ gate. place_of keyed.gates gate) (driver_keys keyed key)
-    ∙ ap (list_any test) (c.places_are_keys.ensures.drivers key (is_there (net_by_key keyed key) n there))
-    ∙ sym (any_map test (λ place. Some place) (driver_places d.gates (name_of keyed.nets key)))
+    ∙ sym (any_map test (λ gate. place_of keyed.gates gate) (driver_keys keyed key))
+    ∙ ap (list_any test) (c.places_are_keys.ensures.drivers key (ap (λ (o : Option NetEntry). is_some o) there))
+    ∙ any_map test (λ place. Some place) (driver_places d.gates (name_of keyed.nets key))
     ∙ ap (λ (name : List ℕ). is_among (driver_places d.gates name) q) named)
