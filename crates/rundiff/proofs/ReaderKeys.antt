@@ -1,8 +1,9 @@
 -- The readers of a net by name are those of its key.
-use Rattle.std.proofs.Common.{◌≡◌, ℕ, zero, suc, ◌<◌, ◌∙◌, ap, sym, List, [], ◌∷◌, Bool, true, false, cond, map, length, Option, Some, arith, All}
+use Rattle.std.proofs.Common.{◌≡◌, ℕ, zero, suc, ◌<◌, ◌≤◌, ◌∙◌, ap, sym, List, [], ◌∷◌, Bool, true, false, cond, map, take, length, Option, Some, arith, All}
 use Rattle.std.specs.Prelude.{slice_get, slice_index_or, is_some, ◌==◌, IsSome}
 use Rattle.std.specs.List.{filter, list_any, position_from}
 use Rattle.std.specs.Option.{option_map, option_map_or}
+use Rattle.std.proofs.lemmas.List.{take_all}
 use Rattle.std.proofs.lemmas.Map.Keys.{any_passes_from_place}
 use Rattle.std.proofs.lemmas.Option.{get_or_from_slice_get, slice_get-get_or}
 use Rattle.std.proofs.lemmas.Bool.{eq-eqb, eqb-true, or_right, or_left}
@@ -25,7 +26,7 @@ use Rattle.design.proofs.LookLemmas.{place_there, some_is}
 use Rattle.design.proofs.NameLemmas.{name_is}
 use Rattle.edits.proofs.TouchLemmas.{there_of}
 use Rattle.scratch.proofs.Among.{any_from, nat_itself}
-use Rattle.rundiff.specs.kept.Places.{blank_gate, blank_net, gate_at, is_among, net_at}
+use Rattle.rundiff.specs.kept.Places.{blank_gate, blank_net, gate_at, is_among, is_live, net_at}
 
 -- what stands in for an entry that is not there
 abbrev no_net : ℕ × NetEntry
@@ -104,6 +105,28 @@ reader_at d keys law key place n found low reading =
     let reads_it : reads (entry_in d.nets (keyed_at d place).1) (name_of d.nets key) ≡ true =
     ap (λ (g : GateEntry). reads g (name_of d.nets key)) (sym facts.entry) ∙ ap (reads (gate_at (netlist d) place)) named ∙ reading in
     listed_at (λ p. reads_key p.1 key) d.gates place (keyed_at d place) facts.at (any_at_key d law (keyed_at d place).1.inputs key facts.connected.inputs (ap (λ (o : Option NetEntry). is_some o) found) reads_it)
+
+-- the readers of the net at a place, listed by their keys
+module _ (d : Keyed) (keys : AreKeys d) (law : (key : ℕ) → IsSome (net_by_key d key) → position_from (λ n. same_name n.name (name_of d.nets key)) 0 (netlist d).nets ≡ place_of d.nets key)
+    (key place : ℕ) (low : place < length (netlist d).nets) (net : net_by_key d key ≡ slice_get (netlist d).nets place) (readers : List ℕ) (i : ℕ) (past : length readers ≤ i) (are : readers ≡ reader_keys d key) where
+  is_listed : (q : ℕ) → q < length (netlist d).gates → reads (gate_at (netlist d) q) (net_at (netlist d) place).name ≡ true → is_among (take i readers) (keyed_at d q).0 ≡ true
+  is_listed q inside reading =
+      ap (λ (l : List ℕ). is_among l (keyed_at d q).0) (take_all i readers past ∙ are)
+      ∙ reader_at d keys law key q (net_at (netlist d) place) (net ∙ slice_get-get_or (netlist d).nets place blank_net low) inside reading
+
+  -- what holds of their places holds of the gates that read it
+  pub each_reader : (P : ℕ → Type 0) → ((k : ℕ) → is_among (take i readers) k ≡ true → (q : ℕ) → place_of d.gates k ≡ Some q → P q) → (q : ℕ) → q < length (netlist d).gates →
+      reads (gate_at (netlist d) q) (net_at (netlist d) place).name ≡ true → P q
+  each_reader P all q inside reading = all (keyed_at d q).0 (is_listed q inside reading) q (entry_at d keys q inside).position
+
+  -- where the nets that they drive are live, the gates that read it drive live nets
+  pub each_output : (live : ℕ → Bool) → ((k : ℕ) → is_among (take i readers) k ≡ true → (g : KeyedGate) → gate_by_key d k ≡ Some g → (p : ℕ) × (place_of d.nets g.output ≡ Some p) × (live p ≡ true)) →
+      (q : ℕ) → q < length (netlist d).gates → reads (gate_at (netlist d) q) (net_at (netlist d) place).name ≡ true → is_live (netlist d) live (gate_at (netlist d) q).output ≡ true
+  each_output live all q inside reading =
+      let facts = entry_at d keys q inside in
+      let out = all (keyed_at d q).0 (is_listed q inside reading) (keyed_at d q).1 facts.found in
+      ap (λ (g : GateEntry). is_live (netlist d) live g.output) facts.entry
+      ∙ ap (λ (o : Option ℕ). option_map_or live o false) (law (keyed_at d q).1.output facts.there ∙ out.1) ∙ out.2
 
 -- a net, under its key
 pub net_entry_at : (d : Keyed) → AreKeys d → (place : ℕ) → place < length (netlist d).nets → (k : ℕ) × (net_by_key d k ≡ Some (net_at (netlist d) place))

@@ -1,10 +1,12 @@
 -- Loops over places, each of which is put once.
-use Rattle.std.proofs.Common.{◌≡◌, ℕ, zero, suc, ◌+◌, ◌<◌, ◌∙◌, ap, sym, refl, subst, List, [], ◌∷◌, ◌++◌, Bool, true, false, take, Some}
-use Rattle.std.specs.Prelude.{slice_get, nat_eq, ◌||◌, ◌==◌, AllPairs}
-use Rattle.std.proofs.lemmas.Bool.{eqb-true, or_parts}
+use Rattle.std.proofs.Common.{◌≡◌, ℕ, zero, suc, ◌+◌, ◌<◌, ◌∙◌, ap, sym, refl, subst, List, [], ◌∷◌, ◌++◌, Bool, true, false, take, length, Some, ◌≤◌}
+use Rattle.std.specs.Prelude.{slice_get, slice_index_or, nat_eq, ◌||◌, ◌==◌, AllPairs}
+use Rattle.std.proofs.lemmas.Bool.{eqb-true, or_left, or_parts, or_right}
 use Rattle.std.proofs.Math.Bool.{or-false}
 use Rattle.std.proofs.lemmas.Map.Keys.{any_passes_from_place}
+use Rattle.std.proofs.lemmas.List.{take_all}
 use Rattle.std.proofs.lemmas.List.Folds.{list_any-append}
+use Rattle.std.proofs.lemmas.Option.{slice_get-get_or}
 use Rattle.catalog.proofs.ListLemmas.{AllPairs-tail}
 use Rattle.design.proofs.ByNameLemmas.{all_at}
 use Rattle.scratch.proofs.Driven.{earlier, either}
@@ -60,3 +62,24 @@ module _ {A : Type 0} (P : ℕ → A → Type 0) (was now : ℕ → A) where
 -- a place that is pushed
 pub among_push : (xs : List ℕ) (x q : ℕ) → is_among (xs ++ x ∷ []) q ≡ (is_among xs q || nat_eq x q)
 among_push xs x q = list_any-append (λ w. w == q) xs (x ∷ []) ∙ ap (λ (b : Bool). is_among xs q || b) (or-false (x == q))
+
+module _ (was now : List ℕ) (x : ℕ) (pushed : now ≡ was ++ x ∷ []) where
+  -- is among the places
+  pub pushed_there : is_among now x ≡ true
+  pushed_there = ap (λ (l : List ℕ). is_among l x) pushed ∙ among_push was x x ∙ or_right (is_among was x) (nat_eq x x) (nat_itself x)
+
+  -- as all that were
+  pub pushed_kept : (q : ℕ) → is_among was q ≡ true → is_among now q ≡ true
+  pushed_kept q on = ap (λ (l : List ℕ). is_among l q) pushed ∙ among_push was x q ∙ or_left (is_among was q) (nat_eq x q) on
+
+-- the same, of the one at an index
+pub each_next : (P : ℕ → Type 0) (xs : List ℕ) (i : ℕ) → i < length xs → ((p : ℕ) → is_among (take i xs) p ≡ true → P p) → P (slice_index_or xs i 0) → (p : ℕ) → is_among (take (i + 1) xs) p ≡ true → P p
+each_next P xs i low so_far here = each_more P xs i (slice_index_or xs i 0) (slice_get-get_or xs i 0 low) (λ p was apart. so_far p was) here
+
+-- what holds of each of some places holds of the one at an index
+pub at_index : (P : ℕ → Type 0) (xs : List ℕ) (i : ℕ) → i < length xs → ((p : ℕ) → is_among xs p ≡ true → P p) → P (slice_index_or xs i 0)
+at_index P xs i low all = all (slice_index_or xs i 0) (is_one xs i (slice_index_or xs i 0) (slice_get-get_or xs i 0 low))
+
+-- what holds of each up to the end holds of all
+pub at_end : (P : ℕ → Type 0) (xs : List ℕ) (i : ℕ) → length xs ≤ i → ((p : ℕ) → is_among (take i xs) p ≡ true → P p) → (p : ℕ) → is_among xs p ≡ true → P p
+at_end P xs i past all p among = all p (ap (λ (l : List ℕ). is_among l p) (take_all i xs past) ∙ among)

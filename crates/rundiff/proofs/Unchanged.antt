@@ -1,8 +1,7 @@
 -- Nets whose waves are those of the old run.
-use Rattle.std.proofs.Common.{◌≡◌, ℕ, suc, ◌<◌, ◌∙◌, ap, sym, refl, List, [], ◌∷◌, ◌++◌, true, false, length, Option, Some, None}
-use Rattle.std.specs.Prelude.{nat_eq, slice_get}
+use Rattle.std.proofs.Common.{◌≡◌, ℕ, suc, ◌<◌, ◌∙◌, ap, sym, refl, List, [], true, false, length, Option, Some, None}
+use Rattle.std.specs.Prelude.{slice_get}
 use Rattle.std.specs.Option.{option_map, option_map_or}
-use Rattle.std.proofs.lemmas.Bool.{or_right}
 use Rattle.fourstate.specs.declared.value.Value.{Value}
 use Rattle.fourstate.specs.Values.{same_value}
 use Rattle.gatestep.specs.Step.{State, Evaluation}
@@ -14,7 +13,6 @@ use Rattle.edits.specs.kept.Touched.{IsTouched, is_touched}
 use Rattle.waveform.specs.Entries.{standing}
 use Rattle.waveform.specs.kept.Patches.{PatchRecord}
 use Rattle.scratch.specs.Run.{wave_of}
-use Rattle.scratch.proofs.Among.{nat_itself}
 use Rattle.rundiff.specs.kept.Changed.{AreChanged}
 use Rattle.rundiff.specs.kept.Finishing.{new_wave}
 use Rattle.rundiff.specs.kept.Fronts.{AreWaves}
@@ -23,12 +21,7 @@ use Rattle.rundiff.specs.kept.Places.{is_among, net_at}
 use Rattle.rundiff.specs.declared.place_map.PlaceMap.{PlaceMap}
 use Rattle.rundiff.proofs.ByKey.{IsNetAt, net_placed}
 use Rattle.rundiff.proofs.Finished.{SameChanges, unmoved_wave}
-use Rattle.rundiff.proofs.Steps.{among_push}
 use Rattle.rundiff.proofs.Lists.{not_so}
-
--- a place is among those to which it was added
-pub among_last : (xs : List ℕ) (x : ℕ) → is_among (xs ++ x ∷ []) x ≡ true
-among_last xs x = among_push xs x x ∙ or_right (is_among xs x) (nat_eq x x) (nat_itself x)
 
 module _ (answer : Evaluation → ℕ → State) (old new : Keyed)
     (names : (key : ℕ) → net_named (netlist old) (name_of old.nets key) ≡ net_by_key old key)

@@ -1,21 +1,17 @@
-use Rattle.std.proofs.Common.{◌∙◌, ap, ℕ, List, Bool}
+use Rattle.std.proofs.Common.{◌∙◌, ℕ, Bool}
 use Rattle.std.specs.Prelude.{slice_index_or}
 use Rattle.std.specs.BTreeSet.{contains}
 use Rattle.std.specs.Ordering.{nat_cmp}
 use Rattle.std.proofs.lemmas.Option.{slice_get-get_or}
-use Rattle.std.proofs.lemmas.List.{take_all}
 use Rattle.event_queue.specs.kept.Noted.{noted}
 use Rattle.design.specs.Keys.{netlist}
 use Rattle.rundiff.specs.kept.Noting.{input_moves}
-use Rattle.rundiff.specs.kept.Places.{is_among}
 use Rattle.rundiff.proofs.NotedMore.{more_within}
-use Rattle.rundiff.proofs.Steps.{is_one}
+use Rattle.rundiff.proofs.Steps.{at_end, at_index}
 use Rattle.rundiff.proofs.gate_notes.note_all_inputs.Goals as goal
 
 pub note_inputs-requires-clause-there : goal.note_inputs-requires-clause-there
-note_inputs-requires-clause-there g c =
-    let xs = c.args.places.now in let i = c.loop-place.place-index in
-    c.requires.there (slice_index_or xs i 0) (is_one xs i (slice_index_or xs i 0) (slice_get-get_or xs i 0 c.loop-place-test.true))
+note_inputs-requires-clause-there g c = at_index _ c.args.places.now c.loop-place.place-index c.loop-place-test.true c.requires.there
 
 pub loop-place-preserved : goal.loop-place-preserved
 loop-place-preserved g c =
@@ -29,6 +25,4 @@ loop-place-preserved g c =
     }
 
 pub returns-clause-next : goal.returns-clause-next
-returns-clause-next g c = λ p u among after h.
-    let whole = take_all c.loop-place.place-index c.args.places.now c.loop-place-test.false in
-    c.loop-place.invariant.next p u (ap (λ (l : List ℕ). is_among l p) whole ∙ among) after h
+returns-clause-next g c = λ p u. at_end _ c.args.places.now c.loop-place.place-index c.loop-place-test.false (λ q. c.loop-place.invariant.next q u) p

@@ -1,14 +1,13 @@
-use Rattle.std.proofs.Common.{◌∙◌, ◌<◌, ap, subst, arith, ℕ, suc, List, length}
+use Rattle.std.proofs.Common.{◌∙◌, ◌<◌, ap, subst, arith, suc, length}
 use Rattle.std.specs.Prelude.{slice_index_or}
 use Rattle.std.proofs.lemmas.Option.{slice_get-get_or, get_or_from_slice_get}
-use Rattle.std.proofs.lemmas.List.{take_all}
 use Rattle.event_queue.specs.kept.Noted.{noted}
 use Rattle.gatestep.specs.Step.{State}
 use Rattle.gatestep.specs.Tasks.{PendingFrom}
 use Rattle.rundiff.specs.kept.Noting.{pends}
-use Rattle.rundiff.specs.kept.Places.{is_among}
 use Rattle.rundiff.proofs.Driven.{read_get}
 use Rattle.rundiff.proofs.NotedMore.{mapped_at, more_events}
+use Rattle.rundiff.proofs.Steps.{at_end}
 use Rattle.rundiff.proofs.gate_notes.note_events.Goals as goal
 
 pub note_event-requires : goal.note_event-requires
@@ -35,6 +34,4 @@ loop-i-preserved c =
     }
 
 pub returns-clause-events : goal.returns-clause-events
-returns-clause-events c = λ f those p u among h.
-    let whole = take_all c.loop-i.i c.args.places.now c.loop-i-test.false in
-    c.loop-i.invariant.events f those p u (ap (λ (l : List ℕ). is_among l p) whole ∙ among) h
+returns-clause-events c = λ f those p u. at_end _ c.args.places.now c.loop-i.i c.loop-i-test.false (λ q. c.loop-i.invariant.events f those q u) p

@@ -5,13 +5,11 @@ use Rattle.std.proofs.lemmas.List.{take_all}
 use Rattle.design.specs.Keys.{netlist}
 use Rattle.scratch.proofs.Lists.{take_next}
 use Rattle.rundiff.specs.kept.Fronts.{AreOutcomes}
-use Rattle.rundiff.proofs.Steps.{is_one}
+use Rattle.rundiff.proofs.Steps.{at_index}
 use Rattle.rundiff.proofs.gates.look_at.Goals as goal
 
 pub look-outcome-requires-clause-there : goal.look-outcome-requires-clause-there
-look-outcome-requires-clause-there g c =
-    let xs = c.args.held.now in let i = c.loop-place.place-index in
-    c.requires.there (slice_index_or xs i 0) (is_one xs i (slice_index_or xs i 0) (slice_get-get_or xs i 0 c.loop-place-test.true))
+look-outcome-requires-clause-there g c = at_index _ c.args.held.now c.loop-place.place-index c.loop-place-test.true c.requires.there
 
 pub loop-place-init : goal.loop-place-init
 loop-place-init g c = c.clear.ensures g.S.Stepper.answer (netlist c.args.former.now.old.now) (netlist c.args.former.now.new.now) c.args.t

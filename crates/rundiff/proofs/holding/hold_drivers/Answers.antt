@@ -1,21 +1,13 @@
-use Rattle.std.proofs.Common.{◌≡◌, ◌∙◌, ap, sym, ℕ, take, true, false, cond, Bool, List, [], Option, Some, is_some}
+use Rattle.std.proofs.Common.{◌∙◌, ap, sym, take, true, false, cond, Bool}
 use Rattle.std.specs.Prelude.{◌||◌, ◌==◌}
 use Rattle.std.specs.BTreeSet.{contains}
 use Rattle.std.specs.List.{list_any}
 use Rattle.std.specs.Option.{option_map_or}
 use Rattle.std.specs.Ordering.{nat_cmp}
-use Rattle.std.proofs.lemmas.Option.{slice_get-get_or}
-use Rattle.std.proofs.lemmas.List.{take_all}
 use Rattle.catalog.specs.kept.Catalog.{place_of}
-use Rattle.design.specs.Keys.{name_of, netlist}
-use Rattle.design.specs.kept.Keys.{driver_keys, net_by_key}
-use Rattle.design.specs.Netlist.{NetEntry}
-use Rattle.design.specs.kept.Places.{driver_places}
-use Rattle.design.proofs.EntryLemmas.{any_map}
-use Rattle.scratch.proofs.Among.{any_more}
 use Rattle.scratch.proofs.Keyed.{same_test}
-use Rattle.rundiff.specs.kept.Places.{blank_net, is_among, net_at}
 use Rattle.rundiff.proofs.Driven.{read_get}
+use Rattle.rundiff.proofs.Readers.{driver_more, listed_drivers}
 use Rattle.rundiff.proofs.Sets.{held_more, test_is}
 use Rattle.rundiff.proofs.holding.hold_drivers.Goals as goal
 
@@ -23,31 +15,15 @@ pub loop-driver-preserved : goal.loop-driver-preserved
 loop-driver-preserved c = λ p.
     let keys = c.drivers-drivers.result.now in let i = c.loop-driver.driver-index in
     let x = c.driver-item.result in let gate = c.in-Some.gate in
-    let at = read_get keys i x c.loop-driver-test.true c.driver-item.is in
-    let gates = c.args.new.now.gates in
-    let test : ℕ → Bool = λ key. option_map_or (λ q. q == p) (place_of gates key) false in
     let held = contains nat_cmp c.args.held.now p in
-    let so_far = list_any test (take i keys) in
-    let here : test x ≡ (gate == p) = ap (λ (o : Option ℕ). option_map_or (λ q. q == p) o false) (sym c.in-Some.ensures.place) in
+    let so_far = list_any (λ key. option_map_or (λ q. q == p) (place_of c.args.new.now.gates key) false) (take i keys) in
     c.in_ok-insert.ensures.updates.0 p
     ∙ ap (λ (b : Bool). cond b true (contains nat_cmp c.loop-driver.held p)) (sym (test_is gate p) ∙ same_test p gate)
-    ∙ ap (λ (b : Bool). cond (gate == p) true b) (c.loop-driver.invariant p)
-    ∙ held_more so_far (gate == p) held
-    ∙ ap (λ (b : Bool). b || held) (ap (λ (b : Bool). so_far || b) (sym here) ∙ sym (any_more test keys i x at))
+    ∙ ap (λ (b : Bool). cond (gate == p) true b) (c.loop-driver.invariant p) ∙ held_more so_far (gate == p) held
+    ∙ ap (λ (b : Bool). b || held) (sym (driver_more c.args.new.now.gates keys i x gate p (read_get keys i x c.loop-driver-test.true c.driver-item.is) c.in-Some.ensures.place))
 
 pub returns : goal.returns
 returns c = λ p.
-    let keyed = c.args.new.now in let d = netlist keyed in
-    let key = c.net_key_at.result in
-    let n = net_at d c.args.place in
-    let there : net_by_key keyed key ≡ Some n = c.net_key_at.ensures.net ∙ slice_get-get_or d.nets c.args.place blank_net c.requires.there in
-    let named : name_of keyed.nets key ≡ n.name = ap (λ (o : Option NetEntry). option_map_or (λ m. m.name) o []) there in
-    let test : Option ℕ → Bool = λ o. option_map_or (λ q. q == p) o false in
-    let held = contains nat_cmp c.args.held.now p in
     c.loop-driver.invariant p
-    ∙ ap (λ (b : Bool). b || held)
-    (ap (list_any (λ key. test (place_of keyed.gates key))) (take_all c.loop-driver.driver-index c.drivers-drivers.result.now c.loop-driver-test.false ∙ c.drivers-drivers.ensures.drivers)
-    ∙ sym (any_map test (λ gate. place_of keyed.gates gate) (driver_keys keyed key))
-    ∙ ap (list_any test) (c.places_are_keys.ensures.drivers key (ap (λ (o : Option NetEntry). is_some o) there))
-    ∙ any_map test (λ place. Some place) (driver_places d.gates (name_of keyed.nets key))
-    ∙ ap (λ (name : List ℕ). is_among (driver_places d.gates name) p) named)
+    ∙ ap (λ (b : Bool). b || contains nat_cmp c.args.held.now p) (listed_drivers c.args.new.now c.net_key_at.result c.args.place p c.requires.there c.net_key_at.ensures.net c.places_are_keys.ensures.drivers
+    c.drivers-drivers.result.now c.loop-driver.driver-index c.loop-driver-test.false c.drivers-drivers.ensures.drivers)

@@ -1,12 +1,9 @@
-use Rattle.std.proofs.Common.{◌≤◌, ◌∙◌, ap, ℕ, List, arith}
+use Rattle.std.proofs.Common.{◌<◌, ◌≤◌, ℕ, length, arith}
 use Rattle.std.specs.Prelude.{slice_index_or}
-use Rattle.std.proofs.lemmas.Option.{slice_get-get_or}
-use Rattle.std.proofs.lemmas.List.{take_all}
 use Rattle.design.specs.Keys.{netlist}
 use Rattle.design.specs.Netlist.{Netlist}
 use Rattle.rundiff.specs.kept.Inputs.{IsSameInput}
-use Rattle.rundiff.specs.kept.Places.{is_among}
-use Rattle.rundiff.proofs.Steps.{is_one, each_more}
+use Rattle.rundiff.proofs.Steps.{at_end, at_index, each_next}
 use Rattle.rundiff.proofs.leaping.all_same_until.Goals as goal
 
 -- what is the same until a moment is so until an earlier one
@@ -15,24 +12,20 @@ sooner old new p n u v order is =
     record { was = is.was; named = is.named; was_input = is.was_input; now_input = is.now_input; same = λ m from until. is.same m from (omega arith) }
 
 pub same_until-requires : goal.same_until-requires
-same_until-requires c =
-    let xs = c.args.places.now in let i = c.loop-place.place-index in
-    record { there = c.requires.there (slice_index_or xs i 0) (is_one xs i (slice_index_or xs i 0) (slice_get-get_or xs i 0 c.loop-place-test.true)) }
+same_until-requires c = record { there = at_index (λ p. p < length (netlist c.args.former.now.new.now).nets) c.args.places.now c.loop-place.place-index c.loop-place-test.true c.requires.there }
 
 pub loop-place-preserved : goal.loop-place-preserved
 loop-place-preserved c =
     let xs = c.args.places.now in let i = c.loop-place.place-index in let x = slice_index_or xs i 0 in
-    let at = slice_get-get_or xs i 0 c.loop-place-test.true in
     let old = netlist c.args.former.now.old.now in let new = netlist c.args.former.now.new.now in
     let now = c.min-until.result in
     record {
       until = omega (arith, c.min-until.ensures, c.loop-place.invariant.until);
       same = λ after.
-          each_more (λ p. IsSameInput old new p c.args.t now) xs i x at
-          (λ p was apart. sooner old new p c.args.t c.loop-place.until now (omega (arith, c.min-until.ensures)) (c.loop-place.invariant.same (omega (arith, c.min-until.ensures)) p was))
+          each_next (λ p. IsSameInput old new p c.args.t now) xs i c.loop-place-test.true
+          (λ p was. sooner old new p c.args.t c.loop-place.until now (omega (arith, c.min-until.ensures)) (c.loop-place.invariant.same (omega (arith, c.min-until.ensures)) p was))
           (sooner old new x c.args.t c.same_until.result now (omega (arith, c.min-until.ensures)) (c.same_until.ensures (omega (arith, c.min-until.ensures))));
     }
 
 pub returns-clause-same : goal.returns-clause-same
-returns-clause-same c = λ after p among.
-    c.loop-place.invariant.same after p (ap (λ (l : List ℕ). is_among l p) (take_all c.loop-place.place-index c.args.places.now c.loop-place-test.false) ∙ among)
+returns-clause-same c = λ after. at_end _ c.args.places.now c.loop-place.place-index c.loop-place-test.false (c.loop-place.invariant.same after)

@@ -1,18 +1,16 @@
 use Rattle.std.proofs.Common.{◌≡◌, ◌∙◌, ap, sym, subst, ℕ, suc, List, Some}
-use Rattle.std.proofs.lemmas.Option.{slice_get-get_or, same_Some, get_or_from_slice_get}
-use Rattle.std.proofs.lemmas.List.{take_all}
+use Rattle.std.proofs.lemmas.Option.{same_Some, get_or_from_slice_get}
 use Rattle.catalog.specs.kept.Catalog.{place_of}
 use Rattle.event_queue.specs.kept.Noted.{noted}
 use Rattle.design.specs.Connections.{to_net}
 use Rattle.design.specs.Keys.{netlist}
-use Rattle.design.specs.kept.Keys.{net_by_key}
 use Rattle.design.specs.Netlist.{NetEntry}
 use Rattle.scratch.specs.kept.Places.{IsNotedWithin}
 use Rattle.scratch.proofs.Notes.{within_on}
 use Rattle.rundiff.specs.kept.Noting.{old_moves}
-use Rattle.rundiff.specs.kept.Places.{blank_net, is_among, net_at}
+use Rattle.rundiff.specs.kept.Places.{blank_net, net_at}
 use Rattle.rundiff.proofs.Driven.{read_get}
-use Rattle.rundiff.proofs.ReaderKeys.{entry_at, keyed_at, reader_at}
+use Rattle.rundiff.proofs.ReaderKeys.{each_reader}
 use Rattle.rundiff.proofs.Steps.{each_more}
 use Rattle.rundiff.proofs.letting.note_readers.Goals as goal
 
@@ -38,13 +36,9 @@ loop-reader-preserved g c =
 pub returns-clause-next : goal.returns-clause-next
 returns-clause-next g c = λ q u low reading later moves.
     let keyed = c.args.former.now.new.now in let d = netlist keyed in
-    let key = c.net_key_at-key.result in
-    let n = net_at d c.args.net in
-    let there : net_by_key keyed key ≡ Some n = c.net_key_at-key.ensures.net ∙ slice_get-get_or d.nets c.args.net blank_net c.requires.there in
-    let whole = take_all c.loop-reader.reader-index c.fanout-readers.result.now c.loop-reader-test.false in
-    let k = (keyed_at keyed q).0 in
-    let among = reader_at keyed c.lawful.ensures.keys c.places_are_keys.ensures.nets key q n there low reading in
     let net = c.net_at.result.now in
-    let name : c.as_str-name.result.now ≡ n.name = c.as_str-name.ensures ∙ c.name.ensures ∙ ap (λ (m : NetEntry). m.name) (sym (get_or_from_slice_get d.nets c.args.net net blank_net c.net_at.ensures)) in
-    c.loop-reader.invariant.next k (ap (λ (l : List ℕ). is_among l k) (whole ∙ c.fanout-readers.ensures.readers) ∙ among) q u (entry_at keyed c.lawful.ensures.keys q low).position
-    (c.next_old_change-change.ensures.first d u later (ap (λ (m : List ℕ). old_moves g.S.Stepper.answer (netlist c.args.former.now.old.now) d (to_net m) u) name ∙ moves))
+    let name : c.as_str-name.result.now ≡ (net_at d c.args.net).name = c.as_str-name.ensures ∙ c.name.ensures ∙ ap (λ (m : NetEntry). m.name) (sym (get_or_from_slice_get d.nets c.args.net net blank_net c.net_at.ensures)) in
+    let change = c.next_old_change-change.ensures.first d u later (ap (λ (m : List ℕ). old_moves g.S.Stepper.answer (netlist c.args.former.now.old.now) d (to_net m) u) name ∙ moves) in
+    each_reader keyed c.lawful.ensures.keys c.places_are_keys.ensures.nets c.net_key_at-key.result c.args.net c.requires.there c.net_key_at-key.ensures.net
+    c.fanout-readers.result.now c.loop-reader.reader-index c.loop-reader-test.false c.fanout-readers.ensures.readers
+    (λ r. IsNotedWithin (noted c.loop-reader.queue) r (suc c.args.t) u) (λ k among r place. c.loop-reader.invariant.next k among r u place change) q low reading

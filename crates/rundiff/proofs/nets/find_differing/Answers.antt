@@ -1,29 +1,22 @@
-use Rattle.std.proofs.Common.{◌∙◌, ap, Bool, ℕ, List}
-use Rattle.std.specs.Prelude.{◌||◌, slice_index_or}
+use Rattle.std.proofs.Common.{Bool, ℕ}
+use Rattle.std.specs.Prelude.{◌||◌}
 use Rattle.std.specs.BTreeSet.{contains}
 use Rattle.std.specs.Ordering.{nat_cmp}
-use Rattle.std.proofs.lemmas.Option.{slice_get-get_or}
-use Rattle.std.proofs.lemmas.List.{take_all}
 use Rattle.design.specs.Keys.{netlist}
 use Rattle.rundiff.specs.kept.Fronts.{IsAlike}
 use Rattle.rundiff.specs.kept.Places.{is_among}
 use Rattle.rundiff.proofs.Alike.{alike_grows, either_more}
-use Rattle.rundiff.proofs.Steps.{is_one, each_more}
+use Rattle.rundiff.proofs.Steps.{at_end, at_index, each_next}
 use Rattle.rundiff.proofs.nets.find_differing.Goals as goal
 
 pub add_differing-requires-clause-there : goal.add_differing-requires-clause-there
-add_differing-requires-clause-there g c =
-    let xs = c.args.live.now in let i = c.loop-place.place-index in
-    c.requires.there (slice_index_or xs i 0) (is_one xs i (slice_index_or xs i 0) (slice_get-get_or xs i 0 c.loop-place-test.true))
+add_differing-requires-clause-there g c = at_index _ c.args.live.now c.loop-place.place-index c.loop-place-test.true c.requires.there
 
 pub add_differing-requires-clause-wave : goal.add_differing-requires-clause-wave
-add_differing-requires-clause-wave g c =
-    let xs = c.args.live.now in let i = c.loop-place.place-index in
-    c.requires.waves (slice_index_or xs i 0) (is_one xs i (slice_index_or xs i 0) (slice_get-get_or xs i 0 c.loop-place-test.true))
+add_differing-requires-clause-wave g c = at_index _ c.args.live.now c.loop-place.place-index c.loop-place-test.true c.requires.waves
 
 pub loop-place-preserved : goal.loop-place-preserved
 loop-place-preserved g c =
-    let xs = c.args.live.now in let i = c.loop-place.place-index in let x = slice_index_or xs i 0 in
     let old = netlist c.args.former.now.old.now in let new = netlist c.args.former.now.new.now in let t = c.args.t in
     let done = c.in_ok-add_differing.ensures in
     let live : ℕ → Bool = contains nat_cmp c.args.all_live.now in
@@ -32,12 +25,11 @@ loop-place-preserved g c =
     record {
       there = done.there c.loop-place.invariant.there;
       alike =
-          each_more (IsAlike g.S.Stepper.answer old new now t) xs i x (slice_get-get_or xs i 0 c.loop-place-test.true)
-          (λ p so_far apart.
+          each_next (IsAlike g.S.Stepper.answer old new now t) c.args.live.now c.loop-place.place-index c.loop-place-test.true
+          (λ p so_far.
           alike_grows g.S.Stepper.answer old new was now t p (λ q on. either_more (is_among c.loop-place.found.items q) (is_among c.add_differing.new.found.items q) (live q) (done.more q) on)
           (c.loop-place.invariant.alike p so_far)) done.alike;
     }
 
 pub returns-clause-alike : goal.returns-clause-alike
-returns-clause-alike g c = λ p among.
-    c.loop-place.invariant.alike p (ap (λ (l : List ℕ). is_among l p) (take_all c.loop-place.place-index c.args.live.now c.loop-place-test.false) ∙ among)
+returns-clause-alike g c = at_end _ c.args.live.now c.loop-place.place-index c.loop-place-test.false c.loop-place.invariant.alike

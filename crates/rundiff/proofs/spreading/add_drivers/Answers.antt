@@ -1,7 +1,6 @@
 use Rattle.std.proofs.Common.{◌≡◌, ◌∙◌, ap, ℕ, List, true}
 use Rattle.std.specs.Prelude.{slice_index_or}
 use Rattle.std.proofs.lemmas.Bool.{or_left, or_right}
-use Rattle.std.proofs.lemmas.Option.{slice_get-get_or}
 use Rattle.std.proofs.lemmas.List.{take_all}
 use Rattle.design.specs.Keys.{netlist}
 use Rattle.design.specs.Names.{same_name}
@@ -10,7 +9,7 @@ use Rattle.scratch.proofs.Stirred.{same_self_name}
 use Rattle.rundiff.specs.kept.Places.{gate_at, is_among, net_at}
 use Rattle.rundiff.proofs.Among.{live_net}
 use Rattle.rundiff.proofs.Readers.{driver_at}
-use Rattle.rundiff.proofs.Steps.{each_more}
+use Rattle.rundiff.proofs.Steps.{each_next}
 use Rattle.rundiff.proofs.spreading.add_drivers.Goals as goal
 
 pub loop-place-preserved : goal.loop-place-preserved
@@ -24,8 +23,8 @@ loop-place-preserved c =
     record {
       more = λ q on. done q ∙ or_right (is_among (drivers x) q) (is_among before q) (c.loop-place.invariant.more q on);
       drivers =
-          each_more (λ p. (q : ℕ) → is_among (drivers p) q ≡ true → is_among now q ≡ true) xs i x (slice_get-get_or xs i 0 c.loop-place-test.true)
-          (λ p was apart q drives. done q ∙ or_right (is_among (drivers x) q) (is_among before q) (c.loop-place.invariant.drivers p was q drives))
+          each_next (λ p. (q : ℕ) → is_among (drivers p) q ≡ true → is_among now q ≡ true) xs i c.loop-place-test.true
+          (λ p was q drives. done q ∙ or_right (is_among (drivers x) q) (is_among before q) (c.loop-place.invariant.drivers p was q drives))
           (λ q drives. done q ∙ or_left (is_among (drivers x) q) (is_among before q) drives);
     }
 

@@ -1,21 +1,17 @@
-use Rattle.std.proofs.Common.{◌∙◌, ap, sym, ℕ, List, length, arith}
-use Rattle.std.specs.Prelude.{nat_eq, slice_get}
+use Rattle.std.proofs.Common.{◌∙◌, ap, sym, length, arith}
+use Rattle.std.specs.Prelude.{slice_get}
 use Rattle.std.proofs.lemmas.Option.{slice_get_past}
-use Rattle.std.proofs.lemmas.Bool.{or_right}
-use Rattle.scratch.proofs.Among.{nat_itself}
-use Rattle.rundiff.specs.kept.Places.{is_among}
 use Rattle.rundiff.proofs.Driven.{read_get}
 use Rattle.rundiff.proofs.Items.{is_past, no_item, some_item}
-use Rattle.rundiff.proofs.Steps.{among_push}
+use Rattle.rundiff.proofs.Steps.{pushed_there}
 use Rattle.rundiff.proofs.place_map.PlaceMap.add_place.Goals as goal
 
 pub returns-in_ok-push-in-Some-clause-added : goal.returns-in_ok-push-in-Some-clause-added
 returns-in_ok-push-in-Some-clause-added g c =
     let xs = c.deref.result.now in let items = c.args.self.now.items.items in let i = c.args.i in let e = c.in-Some.item.now in
-    let was = c.args.places.now.items in
     let read = c.in-Some.ensures.lookup in
     some_item (slice_get items i) e c.push.new.self.items c.args.count (ap (λ l. slice_get l i) (sym c.deref.ensures.value) ∙ read_get xs i e read.3.0 read.1)
-    (λ low. ap (λ (l : List ℕ). is_among l e.0) c.in_ok-push-in-Some.ensures.items ∙ among_push was e.0 e.0 ∙ or_right (is_among was e.0) (nat_eq e.0 e.0) (nat_itself e.0))
+    (λ low. pushed_there c.args.places.now.items c.push.new.self.items e.0 c.in_ok-push-in-Some.ensures.items)
 
 pub returns-in_default-clause-added : goal.returns-in_default-clause-added
 returns-in_default-clause-added g c =
