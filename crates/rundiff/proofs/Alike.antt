@@ -1,6 +1,6 @@
 -- Names that are live, where more places are.
 use Rattle.std.proofs.Common.{◌≡◌, ℕ, Bool, true, false, List, Option, Some, None, inl, inr, refl}
-use Rattle.std.specs.Prelude.{◌||◌}
+use Rattle.std.specs.Prelude.{◌||◌, ◌&&◌}
 use Rattle.std.specs.List.{position_from}
 use Rattle.std.specs.Option.{option_map_or}
 use Rattle.std.proofs.lemmas.Bool.{or_left}
@@ -30,3 +30,8 @@ pub either_more : (a b c : Bool) → (a ≡ true → b ≡ true) → (a || c) �
 either_more true b c more on = or_left b c (more refl)
 either_more false true c more on = refl
 either_more false false c more on = on
+
+-- both pass still
+pub both_more : (a b c : Bool) → (a ≡ true → b ≡ true) → (a && c) ≡ true → (b && c) ≡ true
+both_more true b c more on = rw (more refl) on
+both_more false b c more on = absurd (cc)

@@ -1,10 +1,10 @@
 -- Held gates that are not looked at are not stirred.
-use Rattle.std.proofs.Common.{◌≡◌, ℕ, suc, ◌-◌, ◌<◌, ◌≤◌, ◌∙◌, ap, sym, refl, subst, Bool, true, false, not, List, length, Some, inl, inr, arith, All}
+use Rattle.std.proofs.Common.{◌≡◌, ℕ, suc, ◌-◌, ◌<◌, ◌∙◌, ap, sym, refl, Bool, true, false, not, List, length, Some, inl, inr, arith, All}
 use Rattle.std.specs.Prelude.{slice_index_or, ◌&&◌, ◌||◌, ◌==◌}
 use Rattle.std.specs.List.{list_any}
 use Rattle.std.proofs.lemmas.List.Folds.{list_any_at}
 use Rattle.std.proofs.lemmas.Bool.{or_right, and_from}
-use Rattle.std.proofs.lemmas.List.{get_or_default}
+use Rattle.std.proofs.lemmas.List.Elements.{All-from_get_or}
 use Rattle.gatestep.specs.Step.{State, Evaluation, due}
 use Rattle.gatestep.specs.kept.Tasks.{IsTask, NothingDue}
 use Rattle.design.specs.Connections.{Connection, to_net, to_constant}
@@ -22,7 +22,8 @@ use Rattle.rundiff.specs.kept.Noting.{input_moves, is_at_live, old_moves}
 use Rattle.rundiff.specs.kept.Places.{blank_gate, blank_net, gate_at, is_live, net_at}
 use Rattle.rundiff.specs.kept.Steady.{IsSteady}
 use Rattle.rundiff.proofs.ByPlace.{live_at}
-use Rattle.rundiff.proofs.Quiet.{AreLookedAt, at_now, none_due, quiet_value, stays_in_old}
+use Rattle.rundiff.proofs.Noted.{for_now}
+use Rattle.rundiff.proofs.Quiet.{AreLookedAt, none_due, quiet_value, stays_in_old}
 use Rattle.rundiff.proofs.Settling.{untouched_same}
 use Rattle.rundiff.proofs.Wired.{IsThere, inputs_there, named_in, reads_net}
 use Rattle.rundiff.proofs.Lists.{not_so, off_by}
@@ -30,11 +31,7 @@ use Rattle.rundiff.proofs.Lists.{not_so, off_by}
 -- at moment 0 all held gates are noted
 pub all_noted : (answer : Evaluation → ℕ → State) (old new : Netlist) (live held : ℕ → Bool) (events_at inputs_at nets_at : ℕ → List ℕ) (looked : ℕ → Bool) →
     AreLookedAt answer old new live held events_at inputs_at nets_at 0 looked → (q : ℕ) → held q ≡ true → has q (inputs_at 0) ≡ true
-all_noted answer old new live held events_at inputs_at nets_at looked are q on =
-    let at = are.awaits.inputs q 0 (omega arith) (and_from (held q) (0 == 0 || input_moves answer old new live q 0) on refl) in
-    let low : at.0 ≤ 0 = at.2 in
-    let first : at.0 ≡ 0 = omega arith in
-    ap (λ (u : ℕ). has q (inputs_at u)) (sym first) ∙ at.3
+all_noted answer old new live held events_at inputs_at nets_at looked are q on = for_now inputs_at q 0 (are.awaits.inputs q 0 (omega arith) (and_from (held q) (0 == 0 || input_moves answer old new live q 0) on refl))
 
 module _ (answer : Evaluation → ℕ → State) (old new : Netlist)
     (current : (e : Evaluation) (t : ℕ) → (answer e t).current ≡ (due e.state t).current) (pending : (e : Evaluation) (t : ℕ) → IsTask e → NothingDue t (answer e t))
@@ -51,8 +48,7 @@ module _ (answer : Evaluation → ℕ → State) (old new : Netlist)
   unmoved : input_moves answer old new live q now ≡ false
   unmoved =
       not_so (input_moves answer old new live q now) (has q (inputs_at now))
-      (λ moves. at_now answer old new current pending is live held events_at inputs_at nets_at r looked are q inputs_at
-      (are.awaits.inputs q now (omega arith) (and_from (held q) (now == 0 || input_moves answer old new live q now) on (or_right (now == 0) (input_moves answer old new live q now) moves)))) no_input
+      (λ moves. for_now inputs_at q now (are.awaits.inputs q now (omega arith) (and_from (held q) (now == 0 || input_moves answer old new live q now) on (or_right (now == 0) (input_moves answer old new live q now) moves)))) no_input
 
   -- what an input at a net that is there reads
   abbrev Fact : NetEntry → Type 0
@@ -77,7 +73,7 @@ module _ (answer : Evaluation → ℕ → State) (old new : Netlist)
       ∙ are.agrees.nets p blank_net there out)
 
   facts : All Fact new.nets
-  facts = λ k d there. subst Fact (get_or_default new.nets k blank_net d there) (fact_at k there)
+  facts = All-from_get_or Fact new.nets blank_net fact_at
 
   -- the gate reads it
   abbrev IsRead : Connection → Type 0

@@ -3,7 +3,7 @@ use Rattle.std.proofs.Common.{◌≡◌, ◌<◌, ◌≤◌, ◌∙◌, sym, ap,
 use Rattle.std.specs.Prelude.{nat_eq, nat_le, slice_index_or, ◌&&◌, ◌||◌, ◌==◌}
 use Rattle.std.specs.List.{list_any}
 use Rattle.std.specs.Option.{ForSome, option_map_or}
-use Rattle.std.proofs.lemmas.Bool.{cases_lt, or_parts, not-false}
+use Rattle.std.proofs.lemmas.Bool.{cases_lt, false_from_ne_true, or_parts, not-false}
 use Rattle.std.proofs.lemmas.Bool.Decides.{nat_tests}
 use Rattle.std.proofs.lemmas.List.Elements.{All-from_get_or}
 use Rattle.std.proofs.lemmas.List.Folds.{list_any_at}
@@ -19,6 +19,7 @@ use Rattle.design.specs.kept.Lawful.{IsDesign}
 use Rattle.design.specs.Netlist.{NetEntry, Netlist, has_point}
 use Rattle.scratch.specs.Run.{evaluation_at, state_before}
 use Rattle.scratch.specs.Work.{is_due}
+use Rattle.scratch.proofs.Among.{nat_itself}
 use Rattle.scratch.proofs.Skips.{unwanted}
 use Rattle.scratch.proofs.Runs.{is_task}
 use Rattle.scratch.proofs.Driven.{either}
@@ -35,21 +36,14 @@ use Rattle.rundiff.proofs.Lists.{off_by, not_so}
 none_of : {X : Type 0} (test : X → Bool) (xs : List X) (k : ℕ) (d : X) → list_any test xs ≡ false → k < length xs → test (slice_index_or xs k d) ≡ false
 none_of test xs k d none low = not_so (test (slice_index_or xs k d)) (list_any test xs) (list_any_at test xs k d low) none
 
-due_by : (event : Value × ℕ) (n m : ℕ) → n ≤ event.1 → ((v : ℕ) → n ≤ v → v ≤ m → nat_eq event.1 v ≡ false) → (b : Bool) → nat_le event.1 m ≡ b → b ≡ false
-due_by event n m from off true is =
-    let low : event.1 ≤ m = grind (arith, nat_tests) in
-    let apart : nat_eq event.1 event.1 ≡ false = off event.1 from low in
-    absurd (let itself : nat_eq event.1 event.1 ≡ true = grind (arith, nat_tests) in let never : true ≡ false = sym itself ∙ apart in cc)
-due_by event n m from off false is = refl
-
-pending_due : (p : Option (Value × ℕ)) (n m : ℕ) → ForSome p (λ event. n ≤ event.1) → ((v : ℕ) → n ≤ v → v ≤ m → option_map_or (λ event. nat_eq event.1 v) p false ≡ false) →
-    option_map_or (λ event. nat_le event.1 m) p false ≡ false
-pending_due None n m from off = refl
-pending_due (Some event) n m from off = due_by event n m (from event refl) off (nat_le event.1 m) refl
-
 -- nothing is due where nothing is pending for that moment or one before
-none_due_by : (s : State) (n m : ℕ) → PendingFrom n s → ((v : ℕ) → n ≤ v → v ≤ m → pends s v ≡ false) → is_due s m ≡ false
-none_due_by s n m from off = pending_due s.pending n m from off
+none_due_by : (p : Option (Value × ℕ)) (n m : ℕ) → ForSome p (λ event. n ≤ event.1) → ((v : ℕ) → n ≤ v → v ≤ m → option_map_or (λ event. nat_eq event.1 v) p false ≡ false) →
+    option_map_or (λ event. nat_le event.1 m) p false ≡ false
+none_due_by None n m from off = refl
+none_due_by (Some event) n m from off =
+    false_from_ne_true (nat_le event.1 m) (λ is.
+    let low : event.1 ≤ m = grind (arith, nat_tests) in
+    let apart = off event.1 (from event refl) low in let itself = nat_itself event.1 in cc)
 
 -- the function has the same value as before at each moment after r and before u, up to h
 abbrev StandsStill : (ℕ → Value) → (h r u : ℕ) → Type 0
@@ -86,7 +80,7 @@ module _ (answer : Evaluation → ℕ → State) (old new : Netlist) (pending : 
   due_at : (p : ℕ) → p < length new.gates → live (gate_at new p).output ≡ true → Between r u (λ m. is_due (state_before answer new (suc r) (gate_at new p)) m ≡ false)
   due_at p there on = λ m from low.
       let state = state_before answer new (suc r) (gate_at new p) in
-      none_due_by state (suc r) m (ready p there)
+      none_due_by state.pending (suc r) m (ready p there)
       (λ v after before.
       off_by (held_in front p) (pends state v) (gate_on p there on)
       (unwanted (wants_event answer old new (held_in front) (suc r)) (noted front.events) (suc r) p v right.awaits.events after (none.events v (omega arith))))

@@ -1,7 +1,7 @@
 -- What a front keeps is right as it is after moments at which the live nets are inputs with the same stimulus as in the old design.
 use Rattle.std.proofs.Common.{◌≡◌, ℕ, zero, suc, ◌+◌, ◌-◌, ◌<◌, ◌≤◌, ◌++◌, ◌∙◌, ap, sym, subst, Bool, true, false, cond, List, [], map, length, All, append-nil, ◌⊎◌, inl, arith, Option}
 use Rattle.std.specs.Prelude.{◌&&◌, ◌||◌, ◌==◌, slice_index_or}
-use Rattle.std.proofs.lemmas.List.{get_or_default}
+use Rattle.std.proofs.lemmas.List.Elements.{All-from_get_or}
 use Rattle.std.proofs.lemmas.Bool.{and_parts}
 use Rattle.fourstate.specs.declared.value.Value.{Value}
 use Rattle.fourstate.specs.Nets.{net_of}
@@ -42,9 +42,8 @@ module _ (answer : Evaluation → ℕ → State) (old new : Netlist) (is_old : I
   live = is_live new (live_in front)
 
   -- no gate drives a live net
-  undriven : (k : ℕ) (d : GateEntry) → k < length new.gates → live (slice_index_or new.gates k d).output ≡ false
-  undriven k d low =
-      ap (λ (g : GateEntry). live g.output) (get_or_default new.gates k d blank_gate low) ∙ sym (right.live.drivers.drivers k low) ∙ free k
+  undriven : All (λ g. live g.output ≡ false) new.gates
+  undriven = All-from_get_or (λ g. live g.output ≡ false) new.gates blank_gate (λ k low. sym (right.live.drivers.drivers k low) ∙ free k)
 
   -- the value of an input is that of its stimulus
   of_input : (d : Netlist) (x : NetEntry) (m : ℕ) → x.is_input ≡ true → value answer d x m ≡ stimulus x.points m
@@ -61,10 +60,8 @@ module _ (answer : Evaluation → ℕ → State) (old new : Netlist) (is_old : I
   IsAlike m x = (read_at answer old (to_net x.name) m ≡ value answer new x m) ⊎ All (λ g. reads g x.name ≡ true → live g.output ≡ true) new.gates
 
   alike : (m : ℕ) → n ≤ m → m < u → All (λ x. live x.name ≡ true → IsAlike m x) new.nets
-  alike m from until = λ k d low on.
-      let same = get_or_default new.nets k d blank_net low in
-      let lives : live_in front k ≡ true = sym (live_at new (live_in front) k is.distinct_nets low) ∙ ap (λ (x : NetEntry). live x.name) (sym same) ∙ on in
-      subst (IsAlike m) (sym same) (inl (live_same k lives m from until))
+  alike m from until =
+      All-from_get_or (λ x. live x.name ≡ true → IsAlike m x) new.nets blank_net (λ k low on. inl (live_same k (sym (live_at new (live_in front) k is.distinct_nets low) ∙ on) m from until))
 
   agrees_from : (i m : ℕ) → m ≡ n + i → m ≤ u → Agrees answer old new live m
   agrees_from zero m at until = let e : m ≡ n = omega arith in subst (Agrees answer old new live) (sym e) right.live.agrees

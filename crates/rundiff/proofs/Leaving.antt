@@ -1,25 +1,26 @@
 -- A net that one gate alone drives, which was not dirty at the last moment, leaves what is live, and the gate what is held.
-use Rattle.std.proofs.Common.{◌≡◌, ℕ, suc, ◌<◌, ◌≤◌, ◌∙◌, ap, sym, refl, subst, List, [], ◌∷◌, Bool, true, false, cond, not, map, length, arith, All, ◌⊎◌, inl, inr, ⊎_elim}
+use Rattle.std.proofs.Common.{◌≡◌, ℕ, suc, ◌<◌, ◌≤◌, ◌∙◌, ap, sym, subst, List, [], ◌∷◌, Bool, true, false, cond, not, map, length, arith, All, ◌⊎◌, inl, inr, ⊎_elim}
 use Rattle.std.specs.Prelude.{slice_index_or, nat_eq, ◌==◌, ◌||◌, ◌&&◌}
 use Rattle.std.specs.List.{list_any}
-use Rattle.std.proofs.lemmas.Bool.Decides.{nat_tests}
-use Rattle.std.proofs.lemmas.List.Elements.{All-cons, All-nil}
-use Rattle.std.proofs.lemmas.Bool.{or_left, or_right, eqb-true, and_from, and_parts, false_from_ne_true}
+use Rattle.std.proofs.lemmas.List.Elements.{All-from_get_or}
+use Rattle.std.proofs.lemmas.Bool.{or_right, eqb-true, and_from, and_parts, false_from_ne_true}
 use Rattle.std.proofs.Math.Bool.{or-false}
-use Rattle.std.proofs.lemmas.List.{get_or_default}
+use Rattle.std.proofs.lemmas.List.{get_or-map, get_or_default}
+use Rattle.std.proofs.lemmas.Map.Keys.{any_passes_from_place}
 use Rattle.fourstate.specs.declared.value.Value.{Value}
 use Rattle.gatestep.specs.Step.{State, Evaluation}
 use Rattle.design.specs.Connections.{Connection, to_net, to_constant}
 use Rattle.design.specs.kept.Lawful.{IsDesign}
 use Rattle.design.specs.Names.{same_name}
-use Rattle.design.specs.Netlist.{GateEntry, NetEntry, Netlist, is_at_net, reads}
+use Rattle.design.specs.Netlist.{GateEntry, Netlist, is_at_net, reads}
 use Rattle.design.specs.kept.Places.{driver_places}
 use Rattle.design.proofs.NameLemmas.{name_is}
 use Rattle.waveform.specs.kept.Patches.{PatchRecord}
 use Rattle.scratch.specs.kept.Places.{IsNotedWithin, Keeps}
 use Rattle.scratch.specs.Run.{state_before, value}
 use Rattle.scratch.proofs.Stirred.{same_self_name}
-use Rattle.scratch.proofs.Among.{nat_itself}
+use Rattle.scratch.proofs.Among.{any_from, nat_itself}
+use Rattle.scratch.proofs.Keyed.{same_test}
 use Rattle.scratch.proofs.Notes.{within_on}
 use Rattle.scratch.proofs.Driven.{either}
 use Rattle.rundiff.specs.Dirty.{is_dirty}
@@ -28,7 +29,7 @@ use Rattle.rundiff.specs.kept.Kept.{Agrees, IsClosed, IsSameNet, read_at}
 use Rattle.rundiff.specs.kept.Noting.{IsNoted, input_moves, is_at_live, net_moves, old_moves, pends}
 use Rattle.rundiff.specs.declared.place_map.PlaceMap.{PlaceMap}
 use Rattle.rundiff.specs.kept.Places.{blank_gate, blank_net, gate_at, is_among, is_live, net_at}
-use Rattle.rundiff.proofs.Alike.{off_shrinks}
+use Rattle.rundiff.proofs.Alike.{both_more, off_shrinks}
 use Rattle.rundiff.proofs.ByPlace.{live_at}
 use Rattle.rundiff.proofs.Clean.{clean_after, clean_task, same_net}
 use Rattle.rundiff.proofs.Lists.{filter_where}
@@ -46,28 +47,18 @@ lone (x ∷ y ∷ xs) a b one on too = absurd (omega arith)
 
 -- lists of values that are the same are so one by one
 one_by_one : {X : Type 0} (f h : X → Value) (xs : List X) → map f xs ≡ map h xs → All (λ x. f x ≡ h x) xs
-one_by_one f h [] e = All-nil (λ x. f x ≡ h x)
-one_by_one f h (x ∷ xs) e =
-    let first : f x ≡ h x = cc in
-    let rest : map f xs ≡ map h xs = cc in
-    All-cons (λ x. f x ≡ h x) x xs first (one_by_one f h xs rest)
+one_by_one f h xs e = λ i d low. sym (get_or-map f xs i d (f d) low) ∙ ap (λ (l : List Value). slice_index_or l i (f d)) e ∙ get_or-map h xs i d (f d) low
 
 -- a place that is taken away
 smaller : (same more less : Bool) → less ≡ cond same false more → less ≡ true → more ≡ true
 smaller true more less is on = let no : false ≡ true = sym is ∙ on in absurd (cc)
 smaller false more less is on = sym is ∙ on
 
-same_number : (a b : ℕ) → nat_eq a b ≡ true → (b == a) ≡ true
-same_number a b h = grind (arith, nat_tests)
-
-other_number : (a b : ℕ) → nat_eq a b ≡ false → (b == a) ≡ false
-other_number a b h = grind (arith, nat_tests)
-
 pub taken_off : (place : ℕ) (more less : ℕ → Bool) → ((r : ℕ) → less r ≡ cond (r == place) false (more r)) → (r : ℕ) → nat_eq place r ≡ true → less r ≡ false
-taken_off place more less law r same = law r ∙ ap (λ (b : Bool). cond b false (more r)) (same_number place r same)
+taken_off place more less law r same = law r ∙ ap (λ (b : Bool). cond b false (more r)) (same_test r place ∙ same)
 
 pub stays_off : (place : ℕ) (more less : ℕ → Bool) → ((r : ℕ) → less r ≡ cond (r == place) false (more r)) → (r : ℕ) → nat_eq place r ≡ false → less r ≡ false → more r ≡ false
-stays_off place more less law r apart off = sym (law r ∙ ap (λ (b : Bool). cond b false (more r)) (other_number place r apart)) ∙ off
+stays_off place more less law r apart off = sym (law r ∙ ap (λ (b : Bool). cond b false (more r)) (same_test r place ∙ apart)) ∙ off
 
 -- what holds of what is live once they have left
 pub record AreLeft (answer : Evaluation → ℕ → State) (old new : Netlist) (live later held kept fixed : ℕ → Bool) (n : ℕ) : Type 0 where
@@ -93,10 +84,9 @@ module _ (answer : Evaluation → ℕ → State) (old new : Netlist) (is : IsDes
 
   adds : (r : ℕ) → live r ≡ (r == p || later r)
   adds r =
-      elim (r == p) as (λ b. (r == p) ≡ b → live r ≡ (b || later r)) [
-        | true ↦ λ same. ap live (eqb-true r p same) ∙ lives
-        | false ↦ λ apart. sym (gone r ∙ ap (λ (b : Bool). cond b false (live r)) apart)
-      ] refl
+      either (r == p)
+      (λ same. rw same (ap live (eqb-true r p same) ∙ lives))
+      (λ apart. rw apart (sym (gone r ∙ ap (λ (b : Bool). cond b false (live r)) apart)))
 
   names : (out : List ℕ) → is_live new live out ≡ (same_name out name || is_live new later out)
   names out = live_more new is.distinct_nets p low later live adds out
@@ -141,11 +131,8 @@ module _ (answer : Evaluation → ℕ → State) (old new : Netlist) (is : IsDes
 
   fixed_later : (r : ℕ) → fixed r ≡ true → later r ≡ true
   fixed_later r on =
-      gone r
-      ∙ elim (r == p) as (λ b. (r == p) ≡ b → cond b false (live r) ≡ true) [
-        | true ↦ λ same. let no : true ≡ false = sym on ∙ ap fixed (eqb-true r p same) ∙ unfixed in absurd (cc)
-        | false ↦ λ apart. right.fixed_live r on
-      ] refl
+      let apart : (r == p) ≡ false = false_from_ne_true (r == p) (λ same. let no : true ≡ false = sym on ∙ ap fixed (eqb-true r p same) ∙ unfixed in cc) in
+      gone r ∙ ap (λ (b : Bool). cond b false (live r)) apart ∙ right.fixed_live r on
 
   closed_now : IsClosed old new (is_live new later)
   closed_now =
@@ -189,16 +176,12 @@ module _ (answer : Evaluation → ℕ → State) (old new : Netlist) (is : IsDes
             ⊎_elim (λ was. right.agrees.inputs k d within was)
             (λ drives. the_gate (λ g. All (λ connection. read_at answer old connection t ≡ read_at answer new connection t) g.inputs) same_inputs k d within drives)
             (off_or (slice_index_or new.gates k d).output off);
-        nets = λ k d within off.
-            let same : slice_index_or new.nets k d ≡ net_at new k = get_or_default new.nets k d blank_net within in
-            let P : NetEntry → Type 0 = λ x. read_at answer old (to_net x.name) t ≡ value answer new x t in
+        nets = All-from_get_or (λ x. is_live new later x.name ≡ false → read_at answer old (to_net x.name) t ≡ value answer new x t) new.nets blank_net (λ k within off.
             either (k == p)
-            (λ here. subst P (sym (same ∙ ap (net_at new) (eqb-true k p here))) same_value_now)
+            (λ here. subst (λ (r : ℕ). read_at answer old (to_net (net_at new r).name) t ≡ value answer new (net_at new r) t) (sym (eqb-true k p here)) same_value_now)
             (λ apart.
-            let named = ap (λ (x : NetEntry). is_live new live x.name) same ∙ live_at new live k is.distinct_nets within in
-            let named_later = ap (λ (x : NetEntry). is_live new later x.name) same ∙ live_at new later k is.distinct_nets within in
             let stays : later k ≡ live k = gone k ∙ ap (λ (b : Bool). cond b false (live k)) apart in
-            right.agrees.nets k d within (named ∙ sym stays ∙ sym named_later ∙ off));
+            right.agrees.nets k blank_net within (live_at new live k is.distinct_nets within ∙ sym stays ∙ sym (live_at new later k is.distinct_nets within) ∙ off)));
       }
 
   pub left_now : AreLeft answer old new live later held kept fixed (suc t)
@@ -223,21 +206,14 @@ module _ (answer : Evaluation → ℕ → State) (old new : Netlist) (is : IsDes
         inl (ap (λ (b : Bool). not b && old_moves answer old new (to_net m) u) (names m ∙ ap (λ (b : Bool). b || is_live new later m) apart) ∙ h))
 
     split : (u : ℕ) (cs : List Connection) → list_any (test later u) cs ≡ true → (list_any (test live u) cs ≡ true) ⊎ ((list_any (is_at_net name) cs ≡ true) × (old_moves answer old new (to_net name) u ≡ true))
-    split u [] on = absurd (cc)
-    split u (c ∷ cs) on =
-        elim (test later u c) as (λ b. test later u c ≡ b → (b || list_any (test later u) cs) ≡ true → (list_any (test live u) (c ∷ cs) ≡ true) ⊎ ((list_any (is_at_net name) (c ∷ cs) ≡ true) × (old_moves answer old new (to_net name) u ≡ true))) [
-          | true ↦ λ here h.
-              ⊎_elim (λ was. inl (or_left (test live u c) (list_any (test live u) cs) was)) (λ at. inr (or_left (is_at_net name c) (list_any (is_at_net name) cs) at.0, at.1)) (one u c here)
-          | false ↦ λ no h.
-              ⊎_elim (λ was. inl (or_right (test live u c) (list_any (test live u) cs) was)) (λ at. inr (or_right (is_at_net name c) (list_any (is_at_net name) cs) at.0, at.1)) (split u cs h)
-        ] refl on
+    split u cs on =
+        let f = any_from (test later u) cs on in
+        ⊎_elim (λ was. inl (any_passes_from_place (test live u) cs f.0 f.1 f.2 was)) (λ at. inr (any_passes_from_place (is_at_net name) cs f.0 f.1 f.2 at.0, at.1)) (one u f.1 f.3)
 
     pub noted_less : IsNoted answer old new later kept kept (suc t) events after nets (suc t)
     noted_less =
         record {
-          events = λ r u late h.
-              let pending = pends (state_before answer new (suc t) (gate_at new r)) u in
-              let parts = and_parts (kept r) pending h in before.events r u late (and_from (held r) pending (was_held r parts.0) parts.1);
+          events = λ r u late h. before.events r u late (both_more (kept r) (held r) (pends (state_before answer new (suc t) (gate_at new r)) u) (was_held r) h);
           inputs = λ r u late h.
               let moves = input_moves answer old new later r u in
               let moved = input_moves answer old new live r u in
@@ -246,9 +222,7 @@ module _ (answer : Evaluation → ℕ → State) (old new : Netlist) (is : IsDes
               (λ was. within_on inputs after r (suc t) u keeps (before.inputs r u late (and_from (held r) (u == 0 || moved) (was_held r parts.0) (or_right (u == 0) moved was))))
               (λ at. next r u (right.drivers.gates r (was_held r parts.0)) at.0 late at.1)
               (split u (gate_at new r).inputs (not_first t u moves late parts.1));
-          nets = λ r u late h.
-              let moves = net_moves answer old new r u in
-              let parts = and_parts (later r) (u == 0 || moves) h in before.nets r u late (and_from (live r) (u == 0 || moves) (was_live r parts.0) parts.1);
+          nets = λ r u late h. before.nets r u late (both_more (later r) (live r) (u == 0 || net_moves answer old new r u) (was_live r) h);
           no_early_event = before.no_early_event;
           no_early_input = λ u under. early u (omega arith) ∙ before.no_early_input u under;
           no_early_net = before.no_early_net;

@@ -1,12 +1,12 @@
 -- What holds once the nets of a moment are done.
-use Rattle.std.proofs.Common.{◌≡◌, ℕ, suc, ◌<◌, ◌≤◌, ◌∙◌, ap, sym, subst, Bool, true, false, length, All, Option, ◌⊎◌, inl, inr}
-use Rattle.std.proofs.lemmas.List.{get_or_default}
+use Rattle.std.proofs.Common.{◌≡◌, ℕ, suc, ◌<◌, ◌≤◌, ◌∙◌, sym, Bool, true, false, length, All, Option, ◌⊎◌, inl, inr}
+use Rattle.std.proofs.lemmas.List.Elements.{All-from_get_or}
 use Rattle.fourstate.specs.declared.value.Value.{Value}
 use Rattle.fourstate.specs.Values.{same_value}
 use Rattle.gatestep.specs.Step.{State, Evaluation}
 use Rattle.design.specs.Connections.{to_net}
 use Rattle.design.specs.kept.Lawful.{IsDesign}
-use Rattle.design.specs.Netlist.{GateEntry, NetEntry, Netlist, reads}
+use Rattle.design.specs.Netlist.{NetEntry, Netlist, reads}
 use Rattle.waveform.specs.Entries.{standing}
 use Rattle.waveform.specs.kept.Patches.{Keeps, PatchRecord}
 use Rattle.scratch.specs.Run.{value}
@@ -29,15 +29,10 @@ module _ (answer : Evaluation → ℕ → State) (old new : Netlist) (is : IsDes
 
   fact_of : (p : ℕ) → IsAlike answer old new later t p → Fact (net_at new p)
   fact_of p (inl same) = inl same
-  fact_of p (inr readers) = inr (λ q e low reading.
-      let same = get_or_default new.gates q e blank_gate low in
-      ap (λ (g : GateEntry). is_live new later g.output) same ∙ readers q low (ap (λ (g : GateEntry). reads g (net_at new p).name) (sym same) ∙ reading))
+  fact_of p (inr readers) = inr (All-from_get_or (λ g. reads g (net_at new p).name ≡ true → is_live new later g.output ≡ true) new.gates blank_gate readers)
 
   all_alike : All (λ n. is_live new live n.name ≡ true → Fact n) new.nets
-  all_alike = λ k d low on.
-      let same = get_or_default new.nets k d blank_net low in
-      let lives : live k ≡ true = sym (live_at new live k is.distinct_nets low) ∙ ap (λ (n : NetEntry). is_live new live n.name) (sym same) ∙ on in
-      subst Fact (sym same) (fact_of k (alike k lives))
+  all_alike = All-from_get_or (λ n. is_live new live n.name ≡ true → Fact n) new.nets blank_net (λ p low on. fact_of p (alike p (sym (live_at new live p is.distinct_nets low) ∙ on)))
 
   pub agrees_now : Agrees answer old new (is_live new later) (suc t)
   agrees_now = settled answer old new (inputs_there new is) t (is_live new live) (is_live new later) agrees.states closed (off_shrinks new live later grows) (λ name off. within) all_alike

@@ -3,7 +3,7 @@ use Rattle.std.proofs.Common.{◌≡◌, ◌≢◌, ◌<◌, ◌≤◌, ◌∙�
 use Rattle.std.proofs.lemmas.Bool.{cases_lt, false_from_ne_true, ne_eqb}
 use Rattle.std.specs.Prelude.{◌||◌, ◌==◌}
 use Rattle.event_queue.specs.kept.Noted.{noted}
-use Rattle.scratch.specs.kept.Places.{Announces, has}
+use Rattle.scratch.specs.kept.Places.{Announces, IsNotedWithin, has}
 use Rattle.rundiff.specs.declared.front.Front.{Front}
 
 none_there : (k : ℕ) (places : List ℕ) → places ≡ [] → has k places ≡ true → ⊥
@@ -19,6 +19,13 @@ unannounced wanted listed n k t u announces from low none =
 -- what is wanted after a moment is not so as the moment is the first one
 pub not_first : (t u : ℕ) (b : Bool) → suc t ≤ u → (u == 0 || b) ≡ true → b ≡ true
 not_first t u b late h = ap (λ (a : Bool). a || b) (sym (ne_eqb u 0 (λ first. omega arith))) ∙ h
+
+-- what is noted for no other moment is noted for this one
+pub for_now : (listed : ℕ → List ℕ) (k t : ℕ) → IsNotedWithin listed k t t → has k (listed t) ≡ true
+for_now listed k t at =
+    let from : t ≤ at.0 = at.1 in let until : at.0 ≤ t = at.2 in
+    let same : t ≡ at.0 = omega arith in
+    ap (λ (u : ℕ). has k (listed u)) same ∙ at.3
 
 -- what is announced from n on is announced from a later moment on, where nothing is noted before that
 pub later_announced : (wanted : ℕ → ℕ → Bool) (listed : ℕ → List ℕ) (n u : ℕ) → Announces wanted listed n → n ≤ u → ((v : ℕ) → v < u → listed v ≡ []) → Announces wanted listed u

@@ -1,11 +1,11 @@
 -- What stays at a moment: live nets and held gates that are not looked at.
-use Rattle.std.proofs.Common.{◌≡◌, ℕ, suc, ◌-◌, ◌<◌, ◌≤◌, ◌∙◌, ap, sym, refl, subst, Bool, true, false, not, List, length, Option, Some, None, ◌⊎◌, ⊎_elim, inl, inr, arith}
+use Rattle.std.proofs.Common.{◌≡◌, ℕ, suc, ◌-◌, ◌<◌, ◌≤◌, ◌∙◌, ap, sym, refl, Bool, true, false, not, List, length, Option, Some, None, ◌⊎◌, ⊎_elim, inl, inr, arith}
 use Rattle.std.specs.Prelude.{nat_eq, nat_le, ◌||◌, ◌==◌}
 use Rattle.std.specs.Option.{option_map_or, ForSome}
 use Rattle.std.proofs.lemmas.Bool.Decides.{nat_tests}
 use Rattle.std.proofs.lemmas.Bool.{or_right, or_parts, and_from, le-leb, not-false}
-use Rattle.std.proofs.lemmas.List.{get_or_default}
 use Rattle.std.proofs.lemmas.Option.{slice_get-get_or}
+use Rattle.std.proofs.lemmas.List.Elements.{All-from_get_or}
 use Rattle.fourstate.specs.declared.value.Value.{Value}
 use Rattle.fourstate.specs.kept.ValueLaws.{is_same}
 use Rattle.fourstate.specs.Values.{same_value}
@@ -31,6 +31,7 @@ use Rattle.rundiff.specs.kept.Noting.{IsNoted, net_moves, old_moves, pends}
 use Rattle.rundiff.specs.kept.Places.{blank_gate, blank_net, gate_at, is_live, net_at}
 use Rattle.rundiff.proofs.ByPlace.{live_at}
 use Rattle.rundiff.proofs.Lists.{filter_where, not_so, off_by}
+use Rattle.rundiff.proofs.Noted.{for_now}
 use Rattle.rundiff.proofs.Resting.{along_free, along_last, free_more, own_more}
 use Rattle.rundiff.proofs.Settling.{still_alike}
 
@@ -53,10 +54,7 @@ pub record AreLookedAt (answer : Evaluation → ℕ → State) (old new : Netlis
 pub all_looked : (answer : Evaluation → ℕ → State) (old new : Netlist) (live held : ℕ → Bool) (events_at inputs_at nets_at : ℕ → List ℕ) (looked : ℕ → Bool) →
     AreLookedAt answer old new live held events_at inputs_at nets_at 0 looked → (p : ℕ) → live p ≡ true → looked p ≡ true
 all_looked answer old new live held events_at inputs_at nets_at looked are p on =
-    let at = are.awaits.nets p 0 (omega arith) (and_from (live p) (0 == 0 || net_moves answer old new p 0) on refl) in
-    let low : at.0 ≤ 0 = at.2 in
-    let first : at.0 ≡ 0 = omega arith in
-    are.noted p on (ap (λ (u : ℕ). has p (nets_at u)) (sym first) ∙ at.3)
+    are.noted p on (for_now nets_at p 0 (are.awaits.nets p 0 (omega arith) (and_from (live p) (0 == 0 || net_moves answer old new p 0) on refl)))
 
 module _ (answer : Evaluation → ℕ → State) (old new : Netlist)
     (current : (e : Evaluation) (t : ℕ) → (answer e t).current ≡ (due e.state t).current) (pending : (e : Evaluation) (t : ℕ) → IsTask e → NothingDue t (answer e t))
@@ -64,13 +62,6 @@ module _ (answer : Evaluation → ℕ → State) (old new : Netlist)
     (are : AreLookedAt answer old new live held events_at inputs_at nets_at (suc r) looked) where
   abbrev now : ℕ
   now = suc r
-
-  -- what is noted for a moment up to now is noted for now
-  pub at_now : (k : ℕ) (noted : ℕ → List ℕ) → (u : ℕ) × (now ≤ u) × (u ≤ now) × (has k (noted u) ≡ true) → has k (noted now) ≡ true
-  at_now k noted at =
-      let from : now ≤ at.0 = at.1 in let until : at.0 ≤ now = at.2 in
-      let same : now ≡ at.0 = omega arith in
-      ap (λ (u : ℕ). has k (noted u)) same ∙ at.3
 
   pending_from : (g : ℕ) → g < length new.gates → PendingFrom now (state_before answer new now (gate_at new g))
   pending_from g low = λ event some.
@@ -99,7 +90,7 @@ module _ (answer : Evaluation → ℕ → State) (old new : Netlist)
     unmoved : net_moves answer old new p now ≡ false
     unmoved =
         not_so (net_moves answer old new p now) (looked p)
-        (λ moves. are.noted p on (at_now p nets_at (are.awaits.nets p now (omega arith) (and_from (live p) (now == 0 || net_moves answer old new p now) on (or_right (now == 0) (net_moves answer old new p now) moves))))) off
+        (λ moves. are.noted p on (for_now nets_at p now (are.awaits.nets p now (omega arith) (and_from (live p) (now == 0 || net_moves answer old new p now) on (or_right (now == 0) (net_moves answer old new p now) moves))))) off
 
     pub quiet_old : read_at answer old (to_net (net_at new p).name) now ≡ read_at answer old (to_net (net_at new p).name) r
     quiet_old = stays_in_old (to_net (net_at new p).name) (or_parts (has_point (net_at new p).points now) (old_moves answer old new (to_net (net_at new p).name) now) unmoved).1
@@ -116,9 +107,7 @@ module _ (answer : Evaluation → ℕ → State) (old new : Netlist)
         let P : GateEntry → Type 0 = λ g. is_due (state_before answer new now g) now ≡ false in
         still_net answer new current (net_at new p) r (or_parts (has_point (net_at new p).points now) (old_moves answer old new (to_net (net_at new p).name) now) unmoved).0
         (filter_where (λ g. same_name g.output (net_at new p).name) P new.gates
-        (λ k d low drives.
-        let same = get_or_default new.gates k blank_gate d low in
-        subst P same (quiet_driver k low (ap (λ (g : GateEntry). same_name g.output (net_at new p).name) same ∙ drives))))
+        (All-from_get_or (λ g. same_name g.output (net_at new p).name ≡ true → P g) new.gates blank_gate quiet_driver))
 
     -- it is alike in both runs, or its readers are held already
     pub quiet_alike : IsAlike answer old new live now p
