@@ -1,22 +1,16 @@
 -- Names that are live, where more places are.
-use Rattle.std.proofs.Common.{◌≡◌, ℕ, Bool, true, false, List, Option, Some, None, inl, inr, refl}
+use Rattle.std.proofs.Common.{◌≡◌, ℕ, Bool, true, false, List, inl, inr, refl}
 use Rattle.std.specs.Prelude.{◌||◌, ◌&&◌}
-use Rattle.std.specs.List.{position_from}
-use Rattle.std.specs.Option.{option_map_or}
 use Rattle.std.proofs.lemmas.Bool.{or_left}
 use Rattle.gatestep.specs.Step.{State, Evaluation}
-use Rattle.design.specs.Names.{same_name}
 use Rattle.design.specs.Netlist.{Netlist}
 use Rattle.rundiff.specs.kept.Fronts.{IsAlike}
 use Rattle.rundiff.specs.kept.Places.{gate_at, is_live}
+use Rattle.rundiff.proofs.Among.{live_both}
 use Rattle.rundiff.proofs.Lists.{not_so}
 
-live_by : (f g : ℕ → Bool) → ((p : ℕ) → f p ≡ true → g p ≡ true) → (o : Option ℕ) → option_map_or f o false ≡ true → option_map_or g o false ≡ true
-live_by f g more None on = on
-live_by f g more (Some p) on = more p on
-
 pub live_grows : (d : Netlist) (f g : ℕ → Bool) → ((p : ℕ) → f p ≡ true → g p ≡ true) → (name : List ℕ) → is_live d f name ≡ true → is_live d g name ≡ true
-live_grows d f g more name on = live_by f g more (position_from (λ n. same_name n.name name) 0 d.nets) on
+live_grows d f g more name on = live_both d f f g (λ p on again. more p on) name on on
 
 pub off_shrinks : (d : Netlist) (f g : ℕ → Bool) → ((p : ℕ) → f p ≡ true → g p ≡ true) → (name : List ℕ) → is_live d g name ≡ false → is_live d f name ≡ false
 off_shrinks d f g more name off = not_so (is_live d f name) (is_live d g name) (live_grows d f g more name) off

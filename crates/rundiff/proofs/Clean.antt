@@ -1,6 +1,6 @@
 -- Off the dirty pairs the new run is the old one.
-use Rattle.std.proofs.Common.{◌≡◌, ℕ, suc, ◌≤◌, List, Bool, false, not, cond, map, ap, ◌∙◌, All}
-use Rattle.std.specs.Prelude.{nat_le, ◌&&◌, ◌||◌}
+use Rattle.std.proofs.Common.{◌≡◌, ℕ, suc, ◌≤◌, List, false, not, cond, map, ap, ◌∙◌, All, refl}
+use Rattle.std.specs.Prelude.{nat_le, ◌||◌}
 use Rattle.std.proofs.lemmas.Bool.{le-leb, or_parts, and_parts, not-false}
 use Rattle.fourstate.specs.Nets.{net_of}
 use Rattle.fourstate.specs.declared.value.Value.{Value}
@@ -33,13 +33,7 @@ module _ (answer : Evaluation → ℕ → State) (old new : Netlist) where
   pub is_clean : (g : GateEntry) (t : ℕ) → t ≤ old.horizon → is_new old g ≡ false → state_before answer old t g ≡ state_before answer new t g →
       (task_at answer old g t).inputs ≡ (task_at answer new g t).inputs → is_dirty answer old new g t ≡ false
   is_clean g t within known state inputs =
-      let o = task_at answer old g t in let n = task_at answer new g t in
-      ap (λ (b : Bool). not b || (is_new old g || not (same_task o n))) (le-leb t old.horizon within)
-      ∙ ap (λ (b : Bool). b || not (same_task o n)) known
-      ∙ ap (λ (s : State). not (same_state s n.state && same_values o.inputs n.inputs)) state
-      ∙ ap (λ (vs : List Value). not (same_state n.state n.state && same_values vs n.inputs)) inputs
-      ∙ ap (λ (b : Bool). not (b && same_values n.inputs n.inputs)) (same_state_self n.state)
-      ∙ ap not (same_values_itself n.inputs)
+      let n = task_at answer new g t in rw (le-leb t old.horizon within, known, state, inputs, same_state_self n.state, same_values_itself n.inputs) refl
 
   -- a net with the same drivers, in the same states, has the same value
   pub same_net : (n : NetEntry) (t : ℕ) → drivers_of old n.name ≡ drivers_of new n.name →

@@ -1,32 +1,23 @@
 -- An item more in a map by place.
-use Rattle.std.proofs.Common.{◌≡◌, ◌∙◌, ◌<◌, ◌≤◌, ◌+◌, ap, sym, subst, refl, ℕ, zero, suc, Bool, true, false, cond, List, [], ◌∷◌, ◌++◌, Option, Some, None, length, nat_eq, All, arith}
-use Rattle.std.specs.Prelude.{IfSome, nat_lt, slice_get, ◌==◌, ◌||◌}
+use Rattle.std.proofs.Common.{◌≡◌, ◌∙◌, ◌<◌, ◌≤◌, ◌+◌, ap, sym, subst, refl, ℕ, zero, suc, Bool, true, false, cond, List, [], ◌∷◌, ◌++◌, Option, Some, None, length, take, nat_eq, All, arith}
+use Rattle.std.specs.Prelude.{IfSome, nat_lt, slice_get, ◌==◌}
 use Rattle.std.proofs.lemmas.Bool.Decides.{nat_tests}
-use Rattle.std.proofs.lemmas.List.Elements.{All-head, All-tail}
-use Rattle.std.proofs.lemmas.Option.{slice_get_within}
-use Rattle.std.proofs.lemmas.Bool.{eqb-true}
-use Rattle.scratch.proofs.Among.{nat_itself}
-use Rattle.scratch.proofs.Driven.{either}
+use Rattle.std.proofs.lemmas.List.{length_push}
+use Rattle.std.proofs.lemmas.List.Elements.{All-push, All-weaker}
+use Rattle.std.proofs.lemmas.Bool.{eqb-true, false_from_ne_true}
+use Rattle.catalog.proofs.ListLemmas.{slice_get_some}
+use Rattle.design.proofs.ByNameLemmas.{all_at}
+use Rattle.scratch.proofs.Among.{any_from, nat_itself}
+use Rattle.scratch.proofs.Lists.{of_there, take_next}
 use Rattle.rundiff.specs.kept.PlaceMaps.{item_at, owned}
 use Rattle.rundiff.specs.kept.Places.{is_among}
 
-same_low : (a b n : ℕ) → (a == b) ≡ true → b < n → a < n
-same_low a b n h low = let e = eqb-true a b h in omega (arith, e, low)
-
 -- what holds at each of some places
 pub among_all : (P : ℕ → Type 0) (xs : List ℕ) → All P xs → (q : ℕ) → is_among xs q ≡ true → P q
-among_all P [] all q on = absurd (cc)
-among_all P (x ∷ xs) all q on =
-    elim (x == q) as (λ b. (x == q) ≡ b → (b || is_among xs q) ≡ true → P q) [
-      | true ↦ λ same h. subst P (eqb-true x q same) (All-head P x xs all)
-      | false ↦ λ off h. among_all P xs (All-tail P x xs all) q h
-    ] refl on
+among_all P xs all q on = let f = any_from (λ x. x == q) xs on in subst P (eqb-true f.1 q f.3) (all_at P xs f.0 f.1 all f.2)
 
 pub is_past : (i n : ℕ) → false ≡ nat_lt i n → n ≤ i
 is_past i n h = grind (arith, nat_tests)
-
-smaller : (k i : ℕ) → nat_eq k i ≡ false → k < i + 1 → k < i
-smaller k i off less = grind (arith, nat_tests)
 
 module _ {X : Type 0} where
   last_there : (items : List (ℕ × Option X)) (e : ℕ × Option X) → slice_get (items ++ e ∷ []) (length items) ≡ Some e
@@ -43,58 +34,37 @@ module _ {X : Type 0} where
   other_item items p o q off zero = refl
   other_item items p o q off (suc k) = of_other items p o q off k
 
-  length_more : (items : List (ℕ × Option X)) (e : ℕ × Option X) → length (items ++ e ∷ []) ≡ suc (length items)
-  length_more [] e = refl
-  length_more (x ∷ items) e = ap suc (length_more items e)
-
   -- the place has it
   pub item_added : (now items : List (ℕ × Option X)) (p : ℕ) (x : X) (n : ℕ) → now ≡ items ++ (p, Some x) ∷ [] → n ≡ length now → item_at now p n ≡ Some x
   item_added now items p x n is number =
-      ap (item_at now p) (number ∙ ap length is ∙ length_more items (p, Some x)) ∙ ap (λ (l : List (ℕ × Option X)). item_at l p (suc (length items))) is
-      ∙ ap (owned p) (last_there items (p, Some x)) ∙ ap (λ (b : Bool). cond b (Some x) None) (nat_itself p)
+      let many : n ≡ suc (length items) = let more = ap (λ (l : List (ℕ × Option X)). length l) is ∙ length_push items (p, Some x) in omega (arith, number, more) in
+      rw (many, is, last_there items (p, Some x), nat_itself p) refl
 
   -- another place has what it had
   pub others_stay : (now items : List (ℕ × Option X)) (p : ℕ) (x : X) (q n m : ℕ) → nat_eq p q ≡ false → now ≡ items ++ (p, Some x) ∷ [] → n ≡ m → item_at now q n ≡ item_at items q m
   others_stay now items p x q n m off is number =
       ap (item_at now q) number ∙ ap (λ (l : List (ℕ × Option X)). item_at l q m) is ∙ other_item items p (Some x) q off m
 
-  -- an item of a place at which there is none
-  not_owned : (found : List ℕ) (count p : ℕ) (o : Option (ℕ × Option X)) → IfSome o (λ item. item.0 < count → is_among found item.0 ≡ true) → p < count → is_among found p ≡ false → owned p o ≡ None
-  not_owned found count p None all low off = refl
-  not_owned found count p (Some item) all low off =
-      elim (item.0 == p) as (λ b. (item.0 == p) ≡ b → cond b item.1 None ≡ None) [
-        | true ↦ λ same. let no : true ≡ false = sym (all (same_low item.0 p count same low)) ∙ ap (is_among found) (eqb-true item.0 p same) ∙ off in absurd (cc)
-        | false ↦ λ apart. refl
-      ] refl
+  -- the place of an item, where it is below an end, is among those that are found
+  abbrev pub IsFound : ℕ → List ℕ → ℕ × Option X → Type 0
+  IsFound count found item = item.0 < count → is_among found item.0 ≡ true
 
   -- a place of no item has nothing
-  pub none_kept : (items : List (ℕ × Option X)) (found : List ℕ) (count : ℕ) → ((k : ℕ) → k < length items → IfSome (slice_get items k) (λ item. item.0 < count → is_among found item.0 ≡ true))
-      → (p : ℕ) → p < count → is_among found p ≡ false → (n : ℕ) → item_at items p n ≡ None
+  pub none_kept : (items : List (ℕ × Option X)) (found : List ℕ) (count : ℕ) → All (IsFound count found) items → (p : ℕ) → p < count → is_among found p ≡ false → (n : ℕ) → item_at items p n ≡ None
   none_kept items found count all p low off zero = refl
   none_kept items found count all p low off (suc k) =
       elim (slice_get items k) as (λ o. slice_get items k ≡ o → owned p o ≡ None) [
         | None ↦ λ is. refl
-        | Some item ↦ λ is. not_owned found count p (Some item) (subst (λ o. IfSome o (λ e. e.0 < count → is_among found e.0 ≡ true)) is (all k (slice_get_within items k item is))) low off
+        | Some item ↦ λ is.
+            let apart = false_from_ne_true (item.0 == p) (λ same.
+            let here = subst (λ (q : ℕ). q < count → is_among found q ≡ true) (eqb-true item.0 p same) (all_at (IsFound count found) items k item all is) low in cc) in
+            ap (λ (b : Bool). cond b item.1 None) apart
       ] refl
 
-  some_grows : (found more : List ℕ) (count : ℕ) (o : Option (ℕ × Option X)) → ((p : ℕ) → is_among found p ≡ true → is_among more p ≡ true)
-      → IfSome o (λ item. item.0 < count → is_among found item.0 ≡ true) → IfSome o (λ item. item.0 < count → is_among more item.0 ≡ true)
-  some_grows found more count None grows all = all
-  some_grows found more count (Some item) grows all = λ low. grows item.0 (all low)
-
   -- the place of one item more is added
-  pub one_more : (items : List (ℕ × Option X)) (count : ℕ) (found more : List ℕ) (i : ℕ) → ((p : ℕ) → is_among found p ≡ true → is_among more p ≡ true)
-      → ((k : ℕ) → k < i → IfSome (slice_get items k) (λ item. item.0 < count → is_among found item.0 ≡ true))
-      → IfSome (slice_get items i) (λ item. item.0 < count → is_among more item.0 ≡ true)
-      → (k : ℕ) → k < i + 1 → IfSome (slice_get items k) (λ item. item.0 < count → is_among more item.0 ≡ true)
-  one_more items count found more i grows before here k less =
-      either (nat_eq k i)
-      (λ same. subst (λ (j : ℕ). IfSome (slice_get items j) (λ item. item.0 < count → is_among more item.0 ≡ true)) (sym (eqb-true k i same)) here)
-      (λ apart. some_grows found more count (slice_get items k) grows (before k (smaller k i apart less)))
-
-  pub some_item : (o : Option (ℕ × Option X)) (e : ℕ × Option X) (found : List ℕ) (count : ℕ) → o ≡ Some e → (e.0 < count → is_among found e.0 ≡ true) → IfSome o (λ item. item.0 < count → is_among found item.0 ≡ true)
-  some_item o e found count is holds = subst (λ (o : Option (ℕ × Option X)). IfSome o (λ item. item.0 < count → is_among found item.0 ≡ true)) (sym is) holds
-
-  pub no_item : (o : Option (ℕ × Option X)) (found : List ℕ) (count : ℕ) → o ≡ None → IfSome o (λ item. item.0 < count → is_among found item.0 ≡ true)
-  no_item None found count is = tt
-  no_item (Some e) found count is = absurd (cc)
+  pub one_more : (items : List (ℕ × Option X)) (count : ℕ) (found more : List ℕ) (i : ℕ) → i < length items → ((p : ℕ) → is_among found p ≡ true → is_among more p ≡ true) →
+      All (IsFound count found) (take i items) → IfSome (slice_get items i) (IsFound count more) → All (IsFound count more) (take (i + 1) items)
+  one_more items count found more i low grows before here =
+      let one = slice_get_some items i low in let Q : ℕ × Option X → Type 0 = IsFound count more in
+      subst (All Q) (sym (take_next items i one.0 one.1))
+      (All-push Q (take i items) one.0 (All-weaker (IsFound count found) Q (λ e holds less. grows e.0 (holds less)) (take i items) before) (of_there (slice_get items i) one.0 Q one.1 here))

@@ -119,6 +119,10 @@ module _ (d : Netlist) (is : IsDesign d) (g : GateEntry) where
       (λ i j x order low. apart_back (slice_index_or d.gates i x) (slice_index_or d.gates j x) (is.distinct_gates i j x order low))
       ∙ ap (λ (x : GateEntry). Some x) (sym e)
 
+-- what is known of the gate of a name is so of a gate with this name that is not new
+pub of_known : (d : Netlist) → IsDesign d → (P : GateEntry → Type 0) (name : List ℕ) → ((g : GateEntry) → gate_named d name ≡ Some g → P g) → (g : GateEntry) → name ≡ g.name → is_new d g ≡ false → P g
+of_known d is P name all g named known = all g (ap (gate_named d) named ∙ known_gate d is g known)
+
 -- a key under which a gate was found by name
 key_there : {X : Type 0} (f : X → GateEntry) (o : Option X) (d : Netlist) (name : List ℕ) → option_map f o ≡ gate_named d name → true ≡ has_gate d name → IsSome o
 key_there f None d name found there =

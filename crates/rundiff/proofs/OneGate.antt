@@ -12,6 +12,7 @@ use Rattle.waveform.specs.Entries.{same_state}
 use Rattle.scratch.specs.Run.{state_after, state_before}
 use Rattle.rundiff.specs.Dirty.{is_dirty, is_new, same_task}
 use Rattle.scratch.specs.Work.{is_due, is_stirred, same_values, task_at}
+use Rattle.scratch.proofs.Driven.{either}
 use Rattle.scratch.proofs.Still.{still_after}
 
 module _ (answer : Evaluation → ℕ → State) (old new : Netlist) (g : GateEntry) (t : ℕ) where
@@ -26,20 +27,15 @@ module _ (answer : Evaluation → ℕ → State) (old new : Netlist) (g : GateEn
       (is_new old g ≡ false → b ≡ not (same_task (task_at answer old g t) (task_at answer new g t))) → b ≡ is_dirty answer old new g t
   unless_new within b when_new when_known =
       let differs = not (same_task (task_at answer old g t) (task_at answer new g t)) in
-      elim (is_new old g) as (λ n. (n ≡ true → b ≡ true) → (n ≡ false → b ≡ differs) → b ≡ (n || differs)) [
-        | true ↦ λ yes no. yes refl
-        | false ↦ λ yes no. no refl
-      ] when_new when_known ∙ sym (by_task within)
+      either (is_new old g)
+      (λ yes. when_new yes ∙ sym (by_task within ∙ ap (λ (n : Bool). n || differs) yes))
+      (λ no. when_known no ∙ sym (by_task within ∙ ap (λ (n : Bool). n || differs) no))
 
   -- the comparison of the states and of the inputs, by what is known of them
   by_parts : (o s : State) → o ≡ state_before answer old t g → s ≡ state_before answer new t g →
       (vs ws : List Value) → vs ≡ (task_at answer old g t).inputs → ws ≡ (task_at answer new g t).inputs →
       not (same_state o s && same_values vs ws) ≡ not (same_task (task_at answer old g t) (task_at answer new g t))
-  by_parts o s of_old of_new vs ws read_old read_new =
-      ap (λ (q : State). not (same_state q s && same_values vs ws)) of_old
-      ∙ ap (λ (q : State). not (same_state (state_before answer old t g) q && same_values vs ws)) of_new
-      ∙ ap (λ (qs : List Value). not (same_state (state_before answer old t g) (state_before answer new t g) && same_values qs ws)) read_old
-      ∙ ap (λ (qs : List Value). not (same_state (state_before answer old t g) (state_before answer new t g) && same_values (task_at answer old g t).inputs qs)) read_new
+  by_parts o s of_old of_new vs ws read_old read_new = rw (of_old, of_new, read_old, read_new) refl
 
   pub state_differs : t ≤ old.horizon → (o s : State) → (is_new old g ≡ false → o ≡ state_before answer old t g) → s ≡ state_before answer new t g → same_state o s ≡ false → true ≡ is_dirty answer old new g t
   state_differs within o s of_old of_new off =
@@ -92,10 +88,7 @@ module _ (answer : Evaluation → ℕ → State) (d : Netlist) (g : GateEntry) w
   stirred_is (suc r) some none ws vs now before =
       let e : suc r - 1 ≡ r = omega arith in
       let then : vs ≡ (task_at answer d g r).inputs = before ∙ ap (λ (m : ℕ). (task_at answer d g m).inputs) e in
-      ap (λ (qs : List Value). not (same_values qs vs)) now
-      ∙ ap (λ (qs : List Value). not (same_values (task_at answer d g (suc r)).inputs qs)) then
-      ∙ sym (ap (λ (b : Bool). not (same_values (task_at answer d g (suc r)).inputs (task_at answer d g r).inputs) || b) none
-      ∙ or-false (not (same_values (task_at answer d g (suc r)).inputs (task_at answer d g r).inputs)))
+      rw (now, then, none) (sym (or-false (not (same_values (task_at answer d g (suc r)).inputs (task_at answer d g r).inputs))))
 
   -- a gate that is not stirred keeps its state
   pub rests : (stays : (e : Evaluation) (t u : ℕ) → t < u → NothingDue u (answer e t) → answer (again e (answer e t)) u ≡ answer e t) → (t : ℕ) → is_stirred answer d g t ≡ false →

@@ -1,8 +1,8 @@
 -- Numbers of places, which stand page by page.
-use Rattle.std.proofs.Common.{◌≡◌, ◌≢◌, ◌∙◌, ◌<◌, ◌≤◌, ◌++◌, ◌∷◌, ◌/◌, ◌%◌, ap, sym, refl, ℕ, zero, suc, inl, inr, false, List, [], map, length, arith}
+use Rattle.std.proofs.Common.{◌≡◌, ◌≢◌, ◌∙◌, ◌<◌, ◌≤◌, ◌++◌, ◌∷◌, ◌/◌, ◌%◌, ap, sym, refl, ℕ, zero, suc, inl, inr, ⊎_elim, false, List, [], map, length, arith}
 use Rattle.std.proofs.Math.ListN.{get_or, get_or-eq_default, set}
 use Rattle.std.proofs.lemmas.Bool.{cases_lt, eqb-true}
-use Rattle.std.proofs.lemmas.List.{get_or-set_same, get_or-set_other, length-map, map-set}
+use Rattle.std.proofs.lemmas.List.{get_or-map, get_or-set_same, get_or-set_other, length-map, map-set}
 use Rattle.std.specs.Prelude.{nat_eq, Vec}
 use Rattle.std.specs.Global.{Global}
 use Rattle.scratch.proofs.Among.{nat_itself}
@@ -37,9 +37,7 @@ same_pages old new same q = number_is new q ∙ ap (λ row. get_or row (q % PAGE
 
 -- a page that is read
 pub page_is : (pages : List (Vec ℕ Global)) (i : ℕ) (page : Vec ℕ Global) → i < length pages → page ≡ get_or pages i page → page.items ≡ page_at pages i
-page_is [] i page there is = absurd (omega arith)
-page_is (p ∷ pages) zero page there is = ap (λ (p : Vec ℕ Global). p.items) is
-page_is (p ∷ pages) (suc i) page there is = page_is pages i page (omega arith) is
+page_is pages i page there is = ap (λ (p : Vec ℕ Global). p.items) is ∙ sym (get_or-map (λ (p : Vec ℕ Global). p.items) pages i page [] there)
 
 -- the numbers where a page is written that has, but at one place at most, what was there
 pub other_numbers : (pages : List (Vec ℕ Global)) (i q : ℕ) (page : Vec ℕ Global) → i < length pages →
@@ -75,23 +73,15 @@ filled old new n q many few kept zeros =
 
 -- a page that is missing has no number
 pub no_page : (pages : List (Vec ℕ Global)) (i k : ℕ) → length pages ≤ i → 0 ≡ get_or (page_at pages i) k 0
-no_page [] i k past = refl
-no_page (p ∷ pages) zero k past = absurd (omega arith)
-no_page (p ∷ pages) (suc i) k past = no_page pages i k (omega arith)
+no_page pages i k past = ap (λ row. get_or row k 0) (sym (get_or-eq_default (map (λ (p : Vec ℕ Global). p.items) pages) [] (rw length-map past)))
 
 -- a place with a number has room for it
 pub numbered : (pages : List (Vec ℕ Global)) (p : ℕ) → 0 < number_at pages p → (p % PAGE < length (page_at pages (p / PAGE))) × (p / PAGE < length pages)
 numbered pages p some =
     let row = page_at pages (p / PAGE) in
     let is = number_is pages p in (
-      elim (cases_lt (p % PAGE) (length row)) [
-        | inl low ↦ low
-        | inr high ↦ absurd (let none = get_or-eq_default row 0 high in omega (arith, some, is, none))
-      ],
-      elim (cases_lt (p / PAGE) (length pages)) [
-        | inl low ↦ low
-        | inr high ↦ absurd (let none = no_page pages (p / PAGE) (p % PAGE) high in omega (arith, some, is, none))
-      ],
+      ⊎_elim (λ low. low) (λ high. absurd (let none = get_or-eq_default row 0 high in omega (arith, some, is, none))) (cases_lt (p % PAGE) (length row)),
+      ⊎_elim (λ low. low) (λ high. absurd (let none = no_page pages (p / PAGE) (p % PAGE) high in omega (arith, some, is, none))) (cases_lt (p / PAGE) (length pages)),
     )
 
 -- without pages no place has a number

@@ -1,29 +1,20 @@
 -- Sets of places, and lists in their order.
-use Rattle.std.proofs.Common.{◌≡◌, ℕ, ◌∙◌, ap, sym, refl, subst, List, [], ◌∷◌, Bool, true, false, cond, length, arith, ⊎_elim, nat_cmp}
+use Rattle.std.proofs.Common.{◌≡◌, ℕ, ◌∙◌, ap, sym, refl, subst, List, [], ◌∷◌, Bool, true, false, cond, length, nat_cmp}
 use Rattle.std.specs.Prelude.{◌||◌, ◌==◌}
 use Rattle.std.specs.BTreeSet.{BTreeSet, contains}
-use Rattle.std.specs.Cmp.{nat_cmp_is}
 use Rattle.std.specs.List.{list_any}
 use Rattle.std.specs.List.Sorted.{IsStrictlySortedBy}
 use Rattle.std.specs.Ordering.{is_eq}
-use Rattle.std.specs.declared.cmp.Ordering.TheVariants.{Less, Equal, Greater}
-use Rattle.std.proofs.lemmas.Bool.{cases_lt, eq-eqb}
 use Rattle.std.proofs.lemmas.Map.Keys.{below_from_sorted}
-use Rattle.std.proofs.Math.Bool.{or-false}
+use Rattle.std.proofs.Math.Bool.{or_assoc, or_comm}
 use Rattle.std.proofs.lemmas.List.{nil_from_length}
-use Rattle.scratch.proofs.Among.{nat_beyond, nat_apart}
+use Rattle.event_queue.proofs.Moments.{same_moment}
+use Rattle.scratch.proofs.Keyed.{same_test}
 use Rattle.rundiff.specs.kept.Fronts.{ArePlaces}
 use Rattle.rundiff.specs.kept.Places.{is_among}
 
 pub test_is : (p q : ℕ) → (q == p) ≡ is_eq (nat_cmp p q)
-test_is p q =
-    ⊎_elim
-    (λ low. nat_beyond q p low ∙ ap is_eq (nat_cmp_is p q Less low))
-    (λ high. ⊎_elim
-    (λ below. nat_apart q p below ∙ ap is_eq (nat_cmp_is p q Greater below))
-    (λ above. let e : p ≡ q = omega arith in eq-eqb q p (sym e) ∙ ap is_eq (nat_cmp_is p q Equal e))
-    (cases_lt q p))
-    (cases_lt p q)
+test_is p q = same_test q p ∙ sym (same_moment p q)
 
 pub among_keys : (keys : List ℕ) (p : ℕ) → is_among keys p ≡ list_any (λ q. is_eq (nat_cmp p q)) keys
 among_keys [] p = refl
@@ -42,19 +33,14 @@ set_places s places same sorted =
 pub none_in : (s : BTreeSet ℕ) → length s.keys ≡ 0 → (p : ℕ) → contains nat_cmp s p ≡ false
 none_in s none p = sym (among_keys s.keys p) ∙ ap (λ (keys : List ℕ). is_among keys p) (nil_from_length s.keys none)
 
--- a place more in a set
-pub held_more : (a b c : Bool) → cond b true (a || c) ≡ ((a || b) || c)
-held_more true true c = refl
-held_more false true c = refl
-held_more a false c = ap (λ (x : Bool). x || c) (sym (or-false a))
-
 pub cond_or : (a b : Bool) → cond a true b ≡ (a || b)
 cond_or true b = refl
 cond_or false b = refl
 
 -- one place more among those that are live
 pub live_step : (a b c : Bool) → (b || (a || c)) ≡ ((a || b) || c)
-live_step true true c = refl
-live_step true false c = refl
-live_step false true c = refl
-live_step false false c = refl
+live_step a b c = sym (or_assoc b a c) ∙ ap (λ (d : Bool). d || c) (or_comm b a)
+
+-- a place more in a set
+pub held_more : (a b c : Bool) → cond b true (a || c) ≡ ((a || b) || c)
+held_more a b c = cond_or b (a || c) ∙ live_step a b c

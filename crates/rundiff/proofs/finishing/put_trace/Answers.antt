@@ -18,6 +18,7 @@ use Rattle.rundiff.specs.kept.Fronts.{named_state}
 use Rattle.rundiff.specs.kept.Places.{blank_gate, gate_at}
 use Rattle.rundiff.proofs.Putting.{put_one}
 use Rattle.rundiff.proofs.Tasks.{old_settled}
+use Rattle.rundiff.proofs.EachPlace.{line_named}
 use Rattle.rundiff.proofs.finishing.put_trace.Goals as goal
 
 pub returns-clause-traces : goal.returns-clause-traces
@@ -30,13 +31,11 @@ returns-clause-traces g c =
     let x = gate_at new place in
     let entry = entry_in keyed.nets c.gate_at.result.now in
     let at : x ≡ entry = get_or_from_slice_get new.gates place entry blank_gate c.gate_at.ensures.named in
-    let named : c.as_str.result.now ≡ x.name = c.as_str.ensures ∙ c.name.ensures ∙ sym (ap (λ (y : GateEntry). y.name) at) in
     let end : c.horizon.result + 1 ≡ suc new.horizon = let h = c.horizon.ensures.horizon in omega arith in
     let same_end : suc old.horizon ≡ c.horizon.result + 1 = let h = c.horizon.ensures.horizon in let e = c.requires.horizon in omega arith in
     let stored : c.old_trace-was.result.now ≡ trace_below (named_state answer old x.name) (c.horizon.result + 1) =
-    c.old_trace-was.ensures answer c.requires.run
-    ∙ ap (λ (name : List ℕ). trace_below (named_state answer old name) (suc old.horizon)) named
-    ∙ ap (trace_below (named_state answer old x.name)) same_end in
+    line_named (λ g. g.name) (λ name. trace_below (named_state answer old name) (suc old.horizon)) new.gates place entry blank_gate c.as_str.result.now c.old_trace-was.result.now
+    c.gate_at.ensures.named (c.as_str.ensures ∙ c.name.ensures) (c.old_trace-was.ensures answer c.requires.run) ∙ ap (trace_below (named_state answer old x.name)) same_end in
     let Keep : Option (PatchRecord State) → ℕ → Type 0 = λ o n. Keeps same_state due (named_state answer old x.name) (state_after answer new x) o n in
     let keeps : Keep c.take.result (c.horizon.result + 1) =
     subst (λ (n : ℕ). Keep c.take.result n) (sym end) (subst (λ (o : Option (PatchRecord State)). Keep o (suc new.horizon)) (sym c.take.ensures.value) c.requires.trace) in

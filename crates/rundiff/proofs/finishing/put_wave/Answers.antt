@@ -1,13 +1,12 @@
 use Rattle.std.proofs.Common.{◌≡◌, ◌∙◌, ◌+◌, ap, sym, refl, suc, ℕ, List, Option, Some, subst, arith}
 use Rattle.std.specs.Option.{option_map}
-use Rattle.std.proofs.lemmas.Option.{slice_get-get_or, get_or_from_slice_get}
+use Rattle.std.proofs.lemmas.Option.{slice_get-get_or}
 use Rattle.fourstate.specs.declared.value.Value.{Value}
 use Rattle.fourstate.specs.Values.{same_value}
 use Rattle.catalog.specs.kept.Catalog.{keys_of}
 use Rattle.design.specs.Connections.{to_net}
 use Rattle.design.specs.Keys.{netlist}
 use Rattle.design.specs.kept.Keys.{net_by_key}
-use Rattle.design.specs.Netlist.{NetEntry}
 use Rattle.waveform.specs.Changes.{wave_changes_below}
 use Rattle.waveform.specs.Entries.{standing}
 use Rattle.waveform.specs.kept.Patches.{Keeps, PatchRecord}
@@ -17,6 +16,7 @@ use Rattle.rundiff.specs.kept.Finishing.{new_wave}
 use Rattle.rundiff.specs.kept.Places.{blank_net, net_at}
 use Rattle.rundiff.specs.kept.Kept.{read_at}
 use Rattle.rundiff.proofs.Putting.{put_one}
+use Rattle.rundiff.proofs.EachPlace.{line_named}
 use Rattle.rundiff.proofs.finishing.put_wave.Goals as goal
 
 pub returns-clause-waves : goal.returns-clause-waves
@@ -26,14 +26,11 @@ returns-clause-waves g c =
     let keyed = c.args.former.now.new.now in let new = netlist keyed in
     let place = c.args.place in
     let x = net_at new place in
-    let at = get_or_from_slice_get new.nets place c.net_at.result.now blank_net c.net_at.ensures in
-    let named : c.as_str.result.now ≡ x.name = c.as_str.ensures ∙ c.name.ensures ∙ sym (ap (λ (y : NetEntry). y.name) at) in
     let end : c.horizon.result + 1 ≡ suc new.horizon = let h = c.horizon.ensures.horizon in omega arith in
     let same_end : suc old.horizon ≡ c.horizon.result + 1 = let h = c.horizon.ensures.horizon in let e = c.requires.horizon in omega arith in
     let stored : c.old_wave-was.result.now ≡ wave_changes_below (read_at answer old (to_net x.name)) (c.horizon.result + 1) =
-    c.old_wave-was.ensures answer c.requires.run
-    ∙ ap (λ (name : List ℕ). wave_changes_below (read_at answer old (to_net name)) (suc old.horizon)) named
-    ∙ ap (wave_changes_below (read_at answer old (to_net x.name))) same_end in
+    line_named (λ n. n.name) (λ name. wave_changes_below (read_at answer old (to_net name)) (suc old.horizon)) new.nets place c.net_at.result.now blank_net c.as_str.result.now c.old_wave-was.result.now
+    c.net_at.ensures (c.as_str.ensures ∙ c.name.ensures) (c.old_wave-was.ensures answer c.requires.run) ∙ ap (wave_changes_below (read_at answer old (to_net x.name))) same_end in
     let Keep : Option (PatchRecord Value) → ℕ → Type 0 = λ o n. Keeps same_value standing (read_at answer old (to_net x.name)) (value answer new x) o n in
     let keeps : Keep c.take.result (c.horizon.result + 1) =
     subst (λ (n : ℕ). Keep c.take.result n) (sym end) (subst (λ (o : Option (PatchRecord Value)). Keep o (suc new.horizon)) (sym c.take.ensures.value) c.requires.wave) in

@@ -1,5 +1,4 @@
-use Rattle.std.proofs.Common.{◌≡◌, ◌∙◌, ◌<◌, ap, sym, subst, Some, Bool, true, false, List, length, arith}
-use Rattle.std.specs.Prelude.{◌&&◌}
+use Rattle.std.proofs.Common.{◌≡◌, refl, ◌∙◌, ◌<◌, ap, sym, subst, Some, true, false, List, length, arith}
 use Rattle.std.specs.BTreeSet.{contains}
 use Rattle.std.specs.Ordering.{nat_cmp}
 use Rattle.std.proofs.lemmas.List.{length-map}
@@ -14,7 +13,6 @@ use Rattle.waveform.specs.kept.Entries.{CanStore}
 use Rattle.waveform.specs.declared.times.TheConstants.{TIME_END}
 use Rattle.scratch.specs.Run.{state_after, state_before}
 use Rattle.rundiff.specs.Dirty.{is_dirty, is_new}
-use Rattle.rundiff.specs.kept.Fronts.{is_working}
 use Rattle.rundiff.specs.kept.Places.{blank_gate, gate_at, is_live}
 use Rattle.rundiff.specs.kept.Kept.{read_at}
 use Rattle.scratch.specs.Work.{is_stirred, task_at}
@@ -60,14 +58,8 @@ returns-then-not-is_dirty g c =
     let gate = entry_in keyed.nets c.gate_at-gate.result.now in
     let at : gate_at new c.args.place ≡ gate = get_or_from_slice_get new.gates c.args.place gate blank_gate c.gate_at-gate.ensures.named in
     let clean : is_dirty answer old new gate c.args.t ≡ false = sym c.is_dirty.ensures ∙ c.if-not-is_dirty.true in
-    let known = clean_known answer old new gate c.args.t clean in
-    let named : gate_named old c.as_str.result.now ≡ Some gate = ap (gate_named old) (c.as_str.ensures ∙ c.name.ensures) ∙ known_gate old c.lawful.ensures.design gate known in
-    let off : is_working answer old new c.args.t c.args.place ≡ false =
-    ap (λ (h : GateEntry). is_dirty answer old new h c.args.t && is_stirred answer new h c.args.t) at ∙ ap (λ (b : Bool). b && is_stirred answer new gate c.args.t) clean in
-    let state : c.old_state.result ≡ state_after answer new (gate_at new c.args.place) c.args.t =
-    c.old_state.ensures.state gate named ∙ clean_after answer old new gate c.args.t clean ∙ ap (λ (h : GateEntry). state_after answer new h c.args.t) (sym at) in
-    let same : is_dirty answer old new (gate_at new c.args.place) c.args.t ≡ false = ap (λ (h : GateEntry). is_dirty answer old new h c.args.t) at ∙ clean in
-    (off, state, c.old_state.ensures.can, (c.requires.there, same))
+    let named : gate_named old c.as_str.result.now ≡ Some gate = ap (gate_named old) (c.as_str.ensures ∙ c.name.ensures) ∙ known_gate old c.lawful.ensures.design gate (clean_known answer old new gate c.args.t clean) in
+    rw at (rw clean refl, c.old_state.ensures.state gate named ∙ clean_after answer old new gate c.args.t clean, c.old_state.ensures.can, (c.requires.there, clean))
 
 pub returns-then-not-is_stirred : goal.returns-then-not-is_stirred
 returns-then-not-is_stirred g c =
@@ -78,15 +70,10 @@ returns-then-not-is_stirred g c =
     let gate = entry_in keyed.nets c.gate_at-gate.result.now in
     let at : gate_at new c.args.place ≡ gate = get_or_from_slice_get new.gates c.args.place gate blank_gate c.gate_at-gate.ensures.named in
     let calm : is_stirred answer new gate c.args.t ≡ false = sym c.is_stirred.ensures ∙ c.if-not-is_stirred.true in
-    let off : is_working answer old new c.args.t c.args.place ≡ false =
-    ap (λ (h : GateEntry). is_dirty answer old new h c.args.t && is_stirred answer new h c.args.t) at
-    ∙ ap (λ (b : Bool). is_dirty answer old new gate c.args.t && b) calm ∙ and-false (is_dirty answer old new gate c.args.t) in
-    let still : is_stirred answer new (gate_at new c.args.place) c.args.t ≡ false = ap (λ (h : GateEntry). is_stirred answer new h c.args.t) at ∙ calm in
-    let state : c.gate_state-state.result ≡ state_after answer new (gate_at new c.args.place) c.args.t =
-    c.gate_state-state.ensures.state ∙ rests answer new (gate_at new c.args.place) laws.answer_stays c.args.t still in
-    let is : IsGate (gate_at new c.args.place) = c.lawful-2.ensures.design.gates c.args.place blank_gate c.requires.there in
+    let state : c.gate_state-state.result ≡ state_after answer new gate c.args.t = rw at at c.gate_state-state.ensures.state ∙ rests answer new gate laws.answer_stays c.args.t calm in
+    let is : IsGate gate = subst IsGate at (c.lawful-2.ensures.design.gates c.args.place blank_gate c.requires.there) in
     let low : c.args.t < TIME_END = let h = c.requires.within in let end = c.lawful.ensures.design.horizon in omega arith in
-    (off, state, subst (CanStore c.args.t) (sym state) (can_store answer new laws.answer_pending laws.answer_near (gate_at new c.args.place) is c.args.t low))
+    rw at (rw calm (and-false (is_dirty answer old new gate c.args.t)), state, subst (CanStore c.args.t) (sym state) (can_store answer new laws.answer_pending laws.answer_near gate is c.args.t low))
 
 pub new-requires : goal.new-requires
 new-requires g c =
@@ -108,13 +95,9 @@ returns g c =
     let at : gate_at new c.args.place ≡ gate = get_or_from_slice_get new.gates c.args.place gate blank_gate c.gate_at-gate.ensures.named in
     let dirty : is_dirty answer old new gate c.args.t ≡ true = sym c.is_dirty.ensures ∙ c.if-not-is_dirty.false in
     let stirred : is_stirred answer new gate c.args.t ≡ true = sym c.is_stirred.ensures ∙ c.if-not-is_stirred.false in
-    let on : is_working answer old new c.args.t c.args.place ≡ true =
-    ap (λ (h : GateEntry). is_dirty answer old new h c.args.t && is_stirred answer new h c.args.t) at
-    ∙ ap (λ (b : Bool). b && is_stirred answer new gate c.args.t) dirty ∙ stirred in
-    let state : c.gate_state-state.result ≡ state_before answer new c.args.t gate = c.gate_state-state.ensures.state ∙ ap (state_before answer new c.args.t) at in
+    let state : c.gate_state-state.result ≡ state_before answer new c.args.t gate = rw at at c.gate_state-state.ensures.state in
     let inputs : c.inputs_at-inputs.result ≡ (task_at answer new gate c.args.t).inputs =
     c.inputs_at-inputs.ensures ∙ sym (map_twice (connection_in keyed.nets) (λ x. read_at answer new x c.args.t) c.gate_at-gate.result.now.inputs) in
     let task : c.new.result ≡ task_at answer new gate c.args.t =
     c.new.ensures.value ∙ (λ i. record { kind = c.kind.ensures i; delays = c.delays.ensures i; state = state i; inputs = inputs i }) in
-    let ready : IsReady c.args.t c.new.result = subst (IsReady c.args.t) (sym c.new.ensures.value) c.gate_state-state.ensures.ready in
-    (on, task ∙ ap (λ (h : GateEntry). task_at answer new h c.args.t) (sym at), ready)
+    rw at (rw (dirty, stirred) refl, task, subst (IsReady c.args.t) (sym c.new.ensures.value) c.gate_state-state.ensures.ready)

@@ -1,11 +1,9 @@
-use Rattle.std.proofs.Common.{◌≡◌, ◌∙◌, ◌<◌, ap, sym, refl, suc, arith, ℕ, List, inr}
+use Rattle.std.proofs.Common.{◌∙◌, ◌<◌, ap, sym, refl, suc, arith, ℕ, List, inr}
 use Rattle.std.proofs.lemmas.Bool.{not-false}
-use Rattle.std.proofs.lemmas.Option.{get_or_from_slice_get}
 use Rattle.fourstate.specs.declared.value.Value.{Value}
 use Rattle.fourstate.specs.declared.value.Value.TheVariants.{Unknown}
 use Rattle.design.specs.Connections.{to_net}
 use Rattle.design.specs.Keys.{netlist}
-use Rattle.design.specs.Netlist.{NetEntry}
 use Rattle.waveform.specs.Changes.{wave_changes_below}
 use Rattle.waveform.specs.Entries.{standing}
 use Rattle.fourstate.specs.kept.ValueLaws.{is_same}
@@ -13,6 +11,7 @@ use Rattle.waveform.specs.Timelines.{value_by}
 use Rattle.scratch.specs.Run.{value}
 use Rattle.rundiff.specs.kept.Places.{blank_net, net_at}
 use Rattle.rundiff.specs.kept.Kept.{read_at}
+use Rattle.rundiff.proofs.EachPlace.{line_named}
 use Rattle.rundiff.proofs.nets.differs.Goals as goal
 
 pub returns : goal.returns
@@ -21,9 +20,8 @@ returns g c = λ off.
     let old = netlist c.args.former.now.old.now in
     let new = netlist c.args.former.now.new.now in
     let x = net_at new c.args.place in
-    let at = get_or_from_slice_get new.nets c.args.place c.net_at.result.now blank_net c.net_at.ensures in
-    let named : c.as_str.result.now ≡ x.name = c.as_str.ensures ∙ c.name.ensures ∙ sym (ap (λ (y : NetEntry). y.name) at) in
-    let stored = c.old_wave-was.ensures answer c.requires.run ∙ ap (λ (name : List ℕ). wave_changes_below (read_at answer old (to_net name)) (suc old.horizon)) named in
+    let stored = line_named (λ n. n.name) (λ name. wave_changes_below (read_at answer old (to_net name)) (suc old.horizon)) new.nets c.args.place c.net_at.result.now blank_net c.as_str.result.now c.old_wave-was.result.now
+    c.net_at.ensures (c.as_str.ensures ∙ c.name.ensures) (c.old_wave-was.ensures answer c.requires.run) in
     let below : c.args.t < suc old.horizon = let h = c.requires.within in omega arith in
     let known : c.args.t < suc c.args.t = omega arith in
     let mine = c.value_at.ensures.value (value answer new x) (read_at answer old (to_net x.name)) (suc old.horizon) (suc c.args.t) (λ t. refl) (λ t. refl) (inr stored) below known c.requires.wave in
