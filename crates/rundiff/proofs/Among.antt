@@ -1,22 +1,24 @@
 -- Places among places, which are kept in order.
-use Rattle.std.proofs.Common.{◌≡◌, ℕ, ◌∙◌, ap, sym, refl, List, [], ◌∷◌, ◌++◌, Bool, true, false, Option, Some, None}
+use Rattle.std.proofs.Common.{◌≡◌, ℕ, suc, ◌<◌, ◌≤◌, All, ◌∙◌, ap, sym, refl, List, [], ◌∷◌, ◌++◌, Bool, true, false, Option, Some, None}
 use Rattle.std.specs.List.{Contains, filter, position_from}
 use Rattle.std.specs.List.Sorted.{IsStrictlySortedBy}
 use Rattle.std.specs.Option.{option_map_or}
 use Rattle.std.specs.Ordering.{nat_cmp}
-use Rattle.std.specs.Prelude.{nat_eq, ◌||◌, ◌&&◌, ◌==◌}
+use Rattle.std.specs.Prelude.{AllPairs, nat_eq, ◌||◌, ◌&&◌, ◌==◌}
 use Rattle.std.proofs.lemmas.Map.Keys.{below_from_sorted}
 use Rattle.std.proofs.lemmas.Bool.{or_right}
 use Rattle.std.proofs.lemmas.List.Folds.{list_any-append}
-use Rattle.catalog.proofs.ListLemmas.{position_find}
+use Rattle.std.proofs.lemmas.List.Elements.{All-head}
+use Rattle.catalog.proofs.ListLemmas.{AllPairs-tail, position_find}
 use Rattle.design.specs.Names.{same_name}
 use Rattle.design.specs.Netlist.{Netlist}
 use Rattle.design.proofs.NameLemmas.{name_is}
-use Rattle.scratch.specs.kept.Places.{has}
+use Rattle.scratch.specs.kept.Places.{AreRising, has}
 use Rattle.scratch.proofs.Among.{has_filter, same_among as same_members}
 use Rattle.scratch.proofs.Keyed.{same_test}
 use Rattle.scratch.proofs.Driven.{earlier}
 use Rattle.rundiff.specs.kept.Fronts.{ArePlaces}
+use Rattle.rundiff.proofs.Lists.{pairs_head}
 use Rattle.rundiff.specs.kept.Places.{blank_net, is_among, is_live, net_at}
 
 -- the two ways to say that a place is among places
@@ -68,3 +70,9 @@ by_position d f name (Some q) is on = (q, on, name_is (net_at d q).name name (po
 -- a live name is that of a live net
 pub live_net : (d : Netlist) (f : ℕ → Bool) (name : List ℕ) → is_live d f name ≡ true → (p : ℕ) × (f p ≡ true) × ((net_at d p).name ≡ name)
 live_net d f name on = by_position d f name (position_from (λ n. same_name n.name name) 0 d.nets) refl on
+
+-- places in order, from a on
+pub rises : (a : ℕ) (ps : List ℕ) → AllPairs (λ p q. p < q) ps → All (λ p. a ≤ p) ps → AreRising a ps
+rises a [] rising low = tt
+rises a (p ∷ ps) rising low =
+    (All-head (λ p. a ≤ p) p ps low, rises (suc p) ps (AllPairs-tail (λ p q. p < q) p ps rising) (pairs_head (λ p q. p < q) p ps rising))

@@ -1,5 +1,5 @@
 -- What is noted once the gates of a moment are looked at, and once their answers are taken.
-use Rattle.std.proofs.Common.{◌≡◌, ℕ, suc, ◌<◌, ◌≤◌, ◌∙◌, ap, refl, List, Bool, true, false, not, arith}
+use Rattle.std.proofs.Common.{◌≡◌, ℕ, suc, ◌<◌, ◌≤◌, ◌∙◌, ap, List, Bool, true, false, not, arith}
 use Rattle.std.specs.Prelude.{◌&&◌, ◌||◌, ◌==◌}
 use Rattle.std.proofs.lemmas.Bool.{and_from, and_parts}
 use Rattle.gatestep.specs.Step.{State, Evaluation}
@@ -77,10 +77,9 @@ module _ (answer : Evaluation → ℕ → State) (old new : Netlist) (t : ℕ) (
         let test = is_working answer old new t p in
         let pending = pends (state_after answer new (gate_at new p) t) u in
         let parts = and_parts (held p) pending h in
-        elim test as (λ b. test ≡ b → has p (after u) ≡ true) [
-          | true ↦ λ on. those p u (are p ∙ and_from (held p) test parts.0 on) parts.1
-          | false ↦ λ off. keeps p u (before.events p u late (and_from (held p && not test) pending (rests_on (held p) test parts.0 off) parts.1))
-        ] refl
+        either test
+        (λ on. those p u (are p ∙ and_from (held p) test parts.0 on) parts.1)
+        (λ off. keeps p u (before.events p u late (and_from (held p && not test) pending (rests_on (held p) test parts.0 off) parts.1)))
 
     -- once the answers are taken
     pub settled_noted : IsNoted answer old new live held held (suc t) after inputs nets (suc t)

@@ -1,9 +1,10 @@
 -- Nets and gates by their places.
-use Rattle.std.proofs.Common.{◌≡◌, ℕ, zero, suc, ◌+◌, ◌<◌, ◌∙◌, ap, refl, List, [], ◌∷◌, Bool, false, map, length, Option, Some, arith}
+use Rattle.std.proofs.Common.{◌≡◌, ℕ, zero, suc, ◌+◌, ◌<◌, ◌∙◌, ap, refl, List, [], ◌∷◌, Bool, false, map, length, Option, Some, arith, sym}
 use Rattle.std.specs.Prelude.{slice_get, slice_index_or, ◌≢◌, AllPairs, unwrap_or}
 use Rattle.std.specs.List.{filter, position_from}
 use Rattle.std.specs.Option.{option_map_or}
-use Rattle.std.proofs.lemmas.Option.{slice_get-get_or}
+use Rattle.std.proofs.lemmas.Option.{slice_get-get_or, unwrap_or-slice_get}
+use Rattle.std.proofs.Math.ListN.{get_or-map}
 use Rattle.fourstate.specs.declared.value.Value.TheVariants.{Unknown}
 use Rattle.gatestep.specs.Step.{State, Evaluation}
 use Rattle.catalog.proofs.ListLemmas.{AllPairs-tail}
@@ -28,9 +29,7 @@ reads_place answer d name p m low found =
 
 -- what is made of the element at a place, or of what stands for none
 looked_up : {X Y : Type 0} (f : X → Y) (xs : List X) (d : X) (p : ℕ) → f (slice_index_or xs p d) ≡ unwrap_or (slice_get (map f xs) p) (f d)
-looked_up f [] d p = refl
-looked_up f (x ∷ xs) d zero = refl
-looked_up f (x ∷ xs) d (suc p) = looked_up f xs d p
+looked_up f xs d p = sym (unwrap_or-slice_get (map f xs) p (f d) ∙ get_or-map f xs p d)
 
 -- the drivers of a net, by their places
 pub drivers_at : {Y : Type 0} (d : Netlist) (f : GateEntry → Y) (name : List ℕ) →

@@ -1,12 +1,12 @@
 -- The next change of a wave.
-use Rattle.std.proofs.Common.{◌≡◌, ◌<◌, ◌≤◌, ◌∙◌, sym, ap, subst, refl, Bool, true, false, cond, not, ℕ, suc, ◌-◌, nat_lt, List, [], ◌∷◌, Option, Some, None, arith, ⊎_elim}
+use Rattle.std.proofs.Common.{◌≡◌, ◌<◌, ◌≤◌, ◌∙◌, sym, ap, subst, refl, Bool, true, false, not, ℕ, suc, ◌-◌, nat_lt, List, Some, None, arith, ⊎_elim}
 use Rattle.std.specs.Prelude.{IfSome, nat_le, ◌&&◌}
-use Rattle.std.specs.List.{find}
 use Rattle.std.proofs.lemmas.Bool.{cases_lt, and_parts}
 use Rattle.std.proofs.lemmas.Bool.Decides.{nat_tests}
 use Rattle.fourstate.specs.declared.value.Value.{Value}
 use Rattle.fourstate.specs.kept.ValueLaws.{same_self}
 use Rattle.fourstate.specs.Values.{same_value}
+use Rattle.catalog.proofs.ListLemmas.{find_passes}
 use Rattle.waveform.specs.Changes.{wave_changes_below}
 use Rattle.waveform.specs.Entries.{standing}
 use Rattle.waveform.specs.Timelines.{first_after}
@@ -20,12 +20,7 @@ StandsBetween =
 
 -- the first entry after a moment lies after it
 pub found_after : {A : Type 0} (es : List (ℕ × A)) (t : ℕ) (e : ℕ × A) → first_after es t ≡ Some e → t < e.0
-found_after [] t e is = absurd (cc)
-found_after {A} (d ∷ es) t e is = by (nat_lt t d.0) refl (found_after es t e) is
-  where
-    by : (b : Bool) → nat_lt t d.0 ≡ b → (first_after es t ≡ Some e → t < e.0) → cond {A = Option (ℕ × A)} b (Some d) (find (λ q. nat_lt t q.0) es) ≡ Some e → t < e.0
-    by true later rest here = let same : d ≡ e = cc in let high : t < d.0 = grind (arith, nat_tests) in rw (← same) high
-    by false early rest there = rest there
+found_after {A} es t e is = let on = find_passes (λ (q : ℕ × A). nat_lt t q.0) es e is in grind (arith, nat_tests)
 
 module _ (law : StandsBetween) (f : ℕ → Value) (n t : ℕ) where
   -- the function has another value at u than before

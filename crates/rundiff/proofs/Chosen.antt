@@ -65,24 +65,15 @@ module _ (answer : Evaluation → ℕ → State) (old new : Netlist) (t : ℕ) (
   -- the held gates that are evaluated are chosen
   pub chosen_working : (p : ℕ) → (is_among chosen p && is_working answer old new t p) ≡ (held p && is_working answer old new t p)
   chosen_working p =
-      let working = is_working answer old new t p in
-      elim (is_among chosen p) as (λ b. is_among chosen p ≡ b → (b && working) ≡ (held p && working)) [
-        | true ↦ λ among. sym (ap (λ (b : Bool). b && working) (chosen_held p among))
-        | false ↦ λ off.
-            elim (held p) as (λ b. held p ≡ b → false ≡ (b && working)) [
-              | true ↦ λ on. sym (unchosen p (gates p on) off)
-              | false ↦ λ free. refl
-            ] refl
-      ] refl
+      either (is_among chosen p)
+      (λ among. rw (among, chosen_held p among) refl)
+      (λ off. either (held p) (λ on. rw (off, on, unchosen p (gates p on) off) refl) (λ free. rw (off, free) refl))
 
   -- the gates that are evaluated
   pub chosen_all : (working : List ℕ) → AllPairs (λ p q. p < q) chosen → working ≡ filter (is_working answer old new t) chosen → working_at answer old new t ≡ map (gate_at new) working
   chosen_all working rising is =
       passing new.gates blank_gate (λ g. is_dirty answer old new g t && is_stirred answer new g t) chosen rising (λ p among. gates p (chosen_held p among))
-      (λ p low on. elim (is_among chosen p) as (λ b. is_among chosen p ≡ b → b ≡ true) [
-        | true ↦ λ yes. refl
-        | false ↦ λ no. let never : true ≡ false = sym on ∙ unchosen p low no in absurd (cc)
-      ] refl)
+      (λ p low on. either (is_among chosen p) (λ yes. yes) (λ no. let off = unchosen p low no in cc))
       ∙ ap (map (gate_at new)) (sym is)
 
   -- a held gate that is not chosen keeps its state

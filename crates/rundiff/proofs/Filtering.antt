@@ -1,5 +1,5 @@
 -- Elements that pass, looked up at places in order.
-use Rattle.std.proofs.Common.{◌≡◌, refl, slice_get, unwrap_or, ℕ, suc, ◌<◌, ◌≤◌, ◌∙◌, ap, sym, List, [], ◌∷◌, Bool, true, false, map, length, Option, arith, All, ⊎_elim}
+use Rattle.std.proofs.Common.{◌≡◌, refl, slice_get, unwrap_or, ℕ, ◌<◌, ◌∙◌, ap, sym, List, Bool, true, false, map, length, Option, arith, ⊎_elim}
 use Rattle.std.specs.Prelude.{slice_index_or, ◌&&◌, AllPairs}
 use Rattle.std.specs.List.{filter}
 use Rattle.std.specs.Option.{option_map_or}
@@ -7,23 +7,15 @@ use Rattle.std.proofs.Math.Bool.{and-false}
 use Rattle.std.proofs.lemmas.Bool.{cases_lt, false_from_ne_true}
 use Rattle.std.proofs.lemmas.List.{map-id}
 use Rattle.std.proofs.lemmas.List.Kept.{AllPairs-filter}
-use Rattle.std.proofs.lemmas.List.Elements.{All-head}
 use Rattle.std.proofs.lemmas.Option.{slice_get-get_or, slice_get_past, unwrap_or-slice_get}
-use Rattle.catalog.proofs.ListLemmas.{AllPairs-tail}
-use Rattle.scratch.specs.kept.Places.{AreRising, has, passing as places_of}
+use Rattle.scratch.specs.kept.Places.{has, passing as places_of}
 use Rattle.scratch.proofs.Among.{has_filter}
 use Rattle.scratch.proofs.Lists.{map_alike}
 use Rattle.scratch.proofs.Passing.{are_passing}
 use Rattle.scratch.proofs.Places.{by_places}
 use Rattle.rundiff.specs.kept.Fronts.{ArePlaces}
 use Rattle.rundiff.specs.kept.Places.{is_among}
-use Rattle.rundiff.proofs.Lists.{pairs_head}
-use Rattle.rundiff.proofs.Among.{among_filter, among_has}
-
-rises : (a : ℕ) (ps : List ℕ) → AllPairs (λ p q. p < q) ps → All (λ p. a ≤ p) ps → AreRising a ps
-rises a [] rising low = tt
-rises a (p ∷ ps) rising low =
-    (All-head (λ p. a ≤ p) p ps low, rises (suc p) ps (AllPairs-tail (λ p q. p < q) p ps rising) (pairs_head (λ p q. p < q) p ps rising))
+use Rattle.rundiff.proofs.Among.{among_filter, among_has, rises}
 
 both_on : (a b : Bool) → (b ≡ true → a ≡ true) → (a && b) ≡ b
 both_on a true says = rw (says refl) refl

@@ -1,26 +1,29 @@
 -- Which gates the old design has.
-use Rattle.std.proofs.Common.{◌≡◌, ℕ, zero, suc, ◌+◌, ◌∙◌, ap, sym, refl, List, [], ◌∷◌, Bool, true, false, cond, map, take, Option, Some, None, add-one, not, All}
-use Rattle.std.specs.Prelude.{slice_get, slice_index_or, ◌≢◌, ◌&&◌, ◌||◌, AllPairs, IfSome, IsSome, is_some}
+use Rattle.std.proofs.Common.{◌≡◌, ℕ, zero, suc, ◌+◌, ◌∙◌, ap, sym, refl, List, [], ◌∷◌, Bool, true, false, cond, map, take, Option, Some, None, add-one, not}
+use Rattle.std.specs.Prelude.{slice_get, slice_index_or, ◌≢◌, ◌&&◌, AllPairs, IfSome, IsSome, is_some}
 use Rattle.std.specs.Cmp.Lexicographic.{pointwise}
 use Rattle.std.specs.List.{find, list_any}
 use Rattle.std.specs.Option.{option_map}
-use Rattle.std.proofs.Math.Bool.{or-false, and-false}
+use Rattle.std.proofs.Math.Bool.{and-false}
 use Rattle.std.proofs.lemmas.Bool.{and_parts, not-false, false_from_ne_true}
-use Rattle.std.proofs.lemmas.List.Folds.{list_any_none}
+use Rattle.std.proofs.lemmas.List.Folds.{list_any_at}
+use Rattle.std.proofs.lemmas.Option.{same_Some}
 use Rattle.fourstate.specs.kept.DelayLaws.{same_delays_equal}
 use Rattle.fourstate.specs.Delays.{same_delays}
 use Rattle.fourstate.specs.kept.GateLaws.{same_kind_equal}
 use Rattle.fourstate.specs.Gates.{same_kind}
 use Rattle.fourstate.specs.kept.ValueLaws.{is_same}
-use Rattle.catalog.proofs.ListLemmas.{AllPairs-tail}
+use Rattle.catalog.proofs.ListLemmas.{AllPairs-tail, find_at, find_passes}
 use Rattle.design.specs.Connections.{Connection, to_net, to_constant}
 use Rattle.design.specs.kept.Lawful.{IsDesign}
 use Rattle.design.specs.Names.{same_name}
 use Rattle.design.specs.Netlist.{GateEntry, Netlist, gate_named, has_gate}
+use Rattle.design.proofs.LookLemmas.{any_found, some_map}
 use Rattle.design.proofs.NameLemmas.{name_is}
+use Rattle.scratch.proofs.Driven.{either}
 use Rattle.scratch.proofs.Stirred.{same_self_name}
 use Rattle.rundiff.specs.Dirty.{is_new, same_connection, same_gate}
-use Rattle.rundiff.proofs.Lists.{found_any, found_in, not_so, pairs_head, any_so}
+use Rattle.rundiff.proofs.Lists.{found_any, found_in, pairs_head}
 
 same_connection_equal : (a b : Connection) → same_connection a b ≡ true → a ≡ b
 same_connection_equal (to_net a) (to_net b) is = ap to_net (name_is a b is)
@@ -49,30 +52,6 @@ same_gate_equal a b is =
     let inputs = same_inputs_equal a.inputs b.inputs four.1 in
     λ i. record { name = name i; kind = kind i; delays = delays i; output = output i; inputs = inputs i }
 
--- where one test finds nothing, a stronger one finds nothing
-none_passes : {X : Type 0} (p q : X → Bool) → ((x : X) → p x ≡ true → q x ≡ true) → (xs : List X) → find q xs ≡ None → list_any p xs ≡ false
-none_passes {X} p q says xs none =
-    false_from_ne_true (list_any p xs) (λ on.
-    let some = found_any q xs (any_so p q says xs on) in
-    let no : ◌≡◌ {A = Option X} None (Some some.0) = sym none ∙ some.1 in cc)
-
-none_later : {X : Type 0} (p q : X → Bool) → ((x : X) → p x ≡ true → q x ≡ true) → (xs : List X) → All (λ x. q x ≡ false) xs → list_any p xs ≡ false
-none_later p q says xs off =
-    list_any_none p xs (λ k d low. not_so (p (slice_index_or xs k d)) (q (slice_index_or xs k d)) (says (slice_index_or xs k d)) (off k d low))
-
--- where one test passes one element alone, a stronger one passes that or none
-any_is : {X : Type 0} (p q : X → Bool) → ((x : X) → p x ≡ true → q x ≡ true) → (xs : List X) (x : X) → AllPairs (λ a b. q a ≡ true → q b ≡ false) xs → find q xs ≡ Some x → list_any p xs ≡ p x
-any_is p q says [] x apart is = absurd (cc)
-any_is {X} p q says (y ∷ ys) x apart is =
-    let R : X → X → Type 0 = λ a b. q a ≡ true → q b ≡ false in
-    elim (q y) as (λ b. q y ≡ b → cond {A = Option X} b (Some y) (find q ys) ≡ Some x → (p y || list_any p ys) ≡ p x) [
-      | true ↦ λ on here.
-          let e : y ≡ x = cc in
-          let rest = none_later p q says ys (λ k d low. pairs_head R y ys apart k d low on) in
-          rw rest (or-false (p y) ∙ ap p e)
-      | false ↦ λ off later. let here = not_so (p y) (q y) (says y) off in rw here (any_is p q says ys x (AllPairs-tail R y ys apart) later)
-    ] refl is
-
 -- what one test finds another one finds, which passes no other element
 find_by : {X : Type 0} (p q : X → Bool) (xs : List X) (x : X) → find p xs ≡ Some x → q x ≡ true → AllPairs (λ a b. q b ≡ true → q a ≡ false) xs → find q xs ≡ Some x
 find_by p q [] x is passes apart = absurd (cc)
@@ -92,48 +71,46 @@ module _ (d : Netlist) (is : IsDesign d) (g : GateEntry) where
   named_same : (h : GateEntry) → same_gate g h ≡ true → at_name h ≡ true
   named_same h same = ap (λ (x : GateEntry). at_name x) (sym (same_gate_equal g h same)) ∙ same_self_name g.name
 
-  apart_by : (a b : GateEntry) → a.name ≢ b.name → at_name a ≡ true → at_name b ≡ false
-  apart_by a b apart on = false_from_ne_true (at_name b) (λ too. apart (name_is a.name g.name on ∙ sym (name_is b.name g.name too)))
-
   apart_back : (a b : GateEntry) → a.name ≢ b.name → at_name b ≡ true → at_name a ≡ false
   apart_back a b apart on = false_from_ne_true (at_name a) (λ too. apart (name_is a.name g.name too ∙ sym (name_is b.name g.name on)))
 
+  -- a gate that the design has is the one of its name
+  is_named : list_any (same_gate g) d.gates ≡ true → gate_named d g.name ≡ Some g
+  is_named on =
+      let some = found_any (same_gate g) d.gates on in
+      let same = find_passes (same_gate g) d.gates some.0 some.1 in
+      find_by (same_gate g) at_name d.gates some.0 some.1 (named_same some.0 same)
+      (λ i j x order low. apart_back (slice_index_or d.gates i x) (slice_index_or d.gates j x) (is.distinct_gates i j x order low))
+      ∙ ap (λ (x : GateEntry). Some x) (sym (same_gate_equal g some.0 same))
+
+  pub known_gate : is_new d g ≡ false → gate_named d g.name ≡ Some g
+  known_gate known = is_named (not-false (list_any (same_gate g) d.gates) known)
+
   -- a gate whose name no gate has is new
   pub unnamed_new : gate_named d g.name ≡ None → is_new d g ≡ true
-  unnamed_new none = ap not (none_passes (same_gate g) at_name named_same d.gates none)
+  unnamed_new none =
+      ap not (false_from_ne_true (list_any (same_gate g) d.gates) (λ on. let no : ◌≡◌ {A = Option GateEntry} None (Some g) = sym none ∙ is_named on in cc))
 
   -- whether a gate is new shows at the gate of its name
   pub new_by_name : (h : GateEntry) → gate_named d g.name ≡ Some h → is_new d g ≡ not (same_gate g h)
   new_by_name h found =
-      ap not (any_is (same_gate g) at_name named_same d.gates h (λ i j e order low. apart_by (slice_index_or d.gates i e) (slice_index_or d.gates j e) (is.distinct_gates i j e order low)) found)
-
-  -- a gate that is not new is the one of its name
-  pub known_gate : is_new d g ≡ false → gate_named d g.name ≡ Some g
-  known_gate known =
-      let some = found_any (same_gate g) d.gates (not-false (list_any (same_gate g) d.gates) known) in
-      let h : GateEntry = some.0 in
-      let found : find (same_gate g) d.gates ≡ Some h = some.1 in
-      let same : same_gate g h ≡ true = (found_in (λ x. Unit {0}) (same_gate g) d.gates h (λ k e low. tt) found).1 in
-      let e : g ≡ h = same_gate_equal g h same in
-      find_by (same_gate g) at_name d.gates h found (named_same h same)
-      (λ i j x order low. apart_back (slice_index_or d.gates i x) (slice_index_or d.gates j x) (is.distinct_gates i j x order low))
-      ∙ ap (λ (x : GateEntry). Some x) (sym e)
+      ap not (either (same_gate g h)
+      (λ yes. let at = find_at at_name d.gates h found in list_any_at (same_gate g) d.gates at.0 h at.1 (ap (same_gate g) at.2 ∙ yes) ∙ sym yes)
+      (λ no.
+      false_from_ne_true (list_any (same_gate g) d.gates) (λ on.
+      let some = found_any (same_gate g) d.gates on in let same = find_passes (same_gate g) d.gates some.0 some.1 in
+      let e : some.0 ≡ h = sym (same_gate_equal g some.0 same) ∙ same_Some g h (sym (is_named on) ∙ found) in
+      let yes = ap (same_gate g) (sym e) ∙ same in cc) ∙ sym no))
 
 -- what is known of the gate of a name is so of a gate with this name that is not new
 pub of_known : (d : Netlist) → IsDesign d → (P : GateEntry → Type 0) (name : List ℕ) → ((g : GateEntry) → gate_named d name ≡ Some g → P g) → (g : GateEntry) → name ≡ g.name → is_new d g ≡ false → P g
 of_known d is P name all g named known = all g (ap (gate_named d) named ∙ known_gate d is g known)
 
 -- a key under which a gate was found by name
-key_there : {X : Type 0} (f : X → GateEntry) (o : Option X) (d : Netlist) (name : List ℕ) → option_map f o ≡ gate_named d name → true ≡ has_gate d name → IsSome o
-key_there f None d name found there =
-    let some = found_any (λ g. same_name g.name name) d.gates (sym there) in
-    let no : ◌≡◌ {A = Option GateEntry} None (Some some.0) = found ∙ some.1 in absurd (cc)
-key_there f (Some x) d name found there = refl
-
 pub keys_there : {X : Type 0} (f : X → GateEntry) (at : ℕ → Option X) (d : Netlist) (name : List ℕ) (o : Option ℕ) →
     IfSome o (λ key. option_map f (at key) ≡ gate_named d name) → is_some o ≡ has_gate d name → IfSome o (λ key. IsSome (at key))
 keys_there f at d name None found there = tt
-keys_there f at d name (Some key) found there = key_there f (at key) d name found there
+keys_there f at d name (Some key) found there = sym (some_map f (at key)) ∙ ap (λ (o : Option GateEntry). is_some o) found ∙ sym (any_found (λ g. same_name g.name name) d.gates) ∙ sym there
 
 -- Two lists, element by element.
 

@@ -1,39 +1,25 @@
 -- Lists: what is found and what passes; and tests.
-use Rattle.std.proofs.Common.{◌≡◌, List, [], ◌∷◌, Bool, true, false, cond, subst, Option, Some, refl, All, suc, ◌∙◌, sym, arith}
-use Rattle.std.specs.Prelude.{◌||◌, ◌&&◌, AllPairs}
+use Rattle.std.proofs.Common.{◌≡◌, List, ◌∷◌, Bool, true, false, subst, Some, refl, All, suc, ◌∙◌, sym, arith}
+use Rattle.std.specs.Prelude.{◌&&◌, AllPairs}
 use Rattle.std.specs.List.{filter, find, list_any}
-use Rattle.std.proofs.lemmas.List.Elements.{All-cons, All-nil, All-head, All-tail}
 use Rattle.std.proofs.lemmas.Map.Keys.{any_passes_from_place}
+use Rattle.catalog.proofs.ListLemmas.{find_at, find_passes}
+use Rattle.design.proofs.ByNameLemmas.{all_at}
+use Rattle.design.proofs.LookLemmas.{any_found, some_is}
 use Rattle.scratch.proofs.Among.{any_from}
+use Rattle.scratch.proofs.Stirred.{all_of_filter}
 
 -- what is said of each element holds of the one that is found
 pub found_in : {X : Type 0} (P : X → Type 0) (q : X → Bool) (xs : List X) (x : X) → All P xs → find q xs ≡ Some x → P x × (q x ≡ true)
-found_in P q [] x all is = absurd (cc)
-found_in {X} P q (y ∷ ys) x all is =
-    elim (q y) as (λ b. q y ≡ b → cond {A = Option X} b (Some y) (find q ys) ≡ Some x → P x × (q x ≡ true)) [
-      | true ↦ λ passes here. let e : y ≡ x = cc in subst (λ (z : X). P z × (q z ≡ true)) e (All-head P y ys all, passes)
-      | false ↦ λ fails later. found_in P q ys x (All-tail P y ys all) later
-    ] refl is
+found_in P q xs x all is = let at = find_at q xs x is in (subst P at.2 (all at.0 x at.1), find_passes q xs x is)
 
 -- where an element passes, one is found
 pub found_any : {X : Type 0} (q : X → Bool) (xs : List X) → list_any q xs ≡ true → (x : X) × (find q xs ≡ Some x)
-found_any q [] is = absurd (cc)
-found_any {X} q (y ∷ ys) is =
-    elim (q y) as (λ b. (b || list_any q ys) ≡ true → (x : X) × (cond {A = Option X} b (Some y) (find q ys) ≡ Some x)) [
-      | true ↦ λ here. (y, refl)
-      | false ↦ λ later. found_any q ys later
-    ] is
+found_any q xs on = some_is (find q xs) (sym (any_found q xs) ∙ on)
 
 -- what holds of each element that passes holds of each of those
 pub filter_where : {X : Type 0} (p : X → Bool) (P : X → Type 0) (xs : List X) → All (λ x. p x ≡ true → P x) xs → All P (filter p xs)
-filter_where p P [] all = All-nil P
-filter_where {X} p P (x ∷ xs) all =
-    let Q : X → Type 0 = λ x. p x ≡ true → P x in
-    let rest = filter_where p P xs (All-tail Q x xs all) in
-    elim (p x) as (λ b. p x ≡ b → All P (cond b (x ∷ filter p xs) (filter p xs))) [
-      | true ↦ λ on. All-cons P x (filter p xs) (All-head Q x xs all on) rest
-      | false ↦ λ off. rest
-    ] refl
+filter_where p P xs all = all_of_filter p P xs (λ k x at. all_at (λ x. p x ≡ true → P x) xs k x all at)
 
 -- what holds of each two elements of a list, of the first one and each other
 pub pairs_head : {X : Type 0} (R : X → X → Type 0) (y : X) (ys : List X) → AllPairs R (y ∷ ys) → All (R y) ys

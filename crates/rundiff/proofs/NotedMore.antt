@@ -1,7 +1,9 @@
 -- What is noted for places, one place more.
-use Rattle.std.proofs.Common.{◌≡◌, ℕ, zero, suc, ◌+◌, ◌<◌, ◌∙◌, ap, List, [], ◌∷◌, Bool, true, map, take, Some}
+use Rattle.std.proofs.Common.{◌≡◌, ℕ, suc, ◌+◌, ◌<◌, ◌∙◌, ap, sym, List, Bool, true, map, take, Some}
 use Rattle.std.specs.Prelude.{nat_eq, slice_get}
+use Rattle.std.specs.Option.{option_map}
 use Rattle.std.proofs.lemmas.Bool.{eqb-true}
+use Rattle.std.proofs.lemmas.Option.{same_Some, slice_get-map}
 use Rattle.rundiff.specs.kept.Places.{is_among}
 use Rattle.scratch.specs.kept.Places.{IsNotedWithin, Keeps, has}
 use Rattle.scratch.proofs.Among.{nat_itself}
@@ -10,10 +12,7 @@ use Rattle.rundiff.proofs.Steps.{each_more}
 
 -- an element of a list that is mapped
 pub mapped_at : {X Y : Type 0} (f : X → Y) (xs : List X) (ys : List Y) (i : ℕ) (x : X) (y : Y) → ys ≡ map f xs → slice_get xs i ≡ Some x → slice_get ys i ≡ Some y → y ≡ f x
-mapped_at f [] ys i x y those at read = absurd (cc)
-mapped_at f (w ∷ xs) [] i x y those at read = absurd (cc)
-mapped_at f (w ∷ xs) (v ∷ ys) zero x y those at read = cc
-mapped_at f (w ∷ xs) (v ∷ ys) (suc i) x y those at read = mapped_at f xs ys i x y (let e : ys ≡ map f xs = cc in e) at read
+mapped_at f xs ys i x y those at read = same_Some y (f x) (sym read ∙ ap (λ l. slice_get l i) those ∙ slice_get-map f xs i ∙ ap (option_map f) at)
 
 module _ (wanted : ℕ → ℕ → Bool) where
   module _ (xs : List ℕ) (i x : ℕ) (at : slice_get xs i ≡ Some x) (old new : ℕ → List ℕ) (keeps : Keeps old new)

@@ -1,5 +1,5 @@
 -- Loops over places, each of which is put once.
-use Rattle.std.proofs.Common.{◌≡◌, ℕ, zero, suc, ◌+◌, ◌<◌, ◌∙◌, ap, sym, refl, subst, List, [], ◌∷◌, ◌++◌, Bool, true, false, take, length, Some, ◌≤◌}
+use Rattle.std.proofs.Common.{◌≡◌, ℕ, ◌+◌, ◌<◌, ◌∙◌, ap, sym, refl, subst, List, [], ◌∷◌, ◌++◌, Bool, true, false, take, length, Some, ◌≤◌, arith}
 use Rattle.std.specs.Prelude.{slice_get, slice_index_or, nat_eq, ◌||◌, ◌==◌, AllPairs}
 use Rattle.std.proofs.lemmas.Bool.{eqb-true, or_left, or_parts, or_right}
 use Rattle.std.proofs.Math.Bool.{or-false}
@@ -7,12 +7,10 @@ use Rattle.std.proofs.lemmas.Map.Keys.{any_passes_from_place}
 use Rattle.std.proofs.lemmas.List.{take_all}
 use Rattle.std.proofs.lemmas.List.Folds.{list_any-append}
 use Rattle.std.proofs.lemmas.Option.{slice_get-get_or}
-use Rattle.catalog.proofs.ListLemmas.{AllPairs-tail}
-use Rattle.design.proofs.ByNameLemmas.{all_at}
 use Rattle.scratch.proofs.Driven.{earlier, either}
-use Rattle.scratch.proofs.Among.{any_more, nat_apart, nat_itself}
+use Rattle.scratch.proofs.Among.{any_more, nat_itself, once}
 use Rattle.rundiff.specs.kept.Places.{is_among}
-use Rattle.rundiff.proofs.Lists.{pairs_head}
+use Rattle.rundiff.proofs.Among.{among_has, rises}
 
 -- one place more
 pub among_more : (xs : List ℕ) (i x q : ℕ) → slice_get xs i ≡ Some x → is_among (take (i + 1) xs) q ≡ (is_among (take i xs) q || nat_eq x q)
@@ -20,11 +18,7 @@ among_more xs i x q at = any_more (λ w. w == q) xs i x at
 
 -- places that rise: each is not among those before it
 pub not_yet : (xs : List ℕ) (i x : ℕ) → AllPairs (λ p q. p < q) xs → slice_get xs i ≡ Some x → is_among (take i xs) x ≡ false
-not_yet [] i x rising at = absurd (cc)
-not_yet (w ∷ xs) zero x rising at = refl
-not_yet (w ∷ xs) (suc i) x rising at =
-    let off = nat_apart w x (all_at (λ q. w < q) xs i x (pairs_head (λ p q. p < q) w xs rising) at) in
-    rw off (not_yet xs i x (AllPairs-tail (λ p q. p < q) w xs rising) at)
+not_yet xs i x rising at = among_has (take i xs) x ∙ once 0 xs i x (rises 0 xs rising (λ k d within. omega arith)) at
 
 pub is_one : (xs : List ℕ) (i x : ℕ) → slice_get xs i ≡ Some x → is_among xs x ≡ true
 is_one xs i x at = any_passes_from_place (λ w. w == x) xs i x at (nat_itself x)

@@ -4,16 +4,14 @@ use Rattle.design.specs.Keys.{Keyed, name_of, netlist}
 use Rattle.design.specs.kept.Keys.{net_by_key}
 use Rattle.design.specs.Names.{same_name}
 use Rattle.design.specs.Netlist.{has_net, net_named, NetEntry}
+use Rattle.design.proofs.LookLemmas.{any_found}
 use Rattle.design.proofs.NameLemmas.{name_is}
-use Rattle.rundiff.proofs.Lists.{found_any}
 use Rattle.rundiff.proofs.old.old_net.Goals as goal
 
 -- a net that is found by its name is there
 net_there : (d : Keyed) (name : List ℕ) (o : Option ℕ) → IfSome o (λ key. net_by_key d key ≡ net_named (netlist d) name) → is_some o ≡ has_net (netlist d) name → IfSome o (λ key. IsSome (net_by_key d key))
 net_there d name None is there = tt
-net_there d name (Some key) is there =
-    let n = found_any (λ n. same_name n.name name) (netlist d).nets (sym there) in
-    ap (λ (o : Option NetEntry). is_some o) (is ∙ n.1)
+net_there d name (Some key) is there = ap (λ (o : Option NetEntry). is_some o) is ∙ sym (any_found (λ n. same_name n.name name) (netlist d).nets) ∙ sym there
 
 pub returns-then-eq-clause-net : goal.returns-then-eq-clause-net
 returns-then-eq-clause-net c =
