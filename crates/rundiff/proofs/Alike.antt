@@ -1,6 +1,5 @@
 -- Names that are live, where more places are.
-use Rattle.std.proofs.Common.{◌≡◌, ℕ, Bool, true, false, List, inl, inr, refl}
-use Rattle.std.specs.Prelude.{◌||◌, ◌&&◌}
+use Rattle.std.proofs.Common.{◌≡◌, ℕ, Bool, true, false, List, inl, inr, refl, ◌||◌, ◌&&◌}
 use Rattle.std.proofs.lemmas.Bool.{or_left}
 use Rattle.gatestep.specs.Step.{State, Evaluation}
 use Rattle.design.specs.Netlist.{Netlist}

@@ -1,6 +1,5 @@
 -- What is noted once the nets of a moment are done.
-use Rattle.std.proofs.Common.{◌≡◌, ℕ, suc, ◌<◌, ◌≤◌, ◌∙◌, ap, sym, refl, Bool, true, false, not, cond, List, [], arith}
-use Rattle.std.specs.Prelude.{nat_eq, ◌&&◌, ◌||◌, ◌==◌}
+use Rattle.std.proofs.Common.{◌≡◌, ℕ, suc, ◌<◌, ◌≤◌, ◌∙◌, ap, sym, refl, Bool, true, false, not, cond, List, [], arith, nat_eq, ◌&&◌, ◌||◌, ◌==◌}
 use Rattle.std.proofs.lemmas.Bool.Decides.{nat_tests}
 use Rattle.std.proofs.lemmas.Bool.{or_right, and_from, eqb-true, and_parts}
 use Rattle.gatestep.specs.Step.{State, Evaluation}

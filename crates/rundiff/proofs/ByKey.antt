@@ -1,10 +1,6 @@
 -- Nets and gates by their keys, and their places.
-use Rattle.std.proofs.Common.{◌≡◌, false, ℕ, ◌<◌, ◌∙◌, ap, sym, refl, List, length, Option, Some, None}
-use Rattle.std.specs.Prelude.{◌==◌, IsSome, is_some, slice_get}
-use Rattle.std.specs.List.{find}
-use Rattle.std.specs.Option.{option_map}
+use Rattle.std.proofs.Common.{◌≡◌, false, ℕ, ◌<◌, ◌∙◌, ap, sym, refl, List, length, Option, Some, None, find, eqb-true, option_map, ◌==◌, IsSome, is_some, slice_get}
 use Rattle.std.proofs.lemmas.Option.{same_Some, slice_get-map, slice_get_within, get_or_from_slice_get}
-use Rattle.std.proofs.lemmas.Bool.{eqb-true}
 use Rattle.catalog.specs.Catalog.{record_at, records_of}
 use Rattle.catalog.specs.kept.Catalog.{keys_of, place_of}
 use Rattle.catalog.proofs.EntryLemmas.{entry_at as entry_facts}

@@ -1,6 +1,5 @@
 -- Held gates that are not looked at are not stirred.
-use Rattle.std.proofs.Common.{◌≡◌, ℕ, suc, ◌-◌, ◌<◌, ◌∙◌, ap, sym, refl, Bool, true, false, not, List, length, Some, inl, inr, arith, All}
-use Rattle.std.specs.Prelude.{slice_index_or, ◌&&◌, ◌||◌, ◌==◌}
+use Rattle.std.proofs.Common.{◌≡◌, ℕ, suc, ◌-◌, ◌<◌, ◌∙◌, ap, sym, refl, Bool, true, false, not, List, length, Some, inl, inr, arith, All, slice_index_or, ◌&&◌, ◌||◌, ◌==◌}
 use Rattle.std.specs.List.{list_any}
 use Rattle.std.proofs.lemmas.List.Folds.{list_any_at}
 use Rattle.std.proofs.lemmas.Bool.{or_right, and_from}

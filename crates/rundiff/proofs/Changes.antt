@@ -1,6 +1,5 @@
 -- The next change of a wave.
-use Rattle.std.proofs.Common.{◌≡◌, ◌<◌, ◌≤◌, ◌∙◌, sym, ap, subst, refl, Bool, true, false, not, ℕ, suc, ◌-◌, nat_lt, List, Some, None, arith, ⊎_elim}
-use Rattle.std.specs.Prelude.{IfSome, nat_le, ◌&&◌}
+use Rattle.std.proofs.Common.{◌≡◌, ◌<◌, ◌≤◌, ◌∙◌, sym, ap, subst, refl, Bool, true, false, not, ℕ, suc, ◌-◌, nat_lt, List, Some, None, arith, ⊎_elim, IfSome, nat_le, ◌&&◌}
 use Rattle.std.proofs.lemmas.Bool.{cases_lt, and_parts}
 use Rattle.std.proofs.lemmas.Bool.Decides.{nat_tests}
 use Rattle.fourstate.specs.declared.value.Value.{Value}

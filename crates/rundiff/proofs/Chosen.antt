@@ -1,7 +1,5 @@
 -- The held gates that are not chosen to be looked at: they are not stirred, so they keep their states.
-use Rattle.std.proofs.Common.{◌≡◌, ℕ, zero, suc, ◌<◌, ◌∙◌, ap, sym, refl, List, Bool, true, false, not, map, length, Option}
-use Rattle.std.specs.Prelude.{◌&&◌, AllPairs}
-use Rattle.std.specs.List.{filter}
+use Rattle.std.proofs.Common.{◌≡◌, ℕ, zero, suc, ◌<◌, ◌∙◌, ap, sym, refl, List, Bool, true, false, not, map, length, Option, filter, ◌&&◌, AllPairs}
 use Rattle.std.proofs.Math.Bool.{and-false}
 use Rattle.gatestep.specs.Step.{State, Evaluation, due}
 use Rattle.gatestep.specs.kept.Tasks.{NothingDue, again}

@@ -1,6 +1,5 @@
 -- Off the dirty pairs the new run is the old one.
-use Rattle.std.proofs.Common.{◌≡◌, ℕ, suc, ◌≤◌, List, false, not, cond, map, ap, ◌∙◌, All, refl}
-use Rattle.std.specs.Prelude.{nat_le, ◌||◌}
+use Rattle.std.proofs.Common.{◌≡◌, ℕ, suc, ◌≤◌, List, false, not, cond, map, ap, ◌∙◌, All, refl, nat_le, ◌||◌}
 use Rattle.std.proofs.lemmas.Bool.{le-leb, or_parts, and_parts, not-false}
 use Rattle.fourstate.specs.Nets.{net_of}
 use Rattle.fourstate.specs.declared.value.Value.{Value}

@@ -1,7 +1,6 @@
 -- The value of a net from the states of its drivers, which are found by their keys.
-use Rattle.std.proofs.Common.{◌≡◌, ℕ, ◌+◌, ◌-◌, ◌<◌, ◌≤◌, ◌∙◌, ap, sym, List, [], ◌∷◌, Bool, false, cond, map, drop, length, get_or, Option, Some, arith, is_some}
+use Rattle.std.proofs.Common.{◌≡◌, ℕ, ◌+◌, ◌-◌, ◌<◌, ◌≤◌, ◌∙◌, ap, sym, List, [], ◌∷◌, Bool, false, cond, map, drop, length, get_or, Option, Some, arith, is_some, slice_get, IsSome}
 use Rattle.std.proofs.lemmas.List.{drop_more}
-use Rattle.std.specs.Prelude.{slice_get, IsSome}
 use Rattle.std.specs.Option.{option_map, option_map_or}
 use Rattle.std.proofs.lemmas.Option.{slice_get-get_or, get_or_from_slice_get}
 use Rattle.fourstate.specs.declared.value.Value.{Value}

@@ -1,8 +1,7 @@
 -- Lines of the old run by the places of the new design.
-use Rattle.std.proofs.Common.{◌≡◌, ◌<◌, ◌∙◌, ap, sym, subst, ℕ, zero, suc, ◌+◌, List, [], ◌∷◌, ◌++◌, Some, length, map, arith}
+use Rattle.std.proofs.Common.{◌≡◌, ◌<◌, ◌∙◌, ap, sym, subst, ℕ, zero, suc, ◌+◌, List, [], ◌∷◌, ◌++◌, Some, length, map, arith, IfSome, slice_get, slice_index_or}
 use Rattle.std.proofs.lemmas.List.{map-append, length_push}
 use Rattle.std.proofs.lemmas.Option.{get_or_from_slice_get}
-use Rattle.std.specs.Prelude.{IfSome, slice_get, slice_index_or}
 use Rattle.rundiff.specs.kept.OldRuns.{HoldsEach}
 
 holds_more : {X : Type 0} (P : ℕ → X → Type 0) (xs : List X) (x : X) → HoldsEach xs P → P (length xs) x → HoldsEach (xs ++ x ∷ []) P

@@ -1,11 +1,8 @@
 -- Elements that pass, looked up at places in order.
-use Rattle.std.proofs.Common.{◌≡◌, refl, slice_get, unwrap_or, ℕ, ◌<◌, ◌∙◌, ap, sym, List, Bool, true, false, map, length, Option, arith, ⊎_elim}
-use Rattle.std.specs.Prelude.{slice_index_or, ◌&&◌, AllPairs}
-use Rattle.std.specs.List.{filter}
+use Rattle.std.proofs.Common.{◌≡◌, refl, slice_get, unwrap_or, ℕ, ◌<◌, ◌∙◌, ap, sym, List, Bool, true, false, map, length, Option, arith, ⊎_elim, filter, map-id, slice_index_or, ◌&&◌, AllPairs}
 use Rattle.std.specs.Option.{option_map_or}
 use Rattle.std.proofs.Math.Bool.{and-false}
 use Rattle.std.proofs.lemmas.Bool.{cases_lt, false_from_ne_true}
-use Rattle.std.proofs.lemmas.List.{map-id}
 use Rattle.std.proofs.lemmas.List.Kept.{AllPairs-filter}
 use Rattle.std.proofs.lemmas.Option.{slice_get-get_or, slice_get_past, unwrap_or-slice_get}
 use Rattle.scratch.specs.kept.Places.{has, passing as places_of}

@@ -1,6 +1,5 @@
 -- The lines of the new run, once the run was cleared of what edits touched, and what is live was put.
-use Rattle.std.proofs.Common.{◌≡◌, ℕ, suc, ◌<◌, ◌∙◌, ap, sym, refl, List, Bool, true, false, cond, length, Option, Some, None, subst, ⊎_elim}
-use Rattle.std.specs.Prelude.{IsSome, slice_get}
+use Rattle.std.proofs.Common.{◌≡◌, ℕ, suc, ◌<◌, ◌∙◌, ap, sym, refl, List, Bool, true, false, cond, length, Option, Some, None, subst, ⊎_elim, IsSome, slice_get}
 use Rattle.std.specs.List.{position_from}
 use Rattle.std.specs.Option.{option_map, option_map_or}
 use Rattle.std.proofs.lemmas.Bool.{false_from_ne_true}

@@ -1,6 +1,5 @@
 -- Before moment 0: outside of what edits touched both designs are the same.
-use Rattle.std.proofs.Common.{◌≡◌, ℕ, ◌+◌, ◌<◌, ◌∙◌, ap, sym, refl, List, [], ◌∷◌, Bool, true, false, not, map, length, Option, Some, arith, All}
-use Rattle.std.specs.Prelude.{◌≢◌, AllPairs, IsSome, is_some}
+use Rattle.std.proofs.Common.{◌≡◌, ℕ, ◌+◌, ◌<◌, ◌∙◌, ap, sym, refl, List, [], ◌∷◌, Bool, true, false, not, map, length, Option, Some, arith, All, ◌≢◌, AllPairs, IsSome, is_some}
 use Rattle.std.specs.Cmp.Lexicographic.{pointwise}
 use Rattle.std.specs.List.{filter, position_from}
 use Rattle.std.specs.Option.{option_map, option_map_or}

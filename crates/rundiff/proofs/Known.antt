@@ -1,9 +1,8 @@
 -- Which gates the old design has.
-use Rattle.std.proofs.Common.{◌≡◌, ℕ, zero, suc, ◌+◌, ◌∙◌, ap, sym, refl, List, [], ◌∷◌, Bool, true, false, cond, map, take, Option, Some, None, add-one, not}
+use Rattle.std.proofs.Common.{◌≡◌, ℕ, zero, suc, ◌+◌, ◌∙◌, ap, sym, refl, List, [], ◌∷◌, Bool, true, false, cond, map, take, Option, Some, None, add-one, not, option_map}
 use Rattle.std.specs.Prelude.{slice_get, slice_index_or, ◌≢◌, ◌&&◌, AllPairs, IfSome, IsSome, is_some}
 use Rattle.std.specs.Cmp.Lexicographic.{pointwise}
 use Rattle.std.specs.List.{find, list_any}
-use Rattle.std.specs.Option.{option_map}
 use Rattle.std.proofs.Math.Bool.{and-false}
 use Rattle.std.proofs.lemmas.Bool.{and_parts, not-false, false_from_ne_true}
 use Rattle.std.proofs.lemmas.List.Folds.{list_any_at}

@@ -1,6 +1,5 @@
 -- Lists: what is found and what passes; and tests.
-use Rattle.std.proofs.Common.{◌≡◌, List, ◌∷◌, Bool, true, false, subst, Some, refl, All, suc, ◌∙◌, sym, arith}
-use Rattle.std.specs.Prelude.{◌&&◌, AllPairs}
+use Rattle.std.proofs.Common.{◌≡◌, List, ◌∷◌, Bool, true, false, subst, Some, refl, All, suc, ◌∙◌, sym, arith, ◌&&◌, AllPairs}
 use Rattle.std.specs.List.{filter, find, list_any}
 use Rattle.std.proofs.lemmas.Map.Keys.{any_passes_from_place}
 use Rattle.catalog.proofs.ListLemmas.{find_at, find_passes}

@@ -1,6 +1,5 @@
 -- What holds of live nets and held gates at a moment, whether they are looked at or not.
-use Rattle.std.proofs.Common.{◌≡◌, ℕ, zero, suc, ◌∙◌, sym, refl, Bool, true, false, List, Option, ◌⊎◌, inl, inr, arith, not}
-use Rattle.std.specs.Prelude.{◌&&◌}
+use Rattle.std.proofs.Common.{◌≡◌, ℕ, zero, suc, ◌∙◌, sym, refl, Bool, true, false, List, Option, ◌⊎◌, inl, inr, arith, not, ◌&&◌}
 use Rattle.std.proofs.lemmas.Bool.{and_parts, not-true}
 use Rattle.fourstate.specs.declared.value.Value.{Value}
 use Rattle.fourstate.specs.Values.{same_value}

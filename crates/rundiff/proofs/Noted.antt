@@ -1,7 +1,6 @@
 -- What is noted for moments to come, and what is not.
-use Rattle.std.proofs.Common.{◌≡◌, ◌≢◌, ◌<◌, ◌≤◌, ◌∙◌, sym, ap, Bool, true, false, ℕ, List, [], ◌⊎◌, inl, inr, arith, ⊎_elim, suc}
+use Rattle.std.proofs.Common.{◌≡◌, ◌≢◌, ◌<◌, ◌≤◌, ◌∙◌, sym, ap, Bool, true, false, ℕ, List, [], ◌⊎◌, inl, inr, arith, ⊎_elim, suc, ◌||◌, ◌==◌}
 use Rattle.std.proofs.lemmas.Bool.{cases_lt, false_from_ne_true, ne_eqb}
-use Rattle.std.specs.Prelude.{◌||◌, ◌==◌}
 use Rattle.event_queue.specs.kept.Noted.{noted}
 use Rattle.scratch.specs.kept.Places.{Announces, IsNotedWithin, has}
 use Rattle.rundiff.specs.declared.front.Front.{Front}

@@ -1,8 +1,5 @@
 -- What is noted for places, one place more.
-use Rattle.std.proofs.Common.{◌≡◌, ℕ, suc, ◌+◌, ◌<◌, ◌∙◌, ap, sym, List, Bool, true, map, take, Some}
-use Rattle.std.specs.Prelude.{nat_eq, slice_get}
-use Rattle.std.specs.Option.{option_map}
-use Rattle.std.proofs.lemmas.Bool.{eqb-true}
+use Rattle.std.proofs.Common.{◌≡◌, ℕ, suc, ◌+◌, ◌<◌, ◌∙◌, ap, sym, List, Bool, true, map, take, Some, eqb-true, option_map, nat_eq, slice_get}
 use Rattle.std.proofs.lemmas.Option.{same_Some, slice_get-map}
 use Rattle.rundiff.specs.kept.Places.{is_among}
 use Rattle.scratch.specs.kept.Places.{IsNotedWithin, Keeps, has}

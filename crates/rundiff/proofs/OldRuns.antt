@@ -1,8 +1,6 @@
 -- The run of an old design by the places of a new one, as lines and as what is read of it.
-use Rattle.std.proofs.Common.{◌≡◌, ◌<◌, ◌≤◌, ◌∙◌, ap, sym, refl, ℕ, suc, List, [], map, length, Option}
+use Rattle.std.proofs.Common.{◌≡◌, ◌<◌, ◌≤◌, ◌∙◌, ap, sym, refl, ℕ, suc, List, [], map, length, Option, option_map, slice_index_or}
 use Rattle.std.specs.Prelude.{unwrap_or}
-use Rattle.std.specs.List.{slice_index_or}
-use Rattle.std.specs.Option.{option_map}
 use Rattle.std.proofs.lemmas.Option.{slice_get-map, slice_get-get_or}
 use Rattle.std.proofs.lemmas.List.Sums.{AllPass-from_list_all}
 use Rattle.fourstate.specs.declared.value.Value.{Value}

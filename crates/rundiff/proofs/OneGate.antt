@@ -1,6 +1,5 @@
 -- What comes of one gate at one moment.
-use Rattle.std.proofs.Common.{◌≡◌, ℕ, zero, suc, ◌-◌, ◌<◌, ◌≤◌, ◌∙◌, ap, sym, refl, List, Bool, true, false, not, arith}
-use Rattle.std.specs.Prelude.{nat_le, ◌&&◌, ◌||◌}
+use Rattle.std.proofs.Common.{◌≡◌, ℕ, zero, suc, ◌-◌, ◌<◌, ◌≤◌, ◌∙◌, ap, sym, refl, List, Bool, true, false, not, arith, nat_le, ◌&&◌, ◌||◌}
 use Rattle.std.proofs.lemmas.Bool.Decides.{nat_tests}
 use Rattle.std.proofs.lemmas.Bool.{le-leb, or_parts, not-false}
 use Rattle.std.proofs.Math.Bool.{not-not, or-false}

@@ -1,9 +1,8 @@
 -- Numbers of places, which stand page by page.
-use Rattle.std.proofs.Common.{◌≡◌, ◌≢◌, ◌∙◌, ◌<◌, ◌≤◌, ◌++◌, ◌∷◌, ◌/◌, ◌%◌, ap, sym, refl, ℕ, zero, suc, inl, inr, ⊎_elim, false, List, [], map, length, arith}
+use Rattle.std.proofs.Common.{◌≡◌, ◌≢◌, ◌∙◌, ◌<◌, ◌≤◌, ◌++◌, ◌∷◌, ◌/◌, ◌%◌, ap, sym, refl, ℕ, zero, suc, inl, inr, ⊎_elim, false, List, [], map, length, arith, nat_eq, Vec}
 use Rattle.std.proofs.Math.ListN.{get_or, get_or-eq_default, set}
 use Rattle.std.proofs.lemmas.Bool.{cases_lt, eqb-true}
 use Rattle.std.proofs.lemmas.List.{get_or-map, get_or-set_same, get_or-set_other, length-map, map-set}
-use Rattle.std.specs.Prelude.{nat_eq, Vec}
 use Rattle.std.specs.Global.{Global}
 use Rattle.scratch.proofs.Among.{nat_itself}
 use Rattle.scratch.proofs.Driven.{either}

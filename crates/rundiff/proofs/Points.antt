@@ -1,7 +1,5 @@
 -- The next stimulus point of a net.
-use Rattle.std.proofs.Common.{◌≡◌, ◌<◌, ◌≤◌, sym, true, ℕ, List, Option, Some, None}
-use Rattle.std.specs.Prelude.{IfSome}
-use Rattle.std.specs.Option.{IsSomeAnd}
+use Rattle.std.proofs.Common.{◌≡◌, ◌<◌, ◌≤◌, sym, true, ℕ, List, Option, Some, None, IfSome, IsSomeAnd}
 use Rattle.fourstate.specs.declared.value.Value.{Value}
 use Rattle.design.specs.kept.Lawful.{AreRising}
 use Rattle.design.specs.Netlist.{has_point}

@@ -1,6 +1,5 @@
 -- What stays at a moment: live nets and held gates that are not looked at.
-use Rattle.std.proofs.Common.{◌≡◌, ℕ, suc, ◌-◌, ◌<◌, ◌≤◌, ◌∙◌, ap, sym, refl, Bool, true, false, not, List, length, Option, Some, None, ◌⊎◌, ⊎_elim, inl, inr, arith}
-use Rattle.std.specs.Prelude.{nat_eq, nat_le, ◌||◌, ◌==◌}
+use Rattle.std.proofs.Common.{◌≡◌, ℕ, suc, ◌-◌, ◌<◌, ◌≤◌, ◌∙◌, ap, sym, refl, Bool, true, false, not, List, length, Option, Some, None, ◌⊎◌, ⊎_elim, inl, inr, arith, nat_eq, nat_le, ◌||◌, ◌==◌}
 use Rattle.std.specs.Option.{option_map_or, ForSome}
 use Rattle.std.proofs.lemmas.Bool.Decides.{nat_tests}
 use Rattle.std.proofs.lemmas.Bool.{or_right, or_parts, and_from, le-leb, not-false}

@@ -1,9 +1,8 @@
 -- The readers of a net by name are those of its key.
-use Rattle.std.proofs.Common.{◌≡◌, ℕ, zero, suc, ◌<◌, ◌≤◌, ◌∙◌, ap, sym, List, [], ◌∷◌, Bool, true, false, cond, map, take, length, Option, Some, arith, All}
+use Rattle.std.proofs.Common.{◌≡◌, ℕ, zero, suc, ◌<◌, ◌≤◌, ◌∙◌, ap, sym, List, [], ◌∷◌, Bool, true, false, cond, map, take, length, Option, Some, arith, All, take_all}
 use Rattle.std.specs.Prelude.{slice_get, slice_index_or, is_some, ◌==◌, IsSome}
 use Rattle.std.specs.List.{filter, list_any, position_from}
 use Rattle.std.specs.Option.{option_map, option_map_or}
-use Rattle.std.proofs.lemmas.List.{take_all}
 use Rattle.std.proofs.lemmas.Map.Keys.{any_passes_from_place}
 use Rattle.std.proofs.lemmas.Option.{get_or_from_slice_get, slice_get-get_or}
 use Rattle.std.proofs.lemmas.Bool.{eq-eqb, eqb-true, or_right, or_left}

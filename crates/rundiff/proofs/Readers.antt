@@ -1,10 +1,9 @@
 -- Readers and drivers of nets, by keys and by places.
-use Rattle.std.proofs.Common.{◌≡◌, ℕ, ◌+◌, ◌<◌, ◌≤◌, ◌∙◌, ap, sym, refl, List, [], Bool, true, false, is_some, map, take, length, Option, Some, None, arith}
+use Rattle.std.proofs.Common.{◌≡◌, ℕ, ◌+◌, ◌<◌, ◌≤◌, ◌∙◌, ap, sym, refl, List, [], Bool, true, false, is_some, map, take, length, Option, Some, None, arith, take_all}
 use Rattle.std.specs.Prelude.{slice_get, IsSome, ◌||◌, ◌==◌, ◌≢◌, AllPairs}
 use Rattle.std.specs.List.{list_any, position_from}
 use Rattle.std.specs.Option.{option_map_or}
 use Rattle.std.proofs.lemmas.Bool.{eqb-true, or_left}
-use Rattle.std.proofs.lemmas.List.{take_all}
 use Rattle.std.proofs.lemmas.Option.{slice_get-get_or}
 use Rattle.catalog.specs.kept.Catalog.{place_of}
 use Rattle.catalog.proofs.ListLemmas.{position_find}

@@ -1,7 +1,6 @@
 -- The held gates that are not evaluated.
-use Rattle.std.proofs.Common.{◌≡◌, ℕ, suc, ◌<◌, ◌≤◌, ◌∙◌, ap, sym, refl, subst, List, Bool, true, false, not, map, Option, Some, length, arith, ⊎_elim, All, ◌+◌, inl, inr, None}
+use Rattle.std.proofs.Common.{◌≡◌, ℕ, suc, ◌<◌, ◌≤◌, ◌∙◌, ap, sym, refl, subst, List, Bool, true, false, not, map, Option, Some, length, arith, ⊎_elim, All, ◌+◌, inl, inr, None, filter}
 use Rattle.std.specs.Prelude.{◌&&◌, slice_index_or}
-use Rattle.std.specs.List.{filter}
 use Rattle.std.proofs.lemmas.Bool.{cases_lt, and_parts}
 use Rattle.std.proofs.lemmas.List.Elements.{All-map}
 use Rattle.fourstate.specs.declared.limits.TheConstants.{MAX_DELAY}

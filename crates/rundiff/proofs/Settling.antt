@@ -1,6 +1,5 @@
 -- What a moment changes of what is live.
-use Rattle.std.proofs.Common.{◌≡◌, ℕ, suc, ◌<◌, ◌≤◌, List, Bool, true, false, Some, length, refl, ap, sym, ◌∙◌, All, ◌⊎◌, inl, inr, arith}
-use Rattle.std.specs.Prelude.{nat_le, slice_index_or, ◌&&◌}
+use Rattle.std.proofs.Common.{◌≡◌, ℕ, suc, ◌<◌, ◌≤◌, List, Bool, true, false, Some, length, refl, ap, sym, ◌∙◌, All, ◌⊎◌, inl, inr, arith, nat_le, slice_index_or, ◌&&◌}
 use Rattle.std.proofs.lemmas.Bool.{and_parts, le-leb}
 use Rattle.std.proofs.lemmas.Bool.Decides.{nat_tests}
 use Rattle.std.proofs.lemmas.List.Folds.{list_any_at}

@@ -1,6 +1,5 @@
 -- Moments at which nothing happens to what is live change none of it, and nothing is evaluated there.
-use Rattle.std.proofs.Common.{◌≡◌, Bool, ℕ, zero, suc, ◌+◌, ◌-◌, ◌<◌, ◌≤◌, List, [], ◌++◌, true, false, subst, Some, map, refl, ap, sym, ◌∙◌, arith, All, ◌⊎◌, append-nil, ⊎_elim}
-use Rattle.std.specs.Prelude.{slice_index_or, ◌&&◌}
+use Rattle.std.proofs.Common.{◌≡◌, Bool, ℕ, zero, suc, ◌+◌, ◌-◌, ◌<◌, ◌≤◌, List, [], ◌++◌, true, false, subst, Some, map, refl, ap, sym, ◌∙◌, arith, All, ◌⊎◌, append-nil, ⊎_elim, slice_index_or, ◌&&◌}
 use Rattle.std.proofs.lemmas.Bool.{cases_lt}
 use Rattle.std.proofs.Math.Bool.{and-false}
 use Rattle.std.proofs.lemmas.Option.{slice_get-get_or}

@@ -1,7 +1,5 @@
 -- A stimulus stands while it has no point.
-use Rattle.std.proofs.Common.{◌≡◌, ◌<◌, ◌≤◌, ◌∙◌, ap, false, ℕ, zero, suc, List, Option, Some, None, arith, ⊎_elim}
-use Rattle.std.specs.Prelude.{IfSome}
-use Rattle.std.specs.Option.{IsSomeAnd}
+use Rattle.std.proofs.Common.{◌≡◌, ◌<◌, ◌≤◌, ◌∙◌, ap, false, ℕ, zero, suc, List, Option, Some, None, arith, ⊎_elim, IfSome, IsSomeAnd}
 use Rattle.std.proofs.lemmas.Bool.{cases_lt, false_from_ne_true}
 use Rattle.fourstate.specs.declared.value.Value.{Value}
 use Rattle.design.specs.kept.Lawful.{AreRising}

@@ -1,6 +1,5 @@
 -- What gates are connected to is there.
-use Rattle.std.proofs.Common.{◌≡◌, ℕ, List, true, Option, Some, ap, subst, All}
-use Rattle.std.specs.Prelude.{slice_index_or}
+use Rattle.std.proofs.Common.{◌≡◌, ℕ, List, true, Option, Some, ap, subst, All, slice_index_or}
 use Rattle.std.specs.List.{list_any}
 use Rattle.std.specs.Option.{option_map_or}
 use Rattle.std.proofs.lemmas.List.Sums.{AllPass-from_list_all}

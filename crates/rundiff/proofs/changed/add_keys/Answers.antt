@@ -1,5 +1,4 @@
-use Rattle.std.proofs.Common.{Some, ◌≡◌, ◌∙◌, sym, subst, ℕ, true}
-use Rattle.std.specs.Prelude.{slice_get}
+use Rattle.std.proofs.Common.{Some, ◌≡◌, ◌∙◌, sym, subst, ℕ, true, slice_get}
 use Rattle.std.proofs.lemmas.Option.{same_Some}
 use Rattle.catalog.specs.kept.Catalog.{keys_of}
 use Rattle.rundiff.specs.kept.Places.{is_among}

@@ -1,5 +1,4 @@
-use Rattle.std.proofs.Common.{◌≡◌, ℕ, true, take, Some}
-use Rattle.std.specs.Prelude.{slice_get}
+use Rattle.std.proofs.Common.{◌≡◌, ℕ, true, take, Some, slice_get}
 use Rattle.catalog.specs.kept.Catalog.{keys_of}
 use Rattle.edits.specs.kept.Touched.{is_touched}
 use Rattle.rundiff.specs.kept.Places.{is_among}

@@ -1,6 +1,5 @@
-use Rattle.std.proofs.Common.{◌∙◌, ap, sym, refl, ℕ, List}
+use Rattle.std.proofs.Common.{◌∙◌, ap, sym, refl, ℕ, List, nat_cmp}
 use Rattle.std.specs.BTreeSet.{contains}
-use Rattle.std.specs.Ordering.{nat_cmp}
 use Rattle.std.proofs.lemmas.Bool.{and_from, or_left, and_parts}
 use Rattle.event_queue.specs.kept.Noted.{noted}
 use Rattle.scratch.specs.kept.Places.{has}

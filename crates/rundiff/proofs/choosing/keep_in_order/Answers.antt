@@ -1,8 +1,5 @@
-use Rattle.std.proofs.Common.{◌≡◌, ◌∙◌, ◌<◌, ap, sym, subst, ℕ, Bool, rules}
-use Rattle.std.specs.Prelude.{◌&&◌, AllPairs}
+use Rattle.std.proofs.Common.{◌≡◌, ◌∙◌, ◌<◌, ap, sym, subst, ℕ, Bool, rules, filter, nat_cmp, ◌&&◌, AllPairs}
 use Rattle.std.specs.BTreeSet.{contains}
-use Rattle.std.specs.List.{filter}
-use Rattle.std.specs.Ordering.{nat_cmp}
 use Rattle.std.proofs.lemmas.Fn.{filter_same}
 use Rattle.std.proofs.lemmas.List.Kept.{AllPairs-filter}
 use Rattle.rundiff.specs.kept.Places.{is_among}

@@ -1,5 +1,4 @@
-use Rattle.std.proofs.Common.{◌∙◌, ◌≤◌, sym, subst, refl, suc, Option}
-use Rattle.std.specs.Prelude.{slice_index_or}
+use Rattle.std.proofs.Common.{◌∙◌, ◌≤◌, sym, subst, refl, suc, Option, slice_index_or}
 use Rattle.std.specs.Option.{ForSome}
 use Rattle.std.proofs.lemmas.Option.{slice_get-get_or}
 use Rattle.rundiff.specs.kept.PlaceMaps.{kept_at}

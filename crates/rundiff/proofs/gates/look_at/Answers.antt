@@ -1,7 +1,5 @@
-use Rattle.std.proofs.Common.{sym, subst, ℕ, List, take}
-use Rattle.std.specs.Prelude.{slice_index_or}
+use Rattle.std.proofs.Common.{sym, subst, ℕ, List, take, take_all, slice_index_or}
 use Rattle.std.proofs.lemmas.Option.{slice_get-get_or}
-use Rattle.std.proofs.lemmas.List.{take_all}
 use Rattle.design.specs.Keys.{netlist}
 use Rattle.scratch.proofs.Lists.{take_next}
 use Rattle.rundiff.specs.kept.Fronts.{AreOutcomes}

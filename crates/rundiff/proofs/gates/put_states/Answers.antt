@@ -1,5 +1,4 @@
-use Rattle.std.proofs.Common.{◌≡◌, ◌∙◌, ◌<◌, ◌≤◌, ap, sym, subst, suc, arith, ℕ, List, length, take, Option}
-use Rattle.std.specs.Prelude.{slice_get, slice_index_or}
+use Rattle.std.proofs.Common.{◌≡◌, ◌∙◌, ◌<◌, ◌≤◌, ap, sym, subst, suc, arith, ℕ, List, length, take, Option, slice_get, slice_index_or}
 use Rattle.std.specs.Option.{ForSome, option_map}
 use Rattle.rundiff.specs.kept.PlaceMaps.{kept_at}
 use Rattle.std.proofs.lemmas.List.{length-map, take_all}

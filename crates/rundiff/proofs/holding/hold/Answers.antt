@@ -1,9 +1,6 @@
-use Rattle.std.proofs.Common.{◌∙◌, ap, sym, ℕ, List, take, Bool}
-use Rattle.std.specs.Prelude.{◌||◌, ◌==◌, slice_index_or}
+use Rattle.std.proofs.Common.{◌∙◌, ap, sym, ℕ, List, take, Bool, nat_cmp, take_all, ◌||◌, ◌==◌, slice_index_or}
 use Rattle.std.specs.BTreeSet.{contains}
-use Rattle.std.specs.Ordering.{nat_cmp}
 use Rattle.std.proofs.lemmas.Option.{slice_get-get_or}
-use Rattle.std.proofs.lemmas.List.{take_all}
 use Rattle.scratch.proofs.Among.{any_more}
 use Rattle.scratch.proofs.Keyed.{same_test}
 use Rattle.rundiff.specs.kept.Places.{is_among}

@@ -1,9 +1,7 @@
-use Rattle.std.proofs.Common.{◌∙◌, ap, sym, take, true, false, cond, Bool}
-use Rattle.std.specs.Prelude.{◌||◌, ◌==◌}
+use Rattle.std.proofs.Common.{◌∙◌, ap, sym, take, true, false, cond, Bool, nat_cmp, ◌||◌, ◌==◌}
 use Rattle.std.specs.BTreeSet.{contains}
 use Rattle.std.specs.List.{list_any}
 use Rattle.std.specs.Option.{option_map_or}
-use Rattle.std.specs.Ordering.{nat_cmp}
 use Rattle.catalog.specs.kept.Catalog.{place_of}
 use Rattle.scratch.proofs.Keyed.{same_test}
 use Rattle.rundiff.proofs.Driven.{read_get}

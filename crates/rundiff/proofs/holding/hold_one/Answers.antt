@@ -1,7 +1,5 @@
-use Rattle.std.proofs.Common.{◌∙◌, ap, sym, true, cond, Bool}
-use Rattle.std.specs.Prelude.{◌==◌}
+use Rattle.std.proofs.Common.{◌∙◌, ap, sym, true, cond, Bool, ◌==◌, nat_cmp}
 use Rattle.std.specs.BTreeSet.{contains}
-use Rattle.std.specs.Ordering.{nat_cmp}
 use Rattle.design.specs.Keys.{netlist}
 use Rattle.rundiff.proofs.Readers.{drivers_more}
 use Rattle.rundiff.proofs.Sets.{cond_or, test_is}

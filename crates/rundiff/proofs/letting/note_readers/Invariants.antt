@@ -1,5 +1,4 @@
-use Rattle.std.proofs.Common.{◌≡◌, ◌≤◌, ℕ, suc, true, take, Some}
-use Rattle.std.specs.Option.{IsSomeAnd}
+use Rattle.std.proofs.Common.{◌≡◌, ◌≤◌, ℕ, suc, true, take, Some, IsSomeAnd}
 use Rattle.catalog.specs.kept.Catalog.{place_of}
 use Rattle.event_queue.specs.kept.Noted.{noted}
 use Rattle.scratch.specs.kept.Places.{IsNotedWithin, Keeps}

@@ -1,6 +1,5 @@
-use Rattle.std.proofs.Common.{◌≡◌, refl, ◌∙◌, ◌<◌, ap, sym, subst, Some, true, false, List, length, arith}
+use Rattle.std.proofs.Common.{◌≡◌, refl, ◌∙◌, ◌<◌, ap, sym, subst, Some, true, false, List, length, arith, nat_cmp}
 use Rattle.std.specs.BTreeSet.{contains}
-use Rattle.std.specs.Ordering.{nat_cmp}
 use Rattle.std.proofs.lemmas.List.{length-map}
 use Rattle.std.proofs.Math.Bool.{and-false}
 use Rattle.std.proofs.lemmas.Option.{get_or_from_slice_get}

@@ -1,7 +1,5 @@
-use Rattle.std.proofs.Common.{◌≡◌, ◌<◌, ℕ, true, take, All, length}
-use Rattle.std.specs.Prelude.{◌||◌}
+use Rattle.std.proofs.Common.{◌≡◌, ◌<◌, ℕ, true, take, All, length, ◌||◌, nat_cmp}
 use Rattle.std.specs.BTreeSet.{contains}
-use Rattle.std.specs.Ordering.{nat_cmp}
 use Rattle.design.specs.Keys.{netlist}
 use Rattle.rundiff.specs.kept.Fronts.{IsAlike}
 use Rattle.rundiff.specs.kept.Places.{is_among}

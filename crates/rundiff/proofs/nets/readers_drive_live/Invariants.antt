@@ -1,6 +1,5 @@
-use Rattle.std.proofs.Common.{◌≡◌, ℕ, true, take, Some}
+use Rattle.std.proofs.Common.{◌≡◌, ℕ, true, take, Some, nat_cmp}
 use Rattle.std.specs.BTreeSet.{contains}
-use Rattle.std.specs.Ordering.{nat_cmp}
 use Rattle.catalog.specs.kept.Catalog.{place_of}
 use Rattle.design.specs.Keys.{KeyedGate}
 use Rattle.design.specs.kept.Keys.{gate_by_key}

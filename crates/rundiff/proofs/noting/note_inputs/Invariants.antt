@@ -1,9 +1,6 @@
-use Rattle.std.proofs.Common.{◌≡◌, ◌<◌, ◌≤◌, ℕ, true, not, take}
-use Rattle.std.specs.Prelude.{IfSome, ◌&&◌}
+use Rattle.std.proofs.Common.{◌≡◌, ◌<◌, ◌≤◌, ℕ, true, not, take, nat_cmp, IsSomeAnd, IfSome, ◌&&◌}
 use Rattle.std.specs.BTreeSet.{contains}
 use Rattle.std.specs.List.{list_any}
-use Rattle.std.specs.Option.{IsSomeAnd}
-use Rattle.std.specs.Ordering.{nat_cmp}
 use Rattle.design.specs.Keys.{connection_in, netlist}
 use Rattle.rundiff.specs.kept.Noting.{is_at_live, old_moves}
 use Rattle.rundiff.proofs.noting.note_inputs.Given as goal

@@ -1,5 +1,4 @@
-use Rattle.std.proofs.Common.{◌≡◌, ◌∙◌, ap, sym, ℕ, List, Option, Some, None}
-use Rattle.std.specs.Prelude.{IfSome, IsSome, is_some}
+use Rattle.std.proofs.Common.{◌≡◌, ◌∙◌, ap, sym, ℕ, List, Option, Some, None, IfSome, IsSome, is_some}
 use Rattle.design.specs.Keys.{Keyed, name_of, netlist}
 use Rattle.design.specs.kept.Keys.{net_by_key}
 use Rattle.design.specs.Names.{same_name}

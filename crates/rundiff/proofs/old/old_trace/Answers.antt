@@ -1,5 +1,4 @@
-use Rattle.std.proofs.Common.{◌∙◌, ap, refl, sym}
-use Rattle.std.specs.Option.{option_copied, option_map}
+use Rattle.std.proofs.Common.{◌∙◌, ap, refl, sym, option_copied, option_map}
 use Rattle.gatestep.specs.Step.{due, initial}
 use Rattle.design.specs.Keys.{entry_in, netlist}
 use Rattle.design.specs.kept.Keys.{gate_by_key}

@@ -1,5 +1,4 @@
-use Rattle.std.proofs.Common.{◌∙◌, ap, refl, sym}
-use Rattle.std.specs.Option.{option_copied, option_map}
+use Rattle.std.proofs.Common.{◌∙◌, ap, refl, sym, option_copied, option_map}
 use Rattle.fourstate.specs.declared.value.Value.TheVariants.{Unknown}
 use Rattle.fourstate.specs.Values.{same_value}
 use Rattle.design.specs.Keys.{netlist}

@@ -1,8 +1,6 @@
-use Rattle.std.proofs.Common.{◌≡◌, ◌∙◌, ap, cond, ℕ, List, [], ◌∷◌, ◌++◌, false, true, arith}
-use Rattle.std.specs.Prelude.{nat_eq, slice_index_or}
+use Rattle.std.proofs.Common.{◌≡◌, ◌∙◌, ap, cond, ℕ, List, [], ◌∷◌, ◌++◌, false, true, arith, take_all, nat_eq, slice_index_or}
 use Rattle.std.proofs.lemmas.Bool.Decides.{nat_tests}
 use Rattle.std.proofs.lemmas.Option.{slice_get-get_or}
-use Rattle.std.proofs.lemmas.List.{take_all}
 use Rattle.event_queue.specs.kept.Noted.{noted}
 use Rattle.scratch.proofs.Notes.{is_noted as added_there, keeps as added_keeps}
 use Rattle.rundiff.specs.kept.Places.{is_among}

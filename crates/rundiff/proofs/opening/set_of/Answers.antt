@@ -1,9 +1,6 @@
-use Rattle.std.proofs.Common.{◌∙◌, ap, sym, ℕ, List, Bool, true, cond, take}
-use Rattle.std.specs.Prelude.{slice_index_or, ◌||◌, ◌==◌}
+use Rattle.std.proofs.Common.{◌∙◌, ap, sym, ℕ, List, Bool, true, cond, take, nat_cmp, take_all, slice_index_or, ◌||◌, ◌==◌}
 use Rattle.std.specs.BTreeSet.{contains}
-use Rattle.std.specs.Ordering.{nat_cmp}
 use Rattle.std.proofs.lemmas.Option.{slice_get-get_or}
-use Rattle.std.proofs.lemmas.List.{take_all}
 use Rattle.std.proofs.Math.Bool.{or_comm}
 use Rattle.scratch.proofs.Among.{any_more}
 use Rattle.scratch.proofs.Keyed.{same_test}

@@ -1,6 +1,4 @@
-use Rattle.std.proofs.Common.{◌≡◌, ◌∙◌, ◌≤◌, ap, subst, ℕ, List, true, length, Some}
-use Rattle.std.specs.Prelude.{slice_get}
-use Rattle.std.proofs.lemmas.List.{take_all}
+use Rattle.std.proofs.Common.{◌≡◌, ◌∙◌, ◌≤◌, ap, subst, ℕ, List, true, length, Some, take_all, slice_get}
 use Rattle.catalog.specs.kept.Catalog.{place_of}
 use Rattle.design.specs.kept.Keys.{gate_by_key}
 use Rattle.rundiff.specs.kept.Places.{is_among}

@@ -1,5 +1,4 @@
-use Rattle.std.proofs.Common.{◌∙◌, ap, sym}
-use Rattle.std.specs.Option.{option_copied}
+use Rattle.std.proofs.Common.{◌∙◌, ap, sym, option_copied}
 use Rattle.rundiff.proofs.NamedLines.{none_by}
 use Rattle.rundiff.proofs.patches.is_own.Goals as goal
 

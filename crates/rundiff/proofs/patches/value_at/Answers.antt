@@ -1,6 +1,5 @@
-use Rattle.std.proofs.Common.{◌≡◌, ◌∙◌, ◌<◌, ◌≤◌, ◌+◌, ap, sym, subst, arith, suc, ℕ, List, Option, Some, All, ⊎_elim}
+use Rattle.std.proofs.Common.{◌≡◌, ◌∙◌, ◌<◌, ◌≤◌, ◌+◌, ap, sym, subst, arith, suc, ℕ, List, Option, Some, All, ⊎_elim, option_copied}
 use Rattle.rundiff.specs.kept.PlaceMaps.{kept_at}
-use Rattle.std.specs.Option.{option_copied}
 use Rattle.waveform.specs.kept.Patches.{Keeps, PatchRecord}
 use Rattle.waveform.specs.Timelines.{changes_below, value_by}
 use Rattle.rundiff.proofs.NamedLines.{keeps_none, never_own, own_former}

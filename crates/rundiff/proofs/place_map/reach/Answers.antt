@@ -1,6 +1,5 @@
-use Rattle.std.proofs.Common.{◌≡◌, ◌∙◌, ◌<◌, ◌/◌, ◌%◌, ap, sym, subst, ℕ, List, length, arith}
+use Rattle.std.proofs.Common.{◌≡◌, ◌∙◌, ◌<◌, ◌/◌, ◌%◌, ap, sym, subst, ℕ, List, length, arith, Vec}
 use Rattle.std.proofs.Math.ListN.{get_or, set}
-use Rattle.std.specs.Prelude.{Vec}
 use Rattle.std.specs.Global.{Global}
 use Rattle.rundiff.specs.kept.PlaceMaps.{number_at, page_at}
 use Rattle.rundiff.specs.declared.place_map.TheConstants.{PAGE}

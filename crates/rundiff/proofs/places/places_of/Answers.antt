@@ -1,7 +1,5 @@
-use Rattle.std.proofs.Common.{subst, ℕ}
-use Rattle.std.specs.Prelude.{IfOk}
+use Rattle.std.proofs.Common.{subst, ℕ, IfOk, nat_cmp}
 use Rattle.std.specs.BTreeSet.{BTreeSet, contains}
-use Rattle.std.specs.Ordering.{nat_cmp}
 use Rattle.rundiff.specs.kept.Fronts.{ArePlaces}
 use Rattle.rundiff.proofs.places.places_of.Goals as goal
 

@@ -1,5 +1,4 @@
-use Rattle.std.proofs.Common.{◌≡◌, ◌∙◌, ap, sym, Some, not}
-use Rattle.std.specs.Option.{option_map}
+use Rattle.std.proofs.Common.{◌≡◌, ◌∙◌, ap, sym, Some, not, option_map}
 use Rattle.design.specs.Keys.{entry_in, netlist}
 use Rattle.design.specs.Netlist.{gate_named}
 use Rattle.rundiff.proofs.Known.{new_by_name, unnamed_new}

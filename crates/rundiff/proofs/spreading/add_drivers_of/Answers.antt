@@ -1,5 +1,4 @@
-use Rattle.std.proofs.Common.{◌∙◌, ap, sym, take, false, Bool, List, ℕ}
-use Rattle.std.specs.Prelude.{◌||◌, ◌==◌, nat_eq}
+use Rattle.std.proofs.Common.{◌∙◌, ap, sym, take, false, Bool, List, ℕ, ◌||◌, ◌==◌, nat_eq}
 use Rattle.std.specs.List.{list_any}
 use Rattle.std.specs.Option.{option_map_or}
 use Rattle.catalog.specs.kept.Catalog.{place_of}

@@ -1,6 +1,5 @@
-use Rattle.std.proofs.Common.{◌∙◌, ap, sym, subst, List, Option, ℕ}
+use Rattle.std.proofs.Common.{◌∙◌, ap, sym, subst, List, Option, ℕ, nat_cmp}
 use Rattle.std.specs.BTreeSet.{contains}
-use Rattle.std.specs.Ordering.{nat_cmp}
 use Rattle.fourstate.specs.declared.value.Value.{Value}
 use Rattle.gatestep.specs.Step.{State}
 use Rattle.waveform.specs.kept.Tables.{line_at}

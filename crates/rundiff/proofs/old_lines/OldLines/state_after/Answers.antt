@@ -1,7 +1,6 @@
-use Rattle.std.proofs.Common.{◌≡◌, ◌∙◌, ◌+◌, [], ap, subst, suc, arith}
+use Rattle.std.proofs.Common.{◌≡◌, ◌∙◌, ◌+◌, [], ap, subst, suc, arith, slice_index_or}
 use Rattle.design.specs.Keys.{Keyed, netlist}
 use Rattle.design.specs.kept.Lawful.{IsDesign}
-use Rattle.std.specs.List.{slice_index_or}
 use Rattle.rundiff.specs.kept.OldRuns.{OldLinesRecord, state_till}
 use Rattle.rundiff.specs.kept.Places.{gate_at}
 use Rattle.rundiff.proofs.Clean.{clean_after}

@@ -1,5 +1,4 @@
-use Rattle.std.proofs.Common.{◌∙◌, ap, sym, length, arith}
-use Rattle.std.specs.Prelude.{slice_get}
+use Rattle.std.proofs.Common.{◌∙◌, ap, sym, length, arith, slice_get}
 use Rattle.std.proofs.lemmas.Option.{slice_get_past}
 use Rattle.scratch.proofs.Lists.{if_there}
 use Rattle.rundiff.proofs.Driven.{read_get}

@@ -1,5 +1,4 @@
-use Rattle.std.proofs.Common.{All, subst, arith}
-use Rattle.std.proofs.lemmas.List.{take_all}
+use Rattle.std.proofs.Common.{All, subst, arith, take_all}
 use Rattle.rundiff.specs.kept.PlaceMaps.{number_at}
 use Rattle.rundiff.proofs.Items.{IsFound, none_kept, one_more}
 use Rattle.rundiff.proofs.place_map.PlaceMap.add_places.Goals as goal

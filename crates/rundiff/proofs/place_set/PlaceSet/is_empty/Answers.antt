@@ -1,6 +1,5 @@
-use Rattle.std.proofs.Common.{◌≡◌, ◌<◌, ◌∙◌, ap, sym, subst, refl, Bool, true, false, ℕ, zero, suc, arith}
+use Rattle.std.proofs.Common.{◌≡◌, ◌<◌, ◌∙◌, ap, sym, subst, refl, Bool, true, false, ℕ, zero, suc, arith, nat_cmp}
 use Rattle.std.specs.BTreeSet.{BTreeSet, btree_set_len, contains}
-use Rattle.std.specs.Ordering.{nat_cmp}
 use Rattle.rundiff.proofs.Sets.{none_in}
 use Rattle.rundiff.proofs.place_set.PlaceSet.is_empty.Goals as goal
 

@@ -1,6 +1,5 @@
-use Rattle.std.proofs.Common.{◌∙◌, ap, sym, nat_lt, ℕ, List}
+use Rattle.std.proofs.Common.{◌∙◌, ap, sym, nat_lt, ℕ, List, nat_cmp}
 use Rattle.std.specs.BTreeSet.{contains}
-use Rattle.std.specs.Ordering.{nat_cmp}
 use Rattle.rundiff.specs.kept.PlaceMaps.{number_at}
 use Rattle.rundiff.proofs.Pages.{no_number}
 use Rattle.rundiff.proofs.place_set.PlaceSet.new.Goals as goal
