@@ -31,16 +31,16 @@ each_more P xs i x at so_far here p among = by (nat_eq x p) refl
     by true same = subst P (eqb-true x p same) here
     by false apart = so_far p (earlier (is_among (take i xs) p) (nat_eq x p) (sym (among_more xs i x p at) ∙ among) apart) apart
 
-module _ {A : Type 0} (P : ℕ → A → Type 0) (before now later : ℕ → A) (xs : List ℕ) (i x : ℕ) (at : slice_get xs i ≡ Some x)
-    (others : (q : ℕ) → nat_eq x q ≡ false → later q ≡ now q) where
+module _ {A : Type 0} (before now later : ℕ → A) (xs : List ℕ) (i : ℕ) (low : i < length xs) (others : (q : ℕ) → nat_eq (slice_index_or xs i 0) q ≡ false → later q ≡ now q) where
   -- what holds of each place that was put
-  pub put_more : ((q : ℕ) → is_among (take i xs) q ≡ true → P q (now q)) → P x (later x) → (q : ℕ) → is_among (take (i + 1) xs) q ≡ true → P q (later q)
-  put_more so_far here = each_more (λ q. P q (later q)) xs i x at (λ q was apart. subst (P q) (sym (others q apart)) (so_far q was)) here
+  pub put_more : (P : ℕ → A → Type 0) → ((q : ℕ) → is_among (take i xs) q ≡ true → P q (now q)) → P (slice_index_or xs i 0) (later (slice_index_or xs i 0)) → (q : ℕ) → is_among (take (i + 1) xs) q ≡ true → P q (later q)
+  put_more P so_far here = each_more (λ q. P q (later q)) xs i (slice_index_or xs i 0) (slice_get-get_or xs i 0 low) (λ q was apart. subst (P q) (sym (others q apart)) (so_far q was)) here
 
   -- all others stay
   pub others_more : ((q : ℕ) → is_among (take i xs) q ≡ false → now q ≡ before q) → (q : ℕ) → is_among (take (i + 1) xs) q ≡ false → later q ≡ before q
   others_more so_far q off =
-      let parts = or_parts (is_among (take i xs) q) (nat_eq x q) (sym (among_more xs i x q at) ∙ off) in
+      let x = slice_index_or xs i 0 in
+      let parts = or_parts (is_among (take i xs) q) (nat_eq x q) (sym (among_more xs i x q (slice_get-get_or xs i 0 low)) ∙ off) in
       others q parts.1 ∙ so_far q parts.0
 
 module _ {A : Type 0} (P : ℕ → A → Type 0) (was now : ℕ → A) where

@@ -46,7 +46,7 @@ loop-place-preserved g c =
     let at = slice_get-get_or xs i 0 c.loop-place-test.true in
     record {
       traces = put_next (new_trace g.S.Stepper.answer c.args.former.now.new.now) (keys_of c.args.former.now.new.now.gates) xs i x c.args.made.now.traces c.loop-place.made.traces c.put_trace.new.made.traces at c.loop-place.invariant.traces c.in_ok-put_trace.ensures.traces;
-      patches = others_more (λ q o. Unit {0}) (kept_at c.args.traces.now) (kept_at c.loop-place.traces) (kept_at c.put_trace.new.traces) xs i x at c.put_trace.ensures.others c.loop-place.invariant.patches;
+      patches = others_more (kept_at c.args.traces.now) (kept_at c.loop-place.traces) (kept_at c.put_trace.new.traces) xs i c.loop-place-test.true c.put_trace.ensures.others c.loop-place.invariant.patches;
       waves = c.put_trace.ensures.waves ∙ c.loop-place.invariant.waves;
       horizon = c.put_trace.ensures.horizon ∙ c.loop-place.invariant.horizon;
     }

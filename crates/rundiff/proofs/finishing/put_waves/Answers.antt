@@ -48,7 +48,7 @@ loop-place-preserved g c =
     let at = slice_get-get_or xs i 0 c.loop-place-test.true in
     record {
       waves = put_next (new_wave g.S.Stepper.answer c.args.former.now.new.now) (keys_of c.args.former.now.new.now.nets) xs i x c.args.made.now.waves c.loop-place.made.waves c.put_wave.new.made.waves at c.loop-place.invariant.waves c.in_ok-put_wave.ensures.waves;
-      patches = others_more (λ q o. Unit {0}) (kept_at c.args.waves.now) (kept_at c.loop-place.waves) (kept_at c.put_wave.new.waves) xs i x at c.put_wave.ensures.others c.loop-place.invariant.patches;
+      patches = others_more (kept_at c.args.waves.now) (kept_at c.loop-place.waves) (kept_at c.put_wave.new.waves) xs i c.loop-place-test.true c.put_wave.ensures.others c.loop-place.invariant.patches;
       traces = c.put_wave.ensures.traces ∙ c.loop-place.invariant.traces;
       horizon = c.put_wave.ensures.horizon ∙ c.loop-place.invariant.horizon;
     }

@@ -40,14 +40,13 @@ put_state-requires g c =
 
 pub loop-i-preserved : goal.loop-i-preserved
 loop-i-preserved g c =
-    let xs = c.args.places.now in let i = c.loop-i.i in let x = slice_index_or xs i 0 in
-    let at = slice_get-get_or xs i 0 c.loop-i-test.true in
+    let xs = c.args.places.now in let i = c.loop-i.i in
     let old = netlist c.args.former.now.old.now in let new = netlist c.args.former.now.new.now in
     let P : ℕ → Option (PatchRecord State) → Type 0 = λ q o. Keeps same_state due (named_state g.S.Stepper.answer old (gate_at new q).name) (state_after g.S.Stepper.answer new (gate_at new q)) o (suc c.args.t) × IsOwn o × ForSome o (λ patch. end_of patch.line ≤ suc c.args.t) in
     let done = c.in_ok-put_state.ensures in
     record {
-      put = put_more P (kept_at c.args.traces.now) (kept_at c.loop-i.traces) (kept_at c.put_state.new.traces) xs i x at done.others c.loop-i.invariant.put (done.put, done.own, done.end);
-      others = others_more P (kept_at c.args.traces.now) (kept_at c.loop-i.traces) (kept_at c.put_state.new.traces) xs i x at done.others c.loop-i.invariant.others;
+      put = put_more (kept_at c.args.traces.now) (kept_at c.loop-i.traces) (kept_at c.put_state.new.traces) xs i c.loop-i-test.true done.others P c.loop-i.invariant.put (done.put, done.own, done.end);
+      others = others_more (kept_at c.args.traces.now) (kept_at c.loop-i.traces) (kept_at c.put_state.new.traces) xs i c.loop-i-test.true done.others c.loop-i.invariant.others;
     }
 
 pub returns : goal.returns

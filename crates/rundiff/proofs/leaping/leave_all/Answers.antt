@@ -25,7 +25,7 @@ loop-place-preserved c =
     record {
       ends = λ p. at_one (λ q o. ForSome o (λ patch. end_of patch.line ≤ c.args.t)) before now x p done.others (λ same. done.end) (λ apart. c.loop-place.invariant.ends p);
       free = each_more (λ p. IsFree (now p)) xs i x at (λ p was apart. subst IsFree (sym (done.others p apart)) (c.loop-place.invariant.free p was)) done.free;
-      others = others_more (λ q o. Unit {0}) (kept_at c.args.waves.now) before now xs i x at done.others c.loop-place.invariant.others;
+      others = others_more (kept_at c.args.waves.now) before now xs i c.loop-place-test.true done.others c.loop-place.invariant.others;
       made = λ p f g kept.
           let was = c.loop-place.invariant.made p f g kept in
           at_one (λ q o. Keeps same_value standing g f o c.args.t) before now x p done.others

@@ -34,14 +34,13 @@ put_value-requires g c =
 
 pub loop-place-preserved : goal.loop-place-preserved
 loop-place-preserved g c =
-    let xs = c.args.live.now in let i = c.loop-place.place-index in let x = slice_index_or xs i 0 in
-    let at = slice_get-get_or xs i 0 c.loop-place-test.true in
+    let xs = c.args.live.now in let i = c.loop-place.place-index in
     let old = netlist c.args.former.now.old.now in let new = netlist c.args.former.now.new.now in
     let P : ℕ → Option (PatchRecord Value) → Type 0 = λ q o. Keeps same_value standing (read_at g.S.Stepper.answer old (to_net (net_at new q).name)) (value g.S.Stepper.answer new (net_at new q)) o (suc c.args.t) × IsOwn o × ForSome o (λ patch. end_of patch.line ≤ suc c.args.t) in
     let done = c.in_ok-put_value.ensures in
     record {
-      put = put_more P (kept_at c.args.waves.now) (kept_at c.loop-place.waves) (kept_at c.put_value.new.waves) xs i x at done.others c.loop-place.invariant.put (done.put, done.own, done.end);
-      others = others_more P (kept_at c.args.waves.now) (kept_at c.loop-place.waves) (kept_at c.put_value.new.waves) xs i x at done.others c.loop-place.invariant.others;
+      put = put_more (kept_at c.args.waves.now) (kept_at c.loop-place.waves) (kept_at c.put_value.new.waves) xs i c.loop-place-test.true done.others P c.loop-place.invariant.put (done.put, done.own, done.end);
+      others = others_more (kept_at c.args.waves.now) (kept_at c.loop-place.waves) (kept_at c.put_value.new.waves) xs i c.loop-place-test.true done.others c.loop-place.invariant.others;
     }
 
 pub returns : goal.returns

@@ -1,14 +1,14 @@
-use Rattle.std.proofs.Common.{◌≡◌, ◌∙◌, ◌<◌, ap, sym, subst, refl, ℕ, List, ◌++◌, Bool, true, false, All, length, filter, nat_cmp, ◌||◌, ◌&&◌, not}
+use Rattle.std.proofs.Common.{◌≡◌, ◌∙◌, ◌<◌, ap, sym, subst, refl, ℕ, List, ◌++◌, Bool, true, false, All, length, filter, nat_cmp, ◌||◌, ◌&&◌, ◌==◌, not}
 use Rattle.std.specs.BTreeSet.{contains}
 use Rattle.std.proofs.lemmas.List.Elements.{All-filter}
+use Rattle.std.proofs.lemmas.List.Folds.{list_any-append}
 use Rattle.std.proofs.lemmas.Bool.{or_left, or_right}
 use Rattle.design.specs.Keys.{netlist}
 use Rattle.event_queue.proofs.Changes.{by_ok}
-use Rattle.scratch.specs.kept.Places.{has}
 use Rattle.scratch.proofs.Driven.{earlier}
 use Rattle.scratch.proofs.Lists.{on_ok, both_ok}
 use Rattle.rundiff.specs.kept.Places.{gate_at, is_among}
-use Rattle.rundiff.proofs.Among.{among_filter, among_has, either_among, live_gained}
+use Rattle.rundiff.proofs.Among.{among_filter, live_gained}
 use Rattle.rundiff.proofs.spreading.hold_found.Goals as goal
 
 either : (a b : Bool) → ((a && not b) || b) ≡ (a || b)
@@ -16,26 +16,21 @@ either true true = refl
 either true false = refl
 either false b = refl
 
--- what is live then, by the nets that became live
-module _ (found kept slice : List ℕ) (live later : ℕ → Bool) (same : slice ≡ kept) (adds : (p : ℕ) → later p ≡ (is_among slice p || live p)) where
-  by_kept : (p : ℕ) → later p ≡ (is_among kept p || live p)
-  by_kept p = adds p ∙ ap (λ (l : List ℕ). is_among l p || live p) same
+-- what is live then, by the nets that became live; these are added to what is looked at, and no others
+module _ (slice : List ℕ) (live later : ℕ → Bool) (adds : (p : ℕ) → later p ≡ (is_among slice p || live p)) where
+  by_found : (found : List ℕ) → slice ≡ filter (λ p. not (live p)) found → (p : ℕ) → later p ≡ (is_among found p || live p)
+  by_found found is p =
+      adds p ∙ ap (λ (l : List ℕ). is_among l p || live p) is ∙ ap (λ (b : Bool). b || live p) (among_filter (λ q. not (live q)) found p) ∙ either (is_among found p) (live p)
 
-  by_found : kept ≡ filter (λ p. not (live p)) found → (p : ℕ) → later p ≡ (is_among found p || live p)
-  by_found is p =
-      by_kept p ∙ ap (λ (l : List ℕ). is_among l p || live p) is ∙ ap (λ (b : Bool). b || live p) (among_filter (λ q. not (live q)) found p) ∙ either (is_among found p) (live p)
+  module _ (nets now : List ℕ) (is : now ≡ nets ++ slice) where
+    in_both : (p : ℕ) → is_among now p ≡ (is_among nets p || is_among slice p)
+    in_both p = ap (λ (l : List ℕ). is_among l p) is ∙ list_any-append (λ q. q == p) nets slice
 
-  -- those that became live are added, and no others
-  added : (nets now : List ℕ) → now ≡ nets ++ slice → (p : ℕ) → later p ≡ true → live p ≡ false → is_among now p ≡ true
-  added nets now is p on off =
-      ap (λ (l : List ℕ). is_among l p) is ∙ either_among nets slice p
-      ∙ or_right (is_among nets p) (has p slice) (sym (among_has slice p) ∙ earlier (is_among slice p) (live p) (sym (adds p) ∙ on) off)
+    added : (p : ℕ) → later p ≡ true → live p ≡ false → is_among now p ≡ true
+    added p on off = in_both p ∙ or_right (is_among nets p) (is_among slice p) (earlier (is_among slice p) (live p) (sym (adds p) ∙ on) off)
 
-  only_added : (nets now : List ℕ) → now ≡ nets ++ slice → (p : ℕ) → is_among nets p ≡ false → is_among now p ≡ true → later p ≡ true
-  only_added nets now is p off on =
-      let more : (is_among nets p || has p slice) ≡ true = sym (ap (λ (l : List ℕ). is_among l p) is ∙ either_among nets slice p) ∙ on in
-      let here : has p slice ≡ true = ap (λ (b : Bool). b || has p slice) (sym off) ∙ more in
-      adds p ∙ or_left (is_among slice p) (live p) (among_has slice p ∙ here)
+    only_added : (p : ℕ) → is_among nets p ≡ false → is_among now p ≡ true → later p ≡ true
+    only_added p off on = adds p ∙ or_left (is_among slice p) (live p) (ap (λ (b : Bool). b || is_among slice p) (sym off) ∙ sym (in_both p) ∙ on)
 
 pub add_drivers-requires : goal.add_drivers-requires
 add_drivers-requires c =
@@ -52,27 +47,26 @@ returns-clause-live c =
     let live = contains nat_cmp c.args.live.now in
     by_ok c.hold.result c.hold.ensures.live
     (λ adds p.
-    by_found c.put_in_order.new.places.items c.leave_new.new.places.items c.as_slice-3.result.now live (contains nat_cmp c.hold.new.live) c.as_slice-3.ensures.value adds c.leave_new.ensures p
+    by_found c.as_slice-3.result.now live (contains nat_cmp c.hold.new.live) adds c.put_in_order.new.places.items (c.as_slice-3.ensures.value ∙ c.leave_new.ensures) p
     ∙ ap (λ (b : Bool). b || live p) (c.put_in_order.ensures.same p))
 
 pub returns-clause-nets : goal.returns-clause-nets
 returns-clause-nets c =
-    let kept = c.leave_new.new.places.items in
     by_ok c.hold.result c.hold.ensures.live
-    (λ adds. added c.args.found.now.items kept c.as_slice-3.result.now (contains nat_cmp c.args.live.now) (contains nat_cmp c.hold.new.live) c.as_slice-3.ensures.value adds c.args.nets.now.items c.extend_from_slice.new.self.items
+    (λ adds. added c.as_slice-3.result.now (contains nat_cmp c.args.live.now) (contains nat_cmp c.hold.new.live) adds c.args.nets.now.items c.extend_from_slice.new.self.items
     (c.in_ok-extend_from_slice.ensures.items ∙ ap (λ (l : List ℕ). c.args.nets.now.items ++ l) (c.as_slice.ensures.value ∙ sym c.as_slice-3.ensures.value)))
 
 pub returns-clause-nets_more : goal.returns-clause-nets_more
 returns-clause-nets_more c =
     on_ok c.hold.result
     (λ p on.
-    ap (λ (l : List ℕ). is_among l p) c.in_ok-extend_from_slice.ensures.items ∙ either_among c.args.nets.now.items c.as_slice.result.now p ∙ or_left (is_among c.args.nets.now.items p) (has p c.as_slice.result.now) on)
+    ap (λ (l : List ℕ). is_among l p) c.in_ok-extend_from_slice.ensures.items ∙ list_any-append (λ q. q == p) c.args.nets.now.items c.as_slice.result.now
+    ∙ or_left (is_among c.args.nets.now.items p) (is_among c.as_slice.result.now p) on)
 
 pub returns-clause-nets_live : goal.returns-clause-nets_live
 returns-clause-nets_live c =
-    let kept = c.leave_new.new.places.items in
     by_ok c.hold.result c.hold.ensures.live
-    (λ adds. only_added c.args.found.now.items kept c.as_slice-3.result.now (contains nat_cmp c.args.live.now) (contains nat_cmp c.hold.new.live) c.as_slice-3.ensures.value adds c.args.nets.now.items c.extend_from_slice.new.self.items
+    (λ adds. only_added c.as_slice-3.result.now (contains nat_cmp c.args.live.now) (contains nat_cmp c.hold.new.live) adds c.args.nets.now.items c.extend_from_slice.new.self.items
     (c.in_ok-extend_from_slice.ensures.items ∙ ap (λ (l : List ℕ). c.args.nets.now.items ++ l) (c.as_slice.ensures.value ∙ sym c.as_slice-3.ensures.value)))
 
 pub returns-clause-gates : goal.returns-clause-gates

@@ -26,8 +26,7 @@ use Rattle.rundiff.proofs.Steps.{as_it_was}
 use Rattle.rundiff.proofs.front.Front.look_at_gates.Goals as goal
 
 pub look_at-requires-clause-there : goal.look_at-requires-clause-there
-look_at-requires-clause-there g c = λ p among.
-    c.requires.front.live.drivers.gates p (c.requires.front.chosen_held p (ap (λ (l : List ℕ). is_among l p) (sym c.as_slice.ensures.value) ∙ among))
+look_at-requires-clause-there g c = rw c.as_slice.ensures.value (λ p among. c.requires.front.live.drivers.gates p (c.requires.front.chosen_held p among))
 
 pub put_states-requires : goal.put_states-requires
 put_states-requires g c =
@@ -61,8 +60,7 @@ note_events-requires g c =
     }
 
 pub note_all_inputs-requires-clause-there : goal.note_all_inputs-requires-clause-there
-note_all_inputs-requires-clause-there g c = λ p among.
-    c.requires.front.live.drivers.gates p (c.requires.front.chosen_held p (ap (λ (l : List ℕ). is_among l p) (sym c.as_slice-6.ensures.value) ∙ among))
+note_all_inputs-requires-clause-there g c = rw c.as_slice-6.ensures.value (λ p among. c.requires.front.live.drivers.gates p (c.requires.front.chosen_held p among))
 
 pub returns-clause-tasks : goal.returns-clause-tasks
 returns-clause-tasks g c =

@@ -26,47 +26,39 @@ use Rattle.rundiff.proofs.Steps.{as_it_was}
 use Rattle.rundiff.proofs.front.Front.look_at_nets.Goals as goal
 
 pub choose_nets-requires-clause-there : goal.choose_nets-requires-clause-there
-choose_nets-requires-clause-there g c = λ q among.
-    c.requires.front.live.drivers.gates q (c.in_ok-choose_gates.ensures.held q (ap (λ (l : List ℕ). is_among l q) (sym c.as_slice.ensures.value) ∙ among))
+choose_nets-requires-clause-there g c = rw c.as_slice.ensures.value (λ q among. c.requires.front.live.drivers.gates q (c.in_ok-choose_gates.ensures.held q among))
 
 pub choose_nets-requires-clause-live : goal.choose_nets-requires-clause-live
-choose_nets-requires-clause-live g c = λ q among.
+choose_nets-requires-clause-live g c =
     let drivers = c.requires.front.live.drivers in
-    let on = c.in_ok-choose_gates.ensures.held q (ap (λ (l : List ℕ). is_among l q) (sym c.as_slice.ensures.value) ∙ among) in
-    sym (drivers.drivers q (drivers.gates q on)) ∙ on
+    rw c.as_slice.ensures.value (λ q among. let on = c.in_ok-choose_gates.ensures.held q among in sym (drivers.drivers q (drivers.gates q on)) ∙ on)
 
 pub put_values-requires-clause-there : goal.put_values-requires-clause-there
-put_values-requires-clause-there g c = λ p among.
-    c.requires.front.live.drivers.nets p (c.in_ok-choose_nets.ensures.live p (ap (λ (l : List ℕ). is_among l p) (sym c.as_slice-2.ensures.value) ∙ among))
+put_values-requires-clause-there g c = rw c.as_slice-2.ensures.value (λ p among. c.requires.front.live.drivers.nets p (c.in_ok-choose_nets.ensures.live p among))
 
 pub put_values-requires-clause-rising : goal.put_values-requires-clause-rising
 put_values-requires-clause-rising g c = subst (AllPairs (λ p q. p < q)) (sym c.as_slice-2.ensures.value) c.in_ok-choose_nets.ensures.rising
 
 pub add_changed-requires-clause-there : goal.add_changed-requires-clause-there
-add_changed-requires-clause-there g c = λ p among.
-    c.requires.front.live.drivers.nets p (c.in_ok-choose_nets.ensures.live p (ap (λ (l : List ℕ). is_among l p) (sym c.as_slice-3.ensures.value) ∙ among))
+add_changed-requires-clause-there g c = rw c.as_slice-3.ensures.value (λ p among. c.requires.front.live.drivers.nets p (c.in_ok-choose_nets.ensures.live p among))
 
 pub add_changed-requires-clause-waves : goal.add_changed-requires-clause-waves
-add_changed-requires-clause-waves g c = λ p among.
-    c.in_ok-put_values.ensures.put p (ap (λ (l : List ℕ). is_among l p) (c.as_slice-2.ensures.value ∙ sym c.as_slice-3.ensures.value) ∙ among)
+add_changed-requires-clause-waves g c = rw (c.as_slice-3.ensures.value, ← c.as_slice-2.ensures.value) c.in_ok-put_values.ensures.put
 
 pub find_differing-requires-clause-there : goal.find_differing-requires-clause-there
-find_differing-requires-clause-there g c = λ p among.
-    c.requires.front.live.drivers.nets p (c.in_ok-choose_nets.ensures.live p (ap (λ (l : List ℕ). is_among l p) (sym c.as_slice-4.ensures.value) ∙ among))
+find_differing-requires-clause-there g c = rw c.as_slice-4.ensures.value (λ p among. c.requires.front.live.drivers.nets p (c.in_ok-choose_nets.ensures.live p among))
 
 pub find_differing-requires-clause-waves : goal.find_differing-requires-clause-waves
-find_differing-requires-clause-waves g c = λ p among.
-    c.in_ok-put_values.ensures.put p (ap (λ (l : List ℕ). is_among l p) (c.as_slice-2.ensures.value ∙ sym c.as_slice-4.ensures.value) ∙ among)
+find_differing-requires-clause-waves g c = rw (c.as_slice-4.ensures.value, ← c.as_slice-2.ensures.value) c.in_ok-put_values.ensures.put
 
 pub hold_found-requires-clause-there : goal.hold_found-requires-clause-there
 hold_found-requires-clause-there g c = c.in_ok-find_differing.ensures.there
 
 pub note_nets-requires-clause-there : goal.note_nets-requires-clause-there
-note_nets-requires-clause-there g c = λ p among.
-    let added = ap (λ (l : List ℕ). is_among l p) (sym c.as_slice-5.ensures.value) ∙ among in
-    let nets = c.choose_nets.new.nets.items in
+note_nets-requires-clause-there g c =
     let holds = c.in_ok-hold_found.ensures in
-    either (is_among nets p) (λ on. c.requires.front.live.drivers.nets p (c.in_ok-choose_nets.ensures.live p on)) (λ off. holds.drivers.nets p (holds.nets_live p off added))
+    rw c.as_slice-5.ensures.value (λ p added.
+    either (is_among c.choose_nets.new.nets.items p) (λ on. c.requires.front.live.drivers.nets p (c.in_ok-choose_nets.ensures.live p on)) (λ off. holds.drivers.nets p (holds.nets_live p off added)))
 
 pub returns : goal.returns
 returns g c =
