@@ -1,7 +1,7 @@
 -- What is noted once the nets of a moment are done.
 use Rattle.std.proofs.Common.{◌≡◌, ℕ, suc, ◌<◌, ◌≤◌, ◌∙◌, ap, sym, refl, Bool, true, false, not, cond, List, [], arith, nat_eq, ◌&&◌, ◌||◌, ◌==◌}
 use Rattle.std.proofs.lemmas.Bool.Decides.{nat_tests}
-use Rattle.std.proofs.lemmas.Bool.{or_right, and_from, eqb-true, and_parts}
+use Rattle.std.proofs.lemmas.Bool.{not-true, or_right, and_from, eqb-true, and_parts}
 use Rattle.gatestep.specs.Step.{State, Evaluation}
 use Rattle.event_queue.specs.kept.Noted.{IsTaken, noted}
 use Rattle.design.specs.Connections.{Connection, to_net, to_constant}
@@ -12,8 +12,8 @@ use Rattle.scratch.proofs.Among.{nat_apart}
 use Rattle.scratch.proofs.Notes.{none_early}
 use Rattle.scratch.proofs.Driven.{either}
 use Rattle.rundiff.specs.kept.Noting.{IsNoted, input_moves, is_at_live, net_moves, old_moves, pends}
-use Rattle.rundiff.specs.kept.Places.{gate_at}
-use Rattle.rundiff.proofs.Alike.{live_grows}
+use Rattle.rundiff.specs.kept.Places.{gate_at, is_live}
+use Rattle.rundiff.proofs.Alike.{both_more, off_shrinks}
 use Rattle.rundiff.proofs.Noted.{not_first}
 use Rattle.rundiff.proofs.Lists.{any_so}
 
@@ -52,16 +52,8 @@ module _ (answer : Evaluation → ℕ → State) (old new : Netlist) (live later
   fewer_moves : (c : Connection) (u : ℕ) → (not (is_at_live new later c) && old_moves answer old new c u) ≡ true → (not (is_at_live new live c) && old_moves answer old new c u) ≡ true
   fewer_moves (to_constant v) u moves = moves
   fewer_moves (to_net name) u moves =
-      let parts = and_parts (not (is_at_live new later (to_net name))) (old_moves answer old new (to_net name) u) moves in
-      and_from (not (is_at_live new live (to_net name))) (old_moves answer old new (to_net name) u) (off_before parts.0) parts.1
-    where
-      flip : (a b : Bool) → (a ≡ true → b ≡ true) → not b ≡ true → not a ≡ true
-      flip true true says off = off
-      flip true false says off = let no : false ≡ true = says refl in absurd (cc)
-      flip false b says off = refl
-
-      off_before : not (is_at_live new later (to_net name)) ≡ true → not (is_at_live new live (to_net name)) ≡ true
-      off_before off = flip (is_at_live new live (to_net name)) (is_at_live new later (to_net name)) (live_grows new live later grows name) off
+      both_more (not (is_live new later name)) (not (is_live new live name)) (old_moves answer old new (to_net name) u)
+      (λ off. ap not (off_shrinks new live later grows name (not-true (is_live new later name) off))) moves
 
   nets_noted : (p u : ℕ) → suc t ≤ u → later p ≡ true → net_moves answer old new p u ≡ true → IsNotedWithin (noted nets_now) p (suc t) u
   nets_noted p u from on moves =
@@ -82,9 +74,8 @@ module _ (answer : Evaluation → ℕ → State) (old new : Netlist) (live later
   noted_now =
       record {
         events = λ k u from wants.
-            let s = state_before answer new t (gate_at new k) in
-            let parts = and_parts (passed k) (pends s u) wants in
-            ap (has k) (later_same t events events_now events_taken u (omega arith)) ∙ awaits.events k u (omega arith) (and_from (held k) (pends s u) (held_before k parts.0) parts.1);
+            ap (has k) (later_same t events events_now events_taken u (omega arith))
+            ∙ awaits.events k u (omega arith) (both_more (passed k) (held k) (pends (state_before answer new t (gate_at new k)) u) (held_before k) wants);
         inputs = λ k u from wants.
             let parts = and_parts (passed k) (u == 0 || input_moves answer old new later k u) wants in
             inputs_noted k u from parts.0 (not_first t u (input_moves answer old new later k u) from parts.1);

@@ -1,8 +1,7 @@
 -- What the old run by the places of the new design says of its gates.
-use Rattle.std.proofs.Common.{◌≡◌, ◌∙◌, ◌<◌, ◌≤◌, ap, sym, refl, ℕ, zero, suc, List, [], ◌∷◌, Bool, true, false, map, length, Option, Some, None, arith, All, is_some}
+use Rattle.std.proofs.Common.{◌≡◌, ◌∙◌, ◌<◌, ◌≤◌, ap, sym, refl, ℕ, zero, suc, List, [], Bool, true, false, map, length, Option, Some, None, arith, All, is_some}
 use Rattle.std.specs.List.{list_any, position_from, slice_index_or}
 use Rattle.std.specs.Option.{option_map_or}
-use Rattle.std.proofs.lemmas.List.Elements.{All-cons, All-nil, All-head, All-tail}
 use Rattle.fourstate.specs.declared.value.Value.{Value}
 use Rattle.fourstate.specs.declared.value.Value.TheVariants.{Unknown}
 use Rattle.gatestep.specs.Step.{State, Evaluation, due, initial}
@@ -22,6 +21,8 @@ use Rattle.scratch.specs.kept.Kept.{input_of}
 use Rattle.scratch.specs.Run.{state_after, state_before}
 use Rattle.scratch.specs.declared.wiring.Input.{Input}
 use Rattle.scratch.specs.declared.wiring.Input.TheVariants.{At, Fixed}
+use Rattle.scratch.proofs.Moments.{map_twice}
+use Rattle.scratch.proofs.Runs.{all_map, map_where}
 use Rattle.rundiff.specs.Dirty.{is_new}
 use Rattle.rundiff.specs.kept.Fronts.{named_state}
 use Rattle.rundiff.specs.kept.Kept.{read_at}
@@ -48,8 +49,7 @@ module _ (answer : Evaluation → ℕ → State) (old new : Netlist) (run : OldR
     placed (to_constant v) = fixed v
 
     pub all_placed : (terminals : List Connection) → All P (map (input_of new) terminals)
-    all_placed [] = All-nil P
-    all_placed (x ∷ xs) = All-cons P (input_of new x) (map (input_of new) xs) (placed x) (all_placed xs)
+    all_placed terminals = all_map P (input_of new) placed terminals
 
   -- inputs are read at a moment by the waves
   module _ (law : (f : ℕ → Value) → IsAlwaysSettled standing f → (t n : ℕ) → t < n → wave_at (wave_changes_below f n) t ≡ f t) (t : ℕ) (within : t ≤ old.horizon)
@@ -70,11 +70,8 @@ module _ (answer : Evaluation → ℕ → State) (old new : Netlist) (run : OldR
     reads_same (to_constant v) there = fixed v
 
     pub all_read : (terminals : List Connection) → All (λ x. is_readable new x ≡ true) terminals → map read (map (input_of new) terminals) ≡ map (λ x. read_at answer old x t) terminals
-    all_read [] there = refl
-    all_read (x ∷ xs) there =
-        let P : Connection → Type 0 = λ x. is_readable new x ≡ true in
-        let one = reads_same x (All-head P x xs there) in let rest = all_read xs (All-tail P x xs there) in
-        λ i. one i ∷ rest i
+    all_read terminals there =
+        map_twice (input_of new) read terminals ∙ map_where (λ x. is_readable new x ≡ true) (λ x. read (input_of new x)) (λ x. read_at answer old x t) reads_same terminals there
 
   pub stored_trace : (p : ℕ) → p < length new.gates → slice_index_or run.traces p [] ≡ trace_below (named_state answer old (gate_at new p).name) (suc old.horizon)
   stored_trace p there =

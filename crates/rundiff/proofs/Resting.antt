@@ -3,6 +3,7 @@ use Rattle.std.proofs.Common.{◌≡◌, ℕ, suc, ◌<◌, ◌≤◌, ◌∙◌
 use Rattle.std.specs.Prelude.{◌&&◌, slice_index_or}
 use Rattle.std.proofs.lemmas.Bool.{cases_lt, and_parts}
 use Rattle.std.proofs.lemmas.List.Elements.{All-map}
+use Rattle.std.proofs.Math.Bool.{and-false}
 use Rattle.fourstate.specs.declared.limits.TheConstants.{MAX_DELAY}
 use Rattle.gatestep.specs.Tasks.{PendingFrom}
 use Rattle.gatestep.specs.kept.Tasks.{IsTask, NothingDue, PendingBefore}
@@ -38,8 +39,7 @@ pub resting_off : (h w : Bool) → h ≡ false → (h && not w) ≡ false
 resting_off h w off = rw off refl
 
 pub not_resting : (h w : Bool) → w ≡ true → (h && not w) ≡ false
-not_resting true w on = rw on refl
-not_resting false w on = refl
+not_resting h w on = rw on (and-false h)
 
 -- where a patch was left
 abbrev pub IsLeft : {A : Type 0} → Option (PatchRecord A) → Type 0

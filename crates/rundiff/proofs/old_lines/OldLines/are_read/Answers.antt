@@ -1,6 +1,5 @@
 use Rattle.std.proofs.Common.{◌≡◌, ◌∙◌, ap, sym, subst, refl, length, List, Some, false, true, slice_get}
 use Rattle.std.proofs.lemmas.Option.{slice_get_read}
-use Rattle.fourstate.specs.declared.value.Value.{Value}
 use Rattle.fourstate.specs.Values.{same_value}
 use Rattle.scratch.specs.kept.Kept.{input_value}
 use Rattle.scratch.specs.declared.wiring.Input.{Input}
@@ -15,9 +14,7 @@ returns-then-not-is_same-clause-read c =
     let x = c.index-inputs-i.result in
     let at = subst (λ (xs : List Input). slice_get xs i ≡ Some x) c.inputs-inputs.ensures.inputs (slice_get_read c.inputs-inputs.result.now (length c.inputs-inputs.result.now) i x refl c.loop-i-test.true c.index-inputs-i.is) in
     let old : c.value-former.result ≡ former c.get-input.result = c.value-former.ensures.value ∙ ap (λ (lines : OldLinesRecord). old_value lines.run c.args.t c.get-input.result) c.loop-i.invariant.same in
-    let off : same_value (former x) (read x) ≡ false =
-    ap (λ (input : Input). same_value (former input) (read input)) (sym c.get-input.ensures)
-    ∙ ap (λ (v : Value). same_value v (read c.get-input.result)) (sym old) ∙ ap (same_value c.value-former.result) (sym c.read_input-value.ensures) ∙ sym c.is_same.ensures ∙ c.if-not-is_same.true in
+    let off : same_value (former x) (read x) ≡ false = cc in
     sym (mismatch same_value former read x x inputs inputs i at at off)
 
 pub loop-i-preserved : goal.loop-i-preserved
@@ -27,9 +24,7 @@ loop-i-preserved c =
     let x = c.index-inputs-i.result in
     let at = subst (λ (xs : List Input). slice_get xs i ≡ Some x) c.inputs-inputs.ensures.inputs (slice_get_read c.inputs-inputs.result.now (length c.inputs-inputs.result.now) i x refl c.loop-i-test.true c.index-inputs-i.is) in
     let old : c.value-former.result ≡ former c.get-input.result = c.value-former.ensures.value ∙ ap (λ (lines : OldLinesRecord). old_value lines.run c.args.t c.get-input.result) c.loop-i.invariant.same in
-    let on : same_value (former x) (read x) ≡ true =
-    ap (λ (input : Input). same_value (former input) (read input)) (sym c.get-input.ensures)
-    ∙ ap (λ (v : Value). same_value v (read c.get-input.result)) (sym old) ∙ ap (same_value c.value-former.result) (sym c.read_input-value.ensures) ∙ sym c.is_same.ensures ∙ c.if-not-is_same.false in
+    let on : same_value (former x) (read x) ≡ true = cc in
     record {
       same = c.value-former.ensures.same ∙ c.loop-i.invariant.same;
       read = match_more same_value former read x x inputs inputs i at at c.loop-i.invariant.read on;

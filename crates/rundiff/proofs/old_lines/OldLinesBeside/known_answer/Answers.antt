@@ -1,6 +1,7 @@
-use Rattle.std.proofs.Common.{◌≡◌, ◌∙◌, ◌<◌, ◌+◌, ap, sym, refl, ℕ, suc, Bool, Some, length, true, false, not, arith, slice_get}
+use Rattle.std.proofs.Common.{◌≡◌, ◌∙◌, ◌<◌, ◌+◌, ap, sym, refl, ℕ, suc, Some, length, false, arith, slice_get}
 use Rattle.std.specs.Option.{option_map, option_map_or}
-use Rattle.std.proofs.lemmas.Option.{slice_get-map, slice_get_read, slice_get_within, slice_get-get_or}
+use Rattle.std.proofs.lemmas.Option.{slice_get-map, slice_get_read, slice_get_within, get_or_from_slice_get}
+use Rattle.std.proofs.lemmas.Bool.{not-false, not-true}
 use Rattle.design.specs.Keys.{netlist}
 use Rattle.design.specs.Netlist.{GateEntry, Netlist}
 use Rattle.scratch.specs.kept.Kept.{evaluation_from}
@@ -13,16 +14,7 @@ use Rattle.rundiff.specs.kept.Places.{blank_gate, gate_at}
 use Rattle.rundiff.proofs.old_lines.OldLinesBeside.known_answer.Goals as goal
 
 gate_is : (d : Netlist) (p : ℕ) (g : GateEntry) → slice_get d.gates p ≡ Some g → g ≡ gate_at d p
-gate_is d p g at = let there : Some g ≡ Some (gate_at d p) = sym at ∙ slice_get-get_or d.gates p blank_gate (slice_get_within d.gates p g at) in cc
-
--- what is not clean is dirty, and the other way round
-dirty_by : (dirty clean : Bool) → clean ≡ not dirty → clean ≡ false → dirty ≡ true
-dirty_by true clean is off = refl
-dirty_by false clean is off = let no : true ≡ false = sym is ∙ off in absurd (cc)
-
-clean_by : (dirty clean : Bool) → clean ≡ not dirty → clean ≡ true → dirty ≡ false
-clean_by true clean is on = let no : false ≡ true = sym is ∙ on in absurd (cc)
-clean_by false clean is on = refl
+gate_is d p g at = sym (get_or_from_slice_get d.gates p g blank_gate at)
 
 pub is_clean-requires-clause-task : goal.is_clean-requires-clause-task
 is_clean-requires-clause-task g c =
@@ -39,7 +31,7 @@ returns-then-not-is_clean-clause-open g c =
     let answer = g.S.Stepper.answer in let old = netlist c.args.self.now.design in let present = c.args.present.now in let new = netlist present.design.now in let t = present.t in let p = c.args.place in
     let dirty = is_dirty answer old new in let gate = found dirty answer new t p c.args.state c.requires.state in
     ap (λ o. option_map_or (λ x. dirty x t) o false) gate.1 ∙ ap (λ (x : GateEntry). dirty x t) (gate_is new p gate.0 gate.1)
-    ∙ dirty_by (dirty (gate_at new p) t) c.is_clean.result c.is_clean.ensures.clean c.if-not-is_clean.true
+    ∙ not-false (dirty (gate_at new p) t) (sym c.is_clean.ensures.clean ∙ c.if-not-is_clean.true)
 
 pub state_after-requires-clause-there : goal.state_after-requires-clause-there
 state_after-requires-clause-there g c =
@@ -51,7 +43,7 @@ pub state_after-requires-clause-clean : goal.state_after-requires-clause-clean
 state_after-requires-clause-clean g c =
     let answer = g.S.Stepper.answer in let old = netlist c.args.self.now.design in let new = netlist c.args.present.now.design.now in let t = c.args.present.now.t in let gate = gate_at new c.args.place in
     ap (λ (lines : OldLinesRecord). is_dirty answer (netlist lines.design) new gate t) c.is_clean.ensures.same
-    ∙ clean_by (is_dirty answer old new gate t) c.is_clean.result c.is_clean.ensures.clean c.if-not-is_clean.false
+    ∙ not-true (is_dirty answer old new gate t) (sym c.is_clean.ensures.clean ∙ c.if-not-is_clean.false)
 
 pub returns-clause-known : goal.returns-clause-known
 returns-clause-known g c =
@@ -67,4 +59,4 @@ returns-clause-closed g c =
     let answer = g.S.Stepper.answer in let old = netlist c.args.self.now.design in let present = c.args.present.now in let new = netlist present.design.now in let t = present.t in let p = c.args.place in
     let dirty = is_dirty answer old new in let gate = found dirty answer new t p c.args.state c.requires.state in
     ap (λ o. option_map_or (λ x. dirty x t) o false) gate.1 ∙ ap (λ (x : GateEntry). dirty x t) (gate_is new p gate.0 gate.1)
-    ∙ clean_by (dirty (gate_at new p) t) c.is_clean.result c.is_clean.ensures.clean c.if-not-is_clean.false
+    ∙ not-true (dirty (gate_at new p) t) (sym c.is_clean.ensures.clean ∙ c.if-not-is_clean.false)
