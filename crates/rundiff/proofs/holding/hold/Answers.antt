@@ -1,4 +1,4 @@
-use Rattle.std.proofs.Common.{◌∙◌, ap, sym, ℕ, List, take, Bool, nat_cmp, take_all, ◌||◌, ◌==◌, slice_index_or}
+use Rattle.std.proofs.Common.{◌∙◌, ap, ℕ, List, take, nat_cmp, take_all, ◌||◌, ◌==◌, slice_index_or}
 use Rattle.std.specs.BTreeSet.{contains}
 use Rattle.std.proofs.lemmas.Option.{slice_get-get_or}
 use Rattle.scratch.proofs.Among.{any_more}
@@ -16,12 +16,8 @@ loop-place-preserved c =
     record {
       drivers = c.in_ok-hold_one.ensures.drivers;
       live = λ p.
-          let held = contains nat_cmp c.args.live.now p in
-          c.in_ok-hold_one.ensures.live p
-          ∙ ap (λ (b : Bool). p == x || b) (c.loop-place.invariant.live p)
-          ∙ ap (λ (b : Bool). b || (is_among (take i xs) p || held)) (same_test p x)
-          ∙ live_step (is_among (take i xs) p) (x == p) held
-          ∙ ap (λ (b : Bool). b || held) (sym (any_more (λ q. q == p) xs i x (slice_get-get_or xs i 0 c.loop-place-test.true)));
+          let held = contains nat_cmp c.args.live.now p in let so_far = is_among (take i xs) p in
+          cc (c.in_ok-hold_one.ensures.live p, c.loop-place.invariant.live p, same_test p x, live_step so_far (x == p) held, any_more (λ q. q == p) xs i x (slice_get-get_or xs i 0 c.loop-place-test.true));
     }
 
 pub returns-clause-live : goal.returns-clause-live

@@ -1,4 +1,4 @@
-use Rattle.std.proofs.Common.{◌∙◌, ap, sym, take, true, false, cond, Bool, nat_cmp, ◌||◌, ◌==◌}
+use Rattle.std.proofs.Common.{◌∙◌, ap, take, false, Bool, nat_cmp, ◌||◌, ◌==◌}
 use Rattle.std.specs.BTreeSet.{contains}
 use Rattle.std.specs.List.{list_any}
 use Rattle.std.specs.Option.{option_map_or}
@@ -15,10 +15,14 @@ loop-driver-preserved c = λ p.
     let x = c.driver-item.result in let gate = c.in-Some.gate in
     let held = contains nat_cmp c.args.held.now p in
     let so_far = list_any (λ key. option_map_or (λ q. q == p) (place_of c.args.new.now.gates key) false) (take i keys) in
-    c.in_ok-insert.ensures.updates.0 p
-    ∙ ap (λ (b : Bool). cond b true (contains nat_cmp c.loop-driver.held p)) (sym (test_is gate p) ∙ same_test p gate)
-    ∙ ap (λ (b : Bool). cond (gate == p) true b) (c.loop-driver.invariant p) ∙ held_more so_far (gate == p) held
-    ∙ ap (λ (b : Bool). b || held) (sym (driver_more c.args.new.now.gates keys i x gate p (read_get keys i x c.loop-driver-test.true c.driver-item.is) c.in-Some.ensures.place))
+    cc (
+      c.in_ok-insert.ensures.updates.0 p,
+      test_is gate p,
+      same_test p gate,
+      c.loop-driver.invariant p,
+      held_more so_far (gate == p) held,
+      driver_more c.args.new.now.gates keys i x gate p (read_get keys i x c.loop-driver-test.true c.driver-item.is) c.in-Some.ensures.place,
+    )
 
 pub returns : goal.returns
 returns c = λ p.

@@ -1,4 +1,4 @@
-use Rattle.std.proofs.Common.{◌∙◌, ap, sym, true, cond, Bool, ◌==◌, nat_cmp}
+use Rattle.std.proofs.Common.{◌==◌, nat_cmp}
 use Rattle.std.specs.BTreeSet.{contains}
 use Rattle.design.specs.Keys.{netlist}
 use Rattle.rundiff.proofs.Readers.{drivers_more}
@@ -7,15 +7,11 @@ use Rattle.rundiff.proofs.holding.hold_one.Goals as goal
 
 pub returns-clause-live : goal.returns-clause-live
 returns-clause-live c = λ p.
-    c.in_ok-insert.ensures.updates.0 p
-    ∙ ap (λ (b : Bool). cond b true (contains nat_cmp c.args.live.now p)) (sym (test_is c.args.place p))
-    ∙ cond_or (p == c.args.place) (contains nat_cmp c.args.live.now p)
+    cc (c.in_ok-insert.ensures.updates.0 p, test_is c.args.place p, cond_or (p == c.args.place) (contains nat_cmp c.args.live.now p))
 
 pub returns-clause-drivers : goal.returns-clause-drivers
 returns-clause-drivers c =
     let d = netlist c.args.new.now in
     drivers_more d c.lawful.ensures.design.distinct_nets c.args.place c.requires.there (contains nat_cmp c.args.live.now) (contains nat_cmp c.insert.new.self)
-    (λ p. c.in_ok-insert.ensures.updates.0 p
-    ∙ ap (λ (b : Bool). cond b true (contains nat_cmp c.args.live.now p)) (sym (test_is c.args.place p))
-    ∙ cond_or (p == c.args.place) (contains nat_cmp c.args.live.now p))
+    (λ p. cc (c.in_ok-insert.ensures.updates.0 p, test_is c.args.place p, cond_or (p == c.args.place) (contains nat_cmp c.args.live.now p)))
     (contains nat_cmp c.args.held.now) (contains nat_cmp c.hold_drivers.new.held) c.in_ok-hold_drivers.ensures c.requires.drivers

@@ -1,4 +1,4 @@
-use Rattle.std.proofs.Common.{◌∙◌, ap, sym, ℕ, List, Bool, true, cond, take, nat_cmp, take_all, slice_index_or, ◌||◌, ◌==◌}
+use Rattle.std.proofs.Common.{◌∙◌, ap, ℕ, List, take, nat_cmp, take_all, slice_index_or, ◌==◌}
 use Rattle.std.specs.BTreeSet.{contains}
 use Rattle.std.proofs.lemmas.Option.{slice_get-get_or}
 use Rattle.std.proofs.Math.Bool.{or_comm}
@@ -11,14 +11,16 @@ use Rattle.rundiff.proofs.opening.set_of.Goals as goal
 pub loop-place-preserved : goal.loop-place-preserved
 loop-place-preserved c = λ p.
     let xs = c.args.places.now in let i = c.loop-place.place-index in let x = slice_index_or xs i 0 in
-    let so_far = is_among (take i xs) p in
-    c.in_ok-insert.ensures.updates.0 p
-    ∙ ap (λ (b : Bool). cond b true (contains nat_cmp c.loop-place.set p)) (sym (test_is x p))
-    ∙ cond_or (p == x) (contains nat_cmp c.loop-place.set p)
-    ∙ ap (λ (b : Bool). p == x || b) (c.loop-place.invariant p)
-    ∙ ap (λ (b : Bool). b || so_far) (same_test p x)
-    ∙ or_comm (x == p) so_far
-    ∙ sym (any_more (λ q. q == p) xs i x (slice_get-get_or xs i 0 c.loop-place-test.true))
+    let old = contains nat_cmp c.loop-place.set p in let so_far = is_among (take i xs) p in
+    cc (
+      c.in_ok-insert.ensures.updates.0 p,
+      test_is x p,
+      cond_or (p == x) old,
+      c.loop-place.invariant p,
+      same_test p x,
+      or_comm (x == p) so_far,
+      any_more (λ q. q == p) xs i x (slice_get-get_or xs i 0 c.loop-place-test.true),
+    )
 
 pub returns : goal.returns
 returns c = λ p.

@@ -1,4 +1,4 @@
-use Rattle.std.proofs.Common.{◌∙◌, ap, sym, take, false, Bool, List, ℕ, ◌||◌, ◌==◌, nat_eq}
+use Rattle.std.proofs.Common.{◌∙◌, ap, take, false, Bool, ◌||◌, ◌==◌, nat_eq}
 use Rattle.std.specs.List.{list_any}
 use Rattle.std.specs.Option.{option_map_or}
 use Rattle.catalog.specs.kept.Catalog.{place_of}
@@ -15,9 +15,13 @@ loop-driver-preserved c = λ q.
     let x = c.driver-item.result in let gate = c.in-Some.gate in
     let was = is_among c.args.gates.now.items q in
     let so_far = list_any (λ key. option_map_or (λ p. p == q) (place_of c.args.new.now.gates key) false) (take i keys) in
-    ap (λ (l : List ℕ). is_among l q) c.in_ok-push.ensures.items ∙ among_push c.loop-driver.gates.items gate q
-    ∙ ap (λ (b : Bool). b || nat_eq gate q) (c.loop-driver.invariant q) ∙ or_moved so_far was (nat_eq gate q)
-    ∙ ap (λ (b : Bool). b || was) (sym (driver_more c.args.new.now.gates keys i x gate q (read_get keys i x c.loop-driver-test.true c.driver-item.is) c.in-Some.ensures.place))
+    cc (
+      c.in_ok-push.ensures.items,
+      among_push c.loop-driver.gates.items gate q,
+      c.loop-driver.invariant q,
+      or_moved so_far was (nat_eq gate q),
+      driver_more c.args.new.now.gates keys i x gate q (read_get keys i x c.loop-driver-test.true c.driver-item.is) c.in-Some.ensures.place,
+    )
 
 pub returns : goal.returns
 returns c = λ q.
