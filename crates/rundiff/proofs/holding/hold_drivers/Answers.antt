@@ -15,14 +15,8 @@ loop-driver-preserved c = λ p.
     let x = c.driver-item.result in let gate = c.in-Some.gate in
     let held = contains nat_cmp c.args.held.now p in
     let so_far = list_any (λ key. option_map_or (λ q. q == p) (place_of c.args.new.now.gates key) false) (take i keys) in
-    cc (
-      c.in_ok-insert.ensures.updates.0 p,
-      test_is gate p,
-      same_test p gate,
-      c.loop-driver.invariant p,
-      held_more so_far (gate == p) held,
-      driver_more c.args.new.now.gates keys i x gate p (read_get keys i x c.loop-driver-test.true c.driver-item.is) c.in-Some.ensures.place,
-    )
+    let more = driver_more c.args.new.now.gates keys i x gate p (read_get keys i x c.loop-driver-test.true c.driver-item.is) c.in-Some.ensures.place in
+    cc (c.in_ok-insert.ensures.updates.0 p, test_is gate p, same_test p gate, c.loop-driver.invariant p, held_more so_far (gate == p) held, more)
 
 pub returns : goal.returns
 returns c = λ p.

@@ -15,13 +15,8 @@ loop-driver-preserved c = λ q.
     let x = c.driver-item.result in let gate = c.in-Some.gate in
     let was = is_among c.args.gates.now.items q in
     let so_far = list_any (λ key. option_map_or (λ p. p == q) (place_of c.args.new.now.gates key) false) (take i keys) in
-    cc (
-      c.in_ok-push.ensures.items,
-      among_push c.loop-driver.gates.items gate q,
-      c.loop-driver.invariant q,
-      or_moved so_far was (nat_eq gate q),
-      driver_more c.args.new.now.gates keys i x gate q (read_get keys i x c.loop-driver-test.true c.driver-item.is) c.in-Some.ensures.place,
-    )
+    let more = driver_more c.args.new.now.gates keys i x gate q (read_get keys i x c.loop-driver-test.true c.driver-item.is) c.in-Some.ensures.place in
+    cc (c.in_ok-push.ensures.items, among_push c.loop-driver.gates.items gate q, c.loop-driver.invariant q, or_moved so_far was (nat_eq gate q), more)
 
 pub returns : goal.returns
 returns c = λ q.
