@@ -1,4 +1,4 @@
-use Rattle.std.proofs.Common.{◌∙◌, ap, sym, refl, ℕ, List, nat_cmp}
+use Rattle.std.proofs.Common.{◌∙◌, ap, sym, ℕ, List, nat_cmp}
 use Rattle.std.specs.BTreeSet.{contains}
 use Rattle.std.proofs.lemmas.Bool.{and_from, or_left, and_parts}
 use Rattle.event_queue.specs.kept.Noted.{noted}
@@ -6,9 +6,6 @@ use Rattle.scratch.specs.kept.Places.{has}
 use Rattle.rundiff.specs.kept.Places.{is_among}
 use Rattle.rundiff.proofs.Among.{either_among, taken_among}
 use Rattle.rundiff.proofs.choosing.choose_gates.Goals as goal
-
-pub returns-clause-rising : goal.returns-clause-rising
-returns-clause-rising c = record { rising = c.keep_in_order.ensures.rising; all = λ p. refl }
 
 pub returns-clause-held : goal.returns-clause-held
 returns-clause-held c = λ q among. (and_parts (is_among c.take.new.out.items q) (contains nat_cmp c.args.held.now q) (sym (c.keep_in_order.ensures.all q) ∙ among)).1

@@ -7,9 +7,6 @@ use Rattle.rundiff.specs.kept.Places.{gate_at, is_among}
 use Rattle.rundiff.proofs.Among.{live_both, taken_among}
 use Rattle.rundiff.proofs.choosing.choose_nets.Goals as goal
 
-pub returns-clause-rising : goal.returns-clause-rising
-returns-clause-rising c = c.keep_in_order.ensures.rising
-
 pub returns-clause-live : goal.returns-clause-live
 returns-clause-live c = λ p among. (and_parts (is_among c.add_outputs.new.nets.items p) (contains nat_cmp c.args.live.now p) (sym (c.keep_in_order.ensures.all p) ∙ among)).1
 

@@ -1,18 +1,9 @@
-use Rattle.std.proofs.Common.{◌∙◌, ◌≤◌, sym, subst, refl, suc, Option, slice_index_or}
-use Rattle.std.specs.Option.{ForSome}
+use Rattle.std.proofs.Common.{◌∙◌, slice_index_or}
 use Rattle.std.proofs.lemmas.Option.{slice_get-get_or}
 use Rattle.rundiff.specs.kept.PlaceMaps.{kept_at}
-use Rattle.gatestep.specs.Step.{State, due}
 use Rattle.catalog.specs.kept.Catalog.{keys_of}
-use Rattle.design.specs.Keys.{netlist}
-use Rattle.waveform.specs.Entries.{same_state}
-use Rattle.waveform.specs.kept.Patches.{Keeps, PatchRecord}
-use Rattle.waveform.specs.kept.Timelines.{end_of}
-use Rattle.scratch.specs.Run.{state_after}
 use Rattle.rundiff.specs.kept.Finishing.{new_trace}
-use Rattle.rundiff.specs.kept.Fronts.{named_state}
-use Rattle.rundiff.specs.kept.Places.{gate_at}
-use Rattle.rundiff.proofs.Putting.{all_put, none_put, put_next}
+use Rattle.rundiff.proofs.Putting.{all_put, put_next}
 use Rattle.rundiff.proofs.Steps.{is_one, not_yet, others_more}
 use Rattle.rundiff.proofs.finishing.put_traces.Goals as goal
 
@@ -21,23 +12,13 @@ put_trace-requires g c =
     let xs = c.args.held.now in let i = c.loop-place.place-index in let x = slice_index_or xs i 0 in
     let at = slice_get-get_or xs i 0 c.loop-place-test.true in
     let there = c.requires.there x (is_one xs i x at) in
-    let old = netlist c.args.former.now.old.now in let new = netlist c.args.former.now.new.now in
     let same = c.loop-place.invariant.patches x (not_yet xs i x c.requires.rising at) in
     record {
       there = there;
       horizon = c.requires.horizon;
       run = c.requires.run;
-      trace = subst (λ (o : Option (PatchRecord State)). Keeps same_state due (named_state g.S.Stepper.answer old (gate_at new x).name) (state_after g.S.Stepper.answer new (gate_at new x)) o (suc new.horizon)) (sym same) (c.requires.traces x there);
-      end = subst (λ (o : Option (PatchRecord State)). ForSome o (λ patch. end_of patch.line ≤ suc new.horizon)) (sym same) (c.requires.ends x);
-    }
-
-pub loop-place-init : goal.loop-place-init
-loop-place-init g c =
-    record {
-      traces = none_put (new_trace g.S.Stepper.answer c.args.former.now.new.now) (keys_of c.args.former.now.new.now.gates) c.args.held.now c.args.made.now.traces;
-      patches = λ q off. refl;
-      waves = refl;
-      horizon = refl;
+      trace = rw same (c.requires.traces x there);
+      end = rw same (c.requires.ends x);
     }
 
 pub loop-place-preserved : goal.loop-place-preserved

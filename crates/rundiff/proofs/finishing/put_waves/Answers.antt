@@ -1,20 +1,9 @@
-use Rattle.std.proofs.Common.{◌∙◌, ◌≤◌, sym, subst, refl, suc, Option, slice_index_or}
-use Rattle.std.specs.Option.{ForSome}
+use Rattle.std.proofs.Common.{◌∙◌, slice_index_or}
 use Rattle.std.proofs.lemmas.Option.{slice_get-get_or}
 use Rattle.rundiff.specs.kept.PlaceMaps.{kept_at}
-use Rattle.fourstate.specs.declared.value.Value.{Value}
-use Rattle.fourstate.specs.Values.{same_value}
 use Rattle.catalog.specs.kept.Catalog.{keys_of}
-use Rattle.design.specs.Connections.{to_net}
-use Rattle.design.specs.Keys.{netlist}
-use Rattle.waveform.specs.Entries.{standing}
-use Rattle.waveform.specs.kept.Patches.{Keeps, PatchRecord}
-use Rattle.waveform.specs.kept.Timelines.{end_of}
-use Rattle.scratch.specs.Run.{value}
 use Rattle.rundiff.specs.kept.Finishing.{new_wave}
-use Rattle.rundiff.specs.kept.Places.{net_at}
-use Rattle.rundiff.specs.kept.Kept.{read_at}
-use Rattle.rundiff.proofs.Putting.{all_put, none_put, put_next}
+use Rattle.rundiff.proofs.Putting.{all_put, put_next}
 use Rattle.rundiff.proofs.Steps.{is_one, not_yet, others_more}
 use Rattle.rundiff.proofs.finishing.put_waves.Goals as goal
 
@@ -23,23 +12,13 @@ put_wave-requires g c =
     let xs = c.args.live.now in let i = c.loop-place.place-index in let x = slice_index_or xs i 0 in
     let at = slice_get-get_or xs i 0 c.loop-place-test.true in
     let there = c.requires.there x (is_one xs i x at) in
-    let old = netlist c.args.former.now.old.now in let new = netlist c.args.former.now.new.now in
     let same = c.loop-place.invariant.patches x (not_yet xs i x c.requires.rising at) in
     record {
       there = there;
       horizon = c.requires.horizon;
       run = c.requires.run;
-      wave = subst (λ (o : Option (PatchRecord Value)). Keeps same_value standing (read_at g.S.Stepper.answer old (to_net (net_at new x).name)) (value g.S.Stepper.answer new (net_at new x)) o (suc new.horizon)) (sym same) (c.requires.waves x there);
-      end = subst (λ (o : Option (PatchRecord Value)). ForSome o (λ patch. end_of patch.line ≤ suc new.horizon)) (sym same) (c.requires.ends x);
-    }
-
-pub loop-place-init : goal.loop-place-init
-loop-place-init g c =
-    record {
-      waves = none_put (new_wave g.S.Stepper.answer c.args.former.now.new.now) (keys_of c.args.former.now.new.now.nets) c.args.live.now c.args.made.now.waves;
-      patches = λ q off. refl;
-      traces = refl;
-      horizon = refl;
+      wave = rw same (c.requires.waves x there);
+      end = rw same (c.requires.ends x);
     }
 
 pub loop-place-preserved : goal.loop-place-preserved

@@ -1,13 +1,10 @@
-use Rattle.std.proofs.Common.{◌∙◌, suc, inl, inr}
+use Rattle.std.proofs.Common.{◌∙◌, suc, inr}
 use Rattle.design.specs.Keys.{entry_in, netlist}
 use Rattle.waveform.specs.kept.Changes.{trace_below}
 use Rattle.rundiff.specs.kept.Fronts.{named_state}
 use Rattle.rundiff.specs.kept.Places.{blank_gate}
 use Rattle.rundiff.proofs.EachPlace.{line_named}
 use Rattle.rundiff.proofs.former.former_trace.Goals as goal
-
-pub returns-then-is_own : goal.returns-then-is_own
-returns-then-is_own c = λ answer run. inl (c.is_own.ensures c.if-is_own.true)
 
 pub returns : goal.returns
 returns c = λ answer run.

@@ -1,4 +1,4 @@
-use Rattle.std.proofs.Common.{◌∙◌, suc, inl, inr}
+use Rattle.std.proofs.Common.{◌∙◌, suc, inr}
 use Rattle.design.specs.Connections.{to_net}
 use Rattle.design.specs.Keys.{netlist}
 use Rattle.waveform.specs.Changes.{wave_changes_below}
@@ -6,9 +6,6 @@ use Rattle.rundiff.specs.kept.Places.{blank_net}
 use Rattle.rundiff.specs.kept.Kept.{read_at}
 use Rattle.rundiff.proofs.EachPlace.{line_named}
 use Rattle.rundiff.proofs.former.former_wave.Goals as goal
-
-pub returns-then-is_own : goal.returns-then-is_own
-returns-then-is_own c = λ answer run. inl (c.is_own.ensures c.if-is_own.true)
 
 pub returns : goal.returns
 returns c = λ answer run.

@@ -1,4 +1,3 @@
-use Rattle.std.proofs.Common.{sym, subst, All}
 use Rattle.std.proofs.lemmas.List.Elements.{All-push}
 use Rattle.event_queue.proofs.Changes.{by_ok}
 use Rattle.rundiff.specs.kept.Fronts.{IsClean}
@@ -13,5 +12,5 @@ returns c = by_ok c.add_resting.result c.add_resting.ensures (λ add answer old 
       resting = before.resting;
       states = before.states;
       can = before.can;
-      same = subst (All (IsClean answer old new t)) (sym c.in_ok-push.ensures.items) (All-push (IsClean answer old new t) c.args.out.now.clean.items c.args.place before.same same);
+      same = rw c.in_ok-push.ensures.items (All-push (IsClean answer old new t) c.args.out.now.clean.items c.args.place before.same same);
     }) off is can)

@@ -1,4 +1,4 @@
-use Rattle.std.proofs.Common.{◌∙◌, ap, sym, subst, ℕ, List, [], ◌∷◌, ◌++◌, All, not, map}
+use Rattle.std.proofs.Common.{◌∙◌, ap, sym, ℕ, List, [], ◌∷◌, ◌++◌, not, map}
 use Rattle.std.proofs.lemmas.List.Elements.{All-push}
 use Rattle.waveform.specs.kept.Entries.{CanStore}
 use Rattle.scratch.specs.Run.{state_after}
@@ -20,6 +20,6 @@ returns c = λ answer old new t places before off is can.
       resting = resting ∙ ap (λ (l : List ℕ). l ++ x ∷ []) before.resting ∙ sym (filter_on (λ p. not (is_working answer old new t p)) places x (ap not off));
       states = states ∙ map_one_more (λ p. state_after answer new (gate_at new p) t) out.resting.items out.states.items x c.args.state before.states is
           ∙ ap (λ (l : List ℕ). map (λ p. state_after answer new (gate_at new p) t) l) (sym resting);
-      can = subst (All (CanStore t)) (sym states) (All-push (CanStore t) out.states.items c.args.state before.can can);
+      can = rw states (All-push (CanStore t) out.states.items c.args.state before.can can);
       same = before.same;
     }

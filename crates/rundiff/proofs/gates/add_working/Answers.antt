@@ -1,4 +1,4 @@
-use Rattle.std.proofs.Common.{◌∙◌, ap, sym, subst, ℕ, List, [], ◌∷◌, ◌++◌, All, not, map}
+use Rattle.std.proofs.Common.{◌∙◌, ap, sym, ℕ, List, [], ◌∷◌, ◌++◌, not, map}
 use Rattle.std.proofs.lemmas.List.Elements.{All-push}
 use Rattle.gatestep.specs.Tasks.{IsReady}
 use Rattle.rundiff.specs.kept.Fronts.{is_working}
@@ -17,7 +17,7 @@ returns c = λ answer old new t places before on is ready.
       working = working ∙ ap (λ (l : List ℕ). l ++ x ∷ []) before.working ∙ sym (filter_on (is_working answer old new t) places x on);
       tasks = tasks ∙ map_one_more (λ p. task_at answer new (gate_at new p) t) out.working.items out.tasks.items x c.args.task before.tasks is
           ∙ ap (λ (l : List ℕ). map (λ p. task_at answer new (gate_at new p) t) l) (sym working);
-      ready = subst (All (IsReady t)) (sym tasks) (All-push (IsReady t) out.tasks.items c.args.task before.ready ready);
+      ready = rw tasks (All-push (IsReady t) out.tasks.items c.args.task before.ready ready);
       resting = before.resting ∙ sym (filter_off (λ p. not (is_working answer old new t p)) places x (ap not on));
       states = before.states;
       can = before.can;

@@ -21,7 +21,7 @@ put_state-requires g c =
     let xs = c.args.places.now in let i = c.loop-i.i in let x = slice_index_or xs i 0 in
     let at = slice_get-get_or xs i 0 c.loop-i-test.true in
     let there = is_one xs i x at in
-    let old = netlist c.args.former.now.old.now in let new = netlist c.args.former.now.new.now in
+    let new = netlist c.args.former.now.new.now in
     let same = c.loop-i.invariant.others x (not_yet xs i x c.requires.rising at) in
     let after : ℕ → State = λ p. state_after g.S.Stepper.answer new (gate_at new p) c.args.t in
     let many : length c.args.states.now ≡ length xs = ap (λ (l : List State). length l) c.requires.states ∙ length-map xs after in
@@ -32,8 +32,8 @@ put_state-requires g c =
       there = c.requires.there x there;
       within = c.requires.within;
       run = c.requires.run;
-      trace = subst (λ (o : Option (PatchRecord State)). Keeps same_state due (named_state g.S.Stepper.answer old (gate_at new x).name) (state_after g.S.Stepper.answer new (gate_at new x)) o c.args.t) (sym same) (c.requires.traces x there);
-      end = subst (λ (o : Option (PatchRecord State)). ForSome o (λ patch. end_of patch.line ≤ c.args.t)) (sym same) (c.requires.ends x there);
+      trace = rw same (c.requires.traces x there);
+      end = rw same (c.requires.ends x there);
       state = same_Some y (after x) (sym read ∙ ap (λ (l : List State). slice_get l i) c.requires.states ∙ slice_get-map after xs i ∙ ap (option_map after) at);
       can = subst (CanStore c.args.t) (get_or_from_slice_get c.args.states.now i y y read) (c.requires.can i y low);
     }

@@ -7,9 +7,6 @@ use Rattle.rundiff.specs.kept.Places.{is_among}
 use Rattle.rundiff.proofs.Sets.{live_step}
 use Rattle.rundiff.proofs.holding.hold.Goals as goal
 
-pub hold_one-requires-clause-there : goal.hold_one-requires-clause-there
-hold_one-requires-clause-there c = c.requires.there c.loop-place.place-index 0 c.loop-place-test.true
-
 pub loop-place-preserved : goal.loop-place-preserved
 loop-place-preserved c =
     let xs = c.args.found.now in let i = c.loop-place.place-index in let x = slice_index_or xs i 0 in

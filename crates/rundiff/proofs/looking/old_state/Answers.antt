@@ -3,7 +3,6 @@ use Rattle.std.specs.Option.{option_map_or}
 use Rattle.gatestep.specs.Step.{State, due, initial}
 use Rattle.design.specs.Keys.{netlist}
 use Rattle.waveform.specs.Timelines.{value_by}
-use Rattle.waveform.specs.declared.times.TheConstants.{TIME_END}
 use Rattle.scratch.specs.Run.{state_after}
 use Rattle.rundiff.specs.kept.Fronts.{named_state}
 use Rattle.rundiff.proofs.Tasks.{old_settled}
@@ -20,8 +19,3 @@ returns-clause-state g c = λ gate found.
     ∙ ap (λ (xs : List (ℕ × State)). value_by due initial xs c.args.t) (c.old_trace.ensures answer c.requires.run)
     ∙ c.value_of_changes.ensures f (old_settled answer old g.met.S.Stepper.answer_pending name c.lawful.ensures.design.gates) c.args.t (suc old.horizon) below
     ∙ ap (λ o. option_map_or (λ h. state_after answer old h c.args.t) o initial) found
-
-pub returns-clause-can : goal.returns-clause-can
-returns-clause-can g c =
-    let low : c.args.t < TIME_END = let h = c.requires.within in let end = c.lawful.ensures.design.horizon in omega arith in
-    c.at.ensures.can low

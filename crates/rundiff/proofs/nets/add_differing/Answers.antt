@@ -1,4 +1,4 @@
-use Rattle.std.proofs.Common.{inl, inr, ◌||◌, nat_cmp}
+use Rattle.std.proofs.Common.{inr, ◌||◌, nat_cmp}
 use Rattle.std.specs.BTreeSet.{contains}
 use Rattle.std.proofs.lemmas.Bool.{or_left, or_right}
 use Rattle.design.specs.Keys.{netlist}
@@ -21,6 +21,3 @@ returns-then-differs-clause-alike g c =
     let now = is_among c.add_readers.new.found.items in
     by_ok c.add_readers.result c.add_readers.ensures.readers
     (λ readers. inr (λ q low reading. live_grows new now (λ p. now p || live p) (λ p on. or_left (now p) (live p) on) (gate_at new q).output (readers q low reading)))
-
-pub returns-clause-alike : goal.returns-clause-alike
-returns-clause-alike g c = inl (c.differs.ensures c.if-differs.false)

@@ -1,4 +1,4 @@
-use Rattle.std.proofs.Common.{◌≡◌, ◌∙◌, ◌≤◌, ap, sym, subst, suc, arith, ℕ, List, take, Option, take_all, slice_index_or}
+use Rattle.std.proofs.Common.{◌≡◌, ◌∙◌, ◌≤◌, ap, suc, arith, ℕ, List, take, Option, take_all, slice_index_or}
 use Rattle.std.specs.Option.{ForSome}
 use Rattle.std.proofs.lemmas.Option.{slice_get-get_or}
 use Rattle.rundiff.specs.kept.PlaceMaps.{kept_at}
@@ -21,14 +21,13 @@ put_value-requires g c =
     let xs = c.args.live.now in let i = c.loop-place.place-index in let x = slice_index_or xs i 0 in
     let at = slice_get-get_or xs i 0 c.loop-place-test.true in
     let there = c.requires.there x (is_one xs i x at) in
-    let old = netlist c.args.former.now.old.now in let new = netlist c.args.former.now.new.now in
     let same = c.loop-place.invariant.others x (not_yet xs i x c.requires.rising at) in
     record {
       there = there;
       within = c.requires.within;
       run = c.requires.run;
-      wave = subst (λ (o : Option (PatchRecord Value)). Keeps same_value standing (read_at g.S.Stepper.answer old (to_net (net_at new x).name)) (value g.S.Stepper.answer new (net_at new x)) o c.args.t) (sym same) (c.requires.waves x there);
-      end = subst (λ (o : Option (PatchRecord Value)). ForSome o (λ patch. end_of patch.line ≤ c.args.t)) (sym same) (c.requires.ends x);
+      wave = rw same (c.requires.waves x there);
+      end = rw same (c.requires.ends x);
       traces = c.requires.traces;
     }
 

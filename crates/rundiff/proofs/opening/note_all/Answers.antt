@@ -26,6 +26,3 @@ returns-clause-noted c = λ p among.
     let whole = take_all c.loop-place.place-index xs c.loop-place-test.false in
     let listed : is_among xs p ≡ true = ap (λ (l : List ℕ). is_among l p) c.deref-place-items.ensures.value ∙ c.in_ok-listed.ensures.all p ∙ among in
     c.loop-place.invariant.listed p (ap (λ (l : List ℕ). is_among l p) whole ∙ listed)
-
-pub returns-clause-early : goal.returns-clause-early
-returns-clause-early c = c.loop-place.invariant.early

@@ -1,13 +1,10 @@
-use Rattle.std.proofs.Common.{◌≡◌, ◌∙◌, ◌≤◌, ap, sym, subst, ℕ, List, Option, Some, None, unwrap_or, inl, inr}
+use Rattle.std.proofs.Common.{◌≡◌, ◌∙◌, ◌≤◌, ap, sym, subst, ℕ, List, Option, Some, None, unwrap_or, inr}
 use Rattle.std.specs.Option.{ForSome}
 use Rattle.std.proofs.lemmas.Option.{same_Some}
 use Rattle.waveform.specs.kept.Patches.{Keeps, PatchRecord}
 use Rattle.waveform.specs.kept.Timelines.{end_of}
 use Rattle.event_queue.proofs.Changes.{by_ok}
 use Rattle.rundiff.proofs.patches.leave.Goals as goal
-
-pub returns-in-None-clause-free : goal.returns-in-None-clause-free
-returns-in-None-clause-free g c = inl c.take.ensures.gone
 
 pub returns-in-None-clause-end : goal.returns-in-None-clause-end
 returns-in-None-clause-end g c = λ patch is.

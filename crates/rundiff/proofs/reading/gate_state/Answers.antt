@@ -1,11 +1,10 @@
 use Rattle.std.proofs.Common.{◌∙◌, ◌<◌, ◌-◌, ap, suc, arith, ℕ}
 use Rattle.design.specs.Keys.{netlist}
-use Rattle.waveform.specs.declared.times.TheConstants.{TIME_END}
 use Rattle.scratch.specs.Run.{state_after, state_before}
 use Rattle.scratch.proofs.Runs.{settled}
 use Rattle.rundiff.specs.kept.Fronts.{named_state}
 use Rattle.rundiff.specs.kept.Places.{blank_gate, gate_at}
-use Rattle.rundiff.proofs.Tasks.{next_one, old_settled, stored_ready}
+use Rattle.rundiff.proofs.Tasks.{next_one, old_settled}
 use Rattle.rundiff.proofs.reading.gate_state.Goals as goal
 
 pub returns-clause-state : goal.returns-clause-state
@@ -24,9 +23,3 @@ returns-clause-state g c =
     c.value_at.ensures.value (state_after answer new gate) (named_state answer old gate.name) (suc old.horizon) c.args.t (settled answer new pending gate is)
     (old_settled answer old pending gate.name c.lawful.ensures.design.gates) stored below known (c.requires.traces c.args.place c.requires.there)
     ∙ ap (λ (t : ℕ). state_before answer new t gate) (next_one c.args.t some)
-
-pub returns-clause-ready : goal.returns-clause-ready
-returns-clause-ready g c =
-    let some : 0 < c.args.t = let h = c.if-t-eq0.false in omega arith in
-    let low : c.args.t - 1 < TIME_END = let h = c.requires.within in let end = c.lawful.ensures.design.horizon in omega arith in
-    stored_ready c.args.t c.value_at.result some (c.value_at.ensures.can low)

@@ -1,9 +1,6 @@
-use Rattle.std.proofs.Common.{inl, inr}
+use Rattle.std.proofs.Common.{inr}
 use Rattle.event_queue.proofs.Changes.{by_ok}
 use Rattle.rundiff.proofs.spreading.add_if_changed.Goals as goal
 
 pub returns-then-changes-clause-steady : goal.returns-then-changes-clause-steady
 returns-then-changes-clause-steady g c = by_ok c.add_readers.result c.add_readers.ensures.readers (λ readers. inr readers)
-
-pub returns-clause-steady : goal.returns-clause-steady
-returns-clause-steady g c = inl (c.changes.ensures c.if-changes.false)

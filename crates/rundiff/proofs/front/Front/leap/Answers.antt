@@ -10,9 +10,6 @@ use Rattle.rundiff.proofs.front.Front.leap.Goals as goal
 pub all_same_until-until-requires : goal.all_same_until-until-requires
 all_same_until-until-requires g c = record { there = rw c.as_slice.ensures.value (λ p among. c.requires.front.live.drivers.nets p (sym (c.in_ok-places.ensures.all p) ∙ among)) }
 
-pub leave_all-requires : goal.leave_all-requires
-leave_all-requires g c = c.requires.front.live.wave_ends
-
 pub returns-clause-front : goal.returns-clause-front
 returns-clause-front g c =
     let answer = g.S.Stepper.answer in

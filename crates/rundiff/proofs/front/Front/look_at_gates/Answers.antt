@@ -75,9 +75,6 @@ returns-clause-tasks g c =
     chosen_all answer old new t held chosen before.live.drivers.gates before.chosen_held before.clean before.quiet working before.chosen.rising (out.working ∙ ap (filter (is_working answer old new t)) c.as_slice.ensures.value) in
     out.tasks ∙ sym (map_twice (gate_at new) (λ h. task_at answer new h t) working) ∙ ap (map (λ h. task_at answer new h t)) (sym those)
 
-pub returns-clause-ready : goal.returns-clause-ready
-returns-clause-ready g c = c.in_ok-look_at.ensures.ready
-
 pub returns-clause-front : goal.returns-clause-front
 returns-clause-front g c =
     let answer = g.S.Stepper.answer in

@@ -1,4 +1,4 @@
-use Rattle.std.proofs.Common.{◌≡◌, ◌∙◌, ◌<◌, ap, sym, subst, suc, ℕ, List, true, false, not, Option, ◌⊎◌, inl, inr, ⊎_elim, arith, nat_cmp, ◌&&◌, ◌||◌, AllPairs}
+use Rattle.std.proofs.Common.{◌≡◌, ◌∙◌, ap, sym, subst, suc, ℕ, List, true, false, not, Option, ◌⊎◌, inl, inr, ⊎_elim, arith, nat_cmp, ◌&&◌, ◌||◌}
 use Rattle.rundiff.specs.kept.PlaceMaps.{kept_at}
 use Rattle.std.specs.BTreeSet.{contains}
 use Rattle.std.proofs.lemmas.Bool.{or_right, or_parts}
@@ -36,9 +36,6 @@ choose_nets-requires-clause-live g c =
 pub put_values-requires-clause-there : goal.put_values-requires-clause-there
 put_values-requires-clause-there g c = rw c.as_slice-2.ensures.value (λ p among. c.requires.front.live.drivers.nets p (c.in_ok-choose_nets.ensures.live p among))
 
-pub put_values-requires-clause-rising : goal.put_values-requires-clause-rising
-put_values-requires-clause-rising g c = subst (AllPairs (λ p q. p < q)) (sym c.as_slice-2.ensures.value) c.in_ok-choose_nets.ensures.rising
-
 pub add_changed-requires-clause-there : goal.add_changed-requires-clause-there
 add_changed-requires-clause-there g c = rw c.as_slice-3.ensures.value (λ p among. c.requires.front.live.drivers.nets p (c.in_ok-choose_nets.ensures.live p among))
 
@@ -50,9 +47,6 @@ find_differing-requires-clause-there g c = rw c.as_slice-4.ensures.value (λ p a
 
 pub find_differing-requires-clause-waves : goal.find_differing-requires-clause-waves
 find_differing-requires-clause-waves g c = rw (c.as_slice-4.ensures.value, ← c.as_slice-2.ensures.value) c.in_ok-put_values.ensures.put
-
-pub hold_found-requires-clause-there : goal.hold_found-requires-clause-there
-hold_found-requires-clause-there g c = c.in_ok-find_differing.ensures.there
 
 pub note_nets-requires-clause-there : goal.note_nets-requires-clause-there
 note_nets-requires-clause-there g c =

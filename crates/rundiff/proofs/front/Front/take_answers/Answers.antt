@@ -15,7 +15,7 @@ use Rattle.waveform.specs.kept.Timelines.{end_of}
 use Rattle.scratch.specs.Run.{state_after}
 use Rattle.scratch.proofs.Driven.{either}
 use Rattle.scratch.proofs.Moments.{map_twice}
-use Rattle.rundiff.specs.kept.Fronts.{IsFree, IsOwn, is_working, named_state}
+use Rattle.rundiff.specs.kept.Fronts.{is_working, named_state}
 use Rattle.rundiff.specs.kept.Places.{gate_at, is_among}
 use Rattle.rundiff.proofs.Awaited.{settled_noted}
 use Rattle.rundiff.proofs.Resting.{idle, stored_each, stored_later}
@@ -63,9 +63,6 @@ note_events-requires g c =
           (λ p among. front.live.drivers.gates p (and_parts (held p) (test p) (sym (front.places.all p) ∙ among)).0) c.args.answers.now those);
     }
 
-pub overflow_add-self : goal.overflow_add-self
-overflow_add-self g c = let most = c.lawful.ensures.design.horizon in let h = c.requires.within in omega arith
-
 pub returns-clause-front : goal.returns-clause-front
 returns-clause-front g c =
     let answer = g.S.Stepper.answer in
@@ -93,8 +90,8 @@ returns-clause-front g c =
       own_traces = λ p on.
           inr (either (test p)
           (λ yes. done.own p (among p ∙ and_from (held p) (test p) on yes))
-          (λ no. subst (λ (o : Option (PatchRecord State)). IsOwn o) (sym (done.others p (among p ∙ off_right (held p) (test p) no))) (before.own_traces p on no)));
-      other_traces = λ p free. subst (λ (o : Option (PatchRecord State)). IsFree o) (sym (done.others p (among p ∙ off_left (held p) (test p) free))) (before.other_traces p free);
+          (λ no. rw (done.others p (among p ∙ off_right (held p) (test p) no)) (before.own_traces p on no)));
+      other_traces = λ p free. rw (done.others p (among p ∙ off_left (held p) (test p) free)) (before.other_traces p free);
       awaits =
           settled_noted answer old new t (contains nat_cmp c.args.self.now.live) held (noted c.args.self.now.events) (noted c.args.self.now.inputs) (noted c.args.self.now.nets) (noted c.note_events.new.queue)
           notes.kept notes.early working before.places.all before.awaits
