@@ -2,7 +2,7 @@ use Rattle.std.proofs.Common.{Some, ◌≡◌, ◌∙◌, sym, subst, ℕ, true,
 use Rattle.std.proofs.lemmas.Option.{same_Some}
 use Rattle.catalog.specs.kept.Catalog.{keys_of}
 use Rattle.rundiff.specs.kept.Places.{is_among}
-use Rattle.rundiff.proofs.Steps.{at_end, each_next, pushed_kept, pushed_there}
+use Rattle.rundiff.proofs.Steps.{each_next, pushed_kept, pushed_there}
 use Rattle.rundiff.proofs.changed.add_keys.Goals as goal
 
 pub loop-place-preserved : goal.loop-place-preserved
@@ -17,6 +17,3 @@ loop-place-preserved c =
           (λ q was at. grows key (c.loop-place.invariant.added q key was at))
           (λ at. subst (λ (k : ℕ). is_among now k ≡ true) (same_Some added key (sym c.net_key_at.ensures.key ∙ at)) (pushed_there c.loop-place.keys.items now added pushed)) p among at;
     }
-
-pub returns-clause-added : goal.returns-clause-added
-returns-clause-added c = λ p key. at_end _ c.args.places.now c.loop-place.place-index c.loop-place-test.false (λ q. c.loop-place.invariant.added q key) p

@@ -1,21 +1,13 @@
-use Rattle.std.proofs.Common.{◌≡◌, ◌<◌, All, length, ◌∙◌, ap, sym, subst, ℕ, Option, false, IsSome}
+use Rattle.std.proofs.Common.{◌≡◌, ◌∙◌, ap, sym, subst, ℕ, Option, false, IsSome}
 use Rattle.std.specs.Option.{option_map_or}
-use Rattle.std.proofs.lemmas.List.Elements.{All-push}
 use Rattle.std.proofs.lemmas.Option.{get_or_from_slice_get}
 use Rattle.catalog.specs.kept.Catalog.{place_of}
 use Rattle.design.specs.Keys.{entry_in, netlist}
 use Rattle.design.specs.kept.Keys.{net_by_key}
 use Rattle.design.specs.Netlist.{GateEntry}
 use Rattle.rundiff.specs.kept.Places.{blank_gate, is_among, is_live}
-use Rattle.rundiff.proofs.Steps.{pushed_kept, pushed_there}
+use Rattle.rundiff.proofs.Steps.{pushed_there}
 use Rattle.rundiff.proofs.choosing.add_output.Goals as goal
-
-pub returns-clause-more : goal.returns-clause-more
-returns-clause-more c = pushed_kept c.args.nets.now.items c.push.new.self.items c.in-Some.net c.in_ok-push.ensures.items
-
-pub returns-clause-there : goal.returns-clause-there
-returns-clause-there c = λ all.
-    subst (All (λ p. p < length (netlist c.args.new.now).nets)) (sym c.in_ok-push.ensures.items) (All-push (λ p. p < length (netlist c.args.new.now).nets) c.args.nets.now.items c.in-Some.net all c.in-Some.ensures.within)
 
 pub returns-clause-driven : goal.returns-clause-driven
 returns-clause-driven c =

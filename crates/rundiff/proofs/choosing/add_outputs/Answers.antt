@@ -2,7 +2,7 @@ use Rattle.std.proofs.Common.{◌≡◌, ◌<◌, length, true}
 use Rattle.design.specs.Keys.{netlist}
 use Rattle.rundiff.specs.kept.Places.{gate_at, is_among, is_live}
 use Rattle.rundiff.proofs.Alike.{live_grows}
-use Rattle.rundiff.proofs.Steps.{at_end, at_index, each_next}
+use Rattle.rundiff.proofs.Steps.{at_index, each_next}
 use Rattle.rundiff.proofs.choosing.add_outputs.Goals as goal
 
 pub add_output-requires : goal.add_output-requires
@@ -20,6 +20,3 @@ loop-place-preserved c =
           each_next (λ q. is_live d now (gate_at d q).output ≡ true) c.args.gates.now c.loop-place.place-index c.loop-place-test.true
           (λ q was. live_grows d (is_among c.loop-place.nets.items) now done.more (gate_at d q).output (c.loop-place.invariant.driven q was)) done.driven;
     }
-
-pub returns-clause-driven : goal.returns-clause-driven
-returns-clause-driven c = at_end (λ q. is_live (netlist c.args.new.now) (is_among c.loop-place.nets.items) (gate_at (netlist c.args.new.now) q).output ≡ true) c.args.gates.now c.loop-place.place-index c.loop-place-test.false c.loop-place.invariant.driven

@@ -1,14 +1,11 @@
-use Rattle.std.proofs.Common.{◌∙◌, sym, nat_cmp}
+use Rattle.std.proofs.Common.{◌∙◌, nat_cmp}
 use Rattle.std.specs.BTreeSet.{contains}
-use Rattle.std.proofs.lemmas.Bool.{and_from, and_parts}
+use Rattle.std.proofs.lemmas.Bool.{and_from}
 use Rattle.event_queue.specs.kept.Noted.{noted}
 use Rattle.design.specs.Keys.{netlist}
 use Rattle.rundiff.specs.kept.Places.{gate_at, is_among}
 use Rattle.rundiff.proofs.Among.{live_both, taken_among}
 use Rattle.rundiff.proofs.choosing.choose_nets.Goals as goal
-
-pub returns-clause-live : goal.returns-clause-live
-returns-clause-live c = λ p among. (and_parts (is_among c.add_outputs.new.nets.items p) (contains nat_cmp c.args.live.now p) (sym (c.keep_in_order.ensures.all p) ∙ among)).1
 
 pub returns-clause-noted : goal.returns-clause-noted
 returns-clause-noted c = λ p on there.

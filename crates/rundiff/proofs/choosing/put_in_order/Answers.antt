@@ -1,8 +1,8 @@
-use Rattle.std.proofs.Common.{◌<◌, refl, nat_cmp}
+use Rattle.std.proofs.Common.{refl, nat_cmp}
 use Rattle.std.specs.List.Sorted.{IsStrictlySortedBy}
-use Rattle.std.proofs.lemmas.List.Filters.{All-dedup, dedup_is}
+use Rattle.std.proofs.lemmas.List.Filters.{dedup_is}
 use Rattle.std.proofs.lemmas.List.Kept.{Contains-dedup_nat, Contains-from_dedup}
-use Rattle.std.proofs.lemmas.List.Sorted.{All-permutation, Contains-permutation, IsPermutation-sym}
+use Rattle.std.proofs.lemmas.List.Sorted.{Contains-permutation, IsPermutation-sym}
 use Rattle.std.proofs.lemmas.Map.Keys.{IsStrictlyIncreasing-dedup, sorted_from_strictly_increasing}
 use Rattle.rundiff.specs.kept.Places.{is_among}
 use Rattle.rundiff.proofs.Among.{in_order, same_among}
@@ -17,12 +17,6 @@ returns-clause-same c =
     same_among c.dedup.new.self.items was
     (λ x h. Contains-permutation sorted was x (IsPermutation-sym was sorted moved) (Contains-from_dedup _ sorted x (rw is at h)))
     (λ x h. rw is (Contains-dedup_nat sorted x (Contains-permutation was sorted x moved h)))
-
-pub returns-clause-there : goal.returns-clause-there
-returns-clause-there c =
-    let is = dedup_is _ _ _ c.dedup.ensures.filtered in
-    λ n all.
-    rw is (All-dedup _ (λ p. p < n) c.sort_unstable.new.self.items (All-permutation (λ p. p < n) c.args.places.now.items c.sort_unstable.new.self.items c.sort_unstable.ensures.permutation all))
 
 pub returns-clause-once : goal.returns-clause-once
 returns-clause-once c =

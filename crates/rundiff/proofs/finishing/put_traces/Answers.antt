@@ -3,7 +3,7 @@ use Rattle.std.proofs.lemmas.Option.{slice_get-get_or}
 use Rattle.rundiff.specs.kept.PlaceMaps.{kept_at}
 use Rattle.catalog.specs.kept.Catalog.{keys_of}
 use Rattle.rundiff.specs.kept.Finishing.{new_trace}
-use Rattle.rundiff.proofs.Putting.{all_put, put_next}
+use Rattle.rundiff.proofs.Putting.{put_next}
 use Rattle.rundiff.proofs.Steps.{is_one, not_yet, others_more}
 use Rattle.rundiff.proofs.finishing.put_traces.Goals as goal
 
@@ -31,7 +31,3 @@ loop-place-preserved g c =
       waves = c.put_trace.ensures.waves ∙ c.loop-place.invariant.waves;
       horizon = c.put_trace.ensures.horizon ∙ c.loop-place.invariant.horizon;
     }
-
-pub returns-clause-traces : goal.returns-clause-traces
-returns-clause-traces g c =
-    all_put (new_trace g.S.Stepper.answer c.args.former.now.new.now) (keys_of c.args.former.now.new.now.gates) c.args.held.now c.loop-place.place-index c.args.made.now.traces c.loop-place.made.traces c.loop-place-test.false c.loop-place.invariant.traces

@@ -3,7 +3,7 @@ use Rattle.std.proofs.lemmas.Option.{slice_get-get_or}
 use Rattle.rundiff.specs.kept.PlaceMaps.{kept_at}
 use Rattle.catalog.specs.kept.Catalog.{keys_of}
 use Rattle.rundiff.specs.kept.Finishing.{new_wave}
-use Rattle.rundiff.proofs.Putting.{all_put, put_next}
+use Rattle.rundiff.proofs.Putting.{put_next}
 use Rattle.rundiff.proofs.Steps.{is_one, not_yet, others_more}
 use Rattle.rundiff.proofs.finishing.put_waves.Goals as goal
 
@@ -31,7 +31,3 @@ loop-place-preserved g c =
       traces = c.put_wave.ensures.traces ∙ c.loop-place.invariant.traces;
       horizon = c.put_wave.ensures.horizon ∙ c.loop-place.invariant.horizon;
     }
-
-pub returns-clause-waves : goal.returns-clause-waves
-returns-clause-waves g c =
-    all_put (new_wave g.S.Stepper.answer c.args.former.now.new.now) (keys_of c.args.former.now.new.now.nets) c.args.live.now c.loop-place.place-index c.args.made.now.waves c.loop-place.made.waves c.loop-place-test.false c.loop-place.invariant.waves

@@ -4,7 +4,7 @@ use Rattle.event_queue.specs.kept.Noted.{noted}
 use Rattle.design.specs.Keys.{netlist}
 use Rattle.rundiff.specs.kept.Noting.{net_moves}
 use Rattle.rundiff.proofs.NotedMore.{more_within}
-use Rattle.rundiff.proofs.Steps.{at_end, at_index}
+use Rattle.rundiff.proofs.Steps.{at_index}
 use Rattle.rundiff.proofs.front_nets.note_nets.Goals as goal
 
 pub note_net-requires-clause-there : goal.note_net-requires-clause-there
@@ -20,6 +20,3 @@ loop-place-preserved g c =
       kept = λ k u h. done.kept k u (c.loop-place.invariant.kept k u h);
       early = λ u low. done.early u low ∙ c.loop-place.invariant.early u low;
     }
-
-pub returns-clause-next : goal.returns-clause-next
-returns-clause-next g c = λ p u. at_end _ c.args.nets.now c.loop-place.place-index c.loop-place-test.false (λ q. c.loop-place.invariant.next q u) p

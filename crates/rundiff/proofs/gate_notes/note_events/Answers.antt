@@ -1,20 +1,11 @@
-use Rattle.std.proofs.Common.{◌∙◌, ◌<◌, ap, subst, arith, suc, length, slice_index_or}
-use Rattle.std.proofs.lemmas.Option.{slice_get-get_or, get_or_from_slice_get}
+use Rattle.std.proofs.Common.{◌∙◌, ◌<◌, ap, arith, length, slice_index_or}
+use Rattle.std.proofs.lemmas.Option.{slice_get-get_or}
 use Rattle.event_queue.specs.kept.Noted.{noted}
 use Rattle.gatestep.specs.Step.{State}
-use Rattle.gatestep.specs.Tasks.{PendingFrom}
 use Rattle.rundiff.specs.kept.Noting.{pends}
 use Rattle.rundiff.proofs.Driven.{read_get}
 use Rattle.rundiff.proofs.NotedMore.{mapped_at, more_events}
-use Rattle.rundiff.proofs.Steps.{at_end}
 use Rattle.rundiff.proofs.gate_notes.note_events.Goals as goal
-
-pub note_event-requires : goal.note_event-requires
-note_event-requires c =
-    let i = c.loop-i.i in
-    let low : i < length c.args.states.now = let h = c.loop-i-test.true in let many = c.requires.many in omega arith in
-    let y = c.index-states-i.result in
-    subst (PendingFrom (suc c.args.t)) (get_or_from_slice_get c.args.states.now i y y (read_get c.args.states.now i y low c.index-states-i.is)) (c.requires.later i y low)
 
 pub loop-i-preserved : goal.loop-i-preserved
 loop-i-preserved c =
@@ -31,6 +22,3 @@ loop-i-preserved c =
       kept = λ k u h. done.kept k u (c.loop-i.invariant.kept k u h);
       early = λ u low. done.early u low ∙ c.loop-i.invariant.early u low;
     }
-
-pub returns-clause-events : goal.returns-clause-events
-returns-clause-events c = λ f those p u. at_end _ c.args.places.now c.loop-i.i c.loop-i-test.false (λ q. c.loop-i.invariant.events f those q u) p

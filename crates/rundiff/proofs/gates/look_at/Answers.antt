@@ -1,4 +1,4 @@
-use Rattle.std.proofs.Common.{sym, subst, ℕ, List, take, take_all, slice_index_or}
+use Rattle.std.proofs.Common.{sym, subst, ℕ, List, take, slice_index_or}
 use Rattle.std.proofs.lemmas.Option.{slice_get-get_or}
 use Rattle.design.specs.Keys.{netlist}
 use Rattle.scratch.proofs.Lists.{take_next}
@@ -18,8 +18,3 @@ loop-place-preserved g c =
     let old = netlist c.args.former.now.old.now in let new = netlist c.args.former.now.new.now in
     subst (λ (l : List ℕ). AreOutcomes g.S.Stepper.answer old new c.args.t l c.add.new.out) (sym (take_next xs i x (slice_get-get_or xs i 0 c.loop-place-test.true)))
     (c.in_ok-add.ensures g.S.Stepper.answer old new c.args.t (take i xs) c.loop-place.invariant c.look-outcome.ensures)
-
-pub returns : goal.returns
-returns g c =
-    let xs = c.args.held.now in
-    subst (λ (l : List ℕ). AreOutcomes g.S.Stepper.answer (netlist c.args.former.now.old.now) (netlist c.args.former.now.new.now) c.args.t l c.loop-place.out) (take_all c.loop-place.place-index xs c.loop-place-test.false) c.loop-place.invariant

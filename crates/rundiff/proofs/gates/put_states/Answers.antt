@@ -1,7 +1,7 @@
-use Rattle.std.proofs.Common.{◌≡◌, ◌∙◌, ◌<◌, ◌≤◌, ap, sym, subst, suc, arith, ℕ, List, length, take, Option, slice_get, slice_index_or}
+use Rattle.std.proofs.Common.{◌≡◌, ◌∙◌, ◌<◌, ◌≤◌, ap, sym, subst, suc, arith, ℕ, List, length, Option, slice_get, slice_index_or}
 use Rattle.std.specs.Option.{ForSome, option_map}
 use Rattle.rundiff.specs.kept.PlaceMaps.{kept_at}
-use Rattle.std.proofs.lemmas.List.{length-map, take_all}
+use Rattle.std.proofs.lemmas.List.{length-map}
 use Rattle.std.proofs.lemmas.Option.{same_Some, slice_get-get_or, slice_get-map, get_or_from_slice_get}
 use Rattle.gatestep.specs.Step.{State, due}
 use Rattle.design.specs.Keys.{netlist}
@@ -11,7 +11,7 @@ use Rattle.waveform.specs.kept.Patches.{Keeps, PatchRecord}
 use Rattle.waveform.specs.kept.Timelines.{end_of}
 use Rattle.scratch.specs.Run.{state_after}
 use Rattle.rundiff.specs.kept.Fronts.{IsOwn, named_state}
-use Rattle.rundiff.specs.kept.Places.{gate_at, is_among}
+use Rattle.rundiff.specs.kept.Places.{gate_at}
 use Rattle.rundiff.proofs.Driven.{read_get}
 use Rattle.rundiff.proofs.Steps.{is_one, not_yet, others_more, put_more}
 use Rattle.rundiff.proofs.gates.put_states.Goals as goal
@@ -47,15 +47,4 @@ loop-i-preserved g c =
     record {
       put = put_more (kept_at c.args.traces.now) (kept_at c.loop-i.traces) (kept_at c.put_state.new.traces) xs i c.loop-i-test.true done.others P c.loop-i.invariant.put (done.put, done.own, done.end);
       others = others_more (kept_at c.args.traces.now) (kept_at c.loop-i.traces) (kept_at c.put_state.new.traces) xs i c.loop-i-test.true done.others c.loop-i.invariant.others;
-    }
-
-pub returns : goal.returns
-returns g c =
-    let xs = c.args.places.now in
-    let among : (p : ℕ) → is_among (take c.loop-i.i xs) p ≡ is_among xs p = λ p. ap (λ (l : List ℕ). is_among l p) (take_all c.loop-i.i xs c.loop-i-test.false) in
-    record {
-      put = λ p on. (c.loop-i.invariant.put p (among p ∙ on)).0;
-      own = λ p on. (c.loop-i.invariant.put p (among p ∙ on)).1;
-      ends = λ p on. (c.loop-i.invariant.put p (among p ∙ on)).2;
-      others = λ p off. c.loop-i.invariant.others p (among p ∙ off);
     }

@@ -1,4 +1,4 @@
-use Rattle.std.proofs.Common.{◌∙◌, ap, ℕ, List, take, nat_cmp, take_all, ◌||◌, ◌==◌, slice_index_or}
+use Rattle.std.proofs.Common.{take, nat_cmp, ◌==◌, slice_index_or}
 use Rattle.std.specs.BTreeSet.{contains}
 use Rattle.std.proofs.lemmas.Option.{slice_get-get_or}
 use Rattle.scratch.proofs.Among.{any_more}
@@ -16,7 +16,3 @@ loop-place-preserved c =
           let held = contains nat_cmp c.args.live.now p in let so_far = is_among (take i xs) p in
           cc (c.in_ok-hold_one.ensures.live p, c.loop-place.invariant.live p, same_test p x, live_step so_far (x == p) held, any_more (λ q. q == p) xs i x (slice_get-get_or xs i 0 c.loop-place-test.true));
     }
-
-pub returns-clause-live : goal.returns-clause-live
-returns-clause-live c = λ p.
-    c.loop-place.invariant.live p ∙ ap (λ (l : List ℕ). is_among l p || contains nat_cmp c.args.live.now p) (take_all c.loop-place.place-index c.args.found.now c.loop-place-test.false)

@@ -2,7 +2,7 @@ use Rattle.std.proofs.Common.{◌<◌, ◌≤◌, ℕ, length, arith, slice_inde
 use Rattle.design.specs.Keys.{netlist}
 use Rattle.design.specs.Netlist.{Netlist}
 use Rattle.rundiff.specs.kept.Inputs.{IsSameInput}
-use Rattle.rundiff.proofs.Steps.{at_end, at_index, each_next}
+use Rattle.rundiff.proofs.Steps.{at_index, each_next}
 use Rattle.rundiff.proofs.leaping.all_same_until.Goals as goal
 
 -- what is the same until a moment is so until an earlier one
@@ -25,6 +25,3 @@ loop-place-preserved c =
           (λ p was. sooner old new p c.args.t c.loop-place.until now (omega (arith, c.min-until.ensures)) (c.loop-place.invariant.same (omega (arith, c.min-until.ensures)) p was))
           (sooner old new x c.args.t c.same_until.result now (omega (arith, c.min-until.ensures)) (c.same_until.ensures (omega (arith, c.min-until.ensures))));
     }
-
-pub returns-clause-same : goal.returns-clause-same
-returns-clause-same c = λ after. at_end _ c.args.places.now c.loop-place.place-index c.loop-place-test.false (c.loop-place.invariant.same after)

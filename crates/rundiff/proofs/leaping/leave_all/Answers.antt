@@ -1,4 +1,4 @@
-use Rattle.std.proofs.Common.{◌∙◌, ap, sym, subst, ℕ, List, Option, eqb-true, take_all, ◌≤◌, slice_index_or}
+use Rattle.std.proofs.Common.{sym, subst, ℕ, Option, eqb-true, ◌≤◌, slice_index_or}
 use Rattle.std.specs.Option.{ForSome}
 use Rattle.std.proofs.lemmas.Option.{slice_get-get_or}
 use Rattle.fourstate.specs.declared.value.Value.{Value}
@@ -8,12 +8,8 @@ use Rattle.waveform.specs.kept.Patches.{Keeps, PatchRecord}
 use Rattle.waveform.specs.kept.Timelines.{end_of}
 use Rattle.rundiff.specs.kept.Fronts.{IsFree}
 use Rattle.rundiff.specs.kept.PlaceMaps.{kept_at}
-use Rattle.rundiff.specs.kept.Places.{is_among}
 use Rattle.rundiff.proofs.Steps.{at_one, each_more, others_more}
 use Rattle.rundiff.proofs.leaping.leave_all.Goals as goal
-
-pub leave-requires : goal.leave-requires
-leave-requires c = record { later = c.loop-place.invariant.ends (slice_index_or c.args.places.now c.loop-place.place-index 0) }
 
 pub loop-place-preserved : goal.loop-place-preserved
 loop-place-preserved c =
@@ -30,16 +26,4 @@ loop-place-preserved c =
           let was = c.loop-place.invariant.made p f g kept in
           at_one (λ q o. Keeps same_value standing g f o c.args.t) before now x p done.others
           (λ same. done.made f g (subst (λ (q : ℕ). Keeps same_value standing g f (before q) c.args.t) (sym (eqb-true x p same)) was)) (λ apart. was);
-    }
-
-pub returns : goal.returns
-returns c =
-    let xs = c.args.places.now in
-    let whole = take_all c.loop-place.place-index xs c.loop-place-test.false in
-    let done = c.loop-place.invariant in
-    record {
-      ends = done.ends;
-      free = λ p among. done.free p (ap (λ (l : List ℕ). is_among l p) whole ∙ among);
-      others = λ p off. done.others p (ap (λ (l : List ℕ). is_among l p) whole ∙ off);
-      made = done.made;
     }

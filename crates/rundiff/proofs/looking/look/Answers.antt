@@ -37,12 +37,6 @@ is_dirty-requires-clause-inputs g c =
     c.inputs_at-inputs.ensures
     ∙ sym (map_twice (connection_in nets) (λ x. read_at g.S.Stepper.answer (netlist c.args.former.now.new.now) x c.args.t) c.gate_at-gate.result.now.inputs)
 
-pub is_stirred-requires-clause-state : goal.is_stirred-requires-clause-state
-is_stirred-requires-clause-state g c =
-    let keyed = c.args.former.now.new.now in let new = netlist keyed in
-    c.gate_state-state.ensures.state
-    ∙ ap (state_before g.S.Stepper.answer new c.args.t) (get_or_from_slice_get new.gates c.args.place (entry_in keyed.nets c.gate_at-gate.result.now) blank_gate c.gate_at-gate.ensures.named)
-
 pub is_stirred-requires-clause-inputs : goal.is_stirred-requires-clause-inputs
 is_stirred-requires-clause-inputs g c =
     let nets = c.args.former.now.new.now.nets in

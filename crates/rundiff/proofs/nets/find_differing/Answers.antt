@@ -4,7 +4,7 @@ use Rattle.design.specs.Keys.{netlist}
 use Rattle.rundiff.specs.kept.Fronts.{IsAlike}
 use Rattle.rundiff.specs.kept.Places.{is_among}
 use Rattle.rundiff.proofs.Alike.{alike_grows, either_more}
-use Rattle.rundiff.proofs.Steps.{at_end, at_index, each_next}
+use Rattle.rundiff.proofs.Steps.{at_index, each_next}
 use Rattle.rundiff.proofs.nets.find_differing.Goals as goal
 
 pub add_differing-requires-clause-there : goal.add_differing-requires-clause-there
@@ -28,6 +28,3 @@ loop-place-preserved g c =
           alike_grows g.S.Stepper.answer old new was now t p (λ q on. either_more (is_among c.loop-place.found.items q) (is_among c.add_differing.new.found.items q) (live q) (done.more q) on)
           (c.loop-place.invariant.alike p so_far)) done.alike;
     }
-
-pub returns-clause-alike : goal.returns-clause-alike
-returns-clause-alike g c = at_end _ c.args.live.now c.loop-place.place-index c.loop-place-test.false c.loop-place.invariant.alike

@@ -1,4 +1,4 @@
-use Rattle.std.proofs.Common.{◌≡◌, ◌∙◌, ◌≤◌, ap, suc, arith, ℕ, List, take, Option, take_all, slice_index_or}
+use Rattle.std.proofs.Common.{◌≤◌, suc, ℕ, Option, slice_index_or}
 use Rattle.std.specs.Option.{ForSome}
 use Rattle.std.proofs.lemmas.Option.{slice_get-get_or}
 use Rattle.rundiff.specs.kept.PlaceMaps.{kept_at}
@@ -11,9 +11,9 @@ use Rattle.waveform.specs.kept.Patches.{Keeps, PatchRecord}
 use Rattle.waveform.specs.kept.Timelines.{end_of}
 use Rattle.scratch.specs.Run.{value}
 use Rattle.rundiff.specs.kept.Fronts.{IsOwn}
-use Rattle.rundiff.specs.kept.Places.{is_among, net_at}
+use Rattle.rundiff.specs.kept.Places.{net_at}
 use Rattle.rundiff.specs.kept.Kept.{read_at}
-use Rattle.rundiff.proofs.Steps.{as_it_was, is_one, not_yet, others_more, put_more}
+use Rattle.rundiff.proofs.Steps.{is_one, not_yet, others_more, put_more}
 use Rattle.rundiff.proofs.nets.put_values.Goals as goal
 
 pub put_value-requires : goal.put_value-requires
@@ -40,19 +40,4 @@ loop-place-preserved g c =
     record {
       put = put_more (kept_at c.args.waves.now) (kept_at c.loop-place.waves) (kept_at c.put_value.new.waves) xs i c.loop-place-test.true done.others P c.loop-place.invariant.put (done.put, done.own, done.end);
       others = others_more (kept_at c.args.waves.now) (kept_at c.loop-place.waves) (kept_at c.put_value.new.waves) xs i c.loop-place-test.true done.others c.loop-place.invariant.others;
-    }
-
-pub returns : goal.returns
-returns g c =
-    let xs = c.args.live.now in
-    let among : (p : ℕ) → is_among (take c.loop-place.place-index xs) p ≡ is_among xs p = λ p. ap (λ (l : List ℕ). is_among l p) (take_all c.loop-place.place-index xs c.loop-place-test.false) in
-    record {
-      put = λ p on. (c.loop-place.invariant.put p (among p ∙ on)).0;
-      own = λ p on. (c.loop-place.invariant.put p (among p ∙ on)).1;
-      ends = λ p.
-          as_it_was (λ q o. ForSome o (λ patch. end_of patch.line ≤ suc c.args.t)) (kept_at c.args.waves.now) (kept_at c.loop-place.waves) (is_among xs) p
-          (λ q off. c.loop-place.invariant.others q (among q ∙ off))
-          (λ on. (c.loop-place.invariant.put p (among p ∙ on)).2)
-          (λ off patch is. let low = c.requires.ends p patch is in omega arith);
-      others = λ p off. c.loop-place.invariant.others p (among p ∙ off);
     }

@@ -1,9 +1,8 @@
-use Rattle.std.proofs.Common.{◌≡◌, ◌∙◌, ap, cond, ℕ, List, [], ◌∷◌, ◌++◌, false, true, arith, take_all, nat_eq, slice_index_or}
+use Rattle.std.proofs.Common.{◌≡◌, ◌∙◌, ap, cond, [], ◌∷◌, ◌++◌, false, arith, nat_eq, slice_index_or}
 use Rattle.std.proofs.lemmas.Bool.Decides.{nat_tests}
 use Rattle.std.proofs.lemmas.Option.{slice_get-get_or}
 use Rattle.event_queue.specs.kept.Noted.{noted}
 use Rattle.scratch.proofs.Notes.{is_noted as added_there, keeps as added_keeps}
-use Rattle.rundiff.specs.kept.Places.{is_among}
 use Rattle.rundiff.proofs.NotedMore.{more_noted}
 use Rattle.rundiff.proofs.opening.note_all.Goals as goal
 
@@ -19,10 +18,3 @@ loop-place-preserved c =
           let apart : nat_eq c.args.t u ≡ false = grind (arith, nat_tests) in
           added u ∙ ap (λ b. cond b (noted c.loop-place.queue u ++ x ∷ []) (noted c.loop-place.queue u)) apart ∙ c.loop-place.invariant.early u low;
     }
-
-pub returns-clause-noted : goal.returns-clause-noted
-returns-clause-noted c = λ p among.
-    let xs = c.deref-place-items.result.now in
-    let whole = take_all c.loop-place.place-index xs c.loop-place-test.false in
-    let listed : is_among xs p ≡ true = ap (λ (l : List ℕ). is_among l p) c.deref-place-items.ensures.value ∙ c.in_ok-listed.ensures.all p ∙ among in
-    c.loop-place.invariant.listed p (ap (λ (l : List ℕ). is_among l p) whole ∙ listed)

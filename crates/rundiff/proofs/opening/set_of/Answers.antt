@@ -1,4 +1,4 @@
-use Rattle.std.proofs.Common.{◌∙◌, ap, ℕ, List, take, nat_cmp, take_all, slice_index_or, ◌==◌}
+use Rattle.std.proofs.Common.{take, nat_cmp, slice_index_or, ◌==◌}
 use Rattle.std.specs.BTreeSet.{contains}
 use Rattle.std.proofs.lemmas.Option.{slice_get-get_or}
 use Rattle.std.proofs.Math.Bool.{or_comm}
@@ -14,7 +14,3 @@ loop-place-preserved c = λ p.
     let old = contains nat_cmp c.loop-place.set p in let so_far = is_among (take i xs) p in
     let more = any_more (λ q. q == p) xs i x (slice_get-get_or xs i 0 c.loop-place-test.true) in
     cc (c.in_ok-insert.ensures.updates.0 p, test_is x p, cond_or (p == x) old, c.loop-place.invariant p, same_test p x, or_comm (x == p) so_far, more)
-
-pub returns : goal.returns
-returns c = λ p.
-    c.loop-place.invariant p ∙ ap (λ (l : List ℕ). is_among l p) (take_all c.loop-place.place-index c.args.places.now c.loop-place-test.false)

@@ -1,4 +1,4 @@
-use Rattle.std.proofs.Common.{◌≡◌, ◌∙◌, ◌≤◌, ap, subst, ℕ, List, true, length, Some, take_all, slice_get}
+use Rattle.std.proofs.Common.{◌≡◌, subst, ℕ, List, true, Some, slice_get}
 use Rattle.catalog.specs.kept.Catalog.{place_of}
 use Rattle.design.specs.kept.Keys.{gate_by_key}
 use Rattle.rundiff.specs.kept.Places.{is_among}
@@ -19,16 +19,6 @@ loop-net-preserved c =
           (λ k was apart found. done.more p (c.loop-net.invariant.nets k was p found)) (done.net p) key among found;
     }
 
-pub loop-gate-init : goal.loop-gate-init
-loop-gate-init c =
-    let keys = c.args.touched.now.nets.items in let i = c.loop-net.net-index in
-    let past : length keys ≤ i = subst (λ (l : List ℕ). length l ≤ i) c.deref-net-items.ensures.value c.loop-net-test.false in
-    record {
-      there = c.loop-net.invariant.there;
-      nets = λ key among. c.loop-net.invariant.nets key (ap (λ (l : List ℕ). is_among l key) (take_all i keys past) ∙ among);
-      gates = λ key never. absurd (cc);
-    }
-
 pub loop-gate-preserved : goal.loop-gate-preserved
 loop-gate-preserved c =
     let keys = c.args.touched.now.gates.items in let i = c.loop-gate.gate-index in let x = c.gate-item.result in
@@ -40,13 +30,4 @@ loop-gate-preserved c =
       gates = λ key among gate under p found.
           each_more (λ k. gate_by_key c.args.new.now k ≡ Some gate → is_among c.add_output.new.places.items p ≡ true) keys i x at
           (λ k was apart under. done.more p (c.loop-gate.invariant.gates k was gate under p found)) (λ under. done.output gate under p found) key among under;
-    }
-
-pub returns-clause-touched : goal.returns-clause-touched
-returns-clause-touched c =
-    let keys = c.args.touched.now.gates.items in let i = c.loop-gate.gate-index in
-    let past : length keys ≤ i = subst (λ (l : List ℕ). length l ≤ i) c.deref-gate-items.ensures.value c.loop-gate-test.false in
-    record {
-      of_nets = c.loop-gate.invariant.nets;
-      of_gates = λ key among. c.loop-gate.invariant.gates key (ap (λ (l : List ℕ). is_among l key) (take_all i keys past) ∙ among);
     }

@@ -4,7 +4,7 @@ use Rattle.design.specs.Keys.{netlist}
 use Rattle.design.specs.Netlist.{Netlist}
 use Rattle.rundiff.specs.kept.Places.{is_among}
 use Rattle.rundiff.specs.kept.Steady.{IsSteady}
-use Rattle.rundiff.proofs.Steps.{at_end, at_index, each_next}
+use Rattle.rundiff.proofs.Steps.{at_index, each_next}
 use Rattle.rundiff.proofs.spreading.add_changed.Goals as goal
 
 steady_grows : (answer : Evaluation → ℕ → State) (new : Netlist) (f g : ℕ → Bool) (t p : ℕ) → ((q : ℕ) → f q ≡ true → g q ≡ true) → IsSteady answer new f t p → IsSteady answer new g t p
@@ -28,6 +28,3 @@ loop-place-preserved g c =
           each_next (IsSteady answer new now t) c.args.nets.now c.loop-place.place-index c.loop-place-test.true
           (λ p was. steady_grows answer new (is_among c.loop-place.gates.items) now t p done.more (c.loop-place.invariant.steady p was)) done.steady;
     }
-
-pub returns-clause-steady : goal.returns-clause-steady
-returns-clause-steady g c = at_end _ c.args.nets.now c.loop-place.place-index c.loop-place-test.false c.loop-place.invariant.steady

@@ -13,9 +13,6 @@ use Rattle.rundiff.proofs.spreading.changes.Goals as goal
 same_first : (f : ℕ → Value) (t : ℕ) → t ≡ 0 → f t ≡ f (t - 1)
 same_first f t is = let e : t ≡ t - 1 = omega arith in ap f e
 
-pub returns-then-t-eq0 : goal.returns-then-t-eq0
-returns-then-t-eq0 g c = λ off. same_first (value g.S.Stepper.answer (netlist c.args.former.now.new.now) (net_at (netlist c.args.former.now.new.now) c.args.place)) c.args.t c.if-t-eq0.true
-
 pub returns : goal.returns
 returns g c = λ off.
     let answer = g.S.Stepper.answer in

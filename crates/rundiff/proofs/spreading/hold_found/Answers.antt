@@ -6,7 +6,7 @@ use Rattle.std.proofs.lemmas.Bool.{or_left, or_right}
 use Rattle.design.specs.Keys.{netlist}
 use Rattle.event_queue.proofs.Changes.{by_ok}
 use Rattle.scratch.proofs.Driven.{earlier}
-use Rattle.scratch.proofs.Lists.{on_ok, both_ok}
+use Rattle.scratch.proofs.Lists.{both_ok}
 use Rattle.rundiff.specs.kept.Places.{gate_at, is_among}
 use Rattle.rundiff.proofs.Among.{among_filter, live_gained}
 use Rattle.rundiff.proofs.spreading.hold_found.Goals as goal
@@ -56,13 +56,6 @@ returns-clause-nets c =
     (λ adds. added c.as_slice-3.result.now (contains nat_cmp c.args.live.now) (contains nat_cmp c.hold.new.live) adds c.args.nets.now.items c.extend_from_slice.new.self.items
     (c.in_ok-extend_from_slice.ensures.items ∙ ap (λ (l : List ℕ). c.args.nets.now.items ++ l) (c.as_slice.ensures.value ∙ sym c.as_slice-3.ensures.value)))
 
-pub returns-clause-nets_more : goal.returns-clause-nets_more
-returns-clause-nets_more c =
-    on_ok c.hold.result
-    (λ p on.
-    ap (λ (l : List ℕ). is_among l p) c.in_ok-extend_from_slice.ensures.items ∙ list_any-append (λ q. q == p) c.args.nets.now.items c.as_slice.result.now
-    ∙ or_left (is_among c.args.nets.now.items p) (is_among c.as_slice.result.now p) on)
-
 pub returns-clause-nets_live : goal.returns-clause-nets_live
 returns-clause-nets_live c =
     by_ok c.hold.result c.hold.ensures.live
@@ -83,6 +76,3 @@ returns-clause-gates c =
     (live_gained d later live (is_among c.as_slice-2.result.now)
     (λ p. adds p ∙ ap (λ (l : List ℕ). is_among l p || live p) (c.as_slice-3.ensures.value ∙ sym c.as_slice-2.ensures.value)) out
     (sym (drivers.drivers q low) ∙ on) (sym (c.requires.drivers.drivers q low) ∙ off)))
-
-pub returns-clause-gates_more : goal.returns-clause-gates_more
-returns-clause-gates_more c = on_ok c.hold.result c.in_ok-add_drivers.ensures.more

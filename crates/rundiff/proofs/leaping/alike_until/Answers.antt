@@ -1,1 +1,0 @@
-use Rattle.rundiff.proofs.leaping.alike_until.Goals as goal
