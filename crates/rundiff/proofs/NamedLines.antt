@@ -1,5 +1,5 @@
 -- What is kept of the old run under a name, and functions that keep their value.
-use Rattle.std.proofs.Common.{◌≡◌, ℕ, zero, suc, ◌<◌, ◌≤◌, ◌∙◌, ap, sym, subst, refl, Bool, true, false, is_some, not, List, [], ◌∷◌, Option, Some, None, arith}
+use Rattle.std.proofs.Common.{◌≡◌, ℕ, zero, suc, ◌<◌, ◌≤◌, ◌∙◌, ap, sym, subst, refl, Bool, true, false, not, List, [], ◌∷◌, Option, Some, None, arith}
 use Rattle.std.specs.Option.{option_map, option_map_or}
 use Rattle.std.proofs.lemmas.Option.{same_Some}
 use Rattle.waveform.specs.kept.Patches.{IsMended, Keeps, PatchRecord}
@@ -21,11 +21,6 @@ own_former {A} same drift f g other None n own kept = let no : ◌≡◌ {A = Op
 own_former {A} same drift f g other (Some patch) n own kept =
     let is : patch ≡ own.0 = same_Some patch own.0 own.1 in
     any_former same drift f g other patch.line patch.since n (ap (λ (q : PatchRecord A). q.since) is ∙ own.2) kept
-
-pub none_by : {A : Type 0} (o : Option A) (b : Bool) → is_some o ≡ not b → b ≡ true → o ≡ None
-none_by None b is on = refl
-none_by (Some x) true is on = absurd (cc)
-none_by (Some x) false is on = absurd (cc)
 
 pub never_own : {A : Type 0} (o : Option (PatchRecord A)) → o ≡ None → IsOwn o → ⊥
 never_own {A} o none own = let no : ◌≡◌ {A = Option (PatchRecord A)} None (Some own.0) = sym none ∙ own.1 in absurd (cc)

@@ -1,5 +1,5 @@
 -- Numbers of places, which stand page by page.
-use Rattle.std.proofs.Common.{◌≡◌, ◌≢◌, ◌∙◌, ◌<◌, ◌≤◌, ◌++◌, ◌∷◌, ◌/◌, ◌%◌, ap, sym, refl, ℕ, zero, suc, inl, inr, ⊎_elim, false, List, [], map, length, arith, nat_eq, Vec}
+use Rattle.std.proofs.Common.{◌≡◌, ◌≢◌, ◌∙◌, ◌<◌, ◌≤◌, ◌/◌, ◌%◌, ap, sym, refl, ℕ, inl, inr, ⊎_elim, false, List, [], map, length, arith, nat_eq, Vec}
 use Rattle.std.proofs.Math.ListN.{get_or, get_or-eq_default, set}
 use Rattle.std.proofs.lemmas.Bool.{cases_lt, eqb-true}
 use Rattle.std.proofs.lemmas.List.{get_or-map, get_or-set_same, get_or-set_other, length-map, map-set}
@@ -50,13 +50,6 @@ other_numbers pages i q page there as_before =
     ∙ as_before is ∙ ap (λ k. get_or (page_at pages k) (q % PAGE) 0) is)
     (λ off. ap (λ row. get_or row (q % PAGE) 0) (page_apart pages i (q / PAGE) page off)) in
     number_is (set pages i page) q ∙ in_page ∙ sym (number_is pages q)
-
--- a page without a number more is none
-pub page_more : (pages : List (Vec ℕ Global)) (page : Vec ℕ Global) → page.items ≡ [] → (q : ℕ) → page_at (pages ++ page ∷ []) q ≡ page_at pages q
-page_more [] page none zero = none
-page_more [] page none (suc q) = refl
-page_more (p ∷ pages) page none zero = refl
-page_more (p ∷ pages) page none (suc q) = page_more pages page none q
 
 -- a list that is filled up with 0 has the numbers that it had
 pub filled : (old new : List ℕ) (n q : ℕ) → length new ≡ n → length old ≤ n → ((k : ℕ) → k < n → k < length old → get_or new k 0 ≡ get_or old k 0) →

@@ -1,11 +1,10 @@
 -- Sets of places, and lists in their order.
-use Rattle.std.proofs.Common.{◌≡◌, ℕ, ◌∙◌, ap, sym, refl, subst, List, [], ◌∷◌, Bool, true, false, cond, length, nat_cmp, is_eq, ◌||◌, ◌==◌}
+use Rattle.std.proofs.Common.{◌≡◌, ℕ, ◌∙◌, ap, sym, refl, subst, List, [], ◌∷◌, Bool, true, false, cond, nat_cmp, is_eq, ◌||◌, ◌==◌}
 use Rattle.std.specs.BTreeSet.{BTreeSet, contains}
 use Rattle.std.specs.List.{list_any}
 use Rattle.std.specs.List.Sorted.{IsStrictlySortedBy}
 use Rattle.std.proofs.lemmas.Map.Keys.{below_from_sorted}
 use Rattle.std.proofs.Math.Bool.{or_assoc, or_comm}
-use Rattle.std.proofs.lemmas.List.{nil_from_length}
 use Rattle.event_queue.proofs.Moments.{same_moment}
 use Rattle.scratch.proofs.Keyed.{same_test}
 use Rattle.rundiff.specs.kept.Fronts.{ArePlaces}
@@ -26,10 +25,6 @@ set_places s places same sorted =
       all = λ p. among_keys s.keys p;
     } in
     subst (λ (l : List ℕ). ArePlaces l (contains nat_cmp s)) (sym same) those
-
--- no place is in a set that has no key
-pub none_in : (s : BTreeSet ℕ) → length s.keys ≡ 0 → (p : ℕ) → contains nat_cmp s p ≡ false
-none_in s none p = sym (among_keys s.keys p) ∙ ap (λ (keys : List ℕ). is_among keys p) (nil_from_length s.keys none)
 
 pub cond_or : (a b : Bool) → cond a true b ≡ (a || b)
 cond_or true b = refl

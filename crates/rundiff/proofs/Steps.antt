@@ -1,5 +1,5 @@
 -- Loops over places, each of which is put once.
-use Rattle.std.proofs.Common.{◌≡◌, ℕ, ◌+◌, ◌<◌, ◌∙◌, ap, sym, refl, subst, List, [], ◌∷◌, ◌++◌, Bool, true, false, take, length, Some, ◌≤◌, arith, take_all}
+use Rattle.std.proofs.Common.{◌≡◌, ℕ, ◌+◌, ◌<◌, ◌∙◌, ap, sym, refl, subst, List, [], ◌∷◌, ◌++◌, Bool, true, false, take, length, Some, arith}
 use Rattle.std.specs.Prelude.{slice_get, slice_index_or, nat_eq, ◌||◌, ◌==◌, AllPairs}
 use Rattle.std.proofs.lemmas.Bool.{eqb-true, or_left, or_parts, or_right}
 use Rattle.std.proofs.Math.Bool.{or-false}
@@ -72,7 +72,3 @@ each_next P xs i low so_far here = each_more P xs i (slice_index_or xs i 0) (sli
 -- what holds of each of some places holds of the one at an index
 pub at_index : (P : ℕ → Type 0) (xs : List ℕ) (i : ℕ) → i < length xs → ((p : ℕ) → is_among xs p ≡ true → P p) → P (slice_index_or xs i 0)
 at_index P xs i low all = all (slice_index_or xs i 0) (is_one xs i (slice_index_or xs i 0) (slice_get-get_or xs i 0 low))
-
--- what holds of each up to the end holds of all
-pub at_end : (P : ℕ → Type 0) (xs : List ℕ) (i : ℕ) → length xs ≤ i → ((p : ℕ) → is_among (take i xs) p ≡ true → P p) → (p : ℕ) → is_among xs p ≡ true → P p
-at_end P xs i past all p among = all p (ap (λ (l : List ℕ). is_among l p) (take_all i xs past) ∙ among)

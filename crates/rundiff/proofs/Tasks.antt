@@ -2,12 +2,10 @@
 use Rattle.std.proofs.Common.{◌≡◌, ◌<◌, refl, ℕ, suc, ◌-◌, List, Option, Some, None, All, arith}
 use Rattle.std.specs.Option.{option_map_or}
 use Rattle.gatestep.specs.Step.{State, Evaluation, due, initial}
-use Rattle.gatestep.specs.Tasks.{PendingFrom}
 use Rattle.gatestep.specs.kept.Tasks.{IsTask, NothingDue}
 use Rattle.design.specs.kept.Lawful.{IsGate}
 use Rattle.design.specs.Names.{same_name}
 use Rattle.design.specs.Netlist.{GateEntry, Netlist, gate_named}
-use Rattle.waveform.specs.kept.Entries.{CanStore}
 use Rattle.waveform.specs.kept.Timelines.{IsAlwaysSettled}
 use Rattle.scratch.specs.Run.{state_after}
 use Rattle.scratch.proofs.Runs.{settled}
@@ -21,10 +19,6 @@ module _ (answer : Evaluation → ℕ → State) (d : Netlist) (pending : (e : E
 
   pub old_settled : (name : List ℕ) → All IsGate d.gates → IsAlwaysSettled due (named_state answer d name)
   old_settled name are = named_settled name (gate_named d name) refl are
-
--- what can be stored at a moment is not due before the next one
-pub stored_ready : (t : ℕ) (s : State) → 0 < t → CanStore (t - 1) s → PendingFrom t s
-stored_ready t s some can = λ event is. let after = can.1 event is in omega arith
 
 pub next_one : (t : ℕ) → 0 < t → suc (t - 1) ≡ t
 next_one t some = omega arith

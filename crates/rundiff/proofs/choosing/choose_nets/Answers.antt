@@ -1,17 +1,10 @@
 use Rattle.std.proofs.Common.{◌∙◌, nat_cmp}
 use Rattle.std.specs.BTreeSet.{contains}
 use Rattle.std.proofs.lemmas.Bool.{and_from}
-use Rattle.event_queue.specs.kept.Noted.{noted}
 use Rattle.design.specs.Keys.{netlist}
 use Rattle.rundiff.specs.kept.Places.{gate_at, is_among}
-use Rattle.rundiff.proofs.Among.{live_both, taken_among}
+use Rattle.rundiff.proofs.Among.{live_both}
 use Rattle.rundiff.proofs.choosing.choose_nets.Goals as goal
-
-pub returns-clause-noted : goal.returns-clause-noted
-returns-clause-noted c = λ p on there.
-    c.keep_in_order.ensures.all p
-    ∙ and_from (is_among c.add_outputs.new.nets.items p) (contains nat_cmp c.args.live.now p)
-    (c.in_ok-add_outputs.ensures.more p (taken_among c.take.new.out.items c.clear.new.self.items (noted c.args.queue.now c.args.t) c.in_ok-take.ensures.taken p there)) on
 
 pub returns-clause-driven : goal.returns-clause-driven
 returns-clause-driven c = λ q among.

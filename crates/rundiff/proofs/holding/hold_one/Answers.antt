@@ -5,10 +5,6 @@ use Rattle.rundiff.proofs.Readers.{drivers_more}
 use Rattle.rundiff.proofs.Sets.{cond_or, test_is}
 use Rattle.rundiff.proofs.holding.hold_one.Goals as goal
 
-pub returns-clause-live : goal.returns-clause-live
-returns-clause-live c = λ p.
-    cc (c.in_ok-insert.ensures.updates.0 p, test_is c.args.place p, cond_or (p == c.args.place) (contains nat_cmp c.args.live.now p))
-
 pub returns-clause-drivers : goal.returns-clause-drivers
 returns-clause-drivers c =
     let d = netlist c.args.new.now in

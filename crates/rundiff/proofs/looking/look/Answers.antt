@@ -1,18 +1,15 @@
-use Rattle.std.proofs.Common.{◌≡◌, refl, ◌∙◌, ◌<◌, ap, sym, subst, Some, true, false, List, length, arith, nat_cmp}
-use Rattle.std.specs.BTreeSet.{contains}
-use Rattle.std.proofs.lemmas.List.{length-map}
+use Rattle.std.proofs.Common.{◌≡◌, refl, ◌∙◌, ◌<◌, ap, sym, subst, Some, true, false, arith}
 use Rattle.std.proofs.Math.Bool.{and-false}
 use Rattle.std.proofs.lemmas.Option.{get_or_from_slice_get}
-use Rattle.fourstate.specs.declared.value.Value.{Value}
 use Rattle.gatestep.specs.Tasks.{IsReady}
 use Rattle.design.specs.Keys.{connection_in, entry_in, netlist}
 use Rattle.design.specs.kept.Lawful.{IsGate}
-use Rattle.design.specs.Netlist.{GateEntry, gate_named}
+use Rattle.design.specs.Netlist.{gate_named}
 use Rattle.waveform.specs.kept.Entries.{CanStore}
 use Rattle.waveform.specs.declared.times.TheConstants.{TIME_END}
 use Rattle.scratch.specs.Run.{state_after, state_before}
-use Rattle.rundiff.specs.Dirty.{is_dirty, is_new}
-use Rattle.rundiff.specs.kept.Places.{blank_gate, gate_at, is_live}
+use Rattle.rundiff.specs.Dirty.{is_dirty}
+use Rattle.rundiff.specs.kept.Places.{blank_gate, gate_at}
 use Rattle.rundiff.specs.kept.Kept.{read_at}
 use Rattle.scratch.specs.Work.{is_stirred, task_at}
 use Rattle.scratch.proofs.Moments.{map_twice}
@@ -21,15 +18,6 @@ use Rattle.rundiff.proofs.Clean.{clean_after}
 use Rattle.rundiff.proofs.Known.{known_gate}
 use Rattle.rundiff.proofs.OneGate.{clean_known, rests}
 use Rattle.rundiff.proofs.looking.look.Goals as goal
-
-pub is_dirty-requires-clause-known : goal.is_dirty-requires-clause-known
-is_dirty-requires-clause-known g c = λ off.
-    let old = netlist c.args.former.now.old.now in
-    let keyed = c.args.former.now.new.now in let new = netlist keyed in
-    let gate = entry_in keyed.nets c.gate_at-gate.result.now in
-    let at : gate_at new c.args.place ≡ gate = get_or_from_slice_get new.gates c.args.place gate blank_gate c.gate_at-gate.ensures.named in
-    ap (is_new old) (sym at)
-    ∙ c.requires.base.gates c.args.place blank_gate c.requires.there (ap (λ (h : GateEntry). is_live new (contains nat_cmp c.args.fixed.now) h.output) at ∙ c.is_touched-touched.ensures off)
 
 pub is_dirty-requires-clause-inputs : goal.is_dirty-requires-clause-inputs
 is_dirty-requires-clause-inputs g c =
@@ -67,17 +55,6 @@ returns-then-not-is_stirred g c =
     let is : IsGate gate = subst IsGate at (c.lawful-2.ensures.design.gates c.args.place blank_gate c.requires.there) in
     let low : c.args.t < TIME_END = let h = c.requires.within in let end = c.lawful.ensures.design.horizon in omega arith in
     rw at (rw calm (and-false (is_dirty answer old new gate c.args.t)), state, subst (CanStore c.args.t) (sym state) (can_store answer new laws.answer_pending laws.answer_near gate is c.args.t low))
-
-pub new-requires : goal.new-requires
-new-requires g c =
-    let keyed = c.args.former.now.new.now in let new = netlist keyed in
-    let gate = entry_in keyed.nets c.gate_at-gate.result.now in
-    let at : gate_at new c.args.place ≡ gate = get_or_from_slice_get new.gates c.args.place gate blank_gate c.gate_at-gate.ensures.named in
-    let is : IsGate gate = subst IsGate at (c.lawful-2.ensures.design.gates c.args.place blank_gate c.requires.there) in
-    let many : length c.inputs_at-inputs.result ≡ length gate.inputs =
-    ap (λ (vs : List Value). length vs) c.inputs_at-inputs.ensures
-    ∙ length-map c.gate_at-gate.result.now.inputs (λ x. read_at g.S.Stepper.answer new (connection_in keyed.nets x) c.args.t) ∙ sym (length-map c.gate_at-gate.result.now.inputs (connection_in keyed.nets)) in
-    rw (c.kind.ensures, many) is.inputs_fit
 
 pub returns : goal.returns
 returns g c =

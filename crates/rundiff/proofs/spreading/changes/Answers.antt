@@ -1,6 +1,5 @@
-use Rattle.std.proofs.Common.{◌≡◌, ◌∙◌, ◌<◌, ◌-◌, ap, sym, refl, suc, arith, ℕ}
+use Rattle.std.proofs.Common.{◌∙◌, ◌<◌, ◌-◌, sym, refl, suc, arith}
 use Rattle.std.proofs.lemmas.Bool.{not-false}
-use Rattle.fourstate.specs.declared.value.Value.{Value}
 use Rattle.design.specs.Connections.{to_net}
 use Rattle.design.specs.Keys.{netlist}
 use Rattle.fourstate.specs.kept.ValueLaws.{is_same}
@@ -8,10 +7,6 @@ use Rattle.scratch.specs.Run.{value}
 use Rattle.rundiff.specs.kept.Places.{net_at}
 use Rattle.rundiff.specs.kept.Kept.{read_at}
 use Rattle.rundiff.proofs.spreading.changes.Goals as goal
-
--- at 0 the moment before is 0 itself
-same_first : (f : ℕ → Value) (t : ℕ) → t ≡ 0 → f t ≡ f (t - 1)
-same_first f t is = let e : t ≡ t - 1 = omega arith in ap f e
 
 pub returns : goal.returns
 returns g c = λ off.

@@ -1,4 +1,4 @@
-use Rattle.std.proofs.Common.{◌≡◌, ◌<◌, ◌≤◌, ◌∙◌, ap, sym, suc, ℕ, List, true, false, inl, arith}
+use Rattle.std.proofs.Common.{◌≡◌, ◌<◌, ◌≤◌, ◌∙◌, ap, suc, ℕ, List, true, false, inl, arith}
 use Rattle.event_queue.specs.kept.Noted.{noted}
 use Rattle.design.specs.Keys.{netlist}
 use Rattle.rundiff.specs.kept.Fronts.{live_in}
@@ -6,9 +6,6 @@ use Rattle.rundiff.specs.kept.Inputs.{IsSameInput}
 use Rattle.rundiff.specs.kept.Places.{is_among}
 use Rattle.rundiff.proofs.Leaps.{leap_agrees, leap_along, leap_free, leap_idle, leap_noted, leap_trace, leap_wave, off_on}
 use Rattle.rundiff.proofs.front.Front.leap.Goals as goal
-
-pub all_same_until-until-requires : goal.all_same_until-until-requires
-all_same_until-until-requires g c = record { there = rw c.as_slice.ensures.value (λ p among. c.requires.front.live.drivers.nets p (sym (c.in_ok-places.ensures.all p) ∙ among)) }
 
 pub returns-clause-front : goal.returns-clause-front
 returns-clause-front g c =

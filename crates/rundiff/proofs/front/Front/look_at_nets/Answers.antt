@@ -33,14 +33,8 @@ choose_nets-requires-clause-live g c =
     let drivers = c.requires.front.live.drivers in
     rw c.as_slice.ensures.value (λ q among. let on = c.in_ok-choose_gates.ensures.held q among in sym (drivers.drivers q (drivers.gates q on)) ∙ on)
 
-pub put_values-requires-clause-there : goal.put_values-requires-clause-there
-put_values-requires-clause-there g c = rw c.as_slice-2.ensures.value (λ p among. c.requires.front.live.drivers.nets p (c.in_ok-choose_nets.ensures.live p among))
-
 pub add_changed-requires-clause-there : goal.add_changed-requires-clause-there
 add_changed-requires-clause-there g c = rw c.as_slice-3.ensures.value (λ p among. c.requires.front.live.drivers.nets p (c.in_ok-choose_nets.ensures.live p among))
-
-pub add_changed-requires-clause-waves : goal.add_changed-requires-clause-waves
-add_changed-requires-clause-waves g c = rw (c.as_slice-3.ensures.value, ← c.as_slice-2.ensures.value) c.in_ok-put_values.ensures.put
 
 pub find_differing-requires-clause-there : goal.find_differing-requires-clause-there
 find_differing-requires-clause-there g c = rw c.as_slice-4.ensures.value (λ p among. c.requires.front.live.drivers.nets p (c.in_ok-choose_nets.ensures.live p among))
