@@ -45,5 +45,6 @@ returns-else-touched g c =
     let gate = entry_in nets c.args.gate.now in
     let was = of_known old c.lawful.ensures.design (λ h. c.old_state_before-was.result ≡ state_before answer old c.args.t h) c.as_str.result.now c.old_state_before-was.ensures gate (c.as_str.ensures ∙ c.name.ensures) in
     let read = c.old_inputs_at-former_inputs.ensures ∙ sym (map_twice (connection_in nets) (λ x. read_at answer old x c.args.t) c.args.gate.now.inputs) in
-    c.if-touched.false ∙ sym (c.requires.known c.if-touched.false) ∙ new_decides answer old (netlist c.args.former.now.new.now) gate c.args.t c.requires.within c.old_state_before-was.result c.args.state was c.requires.state (sym c.is_same.ensures ∙ c.if-not-is_same.false)
+    c.if-touched.false ∙ sym (c.requires.known c.if-touched.false)
+    ∙ new_decides answer old (netlist c.args.former.now.new.now) gate c.args.t c.requires.within c.old_state_before-was.result c.args.state was c.requires.state (sym c.is_same.ensures ∙ c.if-not-is_same.false)
     c.old_inputs_at-former_inputs.result c.args.inputs read c.requires.inputs (sym c.is_same-2.ensures ∙ c.if-not-is_same-2.false)

@@ -34,5 +34,6 @@ loop-reader-preserved c =
 
 pub returns-clause-readers : goal.returns-clause-readers
 returns-clause-readers c =
-    each_output c.args.new.now c.lawful.ensures.keys c.places_are_keys.ensures.nets c.net_key_at.result c.args.place c.requires.there c.net_key_at.ensures.net c.fanout-readers.result.now c.loop-reader.reader-index c.loop-reader-test.false c.fanout-readers.ensures.readers
+    each_output c.args.new.now c.lawful.ensures.keys c.places_are_keys.ensures.nets c.net_key_at.result c.args.place c.requires.there c.net_key_at.ensures.net
+    c.fanout-readers.result.now c.loop-reader.reader-index c.loop-reader-test.false c.fanout-readers.ensures.readers
     (is_among c.loop-reader.found.items) c.loop-reader.invariant.readers

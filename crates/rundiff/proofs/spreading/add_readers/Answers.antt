@@ -26,5 +26,6 @@ loop-reader-preserved c =
 
 pub returns-clause-readers : goal.returns-clause-readers
 returns-clause-readers c =
-    each_reader c.args.new.now c.lawful.ensures.keys c.places_are_keys.ensures.nets c.net_key_at.result c.args.place c.requires.there c.net_key_at.ensures.net c.fanout-readers.result.now c.loop-reader.reader-index c.loop-reader-test.false c.fanout-readers.ensures.readers
+    each_reader c.args.new.now c.lawful.ensures.keys c.places_are_keys.ensures.nets c.net_key_at.result c.args.place c.requires.there c.net_key_at.ensures.net
+    c.fanout-readers.result.now c.loop-reader.reader-index c.loop-reader-test.false c.fanout-readers.ensures.readers
     (λ q. is_among c.loop-reader.gates.items q ≡ true) c.loop-reader.invariant.readers
